@@ -1,0 +1,22 @@
+//! The ground of the sheet: its size, its cells and rectangles, the refusals of all its calls,
+//! and what "a chain of references" means.
+//!
+//! It is not the sheet: it knows no values, no formulas and no edits.
+//!
+//! The cell `B3` has column 1 and row 3, so its index is `2 * 104 + 1 = 209`. The rectangle from `A2`
+//! to `B3` has the four cells `A2`, `B2`, `A3`, `B3`, in this order.
+//!
+//! Cost: every call is constant but for the walk of a rectangle, which is its area.
+#![tactic(auto)]
+
+mod cell;
+mod rect;
+mod refusal;
+mod size;
+mod twin;
+
+pub use cell::Cell;
+pub use rect::Rect;
+pub use refusal::Refusal;
+pub use size::{CELLS, COLUMNS, ROWS};
+pub use twin::Twin;

@@ -1,0 +1,134 @@
+//! The refusals of all calls.
+
+ghost use Rattle.std.specs.Prelude.{◌≡◌};
+ghost use Rattle.ps_grid.specs.declared.refusal.Refusal.TheVariants.{Memory};
+ghost use Rattle.ps_grid.specs.Refusals.{name_of, number_of};
+
+use std::alloc::{AllocError, AllocFailed};
+
+/// Why a call did nothing. Each has a number, from 1 on, and a name.
+#[derive(Clone, Copy, Debug, PartialEq, Eq, PartialOrd, Ord, Hash)]
+pub enum Refusal {
+    /// 1: a text that names no cell of the grid.
+    Cell,
+    /// 2: a text entry that is empty, too long, no UTF-8, or with a control character.
+    Text,
+    /// 3: a formula entry outside the grammar.
+    Formula,
+    /// 4: an entry, a canonical formula or a delta's line that is too long.
+    TooLong,
+    /// 5: a change of a tally at a cell that holds none.
+    NotTally,
+    /// 6: a change of a choice at a cell that holds none.
+    NotChoice,
+    /// 7: an amount out of range.
+    Amount,
+    /// 8: an option out of range.
+    OptionRange,
+    /// 9: a replica out of range.
+    Replica,
+    /// 10: a count of a tally would pass its greatest value.
+    TallyFull,
+    /// 11: the replica has used its last sequence of a choice.
+    ChoiceFull,
+    /// 12: the option isn't chosen.
+    NotChosen,
+    /// 13: the register has the last time.
+    ClockFull,
+    /// 14: bytes that are no delta's line.
+    Delta,
+    /// 15: a session line that is too long, or a reply that wasn't expected.
+    Line,
+    /// 16: a line that is no command.
+    Command,
+    /// 17: a number that is no version.
+    Version,
+    /// 18: a table that is too large or malformed.
+    Csv,
+    /// 19: a growth was refused for lack of memory.
+    Memory,
+    /// 20: a reader or a writer failed.
+    Device,
+    /// 21: no reading place was left.
+    Seat,
+}
+
+impl From<AllocError> for Refusal {
+    ghost from_gives = { λ _ e. e ≡ Memory };
+
+    fn from(_error: AllocError) -> Refusal {
+        Refusal::Memory
+    }
+}
+
+impl<T: Drop> From<AllocFailed<T>> for Refusal {
+    ghost from_gives = { λ _ e. e ≡ Memory };
+
+    fn from(_error: AllocFailed<T>) -> Refusal {
+        Refusal::Memory
+    }
+}
+
+impl Refusal {
+    /// The number of the refusal, 1 to 21.
+    ///
+    /// Cost: constant.
+    pub fn number(&self) -> u8
+        ensures { result ≡ number_of self.now }
+    {
+        match self {
+            Refusal::Cell => 1,
+            Refusal::Text => 2,
+            Refusal::Formula => 3,
+            Refusal::TooLong => 4,
+            Refusal::NotTally => 5,
+            Refusal::NotChoice => 6,
+            Refusal::Amount => 7,
+            Refusal::OptionRange => 8,
+            Refusal::Replica => 9,
+            Refusal::TallyFull => 10,
+            Refusal::ChoiceFull => 11,
+            Refusal::NotChosen => 12,
+            Refusal::ClockFull => 13,
+            Refusal::Delta => 14,
+            Refusal::Line => 15,
+            Refusal::Command => 16,
+            Refusal::Version => 17,
+            Refusal::Csv => 18,
+            Refusal::Memory => 19,
+            Refusal::Device => 20,
+            Refusal::Seat => 21,
+        }
+    }
+
+    /// The name of the refusal.
+    ///
+    /// Cost: constant.
+    pub fn name(&self) -> &'static str
+        ensures { result.now ≡ name_of self.now }
+    {
+        match self {
+            Refusal::Cell => "cell",
+            Refusal::Text => "text",
+            Refusal::Formula => "formula",
+            Refusal::TooLong => "too-long",
+            Refusal::NotTally => "not-tally",
+            Refusal::NotChoice => "not-choice",
+            Refusal::Amount => "amount",
+            Refusal::OptionRange => "option",
+            Refusal::Replica => "replica",
+            Refusal::TallyFull => "tally-full",
+            Refusal::ChoiceFull => "choice-full",
+            Refusal::NotChosen => "not-chosen",
+            Refusal::ClockFull => "clock-full",
+            Refusal::Delta => "delta",
+            Refusal::Line => "line",
+            Refusal::Command => "command",
+            Refusal::Version => "version",
+            Refusal::Csv => "csv",
+            Refusal::Memory => "memory",
+            Refusal::Device => "device",
+            Refusal::Seat => "seat",
+        }
+    }
+}

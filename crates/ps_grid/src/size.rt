@@ -1,0 +1,10 @@
+//! The size of the grid.
+
+/// The columns of the grid: A to CZ.
+pub const COLUMNS: usize = 104;
+
+/// The rows of the grid: 1 to 1,024.
+pub const ROWS: usize = 1_024;
+
+/// The cells of the grid.
+pub const CELLS: usize = ROWS * COLUMNS;
