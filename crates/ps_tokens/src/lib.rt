@@ -1,0 +1,20 @@
+//! The tokens of a formula: numerals, references, ranges, names, operators, parentheses and separators,
+//! read from a text and written canonically.
+//!
+//! It is not the grammar: it takes `)SUM 5` as three tokens and knows no tree, no precedence and no value.
+//! A token holds what is meant and not how it was spelled: `007` and `7` are one numeral, `[.$B$3:.A1]` and
+//! `[.A1:.B3]` one range, `sum` and `SUM` one name.
+//!
+//! The text `sum( [.B2:.A1] ; 007)` has the tokens `SUM`, `(`, the range of A1 to B2, `;`, 7 and `)`, which
+//! are written `SUM([.A1:.B2];7)`.
+//!
+//! Cost: each byte of a text is looked at a few times at most, and the list of tokens is reserved once.
+#![tactic(auto)]
+
+mod lexer;
+mod token;
+mod writer;
+
+pub use lexer::tokens;
+pub use token::{Function, Operator, Token};
+pub use writer::put_token;

@@ -1,0 +1,127 @@
+//! What a token is.
+
+ghost use Rattle.std.specs.Prelude.{◌≡◌};
+ghost use Rattle.ps_tokens.specs.Names.{function_name, operator_text};
+
+use ps_grid::{Cell, Rect};
+
+/// A function of the formula language.
+#[derive(Clone, Copy, Debug, PartialEq, Eq)]
+pub enum Function {
+    /// `SUM`: the exact sum.
+    Sum,
+    /// `MIN`: the least number.
+    Min,
+    /// `MAX`: the greatest number.
+    Max,
+    /// `COUNT`: how many numbers there are.
+    Count,
+    /// `IF`: one of two, by a condition.
+    If,
+    /// `MOD`: the remainder, with the sign of the divisor.
+    Mod,
+    /// `QUOTIENT`: the quotient, cut towards zero.
+    Quotient,
+    /// `ABS`: the magnitude.
+    Abs,
+    /// `AND`: whether all hold.
+    And,
+    /// `OR`: whether one holds.
+    Or,
+    /// `NOT`: whether it doesn't hold.
+    Not,
+    /// `TRUE`: 1.
+    True,
+    /// `FALSE`: 0.
+    False,
+}
+
+/// An operator of the formula language. Plus and minus stand before an operand or between two.
+#[derive(Clone, Copy, Debug, PartialEq, Eq)]
+pub enum Operator {
+    /// `+`
+    Plus,
+    /// `-`
+    Minus,
+    /// `*`
+    Times,
+    /// `=`
+    Equal,
+    /// `<>`
+    NotEqual,
+    /// `<`
+    Less,
+    /// `<=`
+    LessOrEqual,
+    /// `>`
+    Greater,
+    /// `>=`
+    GreaterOrEqual,
+}
+
+/// A token of a formula: what it means and not how it was spelled.
+#[derive(Clone, Copy, Debug, PartialEq, Eq)]
+pub enum Token {
+    /// A whole number, from 0 to 9223372036854775807.
+    Numeral(i64),
+    /// A reference, as `[.A1]`.
+    Reference(Cell),
+    /// A range, as `[.A1:.B3]`, by the rectangle of its corners.
+    Range(Rect),
+    /// The name of a function.
+    Name(Function),
+    /// An operator.
+    Symbol(Operator),
+    /// `(`
+    Open,
+    /// `)`
+    Close,
+    /// `;`
+    Separator,
+}
+
+impl Function {
+    /// The name of the function, in upper case.
+    ///
+    /// Cost: constant.
+    pub fn name(self) -> &'static str
+        ensures { result.now ≡ function_name self }
+    {
+        match self {
+            Function::Sum => "SUM",
+            Function::Min => "MIN",
+            Function::Max => "MAX",
+            Function::Count => "COUNT",
+            Function::If => "IF",
+            Function::Mod => "MOD",
+            Function::Quotient => "QUOTIENT",
+            Function::Abs => "ABS",
+            Function::And => "AND",
+            Function::Or => "OR",
+            Function::Not => "NOT",
+            Function::True => "TRUE",
+            Function::False => "FALSE",
+        }
+    }
+}
+
+impl Operator {
+    /// How the operator is written.
+    ///
+    /// Cost: constant.
+    pub fn text(self) -> &'static str
+        ensures { result.now ≡ operator_text self }
+    {
+        match self {
+            Operator::Plus => "+",
+            Operator::Minus => "-",
+            Operator::Times => "*",
+            Operator::Equal => "=",
+            Operator::NotEqual => "<>",
+            Operator::Less => "<",
+            Operator::LessOrEqual => "<=",
+            Operator::Greater => ">",
+            Operator::GreaterOrEqual => ">=",
+        }
+    }
+}
