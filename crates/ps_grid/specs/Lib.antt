@@ -1,3 +1,4 @@
+pub mod Chains
 pub mod Place
 pub mod Rectangle
 pub mod Refusals

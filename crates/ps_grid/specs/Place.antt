@@ -21,7 +21,8 @@ letter k = 65 + k
 
 -- A to Z, and then AA, AB and so on
 abbrev pub column_name : ℕ → List ℕ
-column_name column = if nat_lt column 26 then letter column ∷ [] else (letter (column / 26 - 1) ∷ letter (column % 26) ∷ [])
+column_name column =
+    if nat_lt column 26 then letter column ∷ [] else (letter (column / 26 - 1) ∷ letter (column % 26) ∷ [])
 
 -- the text of a cell: the letters of its column and its row in decimal
 abbrev pub cell_name : ℕ → List ℕ

@@ -1,5 +1,5 @@
 -- Rectangles of cells, seen as their corner at the top left and their size.
-use Rattle.std.specs.Prelude.{◌≡◌, ℕ, ◌+◌, ◌-◌, ◌*◌, ◌/◌, ◌%◌, ◌<◌, ◌≤◌, Bool, ◌&&◌, nat_lt, nat_le, min, max, refl}
+use Rattle.std.specs.Prelude.{ℕ, ◌+◌, ◌-◌, ◌*◌, ◌/◌, ◌%◌, ◌≤◌, Bool, ◌&&◌, nat_lt, nat_le, min, max}
 use Rattle.ps_grid.specs.declared.size.TheConstants.{COLUMNS, ROWS}
 
 -- the column of the left side, from 0; the row of the upper side, from 0; how many columns; how many rows

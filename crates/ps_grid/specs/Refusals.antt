@@ -1,7 +1,10 @@
 -- The number and the name of each refusal.
 use Rattle.std.specs.Prelude.{ℕ, List, codes}
 use Rattle.ps_grid.specs.declared.refusal.Refusal.{Refusal}
-use Rattle.ps_grid.specs.declared.refusal.Refusal.TheVariants.{Cell, Text, Formula, TooLong, NotTally, NotChoice, Amount, OptionRange, Replica, TallyFull, ChoiceFull, NotChosen, ClockFull, Delta, Line, Command, Version, Csv, Memory, Device, Seat}
+use Rattle.ps_grid.specs.declared.refusal.Refusal.TheVariants.{Cell, Text, Formula, TooLong, NotTally, NotChoice}
+use Rattle.ps_grid.specs.declared.refusal.Refusal.TheVariants.{Amount, OptionRange, Replica, TallyFull, ChoiceFull}
+use Rattle.ps_grid.specs.declared.refusal.Refusal.TheVariants.{NotChosen, ClockFull, Delta, Line, Command, Version}
+use Rattle.ps_grid.specs.declared.refusal.Refusal.TheVariants.{Csv, Memory, Device, Seat}
 
 -- the number, from 1 on
 abbrev pub number_of : Refusal → ℕ

@@ -10,12 +10,14 @@
 #![tactic(auto)]
 
 mod cell;
+mod laws;
 mod rect;
 mod refusal;
 mod size;
 mod twin;
 
 pub use cell::Cell;
+pub use laws::long_chains_repeat;
 pub use rect::Rect;
 pub use refusal::Refusal;
 pub use size::{CELLS, COLUMNS, ROWS};

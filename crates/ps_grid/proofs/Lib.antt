@@ -1,0 +1,4 @@
+pub mod ChainLemmas
+pub mod CycleLemmas
+pub mod RegionLemmas
+pub mod DepthLemmas
