@@ -1,0 +1,18 @@
+//! The values that cells show, and the devices that lines and texts come from and go to.
+//!
+//! It is not what a cell holds: it knows no formulas, no edits and no replicas.
+//!
+//! The value `Choice` with bits 1 and 4 set is shown as `{1,4}`, and the fault of a division by zero
+//! as `#DIV/0!`.
+//!
+//! Cost: a value is copied in constant time and takes no memory.
+#![tactic(auto)]
+
+mod label;
+mod value;
+
+pub use label::Label;
+pub use value::{Fault, Value};
+
+/// The greatest number of bytes in a label.
+pub const LABEL_BYTES: usize = 64;

@@ -1,0 +1,32 @@
+// What a cell shows.
+use crate::label::Label;
+
+/// Why a cell has no number.
+#[derive(Clone, Copy, PartialEq, Eq, Debug)]
+pub enum Fault {
+    /// A division by zero.
+    DivZero,
+    /// A number outside the 64-bit range.
+    Num,
+    /// A text where a number is wanted.
+    Value,
+    /// A chain of references that holds a cell twice.
+    Cycle,
+}
+
+/// What a cell shows.
+///
+/// A value is `Copy` and takes no memory: a text is kept in place, and a choice is 64 bits.
+#[derive(Clone, Copy, PartialEq, Eq)]
+pub enum Value {
+    /// Nothing.
+    Empty,
+    /// A whole number.
+    Num(i64),
+    /// A text.
+    Text(Label),
+    /// The options that are chosen: bit k stands for option k.
+    Choice(u64),
+    /// No number can be shown, and why.
+    Err(Fault),
+}
