@@ -1,0 +1,41 @@
+//! The tree of a formula.
+
+use ps_grid::{Cell, Rect};
+use ps_tokens::{Function, Operator};
+
+/// A sign in front of an operand.
+#[derive(Clone, Copy, Debug, PartialEq, Eq)]
+pub enum Sign {
+    /// `+`, which changes nothing.
+    Plus,
+    /// `-`
+    Minus,
+}
+
+/// An expression. Contracts see it by `tree_of` as a `Tree`, which has the same cases and no pointers.
+#[cycle(tree)]
+#[derive(Drop)]
+pub enum Expr {
+    /// A whole number; in a formula that was read, from 0 to 9223372036854775807.
+    Numeral(i64),
+    /// The value of a cell.
+    Reference(Cell),
+    /// A sign and its operand.
+    Prefix(Sign, Box<Expr>),
+    /// Two operands with an operator between them.
+    Infix(Box<Expr>, Operator, Box<Expr>),
+    /// An expression in parentheses.
+    Group(Box<Expr>),
+    /// A function of its arguments, of which there may be none.
+    Call(Function, Vec<Argument>),
+}
+
+/// An argument of a function.
+#[cycle(tree)]
+#[derive(Drop)]
+pub enum Argument {
+    /// A single value; a reference alone stands for a range of one cell in some functions.
+    Expression(Expr),
+    /// The cells of a rectangle.
+    Range(Rect),
+}

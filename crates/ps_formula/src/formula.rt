@@ -1,0 +1,126 @@
+//! A formula and how it is read.
+
+ghost use Rattle.std.specs.Prelude.{◌≡◌, ℕ, ◌<◌, ◌≤◌, ◌⊎◌, length, IfOk, IfErr, MatchResult};
+ghost use Rattle.std.specs.List.{list_any};
+ghost use Rattle.ps_grid.specs.Rectangle.{is_inside};
+ghost use Rattle.ps_grid.specs.declared.refusal.Refusal.TheVariants.{Memory, TooLong, Formula as NoFormula};
+
+use crate::expr::Expr;
+use ps_grid::{Cell, Rect, Refusal};
+use std::alloc::Global;
+use std::marker::Model;
+
+/// The most bytes of an entry.
+pub const LONGEST_ENTRY: usize = 512;
+
+/// The most bytes of a canonical text.
+pub const LONGEST_TEXT: usize = 256;
+
+/// A formula. A contract sees it as its tree, so two formulas are equal where their trees are, however they
+/// were written.
+#[derive(Drop)]
+pub struct Formula {
+    tree: Expr,
+    // the canonical text
+    text: Vec<u8>,
+    // each reference and range, from left to right
+    rects: Vec<Rect>,
+}
+
+impl Model for Formula {
+    ghost use Rattle.ps_formula.specs.Tree.{Tree};
+    ghost use Rattle.ps_formula.specs.TreeCode.{tree_code};
+
+    ghost Value = { Tree };
+
+    ghost coded = { tree_code };
+
+    ghost use Rattle.ps_formula.specs.TreeOf.{tree_of};
+    ghost use Rattle.ps_formula.specs.Kept.{IsKept};
+
+    ghost view = { λ f. tree_of f.tree };
+
+    ghost invariant = { λ f. IsKept (tree_of f.tree) f.text.items f.rects.items };
+}
+
+impl Formula {
+    ghost use Rattle.ps_formula.specs.Tree.{Tree};
+    ghost use Rattle.ps_formula.specs.TreeOf.{tree_of};
+    ghost use Rattle.ps_formula.specs.Canonical.{canon};
+    ghost use Rattle.ps_formula.specs.Formula.{HasTree};
+    ghost use Rattle.ps_formula.specs.References.{rects_of, mentions};
+
+    /// The formula that the bytes have by the grammar. Refused as too long where there are more than
+    /// `LONGEST_ENTRY` bytes, or where the canonical text would have more than `LONGEST_TEXT`; as no formula where
+    /// the bytes have no tree; and for lack of memory.
+    ///
+    /// Cost: linear in the bytes; an allocation for each operator and call, and a few for the whole.
+    pub fn read(alloc: Global, bytes: &[u8]) -> Result<Formula, Refusal>
+        ensures short { IfOk result (λ _. length bytes.now ≤ LONGEST_ENTRY) }
+        ensures found { IfOk result (λ t. HasTree bytes.now t) }
+        ensures fits { IfOk result (λ t. length (canon t) ≤ LONGEST_TEXT) }
+
+        ensures read { (t : Tree)
+            → length bytes.now ≤ LONGEST_ENTRY
+            → HasTree bytes.now t
+            → length (canon t) ≤ LONGEST_TEXT
+            → MatchResult result (λ u. u ≡ t) (λ e. e ≡ Memory) }
+
+        ensures no_formula { result ≡ Err NoFormula
+            → (length bytes.now ≤ LONGEST_ENTRY) × ((t : Tree) → HasTree bytes.now t → ⊥) }
+        ensures too_long { result ≡ Err TooLong
+            → (LONGEST_ENTRY < length bytes.now)
+            ⊎ ((t : Tree) × HasTree bytes.now t × (LONGEST_TEXT < length (canon t))) }
+        ensures refused { IfErr result (λ e. (e ≡ NoFormula) ⊎ ((e ≡ TooLong) ⊎ (e ≡ Memory))) }
+    {
+        let _ = alloc;
+        let _ = bytes;
+        Err(Refusal::Memory)
+    }
+
+    /// The tree of the formula.
+    ///
+    /// Cost: constant.
+    pub fn tree(&self) -> &Expr
+        ensures { tree_of result.now ≡ self.now }
+    {
+        &self.tree
+    }
+
+    /// The canonical text of the formula, which has the formula's tree.
+    ///
+    /// Cost: constant.
+    pub fn text(&self) -> &[u8]
+        ensures canonical { result.now ≡ canon self.now }
+        ensures has_tree { HasTree result.now self.now }
+        ensures fits { length result.now ≤ LONGEST_TEXT }
+    {
+        &self.text
+    }
+
+    /// Each reference and range of the formula as a rectangle, from left to right, those of untaken branches too.
+    ///
+    /// Cost: constant.
+    pub fn rects(&self) -> &[Rect]
+        ensures each { result.now ≡ rects_of self.now }
+        ensures covered { (c : ℕ) → list_any (λ r. is_inside r c) result.now ≡ mentions self.now c }
+    {
+        &self.rects
+    }
+}
+
+/// Whoever knows which cells hold a formula.
+pub trait Formulas {
+    ghost use Rattle.std.specs.Prelude.{Option, ℕ};
+    ghost use Rattle.std.specs.Option.{option_copied};
+    ghost use Rattle.ps_formula.specs.Tree.{Tree};
+
+    /// The tree of a cell's formula, where the cell holds one.
+    ghost formula_at: { Self → ℕ → Option Tree };
+
+    /// The formula of the cell, if it holds one.
+    ///
+    /// Cost: constant.
+    fn formula(&self, cell: Cell) -> Option<&Formula>
+        ensures { option_copied result ≡ formula_at self.now cell };
+}

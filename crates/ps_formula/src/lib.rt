@@ -1,0 +1,16 @@
+//! The formulas of the sheet: their grammar, their trees, their canonical texts, and the cells that they refer to.
+//!
+//! It is not the evaluator: it knows no values. A formula is read from bytes once, and keeps its tree, its canonical
+//! text and its references.
+//!
+//! The bytes `= sum( [.$B$2:.A1] ; -007)` are a formula. Its tree is a call of `SUM` with a range and a signed
+//! number, its canonical text `=SUM([.A1:.B2];-7)`, and its one rectangle that of A1 to B2.
+//!
+//! Cost: reading is linear in the bytes, of which there are at most 512; all else is constant.
+#![tactic(auto)]
+
+mod expr;
+mod formula;
+
+pub use expr::{Argument, Expr, Sign};
+pub use formula::{Formula, Formulas, LONGEST_ENTRY, LONGEST_TEXT};
