@@ -8,10 +8,18 @@
 //! Cost: a value is copied in constant time and takes no memory.
 #![tactic(auto)]
 
+mod count;
+mod device;
 mod label;
+mod memory;
+mod stream;
 mod value;
 
+pub use count::FailureCount;
+pub use device::{Failed, Sink, Source, put_all};
 pub use label::Label;
+pub use memory::{MemorySink, MemorySource};
+pub use stream::{Reading, Writing};
 pub use value::{Fault, Value};
 
 /// The greatest number of bytes in a label.

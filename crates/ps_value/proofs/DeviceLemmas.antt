@@ -1,0 +1,37 @@
+-- Writes, one after another, over plain values.
+use Rattle.std.proofs.Common.{◌≡◌, ◌≢◌, ℕ, zero, suc, ◌+◌, ◌-◌, ◌<◌, List, [], ◌++◌, length, take, drop, Option, None, Some, Ok, refl, sym, ap, ◌∙◌, arith, append_assoc, append-nil, length-append, length-drop}
+use Rattle.std.specs.Io.KnownBytes.{Appends}
+use Rattle.std.proofs.Math.Seq.{take-add, take-length, take-append-add}
+use Rattle.ps_value.specs.Device.{failed_put}
+
+pub Appends-nil : (old : Option (List ℕ)) → Appends old old []
+Appends-nil None = tt
+Appends-nil (Some bytes) = sym (append-nil bytes)
+
+pub Appends-append : (old mid new : Option (List ℕ)) (first second : List ℕ) → Appends old mid first → Appends mid new second → Appends old new (first ++ second)
+Appends-append None mid new first second p q = tt
+Appends-append (Some x) None new first second p q = absurd p
+Appends-append (Some x) (Some y) None first second p q = absurd q
+Appends-append (Some x) (Some y) (Some z) first second p q = q ∙ ap (λ l. l ++ second) p ∙ append_assoc x first second
+
+-- the bytes from the start on, as the code takes them
+pub rest-range : (bytes : List ℕ) (start : ℕ) → take (length bytes - start) (drop start bytes) ≡ drop start bytes
+rest-range bytes start = rw (← length-drop start bytes) (take-length (drop start bytes))
+
+-- a write of the front of what is left
+pub Appends-further : (old mid new : Option (List ℕ)) (bytes : List ℕ) (start count : ℕ) → Appends old mid (take start bytes)
+    → Appends mid new (take count (take (length bytes - start) (drop start bytes))) → Appends old new (take (start + count) bytes)
+Appends-further old mid new bytes start count p q =
+    rw (take-add start count bytes) (Appends-append old mid new _ _ p (rw rest-range at q))
+
+-- a write that took some bytes was no failure
+pub calm_put : (E : Type 0) (old mid new count : ℕ) (piece : List ℕ) → count ≢ 0 → new ≡ mid + failed_put {E = E} (Ok count) piece → mid ≡ old → new ≡ old
+calm_put E old mid new zero piece some counted calm = absurd (some refl)
+calm_put E old mid new (suc count) piece some counted calm = omega arith
+
+-- a write that failed before its end, behind bytes that were written
+pub cut_behind : (old mid new : Option (List ℕ)) (first second : List ℕ) → Appends old mid first
+    → (count : ℕ) × (count < length second) × Appends mid new (take count second)
+    → (count : ℕ) × (count < length (first ++ second)) × Appends old new (take count (first ++ second))
+cut_behind old mid new first second p q =
+    (length first + q.0, simp length-append (omega (arith, q.1)), rw take-append-add (Appends-append old mid new _ _ p q.2))

@@ -1,0 +1,20 @@
+-- What a call of a device did.
+use Rattle.std.specs.Prelude.{ℕ, zero, suc, ◌<◌, List, [], ◌∷◌, length, take, Option, Result, Ok, Err, MatchResult}
+use Rattle.std.specs.Io.KnownBytes.{Appends}
+
+-- how many failures a read was: an error answer
+abbrev pub failed_take : {E : Type 0} → Result ℕ E → ℕ
+failed_take (Ok count) = 0
+failed_take (Err error) = 1
+
+-- how many failures a write was: an error answer, or none taken of a piece that isn't empty
+abbrev pub failed_put : {E : Type 0} → Result ℕ E → List ℕ → ℕ
+failed_put (Err error) piece = 1
+failed_put (Ok zero) [] = 0
+failed_put (Ok zero) (b ∷ bs) = 1
+failed_put (Ok (suc count)) piece = 0
+
+-- all the bytes were written, or at an error some of them, from the first on, and not all
+abbrev pub Sends : {E : Type 0} → Option (List ℕ) → Option (List ℕ) → Result (Unit {0}) E → List ℕ → Type 0
+Sends old new result bytes =
+    MatchResult result (λ _. Appends old new bytes) (λ _. (count : ℕ) × (count < length bytes) × Appends old new (take count bytes))
