@@ -37,8 +37,8 @@ All-In P [] all q h = absurd (let f : false ≡ true = h in cc)
 All-In P (x ∷ xs) all q h =
     ⊎_elim (λ e. subst P (sym e) (All-head P x xs all)) (λ i. All-In P xs (All-tail P x xs all) q i) (In-cases q x xs h)
 
--- no cell of the list is c
-apart : (c : ℕ) (xs : List ℕ) → list_any (eqb c) xs ≡ false → AllByRecursion (λ y. eqb c y ≡ false) xs
+-- a list that lacks a cell has only others
+pub apart : (c : ℕ) (xs : List ℕ) → list_any (eqb c) xs ≡ false → AllByRecursion (λ y. eqb c y ≡ false) xs
 apart c [] h = tt
 apart c (x ∷ xs) h =
     let first : eqb c x ≡ false = grind (arith, common_steps) in

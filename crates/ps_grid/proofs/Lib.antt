@@ -1,4 +1,6 @@
+pub mod AreaLemmas
 pub mod ChainLemmas
 pub mod CycleLemmas
+pub mod NameLemmas
 pub mod RegionLemmas
 pub mod DepthLemmas

@@ -1,7 +1,7 @@
 -- Where a cell lies in the grid, and what it is called. A cell is its index.
 use Rattle.std.specs.Prelude.{ℕ, ◌+◌, ◌-◌, ◌*◌, ◌/◌, ◌%◌, List, [], ◌∷◌, ◌++◌, nat_lt, if◌then◌else◌}
 use Rattle.std.specs.Fmt.{decimal}
-use Rattle.ps_grid.specs.declared.size.TheConstants.{COLUMNS}
+use Rattle.ps_grid.specs.declared.size.TheConstants.{COLUMNS, LETTERS}
 
 -- the cell of a column, from 0, and a row, from 1
 abbrev pub cell_at : ℕ → ℕ → ℕ
@@ -16,13 +16,13 @@ abbrev pub row_of : ℕ → ℕ
 row_of c = c / COLUMNS + 1
 
 -- the letter of a number: A for 0, B for 1, to Z for 25
-abbrev pub letter : ℕ → ℕ
-letter k = 65 + k
+abbrev pub letter_of : ℕ → ℕ
+letter_of k = 65 + k
 
 -- A to Z, and then AA, AB and so on
 abbrev pub column_name : ℕ → List ℕ
 column_name column =
-    if nat_lt column 26 then letter column ∷ [] else (letter (column / 26 - 1) ∷ letter (column % 26) ∷ [])
+    if nat_lt column LETTERS then letter_of column ∷ [] else (letter_of (column / LETTERS - 1) ∷ letter_of (column % LETTERS) ∷ [])
 
 -- the text of a cell: the letters of its column and its row in decimal
 abbrev pub cell_name : ℕ → List ℕ

@@ -1,5 +1,6 @@
 -- Rectangles of cells, seen as their corner at the top left and their size.
-use Rattle.std.specs.Prelude.{ℕ, ◌+◌, ◌-◌, ◌*◌, ◌/◌, ◌%◌, ◌≤◌, Bool, ◌&&◌, nat_lt, nat_le, min, max}
+use Rattle.std.specs.Prelude.{ℕ, ◌+◌, ◌-◌, ◌*◌, ◌/◌, ◌%◌, ◌≤◌, Bool, ◌&&◌, nat_lt, nat_le, min, max, List, map}
+use Rattle.std.specs.List.{range_with_len}
 use Rattle.ps_grid.specs.declared.size.TheConstants.{COLUMNS, ROWS}
 
 -- the column of the left side, from 0; the row of the upper side, from 0; how many columns; how many rows
@@ -17,6 +18,18 @@ area a = a.width * a.height
 abbrev pub nth_cell : Area → ℕ → ℕ
 nth_cell a k = (a.top + k / a.width) * COLUMNS + (a.left + k % a.width)
 
+-- its cells from the k-th on, row by row
+abbrev pub cells_from : Area → ℕ → List ℕ
+cells_from a k = map (nth_cell a) (range_with_len k (area a - k))
+
+-- its cells, row by row
+abbrev pub cells_of : Area → List ℕ
+cells_of a = cells_from a 0
+
+-- the number of a cell among its cells, from 0, row by row
+abbrev pub place_of : Area → ℕ → ℕ
+place_of a c = (c / COLUMNS - a.top) * a.width + (c % COLUMNS - a.left)
+
 -- whether a cell lies in the rectangle, by its column and its row
 abbrev pub is_inside : Area → ℕ → Bool
 is_inside a c = nat_le a.left (c % COLUMNS) && nat_lt (c % COLUMNS) (a.left + a.width)
@@ -28,6 +41,13 @@ pub record IsInGrid (a : Area) : Type 0 where
   pub some_height : 1 ≤ a.height
   pub within_columns : a.left + a.width ≤ COLUMNS
   pub within_rows : a.top + a.height ≤ ROWS
+
+-- the cell at the top left, and the one at the bottom right
+abbrev pub first_cell : Area → ℕ
+first_cell a = a.top * COLUMNS + a.left
+
+abbrev pub last_cell : Area → ℕ
+last_cell a = (a.top + a.height - 1) * COLUMNS + (a.left + a.width - 1)
 
 -- the smallest rectangle with two cells
 abbrev pub spanned : ℕ → ℕ → Area

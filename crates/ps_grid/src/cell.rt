@@ -1,10 +1,11 @@
 //! The cells of the grid.
 
-ghost use Rattle.std.specs.Prelude.{◌≡◌, ◌+◌, ◌*◌, ◌<◌, ◌≤◌};
+ghost use Rattle.std.specs.Prelude.{◌≡◌, ◌+◌, ◌*◌, ◌<◌, ◌≤◌, ◌++◌, drop, length, take};
+ghost use Rattle.std.specs.Fmt.{decimal};
 ghost use Rattle.std.specs.Option.{SomeIff};
-ghost use Rattle.ps_grid.specs.Place.{cell_at, column_of, row_of};
+ghost use Rattle.ps_grid.specs.Place.{cell_at, cell_name, column_of, letter_of, row_of};
 
-use crate::size::{CELLS, COLUMNS, ROWS};
+use crate::size::{CELLS, COLUMNS, LETTERS, ROWS};
 use std::marker::Model;
 
 /// A cell of the grid. A contract sees it as its index, below `CELLS`: row by row, each row from column 0 on.
@@ -78,6 +79,28 @@ impl Cell {
         }
     }
 
+    /// Writes the name of the cell at the front of `out`, leaves the bytes behind it as they are, and answers
+    /// how long the name is: the letters of the column, A to CZ, and the row in decimal, 1 to 1024.
+    ///
+    /// Cost: constant.
+    pub fn write(self, out: &mut [u8; 6]) -> usize
+        ensures name { take result out.new ≡ cell_name self }
+        ensures rest { drop result out.new ≡ drop result out.old }
+        ensures length { result ≡ length (cell_name self) }
+        ensures fits { result ≤ 6 }
+    {
+        let column = self.column() as usize;
+        let row = self.row();
+        if column < LETTERS {
+            out[0] = letter(column);
+            put_decimal(out, 1, row)
+        } else {
+            out[0] = letter(column / LETTERS - 1);
+            out[1] = letter(column % LETTERS);
+            put_decimal(out, 2, row)
+        }
+    }
+
     /// The column of the cell, counted from 0.
     ///
     /// Cost: constant.
@@ -97,5 +120,30 @@ impl Cell {
         ensures in_grid { result ≤ ROWS }
     {
         (self.place / COLUMNS as u32) as u16 + 1
+    }
+}
+
+// The letter of a number: A for 0, to Z for 25.
+fn letter(number: usize) -> u8
+    requires { number < LETTERS }
+    ensures { result ≡ letter_of number }
+{
+    b'A' + number as u8
+}
+
+// Writes a row in decimal at a place of `out`, and answers the place behind it.
+fn put_decimal(out: &mut [u8; 6], place: usize, row: u16) -> usize
+    requires { place + length (decimal row) ≤ 6 }
+    ensures digits { take result out.new ≡ take place out.old ++ decimal row }
+    ensures rest { drop result out.new ≡ drop result out.old }
+    ensures length { result ≡ place + length (decimal row) }
+{
+    if row < 10 {
+        out[place] = b'0' + row as u8;
+        place + 1
+    } else {
+        let end = put_decimal(out, place, row / 10);
+        out[end] = b'0' + (row % 10) as u8;
+        end + 1
     }
 }

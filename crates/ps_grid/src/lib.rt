@@ -18,7 +18,7 @@ mod twin;
 
 pub use cell::Cell;
 pub use laws::long_chains_repeat;
-pub use rect::Rect;
+pub use rect::{Cells, Rect};
 pub use refusal::Refusal;
 pub use size::{CELLS, COLUMNS, ROWS};
 pub use twin::Twin;

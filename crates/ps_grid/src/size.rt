@@ -8,3 +8,6 @@ pub const ROWS: usize = 1_024;
 
 /// The cells of the grid.
 pub const CELLS: usize = ROWS * COLUMNS;
+
+/// The letters that name columns: A to Z.
+pub const LETTERS: usize = 26;
