@@ -1,8 +1,11 @@
 -- Writes, one after another, over plain values.
-use Rattle.std.proofs.Common.{◌≡◌, ◌≢◌, ℕ, zero, suc, ◌+◌, ◌-◌, ◌<◌, List, [], ◌++◌, length, take, drop, Option, None, Some, Ok, refl, sym, ap, ◌∙◌, arith, append_assoc, append-nil, length-append, length-drop}
+use Rattle.std.proofs.Common.{◌≡◌, ◌≢◌, ℕ, zero, suc, ◌+◌, ◌-◌, ◌<◌, ◌≤◌, List, [], ◌++◌, length, take, drop, Option, None, Some, Result, Ok, Err, refl, sym, ap, ◌∙◌, arith, append_assoc, append-nil, length-append, length-drop}
+use Rattle.std.specs.Result.{IsErr}
 use Rattle.std.specs.Io.KnownBytes.{Appends}
+use Rattle.std.proofs.lemmas.Bool.{false≢true}
+use Rattle.std.proofs.lemmas.List.{take-append-le}
 use Rattle.std.proofs.Math.Seq.{take-add, take-length, take-append-add}
-use Rattle.ps_value.specs.Device.{failed_put}
+use Rattle.ps_value.specs.Device.{failed_put, Sends}
 
 pub Appends-nil : (old : Option (List ℕ)) → Appends old old []
 Appends-nil None = tt
@@ -35,3 +38,24 @@ pub cut_behind : (old mid new : Option (List ℕ)) (first second : List ℕ) →
     → (count : ℕ) × (count < length (first ++ second)) × Appends old new (take count (first ++ second))
 cut_behind old mid new first second p q =
     (length first + q.0, simp length-append (omega (arith, q.1)), rw take-append-add (Appends-append old mid new _ _ p q.2))
+
+-- a write behind bytes that were written
+pub Sends-behind : (E : Type 0) (old mid new : Option (List ℕ)) (result : Result (Unit {0}) E) (first second : List ℕ) → Appends old mid first
+    → Sends mid new result second → Sends old new result (first ++ second)
+Sends-behind E old mid new (Ok done) first second p q = Appends-append old mid new first second p q
+Sends-behind E old mid new (Err error) first second p q = cut_behind old mid new first second p q
+
+-- what a write that failed says of a longer text
+pub Sends-cut : (E : Type 0) (old new : Option (List ℕ)) (result : Result (Unit {0}) E) (whole bytes rest : List ℕ) → whole ≡ bytes ++ rest → IsErr result
+    → (count : ℕ) × (count < length bytes) × Appends old new (take count bytes) → Sends old new result whole
+Sends-cut E old new (Ok done) whole bytes rest e is p = absurd (false≢true is)
+Sends-cut E old new (Err error) whole bytes rest e is p =
+    let within : p.0 ≤ length bytes = omega (arith, p.1) in
+    (p.0, rw (e, length-append) (omega (arith, p.1)), rw (e, take-append-le) p.2)
+
+-- the same, behind bytes that were written
+pub Sends-cut_behind : (E : Type 0) (old mid new : Option (List ℕ)) (result : Result (Unit {0}) E) (whole first second rest : List ℕ)
+    → whole ≡ first ++ second ++ rest → IsErr result → Appends old mid first
+    → (count : ℕ) × (count < length second) × Appends mid new (take count second) → Sends old new result whole
+Sends-cut_behind E old mid new result whole first second rest e is p q =
+    Sends-cut E old new result whole (first ++ second) rest e is (cut_behind old mid new first second p q)

@@ -1,2 +1,3 @@
 pub mod LabelLemmas
 pub mod DeviceLemmas
+pub mod ShownLemmas

@@ -1,3 +1,4 @@
 pub mod Device
 pub mod Label
+pub mod Shown
 pub mod Stored

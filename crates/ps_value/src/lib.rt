@@ -8,17 +8,21 @@
 //! Cost: a value is copied in constant time and takes no memory.
 #![tactic(auto)]
 
+mod console;
 mod count;
 mod device;
 mod label;
 mod memory;
+mod shown;
 mod stream;
 mod value;
 
+pub use console::{Console, ConsoleInput, ConsoleOutput};
 pub use count::FailureCount;
 pub use device::{Failed, Sink, Source, put_all};
 pub use label::Label;
 pub use memory::{MemorySink, MemorySource};
+pub use shown::write_shown;
 pub use stream::{Reading, Writing};
 pub use value::{Fault, Value};
 

@@ -1,5 +1,5 @@
 //! Devices over the readers and writers of std: standard input and output, files, TCP streams.
-ghost use Rattle.std.specs.Prelude.{◌≡◌, ◌<◌, ◌^◌, ◌-◌};
+ghost use Rattle.std.specs.Prelude.{◌≡◌, ◌<◌, ◌+◌};
 
 use crate::count::FailureCount;
 use crate::device::{Failed, Sink, Source};
@@ -27,6 +27,15 @@ impl<R: Read + Drop, L: Ledger> Reading<R, L> {
             tries: u64::MAX,
             failed: FailureCount::new(blank),
         }
+    }
+
+    /// Counts a failure that came before the read.
+    pub(crate) fn fail(&mut self)
+        ensures reader { self.new.reader ≡ self.old.reader }
+        ensures tries { self.new.tries ≡ self.old.tries }
+        ensures counted { self.new.failed ≡ self.old.failed + 1 }
+    {
+        self.failed.rise();
     }
 }
 
