@@ -1,11 +1,22 @@
 -- The names of cells: how long a row's text is, and what is written where.
-use Rattle.std.proofs.Common.{◌≡◌, ℕ, ◌+◌, ◌-◌, ◌/◌, ◌%◌, ◌^◌, ◌<◌, ◌≤◌, List, [], ◌∷◌, length, take, slice_set, refl, ap, ◌∙◌}
+use Rattle.std.proofs.Common.{◌≡◌, ℕ, ◌+◌, ◌-◌, ◌/◌, ◌%◌, ◌^◌, ◌<◌, ◌≤◌, List, [], ◌∷◌, length, take, slice_set}
+use Rattle.std.proofs.Common.{refl, ap, ◌∙◌}
 use Rattle.std.proofs.Common.{arith, length-append}
 use Rattle.std.proofs.lemmas.Grind.{common_steps}
+use Rattle.std.proofs.Common.{◌++◌, drop, take_while, cond, true, false, sym, ⊎_elim, length-drop}
+use Rattle.std.proofs.lemmas.Bool.{cases_lt}
+use Rattle.std.proofs.Common.{Option, Some, None, unwrap_or}
+use Rattle.std.specs.Option.{SomeIff}
+use Rattle.std.specs.Char.{is_ascii_uppercase}
+use Rattle.std.specs.Str.Parse.{AllDigits}
+use Rattle.std.proofs.lemmas.Str.Parse.{digit_from_value}
+use Rattle.std.proofs.lemmas.List.Sums.{take_while-cons}
+use Rattle.std.proofs.Math.Seq.{take-append_seam, drop-append_seam}
+use Rattle.std.proofs.lemmas.List.{take_all}
 use Rattle.std.specs.Fmt.{decimal}
-use Rattle.std.proofs.lemmas.Fmt.{decimal_digit, decimal_step}
-use Rattle.ps_grid.specs.declared.size.TheConstants.{LETTERS}
-use Rattle.ps_grid.specs.Place.{letter_of, column_name}
+use Rattle.std.proofs.lemmas.Fmt.{decimal_is_IsNumeral, decimal_digit, decimal_step}
+use Rattle.ps_grid.specs.declared.size.TheConstants.{CELLS, COLUMNS, LETTERS, ROWS}
+use Rattle.ps_grid.specs.Place.{letter_of, column_name, cell_at, cell_name, column_of, row_of}
 
 pub length-decimal-one : (n : ℕ) → n < 10 → length (decimal n) ≡ 1
 length-decimal-one n h = ap length (decimal_digit n h)
@@ -22,3 +33,82 @@ take-two (x ∷ y ∷ xs) a b h = refl
 pub column_name-two : (column : ℕ) → LETTERS ≤ column
     → column_name column ≡ letter_of (column / LETTERS - 1) ∷ letter_of (column % LETTERS) ∷ []
 column_name-two column h = grind (arith, common_steps)
+
+pub column_name-one : (column : ℕ) → column < LETTERS → column_name column ≡ letter_of column ∷ []
+column_name-one column h = grind (arith, common_steps)
+
+is_letter : (k : ℕ) → k < LETTERS → is_ascii_uppercase (letter_of k) ≡ true
+is_letter k h = grind (arith, common_steps)
+
+-- digits are no letters
+take_while-digits : (ds : List ℕ) → AllDigits 10 ds → take_while is_ascii_uppercase ds ≡ []
+take_while-digits [] h = refl
+take_while-digits (d ∷ ds) h =
+    let range = digit_from_value d h.0 in
+    let none : is_ascii_uppercase d ≡ false = grind (arith, common_steps) in
+    take_while-cons is_ascii_uppercase d ds ∙ ap (λ b. cond b (d ∷ take_while is_ascii_uppercase ds) []) none
+
+-- the letters of a name end where no letter follows
+take_while-letter : (x : ℕ) (xs ys : List ℕ) → is_ascii_uppercase x ≡ true → take_while is_ascii_uppercase xs ≡ ys
+    → take_while is_ascii_uppercase (x ∷ xs) ≡ x ∷ ys
+take_while-letter x xs ys up rest =
+    take_while-cons is_ascii_uppercase x xs ∙ (λ i. cond (up i) (x ∷ rest i) [])
+
+take_while-name : (column : ℕ) → column < COLUMNS → (ys : List ℕ) → take_while is_ascii_uppercase ys ≡ []
+    → take_while is_ascii_uppercase (column_name column ++ ys) ≡ column_name column
+take_while-name column below ys none =
+    ⊎_elim
+    (λ (one : column < LETTERS).
+    let name = column_name-one column one in
+    ap (λ l. take_while is_ascii_uppercase (l ++ ys)) name
+    ∙ take_while-letter (letter_of column) ys [] (is_letter column one) none
+    ∙ sym name)
+    (λ (two : LETTERS ≤ column).
+    let name = column_name-two column two in
+    ap (λ l. take_while is_ascii_uppercase (l ++ ys)) name
+    ∙ take_while-letter (letter_of (column / LETTERS - 1)) (letter_of (column % LETTERS) ∷ ys)
+    (letter_of (column % LETTERS) ∷ []) (is_letter (column / LETTERS - 1) (omega arith))
+    (take_while-letter (letter_of (column % LETTERS)) ys [] (is_letter (column % LETTERS) (omega arith)) none)
+    ∙ sym name)
+    (cases_lt column LETTERS)
+
+-- the text of a cell is the letters that it begins with, and its digits
+module _ (c : ℕ) (below : c < CELLS) (text : List ℕ) (is : text ≡ cell_name c) (n : ℕ)
+    (counted : n ≡ length (take_while is_ascii_uppercase text)) where
+  pub column_below : column_of c < COLUMNS
+  column_below = omega arith
+
+  pub row_below : row_of c ≤ ROWS
+  row_below = omega (arith, below)
+
+  no_letter : take_while is_ascii_uppercase (decimal (row_of c)) ≡ []
+  no_letter =
+      take_while-digits (decimal (row_of c)) (decimal_is_IsNumeral (row_of c) (omega (arith, row_below))).0.1
+
+  letters_long : n ≡ length (column_name (column_of c))
+  letters_long =
+      counted
+      ∙ ap (λ t. length (take_while is_ascii_uppercase t)) is
+      ∙ ap length (take_while-name (column_of c) column_below (decimal (row_of c)) no_letter)
+
+  pub letters_are : take n text ≡ column_name (column_of c)
+  letters_are =
+      (λ i. take (letters_long i) (is i)) ∙ take-append_seam (column_name (column_of c)) (decimal (row_of c))
+
+  pub digits_are : take (length text - n) (drop n text) ≡ decimal (row_of c)
+  digits_are =
+      take_all (length text - n) (drop n text) (omega (arith, length-drop n text))
+      ∙ (λ i. drop (letters_long i) (is i))
+      ∙ drop-append_seam (column_name (column_of c)) (decimal (row_of c))
+
+-- the cell of a cell's column and row is that cell
+pub named_is : (r : Option ℕ) (x y c : ℕ) → c < CELLS → Some x ≡ Some (column_of c) → Some y ≡ Some (row_of c)
+    → SomeIff r ((x < COLUMNS) × (1 ≤ y) × (y ≤ ROWS)) (cell_at x y) → r ≡ Some c
+named_is r x y c below column row made =
+    let across = ap (λ o. unwrap_or o 0) column in
+    let down = ap (λ o. unwrap_or o 0) row in
+    found r made (omega arith, omega arith, omega arith) (omega (arith, across, down))
+  where
+    found : (r : Option ℕ) {P : Type 0} {v w : ℕ} → SomeIff r P v → P → v ≡ w → r ≡ Some w
+    found None made p e = absurd (made p)
+    found (Some z) made p e = ap Some (made.1 ∙ e)

@@ -1,5 +1,5 @@
 -- The number and the name of each refusal.
-use Rattle.std.specs.Prelude.{ℕ, List, codes}
+use Rattle.std.specs.Prelude.{◌≡◌, ℕ, List, codes}
 use Rattle.ps_grid.specs.declared.refusal.Refusal.{Refusal}
 use Rattle.ps_grid.specs.declared.refusal.Refusal.TheVariants.{Cell, Text, Formula, TooLong, NotTally, NotChoice}
 use Rattle.ps_grid.specs.declared.refusal.Refusal.TheVariants.{Amount, OptionRange, Replica, TallyFull, ChoiceFull}
@@ -53,3 +53,7 @@ name_of Csv = codes "csv"
 name_of Memory = codes "memory"
 name_of Device = codes "device"
 name_of Seat = codes "seat"
+
+-- no two refusals have one number
+abbrev pub NumbersDiffer : Type 0
+NumbersDiffer = (r s : Refusal) → number_of r ≡ number_of s → r ≡ s

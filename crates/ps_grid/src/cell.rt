@@ -1,9 +1,10 @@
 //! The cells of the grid.
 
-ghost use Rattle.std.specs.Prelude.{◌≡◌, ◌+◌, ◌*◌, ◌<◌, ◌≤◌, ◌++◌, drop, length, take};
+ghost use Rattle.std.specs.Prelude.{◌≡◌, ◌↔◌, ℕ, ◌+◌, ◌*◌, ◌<◌, ◌≤◌, ◌++◌, drop, length, take, take_while};
+ghost use Rattle.std.specs.Char.{is_ascii_uppercase};
 ghost use Rattle.std.specs.Fmt.{decimal};
 ghost use Rattle.std.specs.Option.{SomeIff};
-ghost use Rattle.ps_grid.specs.Place.{cell_at, cell_name, column_of, letter_of, row_of};
+ghost use Rattle.ps_grid.specs.Place.{cell_at, cell_name, column_name, column_of, letter_of, row_of};
 
 use crate::size::{CELLS, COLUMNS, LETTERS, ROWS};
 use std::marker::Model;
@@ -79,6 +80,23 @@ impl Cell {
         }
     }
 
+    /// The cell that a text names: the letters of its column, A to CZ, and its row, 1 to 1024, with no zero in
+    /// front and nothing else; none where the text names no cell.
+    ///
+    /// Cost: constant but for the search of the first byte that is no letter.
+    pub fn read(text: &[u8]) -> Option<Cell>
+        ensures { (c : ℕ) → (result ≡ Some c) ↔ ((c < CELLS) × (text.now ≡ cell_name c)) }
+    {
+        let cell = candidate(text)?;
+        let mut name = [0; 6];
+        let len = cell.write(&mut name);
+        if &name[..len] == text {
+            Some(cell)
+        } else {
+            None
+        }
+    }
+
     /// Writes the name of the cell at the front of `out`, leaves the bytes behind it as they are, and answers
     /// how long the name is: the letters of the column, A to CZ, and the row in decimal, 1 to 1024.
     ///
@@ -120,6 +138,47 @@ impl Cell {
         ensures in_grid { result ≤ ROWS }
     {
         (self.place / COLUMNS as u32) as u16 + 1
+    }
+}
+
+// The cell that a text names, if it names one.
+fn candidate(text: &[u8]) -> Option<Cell>
+    ensures { (c : ℕ) → c < CELLS → text.now ≡ cell_name c → result ≡ Some c }
+{
+    let letters = letter_count(text);
+    let column = column_named(&text[..letters])?;
+    let row = row_named(&text[letters..])?;
+    Cell::new(column, row)
+}
+
+// How many upper-case letters a text begins with.
+fn letter_count(text: &[u8]) -> usize
+    ensures counted { result ≡ length (take_while is_ascii_uppercase text.now) }
+    ensures within { result ≤ length text.now }
+{
+    text.iter().take_while(|b| b.is_ascii_uppercase()).count()
+}
+
+// The column that letters name, if they name one.
+fn column_named(letters: &[u8]) -> Option<u8>
+    ensures { (column : ℕ) → column < COLUMNS → letters.now ≡ column_name column → result ≡ Some column }
+{
+    match *letters {
+        [last] => last.checked_sub(b'A'),
+        [first, last] if (b'A'..=b'D').contains(&first) => {
+            ((first - b'A' + 1) * LETTERS as u8).checked_add(last.checked_sub(b'A')?)
+        }
+        _ => None,
+    }
+}
+
+// The row that digits name, if they name one.
+fn row_named(digits: &[u8]) -> Option<u16>
+    ensures { (row : ℕ) → row ≤ ROWS → digits.now ≡ decimal row → result ≡ Some row }
+{
+    match str::from_utf8(digits) {
+        Ok(text) => u16::from_str_radix(text, 10).ok(),
+        Err(_) => None,
     }
 }
 

@@ -17,7 +17,7 @@ mod size;
 mod twin;
 
 pub use cell::Cell;
-pub use laws::long_chains_repeat;
+pub use laws::{long_chains_repeat, refusal_numbers_differ};
 pub use rect::{Cells, Rect};
 pub use refusal::Refusal;
 pub use size::{CELLS, COLUMNS, ROWS};
