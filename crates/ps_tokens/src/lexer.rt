@@ -3,12 +3,19 @@
 ghost use Rattle.std.specs.Prelude.{◌≡◌, IfOk, IfErr, MatchResult, List, ◌⊎◌};
 ghost use Rattle.ps_grid.specs.declared.refusal.Refusal.TheVariants.{Formula, Memory};
 ghost use Rattle.ps_tokens.specs.Apart.{AreApart};
-ghost use Rattle.ps_tokens.specs.Text.{Spells};
+ghost use Rattle.ps_tokens.specs.Text.{Spells, is_blank};
 ghost use Rattle.ps_tokens.specs.declared.token.Token.{Token};
 
+use crate::front::{byte_at, from, token};
 use crate::token::Token;
 use ps_grid::Refusal;
 use std::alloc::Global;
+
+fn is_blank(byte: u8) -> bool
+    ensures { result ≡ is_blank byte }
+{
+    byte == b' ' || byte == b'\t' || byte == b'\n' || byte == b'\r'
+}
 
 /// The tokens that the text spells, with blanks anywhere between them; refused as a formula where it spells
 /// none. Each token is read as long as it gets, so that `<=` is one operator and `12` one numeral; a list of
@@ -21,7 +28,18 @@ pub fn tokens(alloc: Global, text: &[u8]) -> Result<Vec<Token>, Refusal>
     ensures formula { result ≡ Err Formula → (ts : List Token) → Spells text.now ts → AreApart ts → ⊥ }
     ensures refused { IfErr result (λ e. (e ≡ Formula) ⊎ (e ≡ Memory)) }
 {
-    let _ = alloc;
-    let _ = text;
-    Err(Refusal::Memory)
+    let mut found = Vec::with_capacity(alloc, text.len())?;
+    let mut rest = text;
+    'tokens: while !rest.is_empty() {
+        if is_blank(byte_at(rest, 0)) {
+            rest = from(rest, 1);
+        } else {
+            let Some((token, behind)) = token(rest) else {
+                return Err(Refusal::Formula);
+            };
+            found.push(token)?;
+            rest = behind;
+        }
+    }
+    Ok(found)
 }

@@ -11,10 +11,11 @@
 //! Cost: each byte of a text is looked at a few times at most, and the list of tokens is reserved once.
 #![tactic(auto)]
 
+mod front;
 mod lexer;
 mod token;
 mod writer;
 
 pub use lexer::tokens;
-pub use token::{Function, Operator, Token};
+pub use token::{FUNCTIONS, Function, Operator, Token};
 pub use writer::put_token;

@@ -36,6 +36,23 @@ pub enum Function {
     False,
 }
 
+/// All functions.
+pub const FUNCTIONS: [Function; 13] = [
+    Function::Sum,
+    Function::Min,
+    Function::Max,
+    Function::Count,
+    Function::If,
+    Function::Mod,
+    Function::Quotient,
+    Function::Abs,
+    Function::And,
+    Function::Or,
+    Function::Not,
+    Function::True,
+    Function::False,
+];
+
 /// An operator of the formula language. Plus and minus stand before an operand or between two.
 #[derive(Clone, Copy, Debug, PartialEq, Eq)]
 pub enum Operator {

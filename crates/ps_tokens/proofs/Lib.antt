@@ -1,0 +1,10 @@
+pub mod Choices
+pub mod Corners
+pub mod Heads
+pub mod Marks
+pub mod NameLemmas
+pub mod Runs
+pub mod Signs
+pub mod Spelling
+pub mod TokenLemmas
+pub mod Values

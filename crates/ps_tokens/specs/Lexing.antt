@@ -1,0 +1,142 @@
+-- Reading the token at the front of a text, as long as it gets. This is no part of what a token is (that is
+-- `Text`): the code is proved equal to it, and laws in proofs/ tie it to `IsToken` on both sides.
+use Rattle.std.specs.Prelude.{ℕ, ◌+◌, ◌-◌, ◌*◌, ◌^◌, ◌&&◌, ◌==◌, List, [], ◌∷◌, Option, Some, None, pos, nat_lt, nat_le, take, drop, slice_index, option_and_then, if◌then◌else◌}
+use Rattle.std.specs.Char.{is_ascii_digit, is_ascii_uppercase, is_ascii_alphabetic}
+use Rattle.std.specs.List.{find, prefix_len}
+use Rattle.std.specs.Option.{option_map, option_or}
+use Rattle.std.specs.Str.{str_eq_ignore_ascii_case}
+use Rattle.std.specs.Str.Parse.{digits_value}
+use Rattle.ps_grid.specs.Place.{cell_at}
+use Rattle.ps_grid.specs.Rectangle.{spanned}
+use Rattle.ps_grid.specs.declared.size.TheConstants.{COLUMNS, ROWS}
+use Rattle.ps_tokens.specs.Names.{function_name}
+use Rattle.ps_tokens.specs.declared.token.TheConstants.{FUNCTIONS}
+use Rattle.ps_tokens.specs.declared.token.Function.{Function}
+use Rattle.ps_tokens.specs.declared.token.Operator.{Operator}
+use Rattle.ps_tokens.specs.declared.token.Operator.TheVariants.{Plus, Minus, Times, Equal, NotEqual, Less, LessOrEqual, Greater, GreaterOrEqual}
+use Rattle.ps_tokens.specs.declared.token.Token.{Token}
+use Rattle.ps_tokens.specs.declared.token.Token.TheVariants.{Numeral, Reference, Range, Name, Symbol, Open, Close, Separator}
+
+-- the text behind the byte b, where the text begins with it
+unfoldable pub after : ℕ → List ℕ → Option (List ℕ)
+after b s = if slice_index s 0 == b then Some (drop 1 s) else None
+
+-- the text without a `$` at its front
+unfoldable pub unmarked : List ℕ → List ℕ
+unmarked s = if slice_index s 0 == 36 then drop 1 s else s
+
+-- how many digits, and how many letters, stand at the front
+abbrev pub digits_at : List ℕ → ℕ
+digits_at s = prefix_len is_ascii_digit s
+
+abbrev pub capitals_at : List ℕ → ℕ
+capitals_at s = prefix_len is_ascii_uppercase s
+
+abbrev pub letters_at : List ℕ → ℕ
+letters_at s = prefix_len is_ascii_alphabetic s
+
+-- the number of the digits, where it is not too large
+unfoldable pub number_in : List ℕ → Option ℕ
+number_in w = if nat_lt (digits_value 10 w) (2 ^ 63) then Some (digits_value 10 w) else None
+
+-- the column of one or two capital letters
+unfoldable pub column_in : List ℕ → Option ℕ
+column_in [] = None
+column_in (a ∷ []) = Some (a - 65)
+column_in (a ∷ b ∷ []) = Some ((a - 64) * 26 + (b - 65))
+column_in (a ∷ b ∷ c ∷ s) = None
+
+-- the row of digits, of which the first is not 0
+unfoldable pub row_in : List ℕ → Option ℕ
+row_in w = if slice_index w 0 == 48 then None else number_in w
+
+-- the cell of a column and a row, if the grid has it
+unfoldable pub cell_if : ℕ → ℕ → Option ℕ
+cell_if column row =
+    if (nat_lt column COLUMNS && nat_le 1 row) && nat_le row ROWS then Some (cell_at column row) else None
+
+-- the cell of letters and digits
+unfoldable pub cell_in : List ℕ → List ℕ → Option ℕ
+cell_in letters digits =
+    option_and_then (λ column. option_and_then (λ row. cell_if column row) (row_in digits)) (column_in letters)
+
+-- the corner at the front, and what stands behind it
+unfoldable pub corner_at : List ℕ → Option (ℕ × List ℕ)
+corner_at s =
+    let t = unmarked s in
+    let u = unmarked (drop (capitals_at t) t) in
+    option_map (λ c. (c, drop (digits_at u) u)) (cell_in (take (capitals_at t) t) (take (digits_at u) u))
+
+-- the range whose first corner was read
+unfoldable pub range_at : ℕ → List ℕ → Option (Token × List ℕ)
+range_at c s =
+    option_and_then
+    (λ t.
+    option_and_then
+    (λ u.
+    option_and_then
+    (λ p. option_map (λ v. (Range (spanned c p.0), v)) (after 93 p.1))
+    (corner_at u))
+    (after 46 t))
+    (after 58 s)
+
+-- the reference that ends behind its corner
+unfoldable pub reference_at : ℕ → List ℕ → Option (Token × List ℕ)
+reference_at c s = option_map (λ t. (Reference c, t)) (after 93 s)
+
+-- the reference or the range whose bracket was read
+unfoldable pub bracketed_at : List ℕ → Option (Token × List ℕ)
+bracketed_at s =
+    option_and_then
+    (λ t.
+    option_and_then (λ p. option_or (reference_at p.0 p.1) (range_at p.0 p.1)) (corner_at t))
+    (after 46 s)
+
+-- the numeral at the front
+unfoldable pub numeral_at : List ℕ → Option (Token × List ℕ)
+numeral_at s = option_map (λ n. (Numeral (pos n), drop (digits_at s) s)) (number_in (take (digits_at s) s))
+
+-- the function of a name
+unfoldable pub function_of : List ℕ → Option Function
+function_of w = find (λ f. str_eq_ignore_ascii_case w (function_name f)) FUNCTIONS
+
+-- the name at the front
+unfoldable pub name_at : List ℕ → Option (Token × List ℕ)
+name_at s = option_map (λ f. (Name f, drop (letters_at s) s)) (function_of (take (letters_at s) s))
+
+-- the operator of two bytes
+unfoldable pub operator_of_two : ℕ → ℕ → Option Operator
+operator_of_two a b =
+    if a == 60 && b == 62 then Some NotEqual
+    else (if a == 60 && b == 61 then Some LessOrEqual
+    else (if a == 62 && b == 61 then Some GreaterOrEqual
+    else None))
+
+-- the token of one byte
+unfoldable pub token_of_one : ℕ → Option Token
+token_of_one a =
+    if a == 43 then Some (Symbol Plus)
+    else (if a == 45 then Some (Symbol Minus)
+    else (if a == 42 then Some (Symbol Times)
+    else (if a == 61 then Some (Symbol Equal)
+    else (if a == 60 then Some (Symbol Less)
+    else (if a == 62 then Some (Symbol Greater)
+    else (if a == 40 then Some Open
+    else (if a == 41 then Some Close
+    else (if a == 59 then Some Separator
+    else None))))))))
+
+-- the sign at the front, of two bytes where it can be
+unfoldable pub sign_at : List ℕ → Option (Token × List ℕ)
+sign_at s =
+    option_or
+    (option_map (λ x. (Symbol x, drop 2 s)) (operator_of_two (slice_index s 0) (slice_index s 1)))
+    (option_map (λ x. (x, drop 1 s)) (token_of_one (slice_index s 0)))
+
+-- the token at the front, and what stands behind it
+unfoldable pub token_at : List ℕ → Option (Token × List ℕ)
+token_at s =
+    if is_ascii_digit (slice_index s 0) then numeral_at s
+    else (if is_ascii_alphabetic (slice_index s 0) then name_at s
+    else (if slice_index s 0 == 91 then bracketed_at (drop 1 s)
+    else sign_at s))

@@ -1,0 +1,284 @@
+//! The token at the front of a text. Each function answers what it found and the text behind it.
+
+ghost use Rattle.std.specs.Prelude.{◌≡◌, ◌<◌, ◌≤◌, ◌^◌, drop, length, slice_index, IfSome, pos};
+ghost use Rattle.std.specs.Char.{is_ascii_uppercase};
+ghost use Rattle.std.specs.List.{AllPass};
+ghost use Rattle.std.specs.Option.{option_map};
+ghost use Rattle.std.specs.Str.Parse.{AllDigits};
+ghost use Rattle.ps_tokens.specs.Lexing.{after, bracketed_at, capitals_at, cell_if, cell_in, column_in, corner_at, digits_at, function_of, letters_at, name_at, number_in, numeral_at, operator_of_two, range_at, reference_at, row_in, sign_at, token_at, token_of_one, unmarked};
+
+use crate::token::{FUNCTIONS, Function, Operator, Token};
+use ps_grid::{Cell, Rect};
+
+/// The byte at a place, 0 past the end.
+pub(crate) fn byte_at(text: &[u8], place: usize) -> u8
+    ensures { result ≡ slice_index text.now place }
+{
+    if place < text.len() { text[place] } else { 0 }
+}
+
+/// The text from a place on, nothing past the end.
+pub(crate) fn from(text: &[u8], place: usize) -> &[u8]
+    ensures { result.now ≡ drop place text.now }
+{
+    if place < text.len() {
+        &text[place..]
+    } else {
+        &text[text.len()..]
+    }
+}
+
+#[tactic(auto, unfolding(crate::specs::Lexing::after))]
+fn after(byte: u8, text: &[u8]) -> Option<&[u8]>
+    ensures { option_map (λ rest. rest.now) result ≡ after byte text.now }
+{
+    if byte_at(text, 0) == byte {
+        Some(from(text, 1))
+    } else {
+        None
+    }
+}
+
+#[tactic(auto, unfolding(crate::specs::Lexing::unmarked))]
+fn unmarked(text: &[u8]) -> &[u8]
+    ensures { result.now ≡ unmarked text.now }
+{
+    if byte_at(text, 0) == b'$' {
+        from(text, 1)
+    } else {
+        text
+    }
+}
+
+fn digits_at(text: &[u8]) -> usize
+    ensures count { result ≡ digits_at text.now }
+    ensures in_text { result ≤ length text.now }
+{
+    for (n, byte) in text.iter().enumerate() {
+        if !byte.is_ascii_digit() {
+            return n;
+        }
+    }
+    text.len()
+}
+
+fn capitals_at(text: &[u8]) -> usize
+    ensures count { result ≡ capitals_at text.now }
+    ensures in_text { result ≤ length text.now }
+{
+    for (n, byte) in text.iter().enumerate() {
+        if !byte.is_ascii_uppercase() {
+            return n;
+        }
+    }
+    text.len()
+}
+
+fn letters_at(text: &[u8]) -> usize
+    ensures count { result ≡ letters_at text.now }
+    ensures in_text { result ≤ length text.now }
+{
+    for (n, byte) in text.iter().enumerate() {
+        if !byte.is_ascii_alphabetic() {
+            return n;
+        }
+    }
+    text.len()
+}
+
+// The number that the digits write, where it is at most 2^63 - 1.
+#[tactic(auto, unfolding(crate::specs::Lexing::number_in))]
+fn number(digits: &[u8]) -> Option<u64>
+    requires { AllDigits 10 digits.now }
+    ensures value { result ≡ number_in digits.now }
+    ensures small { IfSome result (λ n. n < 2 ^ 63) }
+{
+    const LARGEST: u64 = i64::MAX as u64;
+    let mut value: u64 = 0;
+    for digit in digits {
+        if value > LARGEST / 10 {
+            return None;
+        }
+        value = value * 10 + u64::from(*digit - b'0');
+        if value > LARGEST {
+            return None;
+        }
+    }
+    Some(value)
+}
+
+#[tactic(auto, unfolding(crate::specs::Lexing::column_in))]
+fn column(letters: &[u8]) -> Option<u16>
+    requires { AllPass is_ascii_uppercase letters.now }
+    ensures { result ≡ column_in letters.now }
+{
+    match letters {
+        [a] => Some(u16::from(*a - b'A')),
+        [a, b] => Some(u16::from(*a - b'@') * 26 + u16::from(*b - b'A')),
+        _ => None,
+    }
+}
+
+#[tactic(auto, unfolding(crate::specs::Lexing::row_in))]
+fn row(digits: &[u8]) -> Option<u64>
+    requires { AllDigits 10 digits.now }
+    ensures { result ≡ row_in digits.now }
+{
+    if byte_at(digits, 0) == b'0' {
+        return None;
+    }
+    number(digits)
+}
+
+#[tactic(auto, unfolding(crate::specs::Lexing::cell_if))]
+fn cell_if(column: u16, row: u64) -> Option<Cell>
+    ensures { result ≡ cell_if column row }
+{
+    Cell::new(u8::try_from(column).ok()?, u16::try_from(row).ok()?)
+}
+
+#[tactic(auto, unfolding(crate::specs::Lexing::cell_in))]
+fn cell(letters: &[u8], digits: &[u8]) -> Option<Cell>
+    requires capitals { AllPass is_ascii_uppercase letters.now }
+    requires digits { AllDigits 10 digits.now }
+    ensures { result ≡ cell_in letters.now digits.now }
+{
+    let column = column(letters)?;
+    let row = row(digits)?;
+    cell_if(column, row)
+}
+
+#[tactic(auto, unfolding(crate::specs::Lexing::corner_at))]
+fn corner(text: &[u8]) -> Option<(Cell, &[u8])>
+    ensures { option_map (λ found. (found.0, found.1.now)) result ≡ corner_at text.now }
+{
+    let text = unmarked(text);
+    let (letters, text) = text.split_at(capitals_at(text));
+    let text = unmarked(text);
+    let (digits, rest) = text.split_at(digits_at(text));
+    let cell = cell(letters, digits)?;
+    Some((cell, rest))
+}
+
+#[tactic(auto, unfolding(crate::specs::Lexing::reference_at))]
+fn reference(corner: Cell, text: &[u8]) -> Option<(Token, &[u8])>
+    ensures { option_map (λ found. (found.0, found.1.now)) result ≡ reference_at corner text.now }
+{
+    let rest = after(b']', text)?;
+    Some((Token::Reference(corner), rest))
+}
+
+#[tactic(auto, unfolding(crate::specs::Lexing::range_at))]
+fn range(first: Cell, text: &[u8]) -> Option<(Token, &[u8])>
+    ensures { option_map (λ found. (found.0, found.1.now)) result ≡ range_at first text.now }
+{
+    let text = after(b':', text)?;
+    let text = after(b'.', text)?;
+    let Some((second, text)) = corner(text) else {
+        return None;
+    };
+    let rest = after(b']', text)?;
+    Some((Token::Range(Rect::new(first, second)), rest))
+}
+
+#[tactic(auto, unfolding(crate::specs::Lexing::bracketed_at))]
+fn bracketed(text: &[u8]) -> Option<(Token, &[u8])>
+    ensures { option_map (λ found. (found.0, found.1.now)) result ≡ bracketed_at text.now }
+{
+    let text = after(b'.', text)?;
+    let Some((first, text)) = corner(text) else {
+        return None;
+    };
+    if let Some(found) = reference(first, text) {
+        return Some(found);
+    }
+    range(first, text)
+}
+
+#[tactic(auto, unfolding(crate::specs::Lexing::numeral_at))]
+fn numeral(text: &[u8]) -> Option<(Token, &[u8])>
+    ensures { option_map (λ found. (found.0, found.1.now)) result ≡ numeral_at text.now }
+{
+    let (digits, rest) = text.split_at(digits_at(text));
+    let value = number(digits)?;
+    Some((Token::Numeral(value as i64), rest))
+}
+
+#[tactic(auto, unfolding(crate::specs::Lexing::function_of))]
+fn function(name: &[u8]) -> Option<Function>
+    ensures { result ≡ function_of name.now }
+{
+    for function in FUNCTIONS {
+        if name.eq_ignore_ascii_case(function.name().as_bytes()) {
+            return Some(function);
+        }
+    }
+    None
+}
+
+#[tactic(auto, unfolding(crate::specs::Lexing::name_at))]
+fn name(text: &[u8]) -> Option<(Token, &[u8])>
+    ensures { option_map (λ found. (found.0, found.1.now)) result ≡ name_at text.now }
+{
+    let (letters, rest) = text.split_at(letters_at(text));
+    let function = function(letters)?;
+    Some((Token::Name(function), rest))
+}
+
+#[tactic(auto, unfolding(crate::specs::Lexing::operator_of_two))]
+fn operator_of_two(first: u8, second: u8) -> Option<Operator>
+    ensures { result ≡ operator_of_two first second }
+{
+    match (first, second) {
+        (b'<', b'>') => Some(Operator::NotEqual),
+        (b'<', b'=') => Some(Operator::LessOrEqual),
+        (b'>', b'=') => Some(Operator::GreaterOrEqual),
+        _ => None,
+    }
+}
+
+#[tactic(auto, unfolding(crate::specs::Lexing::token_of_one))]
+fn token_of_one(byte: u8) -> Option<Token>
+    ensures { result ≡ token_of_one byte }
+{
+    match byte {
+        b'+' => Some(Token::Symbol(Operator::Plus)),
+        b'-' => Some(Token::Symbol(Operator::Minus)),
+        b'*' => Some(Token::Symbol(Operator::Times)),
+        b'=' => Some(Token::Symbol(Operator::Equal)),
+        b'<' => Some(Token::Symbol(Operator::Less)),
+        b'>' => Some(Token::Symbol(Operator::Greater)),
+        b'(' => Some(Token::Open),
+        b')' => Some(Token::Close),
+        b';' => Some(Token::Separator),
+        _ => None,
+    }
+}
+
+#[tactic(auto, unfolding(crate::specs::Lexing::sign_at))]
+fn sign(text: &[u8]) -> Option<(Token, &[u8])>
+    ensures { option_map (λ found. (found.0, found.1.now)) result ≡ sign_at text.now }
+{
+    if let Some(operator) = operator_of_two(byte_at(text, 0), byte_at(text, 1)) {
+        return Some((Token::Symbol(operator), from(text, 2)));
+    }
+    let token = token_of_one(byte_at(text, 0))?;
+    Some((token, from(text, 1)))
+}
+
+/// The token at the front of the text, as long as it gets, and the text behind it.
+#[tactic(auto, unfolding(crate::specs::Lexing::token_at))]
+pub(crate) fn token(text: &[u8]) -> Option<(Token, &[u8])>
+    ensures { option_map (λ found. (found.0, found.1.now)) result ≡ token_at text.now }
+{
+    let first = byte_at(text, 0);
+    if first.is_ascii_digit() {
+        numeral(text)
+    } else if first.is_ascii_alphabetic() {
+        name(text)
+    } else if first == b'[' {
+        bracketed(from(text, 1))
+    } else {
+        sign(text)
+    }
+}
