@@ -22,3 +22,6 @@ pub use rect::{Cells, Rect};
 pub use refusal::Refusal;
 pub use size::{CELLS, COLUMNS, ROWS};
 pub use twin::Twin;
+
+#[cfg(test)]
+mod tests;
