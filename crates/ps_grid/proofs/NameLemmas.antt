@@ -3,7 +3,7 @@ use Rattle.std.proofs.Common.{◌≡◌, ℕ, ◌+◌, ◌-◌, ◌/◌, ◌%◌
 use Rattle.std.proofs.Common.{refl, ap, ◌∙◌}
 use Rattle.std.proofs.Common.{arith, length-append}
 use Rattle.std.proofs.lemmas.Grind.{common_steps}
-use Rattle.std.proofs.Common.{◌++◌, drop, take_while, cond, true, false, sym, ⊎_elim, length-drop}
+use Rattle.std.proofs.Common.{◌*◌, ◌++◌, drop, take_while, cond, true, false, sym, ⊎_elim, length-drop}
 use Rattle.std.proofs.lemmas.Bool.{cases_lt}
 use Rattle.std.proofs.Common.{Option, Some, None, unwrap_or}
 use Rattle.std.specs.Option.{SomeIff}
@@ -14,7 +14,7 @@ use Rattle.std.proofs.lemmas.List.Sums.{take_while-cons}
 use Rattle.std.proofs.Math.Seq.{take-append_seam, drop-append_seam}
 use Rattle.std.proofs.lemmas.List.{take_all}
 use Rattle.std.specs.Fmt.{decimal}
-use Rattle.std.proofs.lemmas.Fmt.{decimal_is_IsNumeral, decimal_digit, decimal_step}
+use Rattle.std.proofs.lemmas.Fmt.{decimal_injective, decimal_is_IsNumeral, decimal_digit, decimal_step}
 use Rattle.ps_grid.specs.declared.size.TheConstants.{CELLS, COLUMNS, LETTERS, ROWS}
 use Rattle.ps_grid.specs.Place.{letter_of, column_name, cell_at, cell_name, column_of, row_of}
 
@@ -72,6 +72,23 @@ take_while-name column below ys none =
     ∙ sym name)
     (cases_lt column LETTERS)
 
+-- no two columns have one name
+abbrev column_number : List ℕ → ℕ
+column_number [] = 0
+column_number (x ∷ []) = x - 65
+column_number (x ∷ y ∷ rest) = (x - 64) * LETTERS + (y - 65)
+
+column_number-name : (column : ℕ) → column < COLUMNS → column_number (column_name column) ≡ column
+column_number-name column below =
+    ⊎_elim
+    (λ (one : column < LETTERS). ap column_number (column_name-one column one) ∙ omega arith)
+    (λ (two : LETTERS ≤ column). ap column_number (column_name-two column two) ∙ omega arith)
+    (cases_lt column LETTERS)
+
+pub column_name-injective : (c d : ℕ) → c < COLUMNS → d < COLUMNS → column_name c ≡ column_name d → c ≡ d
+column_name-injective c d below under same =
+    sym (column_number-name c below) ∙ ap column_number same ∙ column_number-name d under
+
 -- the text of a cell is the letters that it begins with, and its digits
 module _ (c : ℕ) (below : c < CELLS) (text : List ℕ) (is : text ≡ cell_name c) (n : ℕ)
     (counted : n ≡ length (take_while is_ascii_uppercase text)) where
@@ -112,3 +129,16 @@ named_is r x y c below column row made =
     found : (r : Option ℕ) {P : Type 0} {v w : ℕ} → SomeIff r P v → P → v ≡ w → r ≡ Some w
     found None made p e = absurd (made p)
     found (Some z) made p e = ap Some (made.1 ∙ e)
+
+-- no two cells have one name
+pub cell_name-injective : (c d : ℕ) → c < CELLS → d < CELLS → cell_name c ≡ cell_name d → c ≡ d
+cell_name-injective c d below under same =
+    let n : ℕ = length (take_while is_ascii_uppercase (cell_name c)) in
+    let columns : column_name (column_of c) ≡ column_name (column_of d) =
+    sym (letters_are c below (cell_name c) refl n refl) ∙ letters_are d under (cell_name c) same n refl in
+    let rows : decimal (row_of c) ≡ decimal (row_of d) =
+    sym (digits_are c below (cell_name c) refl n refl) ∙ digits_are d under (cell_name c) same n refl in
+    let down : row_of c ≡ row_of d =
+    decimal_injective (row_of c) (row_of d) (omega arith) (omega arith) rows in
+    let across = column_name-injective (column_of c) (column_of d) (omega arith) (omega arith) columns in
+    omega (arith, down, across)
