@@ -1,0 +1,98 @@
+//! What a cell's register holds.
+ghost use Rattle.std.specs.Prelude.{◌≡◌, ◌++◌, codes, OnOk, OnErr, IfErr};
+ghost use Rattle.std.specs.Fmt.{signed_decimal};
+ghost use Rattle.ps_value.specs.Label.{IsLabel};
+ghost use Rattle.ps_grid.specs.declared.refusal.Refusal.TheVariants.{Memory};
+
+use crate::shared::SharedFormula;
+use itoa::Buffer;
+use ps_grid::{Refusal, Twin};
+use ps_value::Label;
+use std::alloc::Global;
+
+/// What a cell's register holds. The kinds ascend in the order in which they stand here.
+#[derive(Drop)]
+pub enum Content {
+    /// Nothing is shown.
+    Blank,
+    /// A whole number.
+    Number(i64),
+    /// A text.
+    Text(Label),
+    /// A formula, whose value is shown.
+    Formula(SharedFormula),
+    /// The cell's counter is shown.
+    Tally,
+    /// The cell's set of options is shown.
+    Choice,
+}
+
+impl Twin for Content {
+    fn twin(&self, alloc: Global) -> Result<Content, Refusal> {
+        match self {
+            Content::Blank => Ok(Content::Blank),
+            Content::Number(number) => Ok(Content::Number(*number)),
+            Content::Text(label) => Ok(Content::Text(*label)),
+            Content::Formula(formula) => Ok(Content::Formula(formula.twin(alloc)?)),
+            Content::Tally => Ok(Content::Tally),
+            Content::Choice => Ok(Content::Choice),
+        }
+    }
+}
+
+impl Content {
+    ghost use Rattle.ps_content.specs.Content.{canonical_text, IsContent};
+
+    /// Appends the canonical text of the content. Refused only for lack of memory, and then the text is as before.
+    ///
+    /// Cost: linear in the text that is appended.
+    pub fn canonical(&self, out: &mut Vec<u8>) -> Result<(), Refusal>
+        ensures appended { OnOk result (out.new.items ≡ out.old.items ++ canonical_text self.now) }
+        ensures kept { OnErr result (out.new.items ≡ out.old.items) }
+        ensures memory { IfErr result (λ e. e ≡ Memory) }
+        ensures content { IsContent self.now }
+    {
+        match self {
+            Content::Blank => Ok(()),
+            Content::Number(number) => append_number(*number, out),
+            Content::Text(label) => append_text(label, out),
+            Content::Formula(formula) => append(formula.formula().text(), out),
+            Content::Tally => append(b"@tally", out),
+            Content::Choice => append(b"@choice", out),
+        }
+    }
+}
+
+fn append(bytes: &[u8], out: &mut Vec<u8>) -> Result<(), Refusal>
+    ensures appended { OnOk result (out.new.items ≡ out.old.items ++ bytes.now) }
+    ensures kept { OnErr result (out.new.items ≡ out.old.items) }
+    ensures memory { IfErr result (λ e. e ≡ Memory) }
+{
+    out.extend_from_slice(bytes)?;
+    Ok(())
+}
+
+fn append_number(number: i64, out: &mut Vec<u8>) -> Result<(), Refusal>
+    ensures appended { OnOk result (out.new.items ≡ out.old.items ++ signed_decimal number) }
+    ensures kept { OnErr result (out.new.items ≡ out.old.items) }
+    ensures memory { IfErr result (λ e. e ≡ Memory) }
+{
+    let mut buffer = Buffer::new();
+    append(buffer.format(number).as_bytes(), out)
+}
+
+fn append_text(label: &Label, out: &mut Vec<u8>) -> Result<(), Refusal>
+    ensures appended { OnOk result (out.new.items ≡ out.old.items ++ codes "'" ++ label.now) }
+    ensures label { IsLabel label.now }
+    ensures kept { OnErr result (out.new.items ≡ out.old.items) }
+    ensures memory { IfErr result (λ e. e ≡ Memory) }
+{
+    let text = label.bytes();
+    let start = out.len();
+    append(b"'", out)?;
+    if append(text, out).is_err() {
+        out.truncate(start);
+        return Err(Refusal::Memory);
+    }
+    Ok(())
+}

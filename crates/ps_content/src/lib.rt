@@ -1,0 +1,17 @@
+//! What a cell holds: the contents that are assigned to its register, the entries that people type, and the
+//! canonical texts that travel.
+//!
+//! It is not what a cell shows: it evaluates nothing, and knows no stamps.
+//!
+//! The entry `+007` is the number 7, whose canonical text is `7`. The entry `'7` is a text, whose canonical text is
+//! the entry itself. The entry `of:= sum([.B2:.A1])` is a formula, whose canonical text is `=SUM([.A1:.B2])`.
+//!
+//! Cost: an entry is read in time linear in its bytes, of which there are at most 512; all else is constant but for
+//! the texts that are copied or compared.
+#![tactic(auto)]
+
+mod content;
+mod shared;
+
+pub use content::Content;
+pub use shared::SharedFormula;
