@@ -1,3 +1,4 @@
+pub mod Canonical
 pub mod Choices
 pub mod Corners
 pub mod Heads

@@ -147,3 +147,17 @@ turn_none text found (b ∷ rest) some other read left = left_none text found b 
 pub turn_end : (text : List ℕ) (found : List Token) (rest : List ℕ) → (length rest == 0) ≡ true → IsLeft text found rest → Spells text found × ((ts : List Token) → Spells text ts → AreApart ts → found ≡ ts)
 turn_end text found [] none left = left_end text found left
 turn_end text found (b ∷ rest) none left = absurd (omega (arith, eqb-true (length (b ∷ rest)) 0 none))
+
+-- a text spells one list of tokens that are apart
+pub one_spelled : (s : List ℕ) (ts us : List Token) → Spells s ts → AreApart ts → Spells s us → AreApart us → ts ≡ us
+one_spelled _ _ us nothing apart other others_apart = sym (nothing_spelled [] us other refl)
+one_spelled _ _ us (a_blank {b} {s} {ts} h sp) apart other others_apart =
+    one_spelled s ts us sp apart (blank_spelled (b ∷ s) us other b s h refl) others_apart
+one_spelled _ _ us (a_token w {s} {x} {ts} token sp) apart other others_apart =
+    let head = IsToken-head w x token in
+    let begins = ap (λ v. v ++ s) head.text in
+    let first = token_spelled (w ++ s) us other others_apart head.first (head.others ++ s) (head_no_blank x head.first head.fits) begins in
+    let read = token_at-token w x s token (stops x s ts sp apart.0) in
+    let same = same_answer x s first.first first.rest (sym read ∙ first.read) in
+    let others = one_spelled s ts first.others sp apart.1 (subst (λ v. Spells v first.others) (sym same.1) first.spelled) first.apart in
+    ap (λ v. v ∷ ts) same.0 ∙ ap (λ v. first.first ∷ v) others ∙ sym first.tokens

@@ -1,13 +1,13 @@
 -- How tokens are spelled, in the notation of OpenFormula (ISO/IEC 26300-2, also published by OASIS as
 -- OpenDocument 1.2 part 2): numerals of digits, references `[.A1]`, ranges `[.A1:.B3]`, names in any case,
 -- `;` between arguments. A token means a value, so it may be spelled in several ways.
-use Rattle.std.specs.Prelude.{◌≡◌, ℕ, ◌+◌, ◌-◌, ◌^◌, ◌<◌, Bool, true, false, ◌||◌, ◌==◌, List, [], ◌∷◌, ◌++◌, pos, ℤ, codes}
+use Rattle.std.specs.Prelude.{◌≡◌, ℕ, ◌^◌, ◌<◌, Bool, true, false, ◌||◌, ◌==◌, List, [], ◌∷◌, ◌++◌, pos, ℤ, codes}
 use Rattle.std.specs.Fmt.{decimal, signed_decimal}
 use Rattle.std.specs.List.{flat_map}
 use Rattle.std.specs.Str.{str_to_ascii_lowercase}
 use Rattle.std.specs.Str.Parse.{IsNumeral, digits_value}
-use Rattle.ps_grid.specs.Place.{cell_at, cell_name, column_name, column_of, row_of}
-use Rattle.ps_grid.specs.Rectangle.{Area, spanned}
+use Rattle.ps_grid.specs.Place.{cell_name, column_name, column_of, row_of}
+use Rattle.ps_grid.specs.Rectangle.{Area, first_cell, last_cell, spanned}
 use Rattle.ps_grid.specs.declared.size.TheConstants.{CELLS}
 use Rattle.ps_tokens.specs.Names.{function_name, operator_text}
 use Rattle.ps_tokens.specs.declared.token.Token.{Token}
@@ -69,18 +69,11 @@ pub data Spells : List ℕ → List Token → Type 0 where
   a_blank : {b : ℕ} {s : List ℕ} {ts : List Token} → is_blank b ≡ true → Spells s ts → Spells (b ∷ s) ts
   a_token : (w : List ℕ) {s : List ℕ} {x : Token} {ts : List Token} → IsToken w x → Spells s ts → Spells (w ++ s) (x ∷ ts)
 
--- the corner at the top left, and the one at the bottom right
-abbrev pub top_left : Area → ℕ
-top_left a = cell_at a.left (a.top + 1)
-
-abbrev pub bottom_right : Area → ℕ
-bottom_right a = cell_at (a.left + a.width - 1) (a.top + a.height)
-
 -- the canonical spelling: no leading zeros, no `$`, corners at the top left and the bottom right, upper case
 abbrev pub token_text : Token → List ℕ
 token_text (Numeral z) = signed_decimal z
 token_text (Reference c) = codes "[." ++ (cell_name c ++ codes "]")
-token_text (Range a) = codes "[." ++ (cell_name (top_left a) ++ (codes ":." ++ (cell_name (bottom_right a) ++ codes "]")))
+token_text (Range a) = codes "[." ++ (cell_name (first_cell a) ++ (codes ":." ++ (cell_name (last_cell a) ++ codes "]")))
 token_text (Name f) = function_name f
 token_text (Symbol x) = operator_text x
 token_text Open = codes "("

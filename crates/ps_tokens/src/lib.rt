@@ -12,10 +12,12 @@
 #![tactic(auto)]
 
 mod front;
+mod laws;
 mod lexer;
 mod token;
 mod writer;
 
+pub use laws::{canonical_spelling, one_spelling};
 pub use lexer::tokens;
 pub use token::{FUNCTIONS, Function, Operator, Token};
 pub use writer::put_token;

@@ -1,11 +1,73 @@
 //! Writing tokens canonically.
 
-ghost use Rattle.std.specs.Prelude.{◌≡◌, ◌++◌, OnOk, OnErr, IfErr};
+ghost use Rattle.std.specs.Prelude.{◌≡◌, ◌++◌, OnOk, OnErr, IfErr, codes, length, take};
+ghost use Rattle.ps_grid.specs.Place.{cell_name};
+ghost use Rattle.ps_grid.specs.Rectangle.{first_cell, last_cell};
 ghost use Rattle.ps_grid.specs.declared.refusal.Refusal.TheVariants.{Memory};
 ghost use Rattle.ps_tokens.specs.Text.{token_text};
 
 use crate::token::Token;
-use ps_grid::Refusal;
+use itoa::Buffer;
+use ps_grid::{Cell, Rect, Refusal};
+
+fn put(out: &mut Vec<u8>, text: &[u8]) -> Result<(), Refusal>
+    ensures ok { OnOk result (out.new.items ≡ out.old.items ++ text.now) }
+    ensures err { OnErr result (out.new.items ≡ out.old.items) }
+    ensures memory { IfErr result (λ e. e ≡ Memory) }
+{
+    out.extend_from_slice(text)?;
+    Ok(())
+}
+
+fn put_cell(out: &mut Vec<u8>, cell: Cell) -> Result<(), Refusal>
+    ensures ok { OnOk result (out.new.items ≡ out.old.items ++ cell_name cell) }
+    ensures err { OnErr result (out.new.items ≡ out.old.items) }
+    ensures memory { IfErr result (λ e. e ≡ Memory) }
+{
+    let mut name = [0; 6];
+    let length = cell.write(&mut name);
+    put(out, &name[..length])
+}
+
+fn put_reference(out: &mut Vec<u8>, cell: Cell) -> Result<(), Refusal>
+    ensures ok { OnOk result (out.new.items ≡ out.old.items ++ (codes "[." ++ (cell_name cell ++ codes "]"))) }
+    ensures err { OnErr result (take (length out.old.items) out.new.items ≡ out.old.items) }
+    ensures memory { IfErr result (λ e. e ≡ Memory) }
+{
+    put(out, b"[.")?;
+    put_cell(out, cell)?;
+    put(out, b"]")
+}
+
+fn put_range(out: &mut Vec<u8>, rect: Rect) -> Result<(), Refusal>
+    ensures ok { OnOk result (out.new.items ≡ out.old.items ++ (codes "[." ++ (cell_name (first_cell rect) ++ (codes ":." ++ (cell_name (last_cell rect) ++ codes "]"))))) }
+    ensures err { OnErr result (take (length out.old.items) out.new.items ≡ out.old.items) }
+    ensures memory { IfErr result (λ e. e ≡ Memory) }
+{
+    put(out, b"[.")?;
+    put_cell(out, rect.top_left())?;
+    put(out, b":.")?;
+    put_cell(out, rect.bottom_right())?;
+    put(out, b"]")
+}
+
+// Where it is refused, a part of the spelling may stand behind what was there.
+fn put_spelling(out: &mut Vec<u8>, token: &Token) -> Result<(), Refusal>
+    ensures ok { OnOk result (out.new.items ≡ out.old.items ++ token_text token.now) }
+    ensures err { OnErr result (take (length out.old.items) out.new.items ≡ out.old.items) }
+    ensures memory { IfErr result (λ e. e ≡ Memory) }
+{
+    match *token {
+        Token::Numeral(value) => put(out, Buffer::new().format(value).as_bytes()),
+        Token::Reference(cell) => put_reference(out, cell),
+        Token::Range(rect) => put_range(out, rect),
+        Token::Name(function) => put(out, function.name().as_bytes()),
+        Token::Symbol(operator) => put(out, operator.text().as_bytes()),
+        Token::Open => put(out, b"("),
+        Token::Close => put(out, b")"),
+        Token::Separator => put(out, b";"),
+    }
+}
 
 /// Writes the canonical spelling of the token behind what is there; refused for want of memory alone.
 ///
@@ -15,7 +77,10 @@ pub fn put_token(out: &mut Vec<u8>, token: &Token) -> Result<(), Refusal>
     ensures err { OnErr result (out.new.items ≡ out.old.items) }
     ensures memory { IfErr result (λ e. e ≡ Memory) }
 {
-    let _ = out;
-    let _ = token;
-    Err(Refusal::Memory)
+    let length = out.len();
+    let written = put_spelling(out, token);
+    if written.is_err() {
+        out.truncate(length);
+    }
+    written
 }
