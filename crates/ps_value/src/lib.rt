@@ -28,3 +28,6 @@ pub use value::{Fault, Value};
 
 /// The greatest number of bytes in a label.
 pub const LABEL_BYTES: usize = 64;
+
+#[cfg(test)]
+mod tests;
