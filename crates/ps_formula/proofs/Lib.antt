@@ -1,1 +1,10 @@
 pub mod Covered
+pub mod Fronts
+pub mod Rows
+pub mod Takes
+pub mod Again
+pub mod Whole
+pub mod Apart
+pub mod Flat
+pub mod Texts
+pub mod Ordered

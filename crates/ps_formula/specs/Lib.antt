@@ -6,3 +6,6 @@ pub mod References
 pub mod Grammar
 pub mod Formula
 pub mod Kept
+pub mod Reading
+pub mod Order
+pub mod OrderLaws

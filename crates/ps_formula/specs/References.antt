@@ -1,7 +1,8 @@
 -- The cells that a formula refers to.
-use Rattle.std.specs.Prelude.{ℕ, Bool, false, ◌||◌, ◌==◌, ◌/◌, ◌%◌, List, [], ◌∷◌, ◌++◌}
-use Rattle.ps_grid.specs.Rectangle.{Area, is_inside}
-use Rattle.ps_grid.specs.declared.size.TheConstants.{COLUMNS}
+use Rattle.std.specs.Prelude.{ℕ, Bool, false, ◌||◌, ◌==◌, List, [], ◌∷◌, ◌++◌}
+use Rattle.ps_grid.specs.Rectangle.{Area, is_inside, spanned}
+use Rattle.ps_tokens.specs.declared.token.Token.{Token}
+use Rattle.ps_tokens.specs.declared.token.Token.TheVariants.{Reference, Range}
 use Rattle.ps_formula.specs.Tree.{Tree, Item, Items, number, reference, signed, joined, group, call, expression, range, no_items, item_and}
 
 -- whether a cell stands in a reference or a range of the tree, untaken branches of IF included
@@ -24,7 +25,7 @@ abbrev mutual
 
 -- the rectangle of one cell
 abbrev pub one_cell : ℕ → Area
-one_cell c = record { left = c % COLUMNS; top = c / COLUMNS; width = 1; height = 1 }
+one_cell c = spanned c c
 
 -- every reference and range of the tree as a rectangle, from left to right
 abbrev mutual
@@ -43,3 +44,9 @@ abbrev mutual
   pub rects_in : Item → List Area
   rects_in (expression a) = rects_of a
   rects_in (range r) = r ∷ []
+
+-- the rectangle of a token that is a reference or a range
+abbrev pub rects_at : Token → List Area
+rects_at (Reference c) = one_cell c ∷ []
+rects_at (Range r) = r ∷ []
+rects_at _ = []

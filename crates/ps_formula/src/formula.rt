@@ -1,12 +1,15 @@
 //! A formula and how it is read.
 
-ghost use Rattle.std.specs.Prelude.{◌≡◌, ℕ, ◌<◌, ◌≤◌, ◌⊎◌, length, IfOk, IfErr, MatchResult};
+ghost use Rattle.std.specs.Prelude.{◌≡◌, ℕ, ◌<◌, ◌≤◌, ◌⊎◌, List, length, IfOk, IfErr, IfNone, IfSome, MatchResult};
 ghost use Rattle.std.specs.List.{list_any};
 ghost use Rattle.ps_grid.specs.Rectangle.{is_inside};
+ghost use Rattle.ps_formula.specs.Formula.{Opens};
 ghost use Rattle.ps_grid.specs.declared.refusal.Refusal.TheVariants.{Memory, TooLong, Formula as NoFormula};
 
 use crate::expr::Expr;
+use crate::{kept, parser};
 use ps_grid::{Cell, Rect, Refusal};
+use ps_tokens::{Token, tokens};
 use std::alloc::Global;
 use std::marker::Model;
 
@@ -73,9 +76,21 @@ impl Formula {
             ⊎ ((t : Tree) × HasTree bytes.now t × (LONGEST_TEXT < length (canon t))) }
         ensures refused { IfErr result (λ e. (e ≡ NoFormula) ⊎ ((e ≡ TooLong) ⊎ (e ≡ Memory))) }
     {
-        let _ = alloc;
-        let _ = bytes;
-        Err(Refusal::Memory)
+        if bytes.len() > LONGEST_ENTRY {
+            return Err(Refusal::TooLong);
+        }
+        let Some(rest) = behind_opening(bytes) else {
+            return Err(Refusal::Formula);
+        };
+        let found = tokens(alloc, rest)?;
+        let tokens: &[Token] = &found;
+        let tree = parser::whole(alloc, tokens)?;
+        let text = kept::text(alloc, bytes.len(), tokens)?;
+        if text.len() > LONGEST_TEXT {
+            return Err(Refusal::TooLong);
+        }
+        let rects = kept::rects(alloc, tokens)?;
+        Ok(Formula { tree, text, rects })
     }
 
     /// The tree of the formula.
@@ -106,6 +121,18 @@ impl Formula {
         ensures covered { (c : ℕ) → list_any (λ r. is_inside r c) result.now ≡ mentions self.now c }
     {
         &self.rects
+    }
+}
+
+// What stands behind the opening of a formula.
+fn behind_opening(bytes: &[u8]) -> Option<&[u8]>
+    ensures found { IfSome result (λ rest. Opens bytes.now rest.now) }
+    ensures none { IfNone result ((rest : List ℕ) → Opens bytes.now rest → ⊥) }
+{
+    match bytes {
+        [b'=', rest @ ..] => Some(rest),
+        [b'o', b'f', b':', b'=', rest @ ..] => Some(rest),
+        _ => None,
     }
 }
 

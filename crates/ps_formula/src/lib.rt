@@ -11,6 +11,11 @@
 
 mod expr;
 mod formula;
+mod kept;
+mod laws;
+mod order;
+mod parser;
 
 pub use expr::{Argument, Expr, Sign};
 pub use formula::{Formula, Formulas, LONGEST_ENTRY, LONGEST_TEXT};
+pub use laws::{canonical_text_has_tree, one_tree, ordered_by_text};

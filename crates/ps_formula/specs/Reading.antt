@@ -1,0 +1,103 @@
+-- How the reader works, from the first token on and with a bound on the depth of its calls. This is no part of what a
+-- formula is: the grammar says that, and `read` and its laws speak of the grammar alone.
+use Rattle.std.specs.Prelude.{◌≡◌, ℕ, zero, suc, ◌++◌, ◌==◌, if◌then◌else◌, List, [], ◌∷◌, length, option_and_then}
+use Rattle.std.specs.Prelude.{Option, Some, None, Result, Ok, Err}
+use Rattle.ps_grid.specs.Rectangle.{Area}
+use Rattle.ps_grid.specs.declared.refusal.Refusal.{Refusal}
+use Rattle.ps_grid.specs.declared.refusal.Refusal.TheVariants.{Formula, Memory}
+use Rattle.ps_tokens.specs.declared.token.Function.{Function}
+use Rattle.ps_tokens.specs.declared.token.Operator.{Operator}
+use Rattle.ps_tokens.specs.declared.token.Operator.TheVariants.{Plus as plus_sign, Minus as minus_sign}
+use Rattle.ps_tokens.specs.declared.token.Token.{Token}
+use Rattle.ps_tokens.specs.declared.token.Token.TheVariants.{Numeral, Reference, Range, Name, Symbol, Open, Close, Separator}
+use Rattle.ps_formula.specs.declared.expr.Sign.{Sign}
+use Rattle.ps_formula.specs.declared.expr.Sign.TheVariants.{Plus, Minus}
+use Rattle.ps_formula.specs.Grammar.{accepts, level_of, takes_ranges}
+use Rattle.ps_formula.specs.Tree.{Tree, Item, number, reference, signed, joined, group, call, expression, range, no_items, in_row}
+
+-- what a refused call says of what was read: nothing where memory was short
+abbrev pub Refuses : {Y : Type 0} → Refusal → Option Y → Type 0
+Refuses Formula read = read ≡ None
+Refuses Memory read = Unit {0}
+Refuses _ read = ⊥
+
+-- a call gives what was read, or is refused
+abbrev pub Gives : {X Y : Type 0} → (X → Y) → Result X Refusal → Option Y → Type 0
+Gives view (Ok x) read = read ≡ Some (view x)
+Gives view (Err e) read = Refuses e read
+
+-- the second where the first is none, else the third of what it holds
+abbrev pub either_way : {X Y : Type 0} → Option X → Y → (X → Y) → Y
+either_way None y f = y
+either_way (Some x) y f = f x
+
+abbrev pub opened_at : List Token → Option (List Token)
+opened_at (Open ∷ ts) = Some ts
+opened_at _ = None
+
+abbrev pub closed_at : List Token → Option (List Token)
+closed_at (Close ∷ ts) = Some ts
+closed_at _ = None
+
+abbrev pub separated_at : List Token → Option (List Token)
+separated_at (Separator ∷ ts) = Some ts
+separated_at _ = None
+
+abbrev pub range_at : List Token → Option (Area × List Token)
+range_at (Range r ∷ ts) = Some (r, ts)
+range_at _ = None
+
+abbrev pub operator_at : ℕ → List Token → Option (Operator × List Token)
+operator_at l (Symbol o ∷ ts) = if level_of o == l then Some (o, ts) else None
+operator_at l _ = None
+
+abbrev pub sign_of : Operator → Option Sign
+sign_of plus_sign = Some Plus
+sign_of minus_sign = Some Minus
+sign_of _ = None
+
+unfoldable mutual
+  pub level_at : ℕ → ℕ → List Token → Option (Tree × List Token)
+  level_at zero l ts = None
+  level_at (suc n) zero ts = prefixed_at n ts
+  level_at (suc n) (suc l) ts = option_and_then (λ a. more_at n l a.0 a.1) (level_at n l ts)
+
+  pub more_at : ℕ → ℕ → Tree → List Token → Option (Tree × List Token)
+  more_at zero l a ts = None
+  more_at (suc n) l a ts =
+      either_way (operator_at l ts) (Some (a, ts)) (λ x. option_and_then (λ b. more_at n l (joined a x.0 b.0) b.1) (level_at n l x.1))
+
+  pub prefixed_at : ℕ → List Token → Option (Tree × List Token)
+  prefixed_at zero ts = None
+  prefixed_at (suc n) (Numeral z ∷ ts) = Some (number z, ts)
+  prefixed_at (suc n) (Reference c ∷ ts) = Some (reference c, ts)
+  prefixed_at (suc n) (Symbol o ∷ ts) =
+      option_and_then (λ s. option_and_then (λ a. Some (signed s a.0, a.1)) (prefixed_at n ts)) (sign_of o)
+  prefixed_at (suc n) (Open ∷ ts) =
+      option_and_then (λ a. option_and_then (λ us. Some (group a.0, us)) (closed_at a.1)) (level_at n 3 ts)
+  prefixed_at (suc n) (Name f ∷ ts) = option_and_then (λ us. call_at n f us) (opened_at ts)
+  prefixed_at (suc n) _ = None
+
+  pub call_at : ℕ → Function → List Token → Option (Tree × List Token)
+  call_at zero f ts = None
+  call_at (suc n) f ts =
+      either_way (closed_at ts)
+      (option_and_then (λ x. if accepts f (length x.0) then Some (call f (in_row x.0), x.1) else None) (arguments_at n f [] ts))
+      (λ us. if accepts f 0 then Some (call f no_items, us) else None)
+
+  -- the arguments before, and those that are read
+  pub arguments_at : ℕ → Function → List Item → List Token → Option (List Item × List Token)
+  arguments_at zero f is ts = None
+  arguments_at (suc n) f is ts = option_and_then (λ i. behind_at n f (is ++ i.0 ∷ []) i.1) (argument_at n f ts)
+
+  -- behind an argument: the parenthesis, or a separator and further arguments
+  pub behind_at : ℕ → Function → List Item → List Token → Option (List Item × List Token)
+  behind_at zero f is ts = None
+  behind_at (suc n) f is ts =
+      either_way (closed_at ts) (option_and_then (λ us. arguments_at n f is us) (separated_at ts)) (λ us. Some (is, us))
+
+  pub argument_at : ℕ → Function → List Token → Option (Item × List Token)
+  argument_at zero f ts = None
+  argument_at (suc n) f ts =
+      either_way (range_at ts) (option_and_then (λ a. Some (expression a.0, a.1)) (level_at n 3 ts))
+      (λ x. if takes_ranges f then Some (range x.0, x.1) else None)

@@ -1,0 +1,318 @@
+//! The reader of trees: from tokens to an expression, each rule of the grammar a function.
+//!
+//! Every function is passed a depth that falls by one in each call, so that all of them end; `whole` passes one that
+//! no formula uses up.
+
+ghost use Rattle.std.specs.Prelude.{◌≡◌, ◌⊎◌, map, IfOk, IfErr};
+ghost use Rattle.std.specs.Option.{option_copied, option_map};
+ghost use Rattle.ps_grid.specs.declared.refusal.Refusal.TheVariants.{Memory, Formula as NoFormula};
+ghost use Rattle.ps_formula.specs.Grammar.{accepts, Has, level_of, takes_ranges};
+ghost use Rattle.ps_formula.specs.Reading.{Gives, argument_at, arguments_at, behind_at, call_at, closed_at, level_at};
+ghost use Rattle.ps_formula.specs.Reading.{more_at, opened_at, operator_at, prefixed_at, range_at, separated_at};
+ghost use Rattle.ps_formula.specs.Reading.{sign_of};
+ghost use Rattle.ps_formula.specs.Tree.{Tree};
+ghost use Rattle.ps_formula.specs.TreeOf.{item_of, tree_of};
+
+use crate::expr::{Argument, Expr, Sign};
+use ps_grid::{Rect, Refusal};
+use ps_tokens::{Function, Operator, Token};
+use std::alloc::Global;
+
+/// The loosest level, that of comparisons: below it are sums, products and prefixed operands.
+const COMPARISON: usize = 3;
+
+fn level_of(operator: Operator) -> usize
+    ensures { result ≡ level_of operator }
+{
+    match operator {
+        Operator::Times => 0,
+        Operator::Plus | Operator::Minus => 1,
+        _ => 2,
+    }
+}
+
+fn accepts(function: Function, count: usize) -> bool
+    ensures { result ≡ accepts function count }
+{
+    match function {
+        Function::If => 2 <= count && count <= 3,
+        Function::Mod | Function::Quotient => count == 2,
+        Function::Abs | Function::Not => count == 1,
+        Function::True | Function::False => count == 0,
+        _ => 1 <= count,
+    }
+}
+
+fn takes_ranges(function: Function) -> bool
+    ensures { result ≡ takes_ranges function }
+{
+    matches!(
+        function,
+        Function::Sum | Function::Min | Function::Max | Function::Count
+    )
+}
+
+fn sign(operator: Operator) -> Option<Sign>
+    ensures { result ≡ sign_of operator }
+{
+    match operator {
+        Operator::Plus => Some(Sign::Plus),
+        Operator::Minus => Some(Sign::Minus),
+        _ => None,
+    }
+}
+
+// What stands behind an opening parenthesis, if the tokens begin with one.
+fn opened(tokens: &[Token]) -> Option<&[Token]>
+    ensures { option_copied result ≡ opened_at tokens.now }
+{
+    match tokens {
+        [Token::Open, rest @ ..] => Some(rest),
+        _ => None,
+    }
+}
+
+// What stands behind a closing parenthesis.
+fn closed(tokens: &[Token]) -> Option<&[Token]>
+    ensures { option_copied result ≡ closed_at tokens.now }
+{
+    match tokens {
+        [Token::Close, rest @ ..] => Some(rest),
+        _ => None,
+    }
+}
+
+// What stands behind a separator.
+fn separated(tokens: &[Token]) -> Option<&[Token]>
+    ensures { option_copied result ≡ separated_at tokens.now }
+{
+    match tokens {
+        [Token::Separator, rest @ ..] => Some(rest),
+        _ => None,
+    }
+}
+
+// A range, and what stands behind it.
+fn range(tokens: &[Token]) -> Option<(Rect, &[Token])>
+    ensures { option_map (λ x. (x.0, x.1.now)) result ≡ range_at tokens.now }
+{
+    match tokens {
+        [Token::Range(rect), rest @ ..] => Some((*rect, rest)),
+        _ => None,
+    }
+}
+
+// An operator of the level, and what stands behind it.
+fn operator(level: usize, tokens: &[Token]) -> Option<(Operator, &[Token])>
+    ensures { option_map (λ x. (x.0, x.1.now)) result ≡ operator_at level tokens.now }
+{
+    match tokens {
+        [Token::Symbol(operator), rest @ ..] if level_of(*operator) == level => Some((
+            *operator, rest,
+        )),
+        _ => None,
+    }
+}
+
+// An expression of a level, as far as it goes, and what stands behind it.
+#[cycle(parser)]
+#[tactic(auto, unfolding(crate::specs::Reading::level_at))]
+fn level(
+    alloc: Global,
+    depth: usize,
+    loosest: usize,
+    tokens: &[Token],
+) -> Result<(Expr, &[Token]), Refusal>
+    ensures { Gives (λ x. (tree_of x.0, x.1.now)) result (level_at depth loosest tokens.now) }
+{
+    if depth == 0 {
+        return Err(Refusal::Formula);
+    }
+    if loosest == 0 {
+        return prefixed(alloc, depth - 1, tokens);
+    }
+    let (left, rest) = level(alloc, depth - 1, loosest - 1, tokens)?;
+    more(alloc, depth - 1, loosest - 1, left, rest)
+}
+
+// The operand with any number of further operands of the level, each behind an operator.
+#[cycle(parser)]
+#[tactic(auto, unfolding(crate::specs::Reading::level_at))]
+fn more(
+    alloc: Global,
+    depth: usize,
+    operands: usize,
+    left: Expr,
+    tokens: &[Token],
+) -> Result<(Expr, &[Token]), Refusal>
+    ensures { Gives (λ x. (tree_of x.0, x.1.now)) result (more_at depth operands (tree_of left) tokens.now) }
+{
+    if depth == 0 {
+        return Err(Refusal::Formula);
+    }
+    let Some((operator, rest)) = operator(operands, tokens) else {
+        return Ok((left, tokens));
+    };
+    let (right, rest) = level(alloc, depth - 1, operands, rest)?;
+    let left = Box::new(alloc, left)?;
+    let right = Box::new(alloc, right)?;
+    more(
+        alloc,
+        depth - 1,
+        operands,
+        Expr::Infix(left, operator, right),
+        rest,
+    )
+}
+
+// Any number of signs, and then a numeral, a reference, a group or a call.
+#[cycle(parser)]
+#[tactic(auto, unfolding(crate::specs::Reading::level_at))]
+fn prefixed(alloc: Global, depth: usize, tokens: &[Token]) -> Result<(Expr, &[Token]), Refusal>
+    ensures { Gives (λ x. (tree_of x.0, x.1.now)) result (prefixed_at depth tokens.now) }
+{
+    if depth == 0 {
+        return Err(Refusal::Formula);
+    }
+    let [first, rest @ ..] = tokens else {
+        return Err(Refusal::Formula);
+    };
+    match *first {
+        Token::Numeral(number) => Ok((Expr::Numeral(number), rest)),
+        Token::Reference(cell) => Ok((Expr::Reference(cell), rest)),
+        Token::Symbol(operator) => {
+            let Some(sign) = sign(operator) else {
+                return Err(Refusal::Formula);
+            };
+            let (operand, rest) = prefixed(alloc, depth - 1, rest)?;
+            let operand = Box::new(alloc, operand)?;
+            Ok((Expr::Prefix(sign, operand), rest))
+        }
+        Token::Open => {
+            let (inner, rest) = level(alloc, depth - 1, COMPARISON, rest)?;
+            let Some(rest) = closed(rest) else {
+                return Err(Refusal::Formula);
+            };
+            let inner = Box::new(alloc, inner)?;
+            Ok((Expr::Group(inner), rest))
+        }
+        Token::Name(function) => {
+            let Some(rest) = opened(rest) else {
+                return Err(Refusal::Formula);
+            };
+            call(alloc, depth - 1, function, rest)
+        }
+        _ => Err(Refusal::Formula),
+    }
+}
+
+// A call, from behind its opening parenthesis.
+#[cycle(parser)]
+#[tactic(auto, unfolding(crate::specs::Reading::level_at))]
+fn call(
+    alloc: Global,
+    depth: usize,
+    function: Function,
+    tokens: &[Token],
+) -> Result<(Expr, &[Token]), Refusal>
+    ensures { Gives (λ x. (tree_of x.0, x.1.now)) result (call_at depth function tokens.now) }
+{
+    if depth == 0 {
+        return Err(Refusal::Formula);
+    }
+    if let Some(rest) = closed(tokens) {
+        if !accepts(function, 0) {
+            return Err(Refusal::Formula);
+        }
+        return Ok((Expr::Call(function, Vec::new(alloc)), rest));
+    }
+    let (items, rest) = arguments(alloc, depth - 1, function, Vec::new(alloc), tokens)?;
+    if !accepts(function, items.len()) {
+        return Err(Refusal::Formula);
+    }
+    Ok((Expr::Call(function, items), rest))
+}
+
+// Further arguments behind those before, up to the closing parenthesis.
+#[cycle(parser)]
+#[tactic(auto, unfolding(crate::specs::Reading::level_at))]
+fn arguments(
+    alloc: Global,
+    depth: usize,
+    function: Function,
+    mut before: Vec<Argument>,
+    tokens: &[Token],
+) -> Result<(Vec<Argument>, &[Token]), Refusal>
+    ensures { Gives (λ x. (map item_of x.0.items, x.1.now)) result (arguments_at depth function (map item_of before.items) tokens.now) }
+{
+    if depth == 0 {
+        return Err(Refusal::Formula);
+    }
+    let (next, rest) = argument(alloc, depth - 1, function, tokens)?;
+    before.push(next)?;
+    behind(alloc, depth - 1, function, before, rest)
+}
+
+// What stands behind an argument: the closing parenthesis, or a separator and further arguments.
+#[cycle(parser)]
+#[tactic(auto, unfolding(crate::specs::Reading::level_at))]
+fn behind(
+    alloc: Global,
+    depth: usize,
+    function: Function,
+    before: Vec<Argument>,
+    tokens: &[Token],
+) -> Result<(Vec<Argument>, &[Token]), Refusal>
+    ensures { Gives (λ x. (map item_of x.0.items, x.1.now)) result (behind_at depth function (map item_of before.items) tokens.now) }
+{
+    if depth == 0 {
+        return Err(Refusal::Formula);
+    }
+    if let Some(rest) = closed(tokens) {
+        return Ok((before, rest));
+    }
+    let Some(rest) = separated(tokens) else {
+        return Err(Refusal::Formula);
+    };
+    arguments(alloc, depth - 1, function, before, rest)
+}
+
+// One argument, and what stands behind it.
+#[cycle(parser)]
+#[tactic(auto, unfolding(crate::specs::Reading::level_at))]
+fn argument(
+    alloc: Global,
+    depth: usize,
+    function: Function,
+    tokens: &[Token],
+) -> Result<(Argument, &[Token]), Refusal>
+    ensures { Gives (λ x. (item_of x.0, x.1.now)) result (argument_at depth function tokens.now) }
+{
+    if depth == 0 {
+        return Err(Refusal::Formula);
+    }
+    if let Some((rect, rest)) = range(tokens) {
+        if !takes_ranges(function) {
+            return Err(Refusal::Formula);
+        }
+        return Ok((Argument::Range(rect), rest));
+    }
+    let (inner, rest) = level(alloc, depth - 1, COMPARISON, tokens)?;
+    Ok((Argument::Expression(inner), rest))
+}
+
+/// The expression that all of the tokens are together; refused as a formula where they are none, and for lack of
+/// memory.
+///
+/// Cost: linear in the tokens.
+pub(crate) fn whole(alloc: Global, tokens: &[Token]) -> Result<Expr, Refusal>
+    ensures found { IfOk result (λ tree. Has 3 tokens.now (tree_of tree)) }
+    ensures none { result ≡ Err NoFormula → (t : Tree) → Has 3 tokens.now t → ⊥ }
+    ensures refused { IfErr result (λ e. (e ≡ NoFormula) ⊎ (e ≡ Memory)) }
+{
+    let (tree, rest) = level(alloc, 8 * tokens.len() + 4, COMPARISON, tokens)?;
+    if !rest.is_empty() {
+        return Err(Refusal::Formula);
+    }
+    Ok(tree)
+}
