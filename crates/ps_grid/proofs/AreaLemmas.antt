@@ -105,7 +105,8 @@ place_of-nth_cell a k g h =
     (λ i. down i * a.width + across i) ∙ div-add-mod' k a.width
 
 -- no two numbers give one cell
-pub nth_cell-injective : (a : Area) (j k : ℕ) → IsInGrid a → j < area a → k < area a → nth_cell a j ≡ nth_cell a k → j ≡ k
+pub nth_cell-injective : (a : Area) (j k : ℕ) → IsInGrid a → j < area a → k < area a
+    → nth_cell a j ≡ nth_cell a k → j ≡ k
 nth_cell-injective a j k g p q same =
     sym (place_of-nth_cell a j g p) ∙ ap (place_of a) same ∙ place_of-nth_cell a k g q
 
@@ -153,7 +154,8 @@ list_any-cells_of a c g =
     (bool_cases (list_any (eqb c) (cells_of a))))
     (bool_cases (is_inside a c))
 
-distinct_from : (a : Area) (n k : ℕ) → IsInGrid a → k + n ≤ area a → IsDistinct eqb (map (nth_cell a) (range_with_len k n))
+distinct_from : (a : Area) (n k : ℕ) → IsInGrid a → k + n ≤ area a
+    → IsDistinct eqb (map (nth_cell a) (range_with_len k n))
 unfolding IsDistinct
 distinct_from a zero k g fits = tt
 distinct_from a (suc n) k g fits =

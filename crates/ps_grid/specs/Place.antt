@@ -22,7 +22,8 @@ letter_of k = 65 + k
 -- A to Z, and then AA, AB and so on
 abbrev pub column_name : ℕ → List ℕ
 column_name column =
-    if nat_lt column LETTERS then letter_of column ∷ [] else (letter_of (column / LETTERS - 1) ∷ letter_of (column % LETTERS) ∷ [])
+    if nat_lt column LETTERS then letter_of column ∷ []
+    else (letter_of (column / LETTERS - 1) ∷ letter_of (column % LETTERS) ∷ [])
 
 -- the text of a cell: the letters of its column and its row in decimal
 abbrev pub cell_name : ℕ → List ℕ

@@ -1,7 +1,8 @@
 //! Rectangles of cells.
 
 ghost use Rattle.std.specs.Prelude.{◌≡◌, ℕ, ◌<◌, ◌≤◌, nat_eq};
-ghost use Rattle.ps_grid.specs.Rectangle.{area, cells_of, first_cell, IsInGrid, is_inside, last_cell, nth_cell, spanned};
+ghost use Rattle.ps_grid.specs.Rectangle.{area, cells_of, first_cell, IsInGrid, is_inside, last_cell};
+ghost use Rattle.ps_grid.specs.Rectangle.{nth_cell, spanned};
 ghost use Rattle.std.specs.Iterator.{YieldsFirst, item_count};
 ghost use Rattle.std.specs.List.{IsDistinct, list_any};
 
