@@ -1,5 +1,6 @@
 -- The canonical spelling of a token is a spelling of it.
-use Rattle.std.proofs.Common.{◌≡◌, ℕ, ◌+◌, ◌-◌, ◌*◌, ◌/◌, ◌%◌, ◌^◌, ◌<◌, false, List, pos, refl, sym, ap, subst, ◌∙◌, arith}
+use Rattle.std.proofs.Common.{◌≡◌, ℕ, ◌+◌, ◌-◌, ◌*◌, ◌/◌, ◌%◌, ◌^◌, ◌<◌, false, List, pos, refl, sym, ap, subst}
+use Rattle.std.proofs.Common.{◌∙◌, arith}
 use Rattle.std.specs.Str.Parse.{digits_value}
 use Rattle.std.proofs.lemmas.Fmt.{decimal_is_IsNumeral}
 use Rattle.ps_grid.specs.Place.{cell_name}
@@ -8,7 +9,8 @@ use Rattle.ps_grid.specs.declared.size.TheConstants.{CELLS, COLUMNS, ROWS}
 use Rattle.ps_tokens.specs.Text.{IsCorner, IsToken, Spells, token_text, tokens_text}
 use Rattle.ps_tokens.specs.Text.Spells.{nothing, a_blank, a_token}
 use Rattle.ps_tokens.specs.declared.token.Token.{Token}
-use Rattle.ps_tokens.specs.declared.token.Token.TheVariants.{Numeral, Reference, Range, Name, Symbol, Open, Close, Separator}
+use Rattle.ps_tokens.specs.declared.token.Token.TheVariants.{Numeral, Reference, Range, Name, Symbol, Open, Close}
+use Rattle.ps_tokens.specs.declared.token.Token.TheVariants.{Separator}
 
 IsNumber-decimal : (n : ℕ) → n < 2 ^ 63 → IsToken (token_text (Numeral (pos n))) (Numeral (pos n))
 IsNumber-decimal n h =
@@ -42,7 +44,8 @@ record Ends (a : Area) : Type 0 where
   first_below : first_cell a < CELLS
   last_below : last_cell a < CELLS
 
-place_of_cell : (r k c : ℕ) → k < COLUMNS → r < ROWS → c ≡ r * COLUMNS + k → (c % COLUMNS ≡ k) × (c / COLUMNS ≡ r) × (c < CELLS)
+place_of_cell : (r k c : ℕ) → k < COLUMNS → r < ROWS → c ≡ r * COLUMNS + k
+    → (c % COLUMNS ≡ k) × (c / COLUMNS ≡ r) × (c < CELLS)
 place_of_cell r k c kh rh e = (omega arith, omega arith, omega arith)
 
 ends : (a : Area) → IsInGrid a → Ends a
@@ -52,7 +55,8 @@ ends a h =
     let columns = h.within_columns in
     let rows = h.within_rows in
     let first = place_of_cell a.top a.left (first_cell a) (omega arith) (omega arith) refl in
-    let last = place_of_cell (a.top + a.height - 1) (a.left + a.width - 1) (last_cell a) (omega arith) (omega arith) refl in
+    let last = place_of_cell (a.top + a.height - 1) (a.left + a.width - 1) (last_cell a) (omega arith)
+    (omega arith) refl in
     record {
       first_column = first.0;
       first_row = first.1;
@@ -90,11 +94,13 @@ IsRange-text a h =
 -- a token that some text spells is spelled by its canonical text
 pub IsToken-token_text : (w : List ℕ) (x : Token) → IsToken w x → IsToken (token_text x) x
 IsToken-token_text w (Numeral z) h =
-    subst (λ v. IsToken (token_text (Numeral v)) (Numeral v)) (sym h.value) (IsNumber-decimal (digits_value 10 w) h.small)
+    subst (λ v. IsToken (token_text (Numeral v)) (Numeral v)) (sym h.value)
+    (IsNumber-decimal (digits_value 10 w) h.small)
 IsToken-token_text w (Reference c) h =
     record { corner = cell_name c; is_corner = IsCorner-cell_name c h.is_corner.in_grid; text = refl }
 IsToken-token_text w (Range a) h =
-    IsRange-text a (subst IsInGrid (sym h.rectangle) (spanned-in_grid h.from h.to h.is_first.in_grid h.is_second.in_grid))
+    IsRange-text a
+    (subst IsInGrid (sym h.rectangle) (spanned-in_grid h.from h.to h.is_first.in_grid h.is_second.in_grid))
 IsToken-token_text w (Name f) h = refl
 IsToken-token_text w (Symbol x) h = refl
 IsToken-token_text w Open h = refl
@@ -105,4 +111,5 @@ IsToken-token_text w Separator h = refl
 pub text_spells : (s : List ℕ) (ts : List Token) → Spells s ts → Spells (tokens_text ts) ts
 text_spells _ _ nothing = nothing
 text_spells _ _ (a_blank {s} {ts} h sp) = text_spells s ts sp
-text_spells _ _ (a_token w {s} {x} {ts} token sp) = a_token (token_text x) (IsToken-token_text w x token) (text_spells s ts sp)
+text_spells _ _ (a_token w {s} {x} {ts} token sp) = a_token (token_text x) (IsToken-token_text w x token)
+    (text_spells s ts sp)

@@ -1,5 +1,7 @@
 -- A corner is read from a text exactly where one stands at its front.
-use Rattle.std.proofs.Common.{◌≡◌, ℕ, ◌+◌, ◌-◌, ◌/◌, ◌%◌, ◌<◌, ◌≤◌, ◌^◌, ◌==◌, nat_lt, cond, Bool, true, false, Option, Some, List, [], ◌∷◌, ◌++◌, length, take, drop, refl, sym, ap, subst, ◌∙◌, append_assoc, arith}
+use Rattle.std.proofs.Common.{◌≡◌, ℕ, ◌+◌, ◌-◌, ◌/◌, ◌%◌, ◌<◌, ◌≤◌, ◌^◌, ◌==◌, nat_lt, cond, Bool, true, false}
+use Rattle.std.proofs.Common.{Option, Some, List, [], ◌∷◌, ◌++◌, length, take, drop, refl, sym, ap, subst, ◌∙◌}
+use Rattle.std.proofs.Common.{append_assoc, arith}
 use Rattle.std.specs.Char.{is_ascii_digit, is_ascii_uppercase}
 use Rattle.std.specs.Fmt.{decimal}
 use Rattle.std.specs.Int.{IsInRange}
@@ -17,7 +19,8 @@ use Rattle.ps_grid.specs.declared.size.TheConstants.{CELLS, ROWS}
 use Rattle.ps_tokens.specs.Lexing.{capitals_at, cell_if, cell_in, column_in, corner_at, digits_at, row_in, unmarked}
 use Rattle.ps_tokens.specs.Text.{mark, IsCorner}
 use Rattle.ps_tokens.proofs.Choices.{option_map_from}
-use Rattle.ps_tokens.proofs.Marks.{cell_if-cell, cell_if-some, column_in-some, column_name_is, row_in-decimal, row_in-some, unmarked-mark, unmarked_text}
+use Rattle.ps_tokens.proofs.Marks.{cell_if-cell, cell_if-some, column_in-some, column_name_is, row_in-decimal}
+use Rattle.ps_tokens.proofs.Marks.{row_in-some, unmarked-mark, unmarked_text}
 use Rattle.ps_tokens.proofs.Runs.{Stops, AllDigits-digits_at, drop-run, list_all-run, take-run}
 
 -- the front of s is a corner of the cell, and r stands behind it
@@ -27,15 +30,21 @@ pub record TakesCorner (s : List ℕ) (c : ℕ) (r : List ℕ) : Type 0 where
   pub text : s ≡ word ++ r
 
 -- letters and digits with a cell are the name of it
-cell_in-some : (letters digits : List ℕ) (c : ℕ) → list_all is_ascii_uppercase letters ≡ true → AllDigits 10 digits → cell_in letters digits ≡ Some c → (letters ≡ column_name (column_of c)) × (digits ≡ decimal (row_of c)) × (c < CELLS)
+cell_in-some : (letters digits : List ℕ) (c : ℕ) → list_all is_ascii_uppercase letters ≡ true → AllDigits 10 digits
+    → cell_in letters digits ≡ Some c
+    → (letters ≡ column_name (column_of c)) × (digits ≡ decimal (row_of c)) × (c < CELLS)
 unfolding cell_in
 cell_in-some letters digits c capitals are_digits e =
     option_and_then_some _ (column_in letters) c e
     (λ k is_column e1.
     option_and_then_some _ (row_in digits) c e1
     (λ n is_row e2.
-    let found = cell_if-some k n c e2 in
-    (column_in-some letters k capitals is_column ∙ ap column_name found.0, row_in-some digits n are_digits found.3 is_row ∙ ap decimal found.1, found.2)))
+    let found = cell_if-some k n c e2 in (
+      column_in-some letters k capitals is_column
+          ∙ ap column_name found.0,
+      row_in-some digits n are_digits found.3 is_row ∙ ap decimal found.1,
+      found.2,
+    )))
 
 -- the pieces of a corner, put together
 pieces : (a b l d r : List ℕ) → a ++ (l ++ (b ++ (d ++ r))) ≡ (a ++ (l ++ (b ++ d))) ++ r
@@ -57,15 +66,18 @@ corner_at-some s c r e =
     let named = cell_in-some front back k (list_all-run is_ascii_uppercase t) (AllDigits-digits_at u) found in
     let split_u : u ≡ back ++ r = sym (take-append-drop (digits_at u) u) ∙ ap (λ v. back ++ v) rest in
     let split_t : t ≡ front ++ (mark second.0 ++ (back ++ r)) =
-    sym (take-append-drop (capitals_at t) t) ∙ ap (λ v. front ++ v) (second.1 ∙ ap (λ v. mark second.0 ++ v) split_u) in
+    sym (take-append-drop (capitals_at t) t)
+    ∙ ap (λ v. front ++ v) (second.1 ∙ ap (λ v. mark second.0 ++ v) split_u) in
     record {
       word = mark first.0 ++ (front ++ (mark second.0 ++ back));
       is_corner = record {
         column_fixed = first.0;
         row_fixed = second.0;
         in_grid = subst (λ v. v < CELLS) cell named.2;
-        text = ap (λ v. mark first.0 ++ (v ++ (mark second.0 ++ back))) (named.0 ∙ ap (λ v. column_name (column_of v)) cell)
-            ∙ ap (λ v. mark first.0 ++ (column_name (column_of c) ++ (mark second.0 ++ v))) (named.1 ∙ ap (λ v. decimal (row_of v)) cell);
+        text = ap (λ v. mark first.0 ++ (v ++ (mark second.0 ++ back)))
+            (named.0 ∙ ap (λ v. column_name (column_of v)) cell)
+            ∙ ap (λ v. mark first.0 ++ (column_name (column_of c) ++ (mark second.0 ++ v)))
+            (named.1 ∙ ap (λ v. decimal (row_of v)) cell);
       };
       text = first.1 ∙ ap (λ v. mark first.0 ++ v) split_t ∙ pieces (mark first.0) (mark second.0) front back r;
     })
@@ -101,10 +113,11 @@ capitals_stop [] s some h = absurd (omega arith)
 capitals_stop (c ∷ w) s some h = capital_is_other c (and_parts _ _ h).0
 
 column_some : (k : ℕ) → 0 < length (column_name k)
-column_some k = elim (nat_lt k 26) as (λ b. 0 < length (cond b ((65 + k) ∷ []) ((65 + (k / 26 - 1)) ∷ (65 + k % 26) ∷ []))) [
-  | true ↦ omega arith
-  | false ↦ omega arith
-]
+column_some k = elim (nat_lt k 26) as
+    (λ b. 0 < length (cond b ((65 + k) ∷ []) ((65 + (k / 26 - 1)) ∷ (65 + k % 26) ∷ []))) [
+      | true ↦ omega arith
+      | false ↦ omega arith
+    ]
 
 -- the letters and the digits of a cell give the cell
 cell_in-name : (c : ℕ) → c < CELLS → cell_in (column_name (column_of c)) (decimal (row_of c)) ≡ Some c
@@ -113,12 +126,14 @@ cell_in-name c h =
     let cell = cell_if-cell c h in
     let column = (column_name_is (column_of c) cell.0).1 in
     let row = row_in-decimal (row_of c) cell.1 cell.2 in
-    ap (λ o. option_and_then (λ column. option_and_then (λ row. cell_if column row) (row_in (decimal (row_of c)))) o) column
+    ap (λ o. option_and_then (λ column. option_and_then (λ row. cell_if column row) (row_in (decimal (row_of c))))
+    o) column
     ∙ ap (λ o. option_and_then (λ row. cell_if (column_of c) row) o) row
     ∙ cell.3
 
 -- a corner that stands at the front is read, if no digit stands behind it
-pub corner_at-corner : (w : List ℕ) (c : ℕ) (s : List ℕ) → IsCorner w c → Stops is_ascii_digit s → corner_at (w ++ s) ≡ Some (c, s)
+pub corner_at-corner : (w : List ℕ) (c : ℕ) (s : List ℕ) → IsCorner w c → Stops is_ascii_digit s
+    → corner_at (w ++ s) ≡ Some (c, s)
 unfolding corner_at
 corner_at-corner w c s corner stop =
     let letters = column_name (column_of c) in
@@ -132,16 +147,22 @@ corner_at-corner w c s corner stop =
     let stops = digits_stop digits s numeral in
     let stop_letters = mark_stops corner.row_fixed last stops.0 in
     let text : w ++ s ≡ mark corner.column_fixed ++ whole =
-    ap (λ v. v ++ s) corner.text ∙ sym (pieces (mark corner.column_fixed) (mark corner.row_fixed) letters digits s) in
+    ap (λ v. v ++ s) corner.text
+    ∙ sym (pieces (mark corner.column_fixed) (mark corner.row_fixed) letters digits s) in
     let read_letters : unmarked (w ++ s) ≡ whole =
-    ap unmarked text ∙ unmarked-mark corner.column_fixed whole (capitals_stop letters middle (column_some (column_of c)) capitals) in
+    ap unmarked text
+    ∙ unmarked-mark corner.column_fixed whole
+    (capitals_stop letters middle (column_some (column_of c)) capitals) in
     let read_digits : unmarked middle ≡ last = unmarked-mark corner.row_fixed last stops.1 in
-    let result : List ℕ → List ℕ → Option (ℕ × List ℕ) = λ l u. option_map (λ (k : ℕ). (k, drop (digits_at u) u)) (cell_in l (take (digits_at u) u)) in
+    let result : List ℕ → List ℕ → Option (ℕ × List ℕ) = λ l u. option_map (λ (k : ℕ). (k, drop (digits_at u) u))
+    (cell_in l (take (digits_at u) u)) in
     ap (λ t. result (take (capitals_at t) t) (unmarked (drop (capitals_at t) t))) read_letters
-    ∙ ap (λ v. result v (unmarked (drop (capitals_at whole) whole))) (take-run is_ascii_uppercase letters middle capitals stop_letters)
+    ∙ ap (λ v. result v (unmarked (drop (capitals_at whole) whole)))
+    (take-run is_ascii_uppercase letters middle capitals stop_letters)
     ∙ ap (λ v. result letters (unmarked v)) (drop-run is_ascii_uppercase letters middle capitals stop_letters)
     ∙ ap (result letters) read_digits
-    ∙ ap (λ v. option_map (λ (k : ℕ). (k, drop (digits_at last) last)) (cell_in letters v)) (take-run is_ascii_digit digits s (all_digits digits numeral.1) stop)
+    ∙ ap (λ v. option_map (λ (k : ℕ). (k, drop (digits_at last) last)) (cell_in letters v))
+    (take-run is_ascii_digit digits s (all_digits digits numeral.1) stop)
     ∙ ap (λ o. option_map (λ (k : ℕ). (k, drop (digits_at last) last)) o) (cell_in-name c corner.in_grid)
     ∙ ap (λ v. Some (c, v)) (drop-run is_ascii_digit digits s (all_digits digits numeral.1) stop)
   where

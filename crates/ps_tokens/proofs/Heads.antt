@@ -1,5 +1,6 @@
 -- The byte that a token begins with, and the bytes that it would go on in.
-use Rattle.std.proofs.Common.{◌≡◌, ℕ, ◌==◌, Bool, true, false, ◌||◌, List, [], ◌∷◌, ◌++◌, drop, ℤ, refl, ◌∙◌, codes, arith}
+use Rattle.std.proofs.Common.{◌≡◌, ℕ, ◌==◌, Bool, true, false, ◌||◌, List, [], ◌∷◌, ◌++◌, drop, ℤ, refl, ◌∙◌, codes}
+use Rattle.std.proofs.Common.{arith}
 use Rattle.std.specs.Char.{is_ascii_digit, is_ascii_alphabetic}
 use Rattle.std.specs.Int.{IsInRange}
 use Rattle.std.proofs.lemmas.Bool.{and_parts}
@@ -10,9 +11,11 @@ use Rattle.ps_tokens.specs.Names.{operator_text}
 use Rattle.ps_tokens.specs.Text.{is_blank, IsToken}
 use Rattle.ps_tokens.specs.declared.token.Function.{Function}
 use Rattle.ps_tokens.specs.declared.token.Operator.{Operator}
-use Rattle.ps_tokens.specs.declared.token.Operator.TheVariants.{Plus, Minus, Times, Equal, NotEqual, Less, LessOrEqual, Greater, GreaterOrEqual}
+use Rattle.ps_tokens.specs.declared.token.Operator.TheVariants.{Plus, Minus, Times, Equal, NotEqual, Less}
+use Rattle.ps_tokens.specs.declared.token.Operator.TheVariants.{LessOrEqual, Greater, GreaterOrEqual}
 use Rattle.ps_tokens.specs.declared.token.Token.{Token}
-use Rattle.ps_tokens.specs.declared.token.Token.TheVariants.{Numeral, Reference, Range, Name, Symbol, Open, Close, Separator}
+use Rattle.ps_tokens.specs.declared.token.Token.TheVariants.{Numeral, Reference, Range, Name, Symbol, Open, Close}
+use Rattle.ps_tokens.specs.declared.token.Token.TheVariants.{Separator}
 use Rattle.ps_tokens.proofs.Choices.{byte_is}
 use Rattle.ps_tokens.proofs.NameLemmas.{name_letters, name_some}
 
@@ -91,12 +94,23 @@ IsToken-head (c ∷ w) (Numeral z) h =
 IsToken-head w (Reference c) h =
     record { first = 91; others = 46 ∷ (h.corner ++ codes "]"); text = h.text; fits = refl }
 IsToken-head w (Range a) h =
-    record { first = 91; others = 46 ∷ (h.first ++ (codes ":." ++ (h.second ++ codes "]"))); text = h.text; fits = refl }
+    record {
+      first = 91;
+      others = 46 ∷ (h.first ++ (codes ":." ++ (h.second ++ codes "]")));
+      text = h.text;
+      fits = refl;
+    }
 IsToken-head [] (Name f) h = absurd (name_some f h)
 IsToken-head (c ∷ w) (Name f) h =
     record { first = c; others = w; text = refl; fits = (and_parts _ _ (name_letters (c ∷ w) f h)).0 }
 IsToken-head w (Symbol x) h =
-    record { first = sign_head x; others = drop 1 (operator_text x); text = h ∙ operator_head x; fits = operator_begins x }
+    record {
+      first = sign_head x;
+      others = drop 1 (operator_text x);
+      text = h
+          ∙ operator_head x;
+      fits = operator_begins x;
+    }
 IsToken-head w Open h = record { first = 40; others = []; text = h; fits = refl }
 IsToken-head w Close h = record { first = 41; others = []; text = h; fits = refl }
 IsToken-head w Separator h = record { first = 59; others = []; text = h; fits = refl }
@@ -208,7 +222,8 @@ greater_stops Open b j h = byte_is (sign_goes_on Greater) false b 40 h refl
 greater_stops Close b j h = byte_is (sign_goes_on Greater) false b 41 h refl
 greater_stops Separator b j h = byte_is (sign_goes_on Greater) false b 59 h refl
 
-numeral_stops : (z : ℤ) (y : Token) (b : ℕ) → join (Numeral z) y ≡ false → head_of y b ≡ true → is_ascii_digit b ≡ false
+numeral_stops : (z : ℤ) (y : Token) (b : ℕ) → join (Numeral z) y ≡ false → head_of y b ≡ true
+    → is_ascii_digit b ≡ false
 numeral_stops z (Numeral _) b j h = cc
 numeral_stops z (Reference _) b j h = byte_is is_ascii_digit false b 91 h refl
 numeral_stops z (Range _) b j h = byte_is is_ascii_digit false b 91 h refl
@@ -218,7 +233,8 @@ numeral_stops z Open b j h = byte_is is_ascii_digit false b 40 h refl
 numeral_stops z Close b j h = byte_is is_ascii_digit false b 41 h refl
 numeral_stops z Separator b j h = byte_is is_ascii_digit false b 59 h refl
 
-name_stops : (f : Function) (y : Token) (b : ℕ) → join (Name f) y ≡ false → head_of y b ≡ true → is_ascii_alphabetic b ≡ false
+name_stops : (f : Function) (y : Token) (b : ℕ) → join (Name f) y ≡ false → head_of y b ≡ true
+    → is_ascii_alphabetic b ≡ false
 name_stops f (Numeral _) b j h = digit_no_letter b h
 name_stops f (Reference _) b j h = byte_is is_ascii_alphabetic false b 91 h refl
 name_stops f (Range _) b j h = byte_is is_ascii_alphabetic false b 91 h refl

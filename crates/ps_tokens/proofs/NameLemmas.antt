@@ -1,5 +1,6 @@
 -- A name is read from a text exactly where one stands at its front.
-use Rattle.std.proofs.Common.{◌≡◌, ℕ, Bool, true, false, cond, Option, Some, List, [], ◌∷◌, map, refl, ap, subst, ◌∙◌, arith}
+use Rattle.std.proofs.Common.{◌≡◌, ℕ, Bool, true, false, cond, Option, Some, List, [], ◌∷◌, map, refl, ap, subst}
+use Rattle.std.proofs.Common.{◌∙◌, arith}
 use Rattle.std.specs.Char.{is_ascii_alphabetic, is_ascii_lowercase, to_ascii_lowercase}
 use Rattle.std.specs.List.{find, list_all}
 use Rattle.std.specs.Str.{bytes_eq, str_eq_ignore_ascii_case, str_to_ascii_lowercase}
@@ -10,7 +11,8 @@ use Rattle.ps_tokens.specs.Lexing.{function_of}
 use Rattle.ps_tokens.specs.Names.{function_name}
 use Rattle.ps_tokens.specs.declared.token.TheConstants.{FUNCTIONS}
 use Rattle.ps_tokens.specs.declared.token.Function.{Function}
-use Rattle.ps_tokens.specs.declared.token.Function.TheVariants.{Sum, Min, Max, Count, If, Mod, Quotient, Abs, And, Or, Not, True, False}
+use Rattle.ps_tokens.specs.declared.token.Function.TheVariants.{Sum, Min, Max, Count, If, Mod, Quotient, Abs, And}
+use Rattle.ps_tokens.specs.declared.token.Function.TheVariants.{Or, Not, True, False}
 
 -- what was found passes the test
 find-some : {X : Type 0} (p : X → Bool) (xs : List X) (y : X) → find p xs ≡ Some y → p y ≡ true
@@ -23,7 +25,8 @@ find-some p (x ∷ xs) y e =
     ] refl e
 
 -- a function that was found has the name
-pub function_of-some : (w : List ℕ) (f : Function) → function_of w ≡ Some f → str_to_ascii_lowercase w ≡ str_to_ascii_lowercase (function_name f)
+pub function_of-some : (w : List ℕ) (f : Function) → function_of w ≡ Some f
+    → str_to_ascii_lowercase w ≡ str_to_ascii_lowercase (function_name f)
 unfolding function_of
 function_of-some w f e =
     (bytes_eq-Decides (str_to_ascii_lowercase w) (str_to_ascii_lowercase (function_name f))).0
@@ -49,7 +52,8 @@ of_lower-name True = refl
 of_lower-name False = refl
 
 -- a function's name in any case finds it
-pub function_of-name : (w : List ℕ) (f : Function) → str_to_ascii_lowercase w ≡ str_to_ascii_lowercase (function_name f) → function_of w ≡ Some f
+pub function_of-name : (w : List ℕ) (f : Function)
+    → str_to_ascii_lowercase w ≡ str_to_ascii_lowercase (function_name f) → function_of w ≡ Some f
 unfolding function_of
 function_of-name w f e = ap of_lower e ∙ of_lower-name f
 
@@ -72,13 +76,15 @@ lower_letters False = refl
 letter_from_lower : (c : ℕ) → is_ascii_lowercase (to_ascii_lowercase c) ≡ true → is_ascii_alphabetic c ≡ true
 letter_from_lower c h = grind (arith, nat_tests)
 
-letters_from_lower : (w : List ℕ) → list_all is_ascii_lowercase (map to_ascii_lowercase w) ≡ true → list_all is_ascii_alphabetic w ≡ true
+letters_from_lower : (w : List ℕ) → list_all is_ascii_lowercase (map to_ascii_lowercase w) ≡ true
+    → list_all is_ascii_alphabetic w ≡ true
 letters_from_lower [] h = refl
 letters_from_lower (c ∷ w) h =
     let parts = and_parts _ _ h in
     and_from _ _ (letter_from_lower c parts.0) (letters_from_lower w parts.1)
 
-pub name_letters : (w : List ℕ) (f : Function) → str_to_ascii_lowercase w ≡ str_to_ascii_lowercase (function_name f) → list_all is_ascii_alphabetic w ≡ true
+pub name_letters : (w : List ℕ) (f : Function)
+    → str_to_ascii_lowercase w ≡ str_to_ascii_lowercase (function_name f) → list_all is_ascii_alphabetic w ≡ true
 name_letters w f e = letters_from_lower w (ap (list_all is_ascii_lowercase) e ∙ lower_letters f)
 
 -- and at least one

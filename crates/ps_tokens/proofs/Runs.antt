@@ -1,5 +1,6 @@
 -- The longest front of a text whose bytes pass a test.
-use Rattle.std.proofs.Common.{◌≡◌, ℕ, ◌+◌, ◌<◌, Bool, true, false, cond, ◌&&◌, List, [], ◌∷◌, ◌++◌, length, take, drop, refl, sym, ap, ◌∙◌, arith}
+use Rattle.std.proofs.Common.{◌≡◌, ℕ, ◌+◌, ◌<◌, Bool, true, false, cond, ◌&&◌, List, [], ◌∷◌, ◌++◌, length, take}
+use Rattle.std.proofs.Common.{drop, refl, sym, ap, ◌∙◌, arith}
 use Rattle.std.specs.Char.{is_ascii_digit, is_ascii_uppercase, digit_value}
 use Rattle.std.specs.List.{prefix_len, list_all, AllPass}
 use Rattle.std.specs.Str.Parse.{AllDigits}
@@ -24,7 +25,8 @@ list_all-run p (c ∷ s) =
     ] refl
 
 -- the first of a list that passes, and the others
-pub list_all_parts : (p : ℕ → Bool) (c : ℕ) (s : List ℕ) → list_all p (c ∷ s) ≡ true → (p c ≡ true) × (list_all p s ≡ true)
+pub list_all_parts : (p : ℕ → Bool) (c : ℕ) (s : List ℕ) → list_all p (c ∷ s) ≡ true
+    → (p c ≡ true) × (list_all p s ≡ true)
 list_all_parts p c s h =
     elim (p c) as (λ b. p c ≡ b → (b && list_all p s) ≡ true → (p c ≡ true) × (list_all p s ≡ true)) [
       | true ↦ λ e k. (e, k)
@@ -32,17 +34,20 @@ list_all_parts p c s h =
     ] refl h
 
 -- a run that stops is the longest front
-pub prefix_len-run : (p : ℕ → Bool) (w s : List ℕ) → list_all p w ≡ true → Stops p s → prefix_len p (w ++ s) ≡ length w
+pub prefix_len-run : (p : ℕ → Bool) (w s : List ℕ) → list_all p w ≡ true → Stops p s
+    → prefix_len p (w ++ s) ≡ length w
 prefix_len-run p [] [] h k = refl
 prefix_len-run p [] (c ∷ s) h k = ap (λ b. cond b (1 + prefix_len p s) 0) k
 prefix_len-run p (c ∷ w) s h k =
     let parts = list_all_parts p c w h in
     ap (λ b. cond b (1 + prefix_len p (w ++ s)) 0) parts.0 ∙ omega (arith, prefix_len-run p w s parts.1 k)
 
-pub take-run : (p : ℕ → Bool) (w s : List ℕ) → list_all p w ≡ true → Stops p s → take (prefix_len p (w ++ s)) (w ++ s) ≡ w
+pub take-run : (p : ℕ → Bool) (w s : List ℕ) → list_all p w ≡ true → Stops p s
+    → take (prefix_len p (w ++ s)) (w ++ s) ≡ w
 take-run p w s h k = take_at w s _ (sym (prefix_len-run p w s h k))
 
-pub drop-run : (p : ℕ → Bool) (w s : List ℕ) → list_all p w ≡ true → Stops p s → drop (prefix_len p (w ++ s)) (w ++ s) ≡ s
+pub drop-run : (p : ℕ → Bool) (w s : List ℕ) → list_all p w ≡ true → Stops p s
+    → drop (prefix_len p (w ++ s)) (w ++ s) ≡ s
 drop-run p w s h k = drop_at w s _ (sym (prefix_len-run p w s h k))
 
 -- a digit has a value below ten, and only a digit has

@@ -1,12 +1,14 @@
 -- A sign is read from a text exactly where one stands at its front.
-use Rattle.std.proofs.Common.{◌≡◌, ℕ, ◌==◌, true, ◌&&◌, Option, Some, None, List, [], ◌∷◌, ◌++◌, drop, get_or, refl, sym, ap, subst, ◌∙◌, arith}
+use Rattle.std.proofs.Common.{◌≡◌, ℕ, ◌==◌, true, ◌&&◌, Option, Some, None, List, [], ◌∷◌, ◌++◌, drop, get_or, refl}
+use Rattle.std.proofs.Common.{sym, ap, subst, ◌∙◌, arith}
 use Rattle.std.specs.Option.{option_or}
 use Rattle.std.proofs.lemmas.Bool.{and_parts, eqb-true}
 use Rattle.ps_tokens.specs.Lexing.{operator_of_two, sign_at, token_of_one}
 use Rattle.ps_tokens.specs.Names.{operator_text}
 use Rattle.ps_tokens.specs.Text.{IsToken}
 use Rattle.ps_tokens.specs.declared.token.Operator.{Operator}
-use Rattle.ps_tokens.specs.declared.token.Operator.TheVariants.{Plus, Minus, Times, Equal, NotEqual, Less, LessOrEqual, Greater, GreaterOrEqual}
+use Rattle.ps_tokens.specs.declared.token.Operator.TheVariants.{Plus, Minus, Times, Equal, NotEqual, Less}
+use Rattle.ps_tokens.specs.declared.token.Operator.TheVariants.{LessOrEqual, Greater, GreaterOrEqual}
 use Rattle.ps_tokens.specs.declared.token.Token.{Token}
 use Rattle.ps_tokens.specs.declared.token.Token.TheVariants.{Symbol, Open, Close, Separator}
 use Rattle.ps_tokens.proofs.Choices.{if_some_or, option_map_from}
@@ -17,7 +19,8 @@ pub record TakesToken (s : List ℕ) (x : Token) (r : List ℕ) : Type 0 where
   pub is_token : IsToken word x
   pub text : s ≡ word ++ r
 
-two_bytes : (a b k l : ℕ) (x y : Operator) → (a == k && b == l) ≡ true → x ≡ y → k ∷ l ∷ [] ≡ operator_text x → a ∷ b ∷ [] ≡ operator_text y
+two_bytes : (a b k l : ℕ) (x y : Operator) → (a == k && b == l) ≡ true → x ≡ y → k ∷ l ∷ [] ≡ operator_text x
+    → a ∷ b ∷ [] ≡ operator_text y
 two_bytes a b k l x y test same text =
     let parts = and_parts _ _ test in
     let first = eqb-true a k parts.0 in
@@ -51,7 +54,8 @@ token_of_one-some a y e =
     e
 
 -- of two options one answered
-pub option_or_from : {X P : Type 0} (o p : Option X) (y : X) → (o ≡ Some y → P) → (p ≡ Some y → P) → option_or o p ≡ Some y → P
+pub option_or_from : {X P : Type 0} (o p : Option X) (y : X) → (o ≡ Some y → P) → (p ≡ Some y → P)
+    → option_or o p ≡ Some y → P
 option_or_from None p y first second e = second e
 option_or_from (Some x) p y first second e = first e
 
@@ -67,7 +71,8 @@ second_byte a LessOrEqual e = omega (arith, ap (λ v. get_or v 1 7) e)
 second_byte a Greater e = omega (arith, ap (λ v. get_or v 1 7) e)
 second_byte a GreaterOrEqual e = omega (arith, ap (λ v. get_or v 1 7) e)
 
-two_at : (s : List ℕ) (x : Operator) → operator_of_two (get_or s 0 0) (get_or s 1 0) ≡ Some x → s ≡ operator_text x ++ drop 2 s
+two_at : (s : List ℕ) (x : Operator) → operator_of_two (get_or s 0 0) (get_or s 1 0) ≡ Some x
+    → s ≡ operator_text x ++ drop 2 s
 unfolding operator_of_two
 two_at [] x e = cc
 two_at (a ∷ []) x e = absurd (second_byte a x (operator_of_two-some a 0 x e))
@@ -87,7 +92,8 @@ sign_at-some s x r e =
     let token : Symbol y ≡ x = ap (λ p. p.0) same in
     let rest : drop 2 s ≡ r = ap (λ p. p.1) same in
     subst (λ z. TakesToken s z r) token
-    (subst (TakesToken s (Symbol y)) rest (record { word = operator_text y; is_token = refl; text = two_at s y found }))))
+    (subst (TakesToken s (Symbol y)) rest
+    (record { word = operator_text y; is_token = refl; text = two_at s y found }))))
     (option_map_from (λ (y : Token). (y, drop 1 s)) _ (x, r)
     (λ y found same.
     let token : y ≡ x = ap (λ p. p.0) same in

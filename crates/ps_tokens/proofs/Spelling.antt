@@ -1,5 +1,6 @@
 -- A text read token by token: what was found and what is left, against all that the text spells.
-use Rattle.std.proofs.Common.{◌≡◌, ℕ, ◌<◌, ◌==◌, true, false, Option, Some, None, List, [], ◌∷◌, ◌++◌, length, drop, get_or, refl, sym, ap, subst, ◌∙◌, append_assoc, arith, length-append}
+use Rattle.std.proofs.Common.{◌≡◌, ℕ, ◌<◌, ◌==◌, true, false, Option, Some, None, List, [], ◌∷◌, ◌++◌, length, drop}
+use Rattle.std.proofs.Common.{get_or, refl, sym, ap, subst, ◌∙◌, append_assoc, arith, length-append}
 use Rattle.std.proofs.lemmas.Bool.{eqb-true}
 use Rattle.std.proofs.lemmas.List.{append-nil}
 use Rattle.ps_tokens.specs.Apart.{AreApart, IsApart}
@@ -21,7 +22,8 @@ nothing_spelled _ _ (a_token w {s} {x} token sp) e =
     cc
 
 -- behind a blank the same is spelled
-pub blank_spelled : (t : List ℕ) (us : List Token) → Spells t us → (b : ℕ) (s : List ℕ) → is_blank b ≡ true → t ≡ b ∷ s → Spells s us
+pub blank_spelled : (t : List ℕ) (us : List Token) → Spells t us → (b : ℕ) (s : List ℕ) → is_blank b ≡ true
+    → t ≡ b ∷ s → Spells s us
 blank_spelled _ _ nothing b s h e = cc
 blank_spelled _ _ (a_blank {b = c} {s = r} {ts} k sp) b s h e =
     let same : r ≡ s = cc in
@@ -51,7 +53,8 @@ pub record ReadsFirst (s : List ℕ) (us : List Token) : Type 0 where
   pub spelled : Spells rest others
   pub apart : AreApart others
 
-pub token_spelled : (t : List ℕ) (us : List Token) → Spells t us → AreApart us → (b : ℕ) (s : List ℕ) → is_blank b ≡ false → t ≡ b ∷ s → ReadsFirst t us
+pub token_spelled : (t : List ℕ) (us : List Token) → Spells t us → AreApart us → (b : ℕ) (s : List ℕ)
+    → is_blank b ≡ false → t ≡ b ∷ s → ReadsFirst t us
 token_spelled _ _ nothing apart b s h e = cc
 token_spelled _ _ (a_blank {b = c} k sp) apart b s h e =
     let same : c ≡ b = cc in
@@ -71,10 +74,13 @@ token_spelled _ _ (a_token w {s = r} {x} {ts} token sp) apart b s h e = record {
 -- whole spells, and each list of tokens that are apart begins with those found and goes on in the rest
 pub record IsLeft (text : List ℕ) (found : List Token) (rest : List ℕ) : Type 0 where
   pub sound : (ts : List Token) → Spells rest ts → Spells text (found ++ ts)
-  pub only : (ts : List Token) → Spells text ts → AreApart ts → (us : List Token) × (ts ≡ found ++ us) × Spells rest us × AreApart us
+  pub only : (ts : List Token) → Spells text ts → AreApart ts
+      → (us : List Token) × (ts ≡ found ++ us) × Spells rest us × AreApart us
 
-same_answer : (x : Token) (r : List ℕ) (y : Token) (s : List ℕ) → ◌≡◌ {A = Option (Token × List ℕ)} (Some (x, r)) (Some (y, s)) → (x ≡ y) × (r ≡ s)
-same_answer x r y s e = let pair : ◌≡◌ {A = Token × List ℕ} (x, r) (y, s) = cc in (ap (λ p. p.0) pair, ap (λ p. p.1) pair)
+same_answer : (x : Token) (r : List ℕ) (y : Token) (s : List ℕ)
+    → ◌≡◌ {A = Option (Token × List ℕ)} (Some (x, r)) (Some (y, s)) → (x ≡ y) × (r ≡ s)
+same_answer x r y s e = let pair : ◌≡◌ {A = Token × List ℕ} (x, r) (y, s) = cc in
+    (ap (λ p. p.0) pair, ap (λ p. p.1) pair)
 
 no_answer : (x : Token) (r : List ℕ) → ◌≡◌ {A = Option (Token × List ℕ)} (Some (x, r)) None → ⊥
 no_answer x r e = cc
@@ -82,7 +88,8 @@ no_answer x r e = cc
 pub left_start : (text : List ℕ) → IsLeft text [] text
 left_start text = record { sound = λ ts h. h; only = λ ts h apart. (ts, refl, h, apart) }
 
-pub left_blank : (text : List ℕ) (found : List Token) (b : ℕ) (s : List ℕ) → is_blank b ≡ true → IsLeft text found (b ∷ s) → IsLeft text found s
+pub left_blank : (text : List ℕ) (found : List Token) (b : ℕ) (s : List ℕ) → is_blank b ≡ true
+    → IsLeft text found (b ∷ s) → IsLeft text found s
 left_blank text found b s blank left = record {
   sound = λ ts h. left.sound ts (a_blank blank h);
   only = λ ts h apart.
@@ -90,31 +97,42 @@ left_blank text found b s blank left = record {
       (rest.0, rest.1, blank_spelled (b ∷ s) rest.0 rest.2 b s blank refl, rest.3);
 }
 
-pub left_token : (text : List ℕ) (found : List Token) (b : ℕ) (s : List ℕ) (x : Token) (r : List ℕ) → is_blank b ≡ false → token_at (b ∷ s) ≡ Some (x, r) → IsLeft text found (b ∷ s) → IsLeft text (found ++ x ∷ []) r
+pub left_token : (text : List ℕ) (found : List Token) (b : ℕ) (s : List ℕ) (x : Token) (r : List ℕ)
+    → is_blank b ≡ false → token_at (b ∷ s) ≡ Some (x, r) → IsLeft text found (b ∷ s)
+    → IsLeft text (found ++ x ∷ []) r
 left_token text found b s x r other read left =
     let taken = token_at-some (b ∷ s) x r read in
     record {
       sound = λ ts h.
-          let whole : Spells (b ∷ s) (x ∷ ts) = subst (λ v. Spells v (x ∷ ts)) (sym taken.text) (a_token taken.word taken.is_token h) in
+          let whole : Spells (b ∷ s) (x ∷ ts) = subst (λ v. Spells v (x ∷ ts)) (sym taken.text)
+          (a_token taken.word taken.is_token h) in
           subst (λ v. Spells text v) (sym (append_assoc found (x ∷ []) ts)) (left.sound (x ∷ ts) whole);
       only = λ ts h apart.
           let rest = left.only ts h apart in
           let first = token_spelled (b ∷ s) rest.0 rest.2 rest.3 b s other refl in
           let same = same_answer first.first first.rest x r (sym first.read ∙ read) in
           let token : first.first ≡ x = same.0 in
-          let behind : first.rest ≡ r = same.1 in
-          (first.others, rest.1 ∙ ap (λ v. found ++ v) (first.tokens ∙ ap (λ v. v ∷ first.others) token) ∙ sym (append_assoc found (x ∷ []) first.others), subst (λ v. Spells v first.others) behind first.spelled, first.apart);
+          let behind : first.rest ≡ r = same.1 in (
+            first.others,
+            rest.1 ∙ ap (λ v. found ++ v) (first.tokens ∙ ap (λ v. v ∷ first.others) token)
+                ∙ sym (append_assoc found (x ∷ []) first.others),
+            subst (λ v. Spells v first.others) behind
+                first.spelled,
+            first.apart,
+          );
     }
 
 -- where no token is read, no list of tokens that are apart is spelled
-pub left_none : (text : List ℕ) (found : List Token) (b : ℕ) (s : List ℕ) → is_blank b ≡ false → token_at (b ∷ s) ≡ None → IsLeft text found (b ∷ s) → (ts : List Token) → Spells text ts → AreApart ts → ⊥
+pub left_none : (text : List ℕ) (found : List Token) (b : ℕ) (s : List ℕ) → is_blank b ≡ false
+    → token_at (b ∷ s) ≡ None → IsLeft text found (b ∷ s) → (ts : List Token) → Spells text ts → AreApart ts → ⊥
 left_none text found b s other read left ts h apart =
     let rest = left.only ts h apart in
     let first = token_spelled (b ∷ s) rest.0 rest.2 rest.3 b s other refl in
     no_answer first.first first.rest (sym first.read ∙ read)
 
 -- at the end the tokens found are spelled, and no other list of tokens that are apart is
-pub left_end : (text : List ℕ) (found : List Token) → IsLeft text found [] → Spells text found × ((ts : List Token) → Spells text ts → AreApart ts → found ≡ ts)
+pub left_end : (text : List ℕ) (found : List Token) → IsLeft text found []
+    → Spells text found × ((ts : List Token) → Spells text ts → AreApart ts → found ≡ ts)
 left_end text found left = (
   subst (Spells text) (append-nil found) (left.sound [] nothing),
   λ ts h apart.
@@ -130,34 +148,43 @@ token_at-shorter s x r read =
     omega (arith, ap length taken.text, ap length head.text, length-append taken.word r)
 
 -- the turns of the loop: over a blank, over a token, and where no token is read
-pub turn_blank : (text : List ℕ) (found : List Token) (rest s : List ℕ) → (length rest == 0) ≡ false → is_blank (get_or rest 0 0) ≡ true → s ≡ drop 1 rest → IsLeft text found rest → IsLeft text found s
+pub turn_blank : (text : List ℕ) (found : List Token) (rest s : List ℕ) → (length rest == 0) ≡ false
+    → is_blank (get_or rest 0 0) ≡ true → s ≡ drop 1 rest → IsLeft text found rest → IsLeft text found s
 turn_blank text found [] s some blank behind left = cc
 turn_blank text found (b ∷ rest) s some blank behind left =
     subst (IsLeft text found) (sym behind) (left_blank text found b rest blank left)
 
-pub turn_token : (text : List ℕ) (found new : List Token) (rest : List ℕ) (x : Token) (r : List ℕ) → is_blank (get_or rest 0 0) ≡ false → token_at rest ≡ Some (x, r) → new ≡ found ++ x ∷ [] → IsLeft text found rest → IsLeft text new r
+pub turn_token : (text : List ℕ) (found new : List Token) (rest : List ℕ) (x : Token) (r : List ℕ)
+    → is_blank (get_or rest 0 0) ≡ false → token_at rest ≡ Some (x, r) → new ≡ found ++ x ∷ []
+    → IsLeft text found rest → IsLeft text new r
 turn_token text found new [] x r other read more left = absurd (omega (arith, token_at-shorter [] x r read))
 turn_token text found new (b ∷ rest) x r other read more left =
     subst (λ v. IsLeft text v r) (sym more) (left_token text found b rest x r other read left)
 
-pub turn_none : (text : List ℕ) (found : List Token) (rest : List ℕ) → (length rest == 0) ≡ false → is_blank (get_or rest 0 0) ≡ false → token_at rest ≡ None → IsLeft text found rest → (ts : List Token) → Spells text ts → AreApart ts → ⊥
+pub turn_none : (text : List ℕ) (found : List Token) (rest : List ℕ) → (length rest == 0) ≡ false
+    → is_blank (get_or rest 0 0) ≡ false → token_at rest ≡ None → IsLeft text found rest → (ts : List Token)
+    → Spells text ts → AreApart ts → ⊥
 turn_none text found [] some other read left = cc
 turn_none text found (b ∷ rest) some other read left = left_none text found b rest other read left
 
-pub turn_end : (text : List ℕ) (found : List Token) (rest : List ℕ) → (length rest == 0) ≡ true → IsLeft text found rest → Spells text found × ((ts : List Token) → Spells text ts → AreApart ts → found ≡ ts)
+pub turn_end : (text : List ℕ) (found : List Token) (rest : List ℕ) → (length rest == 0) ≡ true
+    → IsLeft text found rest → Spells text found × ((ts : List Token) → Spells text ts → AreApart ts → found ≡ ts)
 turn_end text found [] none left = left_end text found left
 turn_end text found (b ∷ rest) none left = absurd (omega (arith, eqb-true (length (b ∷ rest)) 0 none))
 
 -- a text spells one list of tokens that are apart
-pub one_spelled : (s : List ℕ) (ts us : List Token) → Spells s ts → AreApart ts → Spells s us → AreApart us → ts ≡ us
+pub one_spelled : (s : List ℕ) (ts us : List Token) → Spells s ts → AreApart ts → Spells s us → AreApart us
+    → ts ≡ us
 one_spelled _ _ us nothing apart other others_apart = sym (nothing_spelled [] us other refl)
 one_spelled _ _ us (a_blank {b} {s} {ts} h sp) apart other others_apart =
     one_spelled s ts us sp apart (blank_spelled (b ∷ s) us other b s h refl) others_apart
 one_spelled _ _ us (a_token w {s} {x} {ts} token sp) apart other others_apart =
     let head = IsToken-head w x token in
     let begins = ap (λ v. v ++ s) head.text in
-    let first = token_spelled (w ++ s) us other others_apart head.first (head.others ++ s) (head_no_blank x head.first head.fits) begins in
+    let first = token_spelled (w ++ s) us other others_apart head.first (head.others ++ s)
+    (head_no_blank x head.first head.fits) begins in
     let read = token_at-token w x s token (stops x s ts sp apart.0) in
     let same = same_answer x s first.first first.rest (sym read ∙ first.read) in
-    let others = one_spelled s ts first.others sp apart.1 (subst (λ v. Spells v first.others) (sym same.1) first.spelled) first.apart in
+    let others = one_spelled s ts first.others sp apart.1
+    (subst (λ v. Spells v first.others) (sym same.1) first.spelled) first.apart in
     ap (λ v. v ∷ ts) same.0 ∙ ap (λ v. first.first ∷ v) others ∙ sym first.tokens

@@ -1,5 +1,6 @@
 -- The value of digits, and the test that it is small enough.
-use Rattle.std.proofs.Common.{◌≡◌, ℕ, ◌+◌, ◌-◌, ◌*◌, ◌^◌, ◌<◌, ◌≤◌, Some, None, List, [], ◌∷◌, ◌++◌, length, take, drop, get_or, refl, ap, arith}
+use Rattle.std.proofs.Common.{◌≡◌, ℕ, ◌+◌, ◌-◌, ◌*◌, ◌^◌, ◌<◌, ◌≤◌, Some, None, List, [], ◌∷◌, ◌++◌, length, take}
+use Rattle.std.proofs.Common.{drop, get_or, refl, ap, arith}
 use Rattle.std.specs.Char.{digit_value}
 use Rattle.std.specs.Int.{IsInRange}
 use Rattle.std.specs.Str.Parse.{AllDigits, digits_value, digits_value_after}
@@ -15,7 +16,8 @@ digits_value_after-ge : (n : ℕ) (ds : List ℕ) → n ≤ digits_value_after 1
 digits_value_after-ge n [] = omega arith
 digits_value_after-ge n (c ∷ ds) = omega (arith, digits_value_after-ge (n * 10 + digit_value c) ds)
 
-digits_value_after-append : (n : ℕ) (xs ys : List ℕ) → digits_value_after 10 n (xs ++ ys) ≡ digits_value_after 10 (digits_value_after 10 n xs) ys
+digits_value_after-append : (n : ℕ) (xs ys : List ℕ)
+    → digits_value_after 10 n (xs ++ ys) ≡ digits_value_after 10 (digits_value_after 10 n xs) ys
 digits_value_after-append n [] ys = refl
 digits_value_after-append n (c ∷ xs) ys = digits_value_after-append (n * 10 + digit_value c) xs ys
 
@@ -26,7 +28,8 @@ digits_value-take-le i ds =
     omega (arith, digits_value_after-ge (digits_value 10 (take i ds)) (drop i ds))
 
 -- one more digit
-pub value_more : (v i : ℕ) (ds : List ℕ) → AllDigits 10 ds → i < length ds → v ≡ digits_value 10 (take i ds) → (v * 10 + (get_or ds i 0 - 48) ≡ digits_value 10 (take (i + 1) ds)) × (IsInRange 48 57 (get_or ds i 0))
+pub value_more : (v i : ℕ) (ds : List ℕ) → AllDigits 10 ds → i < length ds → v ≡ digits_value 10 (take i ds)
+    → (v * 10 + (get_or ds i 0 - 48) ≡ digits_value 10 (take (i + 1) ds)) × (IsInRange 48 57 (get_or ds i 0))
 value_more v i ds digits within is =
     let range = digit_at ds i digits within in
     let value = digit_value_digit (get_or ds i 0) range in

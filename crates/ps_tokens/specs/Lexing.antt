@@ -1,6 +1,7 @@
 -- Reading the token at the front of a text, as long as it gets. This is no part of what a token is (that is
 -- `Text`): the code is proved equal to it, and laws in proofs/ tie it to `IsToken` on both sides.
-use Rattle.std.specs.Prelude.{ℕ, ◌+◌, ◌-◌, ◌*◌, ◌^◌, ◌&&◌, ◌==◌, List, [], ◌∷◌, Option, Some, None, pos, nat_lt, nat_le, take, drop, slice_index, option_and_then, if◌then◌else◌}
+use Rattle.std.specs.Prelude.{ℕ, ◌+◌, ◌-◌, ◌*◌, ◌^◌, ◌&&◌, ◌==◌, List, [], ◌∷◌, Option, Some, None, pos, nat_lt}
+use Rattle.std.specs.Prelude.{nat_le, take, drop, slice_index, option_and_then, if◌then◌else◌}
 use Rattle.std.specs.Char.{is_ascii_digit, is_ascii_uppercase, is_ascii_alphabetic}
 use Rattle.std.specs.List.{find, prefix_len}
 use Rattle.std.specs.Option.{option_map, option_or}
@@ -13,9 +14,11 @@ use Rattle.ps_tokens.specs.Names.{function_name}
 use Rattle.ps_tokens.specs.declared.token.TheConstants.{FUNCTIONS}
 use Rattle.ps_tokens.specs.declared.token.Function.{Function}
 use Rattle.ps_tokens.specs.declared.token.Operator.{Operator}
-use Rattle.ps_tokens.specs.declared.token.Operator.TheVariants.{Plus, Minus, Times, Equal, NotEqual, Less, LessOrEqual, Greater, GreaterOrEqual}
+use Rattle.ps_tokens.specs.declared.token.Operator.TheVariants.{Plus, Minus, Times, Equal, NotEqual, Less}
+use Rattle.ps_tokens.specs.declared.token.Operator.TheVariants.{LessOrEqual, Greater, GreaterOrEqual}
 use Rattle.ps_tokens.specs.declared.token.Token.{Token}
-use Rattle.ps_tokens.specs.declared.token.Token.TheVariants.{Numeral, Reference, Range, Name, Symbol, Open, Close, Separator}
+use Rattle.ps_tokens.specs.declared.token.Token.TheVariants.{Numeral, Reference, Range, Name, Symbol, Open, Close}
+use Rattle.ps_tokens.specs.declared.token.Token.TheVariants.{Separator}
 
 -- the text behind the byte b, where the text begins with it
 unfoldable pub after : ℕ → List ℕ → Option (List ℕ)

@@ -1,9 +1,11 @@
 -- The names of the functions and the signs of the operators.
 use Rattle.std.specs.Prelude.{ℕ, List, codes}
 use Rattle.ps_tokens.specs.declared.token.Function.{Function}
-use Rattle.ps_tokens.specs.declared.token.Function.TheVariants.{Sum, Min, Max, Count, If, Mod, Quotient, Abs, And, Or, Not, True, False}
+use Rattle.ps_tokens.specs.declared.token.Function.TheVariants.{Sum, Min, Max, Count, If, Mod, Quotient, Abs, And}
+use Rattle.ps_tokens.specs.declared.token.Function.TheVariants.{Or, Not, True, False}
 use Rattle.ps_tokens.specs.declared.token.Operator.{Operator}
-use Rattle.ps_tokens.specs.declared.token.Operator.TheVariants.{Plus, Minus, Times, Equal, NotEqual, Less, LessOrEqual, Greater, GreaterOrEqual}
+use Rattle.ps_tokens.specs.declared.token.Operator.TheVariants.{Plus, Minus, Times, Equal, NotEqual, Less}
+use Rattle.ps_tokens.specs.declared.token.Operator.TheVariants.{LessOrEqual, Greater, GreaterOrEqual}
 
 -- the name of a function, in upper case
 abbrev pub function_name : Function → List ℕ

@@ -11,7 +11,8 @@ use Rattle.ps_grid.specs.Rectangle.{Area, first_cell, last_cell, spanned}
 use Rattle.ps_grid.specs.declared.size.TheConstants.{CELLS}
 use Rattle.ps_tokens.specs.Names.{function_name, operator_text}
 use Rattle.ps_tokens.specs.declared.token.Token.{Token}
-use Rattle.ps_tokens.specs.declared.token.Token.TheVariants.{Numeral, Reference, Range, Name, Symbol, Open, Close, Separator}
+use Rattle.ps_tokens.specs.declared.token.Token.TheVariants.{Numeral, Reference, Range, Name, Symbol, Open, Close}
+use Rattle.ps_tokens.specs.declared.token.Token.TheVariants.{Separator}
 
 -- a blank: space, tab, line feed, carriage return
 abbrev pub is_blank : ℕ → Bool
@@ -67,13 +68,15 @@ IsToken w Separator = w ≡ codes ";"
 pub data Spells : List ℕ → List Token → Type 0 where
   nothing : Spells [] []
   a_blank : {b : ℕ} {s : List ℕ} {ts : List Token} → is_blank b ≡ true → Spells s ts → Spells (b ∷ s) ts
-  a_token : (w : List ℕ) {s : List ℕ} {x : Token} {ts : List Token} → IsToken w x → Spells s ts → Spells (w ++ s) (x ∷ ts)
+  a_token : (w : List ℕ) {s : List ℕ} {x : Token} {ts : List Token} → IsToken w x → Spells s ts
+      → Spells (w ++ s) (x ∷ ts)
 
 -- the canonical spelling: no leading zeros, no `$`, corners at the top left and the bottom right, upper case
 abbrev pub token_text : Token → List ℕ
 token_text (Numeral z) = signed_decimal z
 token_text (Reference c) = codes "[." ++ (cell_name c ++ codes "]")
-token_text (Range a) = codes "[." ++ (cell_name (first_cell a) ++ (codes ":." ++ (cell_name (last_cell a) ++ codes "]")))
+token_text
+    (Range a) = codes "[." ++ (cell_name (first_cell a) ++ (codes ":." ++ (cell_name (last_cell a) ++ codes "]")))
 token_text (Name f) = function_name f
 token_text (Symbol x) = operator_text x
 token_text Open = codes "("

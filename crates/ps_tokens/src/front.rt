@@ -5,7 +5,10 @@ ghost use Rattle.std.specs.Char.{is_ascii_uppercase};
 ghost use Rattle.std.specs.List.{AllPass};
 ghost use Rattle.std.specs.Option.{option_map};
 ghost use Rattle.std.specs.Str.Parse.{AllDigits};
-ghost use Rattle.ps_tokens.specs.Lexing.{after, bracketed_at, capitals_at, cell_if, cell_in, column_in, corner_at, digits_at, function_of, letters_at, name_at, number_in, numeral_at, operator_of_two, range_at, reference_at, row_in, sign_at, token_at, token_of_one, unmarked};
+ghost use Rattle.ps_tokens.specs.Lexing.{after, bracketed_at, capitals_at, cell_if, cell_in, column_in, corner_at};
+ghost use Rattle.ps_tokens.specs.Lexing.{digits_at, function_of, letters_at, name_at, number_in, numeral_at};
+ghost use Rattle.ps_tokens.specs.Lexing.{operator_of_two, range_at, reference_at, row_in, sign_at, token_at};
+ghost use Rattle.ps_tokens.specs.Lexing.{token_of_one, unmarked};
 
 use crate::token::{FUNCTIONS, Function, Operator, Token};
 use ps_grid::{Cell, Rect};

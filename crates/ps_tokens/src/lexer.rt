@@ -24,7 +24,8 @@ fn is_blank(byte: u8) -> bool
 /// Cost: linear in the bytes, one allocation.
 pub fn tokens(alloc: Global, text: &[u8]) -> Result<Vec<Token>, Refusal>
     ensures spelled { IfOk result (λ found. Spells text.now found.items) }
-    ensures only { (ts : List Token) → Spells text.now ts → AreApart ts → MatchResult result (λ found. found.items ≡ ts) (λ e. e ≡ Memory) }
+    ensures only { (ts : List Token) → Spells text.now ts → AreApart ts
+        → MatchResult result (λ found. found.items ≡ ts) (λ e. e ≡ Memory) }
     ensures formula { result ≡ Err Formula → (ts : List Token) → Spells text.now ts → AreApart ts → ⊥ }
     ensures refused { IfErr result (λ e. (e ≡ Formula) ⊎ (e ≡ Memory)) }
 {

@@ -50,9 +50,18 @@ fn spellings_become_canonical(rt: HostRuntime) -> Result<(), Fail> {
         (b"[.B3:.A1]", b"[.A1:.B3]"),
         (b"[.A3:.B1]", b"[.A1:.B3]"),
         (b"[.CZ1024:.CZ1024]", b"[.CZ1024:.CZ1024]"),
-        (b"- 1 + 2 * 3 = 4 <> 5 < 6 <= 7 > 8 >= 9", b"-1+2*3=4<>5<6<=7>8>=9"),
-        (b"min(max(count(if(mod(quotient(", b"MIN(MAX(COUNT(IF(MOD(QUOTIENT("),
-        (b"aBs(aNd(oR(nOt(tRue()falSe())", b"ABS(AND(OR(NOT(TRUE()FALSE())"),
+        (
+            b"- 1 + 2 * 3 = 4 <> 5 < 6 <= 7 > 8 >= 9",
+            b"-1+2*3=4<>5<6<=7>8>=9",
+        ),
+        (
+            b"min(max(count(if(mod(quotient(",
+            b"MIN(MAX(COUNT(IF(MOD(QUOTIENT(",
+        ),
+        (
+            b"aBs(aNd(oR(nOt(tRue()falSe())",
+            b"ABS(AND(OR(NOT(TRUE()FALSE())",
+        ),
     ];
     for (text, expected) in spellings {
         let out = canonical(rt.alloc(), text)?;

@@ -40,7 +40,8 @@ fn put_reference(out: &mut Vec<u8>, cell: Cell) -> Result<(), Refusal>
 }
 
 fn put_range(out: &mut Vec<u8>, rect: Rect) -> Result<(), Refusal>
-    ensures ok { OnOk result (out.new.items ≡ out.old.items ++ (codes "[." ++ (cell_name (first_cell rect) ++ (codes ":." ++ (cell_name (last_cell rect) ++ codes "]"))))) }
+    ensures ok { OnOk result (out.new.items ≡ out.old.items
+        ++ (codes "[." ++ (cell_name (first_cell rect) ++ (codes ":." ++ (cell_name (last_cell rect) ++ codes "]"))))) }
     ensures err { OnErr result (take (length out.old.items) out.new.items ≡ out.old.items) }
     ensures memory { IfErr result (λ e. e ≡ Memory) }
 {

@@ -9,4 +9,5 @@ use Rattle.ps_tokens.proofs.front.function.Given as goal
 -- the functions that are left give the answer
 abbrev pub invariant-loop-function : goal.invariant-loop-function
 invariant-loop-function l =
-    find (λ f. str_eq_ignore_ascii_case l.name (function_name f)) (drop l.function-index FUNCTIONS) ≡ function_of l.name
+    find (λ f. str_eq_ignore_ascii_case l.name (function_name f)) (drop l.function-index FUNCTIONS) ≡ function_of
+    l.name

@@ -11,7 +11,8 @@ returns-then-value-clause-value c =
 
 pub overflow_sub-digit : goal.overflow_sub-digit
 overflow_sub-digit c =
-    (value_more c.loop-digit.value c.loop-digit.digit-index c.args.digits.now c.requires (omega arith) c.loop-digit.invariant.0).1.0
+    (value_more c.loop-digit.value c.loop-digit.digit-index c.args.digits.now c.requires
+    (omega arith) c.loop-digit.invariant.0).1.0
 
 pub returns-then-value-gt-LARGEST-clause-value : goal.returns-then-value-gt-LARGEST-clause-value
 returns-then-value-gt-LARGEST-clause-value c =
