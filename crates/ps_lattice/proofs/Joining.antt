@@ -1,0 +1,34 @@
+-- What a merged list is seen as, and that it is in range.
+use Rattle.std.proofs.Common.{◌≡◌, Bool, true, ◌&&◌, List, sym, ap, ◌∙◌}
+use Rattle.std.specs.List.{list_all}
+use Rattle.std.specs.declared.cmp.Ordering.{Ordering}
+use Rattle.std.specs.Cmp.{IsTotalOrder}
+use Rattle.std.specs.FinMap as map
+use Rattle.std.specs.FinMap.{IsAntisymmetric}
+use Rattle.ps_lattice.specs.Maps.{joined_maps}
+use Rattle.ps_lattice.proofs.Rising.{and_left, and_right, and_both}
+use Rattle.ps_lattice.proofs.Views.{from_entries_of, entries_rise}
+use Rattle.ps_lattice.proofs.Merging.{list_all-merged, entries-joined}
+
+module _ {K X : Type 0} (R : K → K → Ordering) (f : X → X → X) (xs ys zs : List (K × X))
+    (is : zs ≡ map.entries (joined_maps f (map.from_sorted {R = R} xs) (map.from_sorted {R = R} ys))) where
+  -- it is seen as the join
+  pub seen_joined : (s t : map.FinMap R X) → map.from_sorted xs ≡ s → map.from_sorted ys ≡ t → map.from_sorted zs ≡ joined_maps f s t
+  seen_joined s t p q =
+      ap (λ es. map.from_sorted {R = R} es) is
+      ∙ from_entries_of R (joined_maps f (map.from_sorted {R = R} xs) (map.from_sorted {R = R} ys))
+      ∙ (λ i. joined_maps f (p i) (q i))
+
+  -- it ascends, and is in range where both lists are
+  pub in_range_joined : IsTotalOrder R → IsAntisymmetric R → (fits : K × X → Bool)
+      → ((a b : K × X) → fits a ≡ true → fits b ≡ true → fits (a.0, f a.1 b.1) ≡ true)
+      → (map.is_sorted R xs && list_all fits xs) ≡ true → (map.is_sorted R ys && list_all fits ys) ≡ true
+      → (map.is_sorted R zs && list_all fits zs) ≡ true
+  in_range_joined o same fits keeps hx hy =
+      let sx = and_left (map.is_sorted R xs) (list_all fits xs) hx in
+      let sy = and_left (map.is_sorted R ys) (list_all fits ys) hy in
+      let ax = and_right (map.is_sorted R xs) (list_all fits xs) hx in
+      let ay = and_right (map.is_sorted R ys) (list_all fits ys) hy in
+      and_both (map.is_sorted R zs) (list_all fits zs)
+      (ap (λ es. map.is_sorted R es) is ∙ entries_rise R (joined_maps f (map.from_sorted {R = R} xs) (map.from_sorted {R = R} ys)))
+      (ap (list_all fits) (is ∙ sym (entries-joined R f o same xs ys sx sy)) ∙ list_all-merged R f fits keeps xs ys ax ay)

@@ -1,0 +1,8 @@
+pub mod Rising
+pub mod Merging
+pub mod Covering
+pub mod Views
+pub mod Joining
+pub mod TallyLemmas
+pub mod ChoiceLemmas
+pub mod Bits

@@ -1,0 +1,13 @@
+use Rattle.std.proofs.Common.{ap, ◌∙◌}
+use Rattle.ps_lattice.specs.Choice.{pair_cmp, is_pair, is_live}
+use Rattle.std.specs.FinMap as map
+use Rattle.std.specs.List.{list_all, list_any}
+use Rattle.ps_lattice.proofs.Rising.{and_left}
+use Rattle.ps_lattice.proofs.Views.{entries_of}
+use Rattle.ps_lattice.proofs.choice.Choice.is_chosen.Goals as goal
+
+pub returns : goal.returns
+returns c =
+    let es = c.self.inside.pairs.items in
+    c.any_live.ensures
+    ∙ ap (list_any (is_live c.args.option)) (c.deref.ensures.value ∙ entries_of pair_cmp es (and_left (map.is_sorted pair_cmp es) (list_all is_pair es) c.self.invariant) ∙ ap map.entries c.self.view_is)

@@ -1,0 +1,33 @@
+use Rattle.std.proofs.Common.{◌≡◌, ◌≤◌, sym, ap, ◌∙◌, subst, unwrap_or}
+use Rattle.std.specs.Option.{option_map_or}
+use Rattle.std.specs.Ordering.{nat_cmp}
+use Rattle.std.specs.Cmp.{nat_cmp_total}
+use Rattle.std.specs.FinMap as map
+use Rattle.std.specs.FinMap.{nat_cmp-IsAntisymmetric}
+use Rattle.std.specs.List.{list_all}
+use Rattle.ps_lattice.specs.declared.tally.Count.{Count}
+use Rattle.ps_lattice.specs.declared.limits.TheConstants.{COUNT_LIMIT}
+use Rattle.ps_lattice.specs.Tally.{is_count}
+use Rattle.ps_lattice.proofs.Rising.{and_left, and_right}
+use Rattle.ps_lattice.proofs.Views.{get_by_list}
+use Rattle.ps_lattice.proofs.TallyLemmas.{added-unwrap_or, subtracted-unwrap_or, found_fits}
+use Rattle.ps_lattice.proofs.tally.Tally.count_of.Goals as goal
+
+-- what the search found, or nothing
+pub returns : goal.returns
+returns c =
+    let es = c.self.inside.counts.items in
+    let r = c.args.replica in
+    let none : Count = record { added = 0; subtracted = 0 } in
+    let sorted = and_left (map.is_sorted nat_cmp es) (list_all is_count es) c.self.invariant in
+    let all = and_right (map.is_sorted nat_cmp es) (list_all is_count es) c.self.invariant in
+    let got = sym (get_by_list nat_cmp nat_cmp_total nat_cmp-IsAntisymmetric es c.args.self.now sorted c.self.view_is r) in
+    let is : c.unwrap_or.result ≡ unwrap_or (map.find nat_cmp r es) none =
+    c.unwrap_or.ensures ∙ ap (λ o. unwrap_or o none) (c.value_at.ensures ∙ ap (λ l. map.find nat_cmp r l) c.deref.ensures.value) in
+    let fits = found_fits r es all in
+    record {
+      added = ap (λ (k : Count). k.added) is ∙ added-unwrap_or (map.find nat_cmp r es) ∙ ap (λ o. option_map_or (λ (k : Count). k.added) o 0) got;
+      subtracted = ap (λ (k : Count). k.subtracted) is ∙ subtracted-unwrap_or (map.find nat_cmp r es) ∙ ap (λ o. option_map_or (λ (k : Count). k.subtracted) o 0) got;
+      added_fits = subst (λ (k : Count). k.added ≤ COUNT_LIMIT) (sym is) fits.0;
+      subtracted_fits = subst (λ (k : Count). k.subtracted ≤ COUNT_LIMIT) (sym is) fits.1;
+    }

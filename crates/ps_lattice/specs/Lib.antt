@@ -1,0 +1,11 @@
+pub mod Orders
+pub mod Maps
+pub mod MapLaws
+pub mod Register
+pub mod RegisterLaws
+pub mod Tally
+pub mod TallyCode
+pub mod TallyLaws
+pub mod Choice
+pub mod ChoiceCode
+pub mod ChoiceLaws

@@ -1,0 +1,24 @@
+-- Values that may be missing, and finite maps, joined: each key holds what both hold there, joined.
+use Rattle.std.specs.Prelude.{List, [], ◌∷◌, Option, Some, None}
+use Rattle.std.specs.declared.cmp.Ordering.{Ordering}
+use Rattle.std.specs.FinMap as map
+
+-- two values that may be missing, joined: nothing is below each value
+abbrev pub both_of : {X : Type 0} → (X → X → X) → Option X → Option X → Option X
+both_of f None y = y
+both_of f (Some x) None = Some x
+both_of f (Some x) (Some y) = Some (f x y)
+
+-- a value raised by what may be missing
+abbrev pub raised : {X : Type 0} → (X → X → X) → Option X → X → X
+raised f None y = y
+raised f (Some x) y = f x y
+
+-- m with each entry of the list joined in: its key holds its value raised by what m holds there
+abbrev pub with_entries : {K X : Type 0} {R : K → K → Ordering} → (X → X → X) → map.FinMap R X → List (K × X) → map.FinMap R X
+with_entries f m [] = m
+with_entries f m (e ∷ es) = map.insert (with_entries f m es) e.0 (raised f (map.get m e.0) e.1)
+
+-- two maps joined: each key holds what both hold there, joined
+unfoldable pub joined_maps : {K X : Type 0} {R : K → K → Ordering} → (X → X → X) → map.FinMap R X → map.FinMap R X → map.FinMap R X
+joined_maps f m n = with_entries f m (map.entries n)

@@ -1,0 +1,342 @@
+//! A set of options from which only what was observed is removed.
+
+ghost use Rattle.std.specs.Prelude.{◌≡◌, ℕ, ◌+◌, ◌<◌, ◌≤◌, ◌↔◌, not, ◌&&◌, ◌||◌, ◌==◌, [], ◌∷◌, Contains, IsTrue, IfOk, IfErr, IsErrOf, IsBitSet, true, filter, map as each};
+ghost use Rattle.std.specs.List.{list_all, list_any};
+ghost use Rattle.std.specs.Option.{SomeIff};
+ghost use Rattle.std.specs.FinMap as map;
+ghost use Rattle.ps_lattice.specs.Choice.{pair_cmp, is_added, is_removed, is_live, is_chosen, last_of, last_sequence, with_pair, withdrawn, joined_choices, is_pair, is_choice};
+
+use crate::entries::{self, Merge};
+use crate::join::{Join, Linear};
+use crate::limits::{OPTIONS, REPLICAS, SEQUENCES};
+use ps_grid::{Refusal, Twin};
+use std::alloc::{AllocError, Global};
+use std::cmp::Ordering;
+use std::marker::Model;
+
+/// An added pair: an option and a tag of its own, by the replica that chose it.
+///
+/// Pairs are ordered by option, then by replica, then by sequence.
+#[derive(Clone, Copy, Debug, PartialEq, Eq)]
+pub struct Pair {
+    /// 0 to one below `OPTIONS`.
+    pub option: u8,
+    /// 1 to `REPLICAS`.
+    pub replica: u8,
+    /// 1 to `SEQUENCES`; a replica takes each at most once.
+    pub sequence: u16,
+}
+
+impl Ord for Pair {
+    ghost use Rattle.ps_lattice.specs.Choice.{pair_cmp};
+    ghost use Rattle.std.proofs.Common.{rules};
+    ghost use Rattle.std.specs.Cmp.Rules.{comparing};
+
+    ghost cmp = { pair_cmp };
+
+    ghost total = { Prim.search (comparing, rules) };
+
+    ghost matches_partial_cmp = { Prim.search (comparing, rules) };
+
+    ghost matches_eq = { Prim.search (comparing, rules) };
+
+    fn cmp(&self, other: &Pair) -> Ordering {
+        self.option
+            .cmp(&other.option)
+            .then(self.replica.cmp(&other.replica))
+            .then(self.sequence.cmp(&other.sequence))
+    }
+}
+
+impl PartialOrd for Pair {
+    ghost use Rattle.ps_lattice.specs.Choice.{pair_cmp};
+    ghost use Rattle.std.proofs.Common.{rules};
+    ghost use Rattle.std.specs.Ordering.{as_partial_cmp};
+    ghost use Rattle.std.specs.Cmp.{partial_order_from_own_ties};
+    ghost use Rattle.std.specs.Cmp.Rules.{comparing};
+
+    ghost partial_cmp = { as_partial_cmp pair_cmp };
+
+    ghost laws = { partial_order_from_own_ties (Prim.search (comparing, rules)) (Prim.search (comparing, rules)) };
+
+    fn partial_cmp(&self, other: &Pair) -> Option<Ordering> {
+        Some(self.cmp(other))
+    }
+}
+
+impl Linear for Pair {
+    ghost use Rattle.ps_lattice.specs.ChoiceLaws.{pairs_apart};
+
+    ghost no_ties = { pairs_apart };
+}
+
+impl Merge for bool {
+    ghost use Rattle.std.specs.Prelude.{◌||◌};
+
+    ghost merged = { ◌||◌ };
+
+    fn merged(self, other: bool) -> bool {
+        self | other
+    }
+
+    fn covers(self, other: bool) -> bool {
+        self || !other
+    }
+}
+
+/// A choice: the added pairs, and which of them are removed.
+#[derive(Debug, Drop)]
+pub struct Choice {
+    // in the order of the pairs, each with whether it is removed
+    pairs: Vec<(Pair, bool)>,
+}
+
+impl Model for Choice {
+    ghost use Rattle.std.specs.Prelude.{IsTrue};
+    ghost use Rattle.std.specs.FinMap as map;
+    ghost use Rattle.ps_lattice.specs.Choice.{Pairs, is_choice};
+    ghost use Rattle.ps_lattice.specs.ChoiceCode.{pairs_code};
+
+    ghost Value = { Pairs };
+
+    ghost coded = { pairs_code };
+
+    ghost view = { λ c. map.from_sorted c.pairs.items };
+
+    ghost invariant = { λ c. IsTrue (is_choice c.pairs.items) };
+}
+
+impl Choice {
+    /// A choice of which nothing was ever chosen.
+    ///
+    /// Cost: constant, and no memory.
+    pub fn empty(alloc: Global) -> Self
+        ensures { result ≡ map.empty }
+    {
+        Choice {
+            pairs: Vec::new(alloc),
+        }
+    }
+
+    /// Whether nothing was ever chosen; an option that was removed leaves its pairs.
+    ///
+    /// Cost: constant.
+    pub fn is_empty(&self) -> bool
+        ensures { IsTrue result ↔ (self.now ≡ map.empty) }
+    {
+        self.parts().is_empty()
+    }
+
+    /// The added pairs, ascending, each with whether it is removed.
+    ///
+    /// Cost: constant.
+    pub fn parts(&self) -> &[(Pair, bool)]
+        ensures value { result.now ≡ map.entries self.now }
+        ensures in_range { IsTrue (is_choice result.now) }
+    {
+        &self.pairs
+    }
+
+    /// The choice with these pairs: ascending and distinct, and in range.
+    ///
+    /// Cost: linear in the parts.
+    pub fn from_parts(parts: Vec<(Pair, bool)>) -> Option<Choice>
+        ensures { SomeIff result (IsTrue (is_choice parts.items)) (map.from_sorted parts.items) }
+    {
+        if is_choice(&parts) {
+            Some(Choice { pairs: parts })
+        } else {
+            None
+        }
+    }
+
+    /// The options that are in: bit k for option k.
+    ///
+    /// Cost: linear in the pairs.
+    pub fn options(&self) -> u64
+        ensures { (k : ℕ) → k < OPTIONS → (IsBitSet result k ↔ IsTrue (is_chosen self.now k)) }
+    {
+        options_of(&self.pairs)
+    }
+
+    /// The delta of choosing the option at the replica: one pair, whose sequence is one above the last of the
+    /// replica here.
+    ///
+    /// Refused where the option isn't below `OPTIONS`, and where the replica has used the last sequence.
+    ///
+    /// Cost: linear in the pairs.
+    pub fn choose(&self, alloc: Global, replica: u8, option: u64) -> Result<Choice, Refusal>
+        requires { (1 ≤ replica) × (replica ≤ REPLICAS) }
+        ensures ok { IfOk result (λ d. d ≡ with_pair map.empty option replica (last_sequence self.now replica + 1)) }
+        ensures adds { IfOk result (λ d. joined_choices self.now d ≡ with_pair self.now option replica (last_sequence self.now replica + 1)) }
+        ensures fresh { IfOk result (λ d. ¬ (joined_choices self.now d ≡ self.now)) }
+        ensures option { IsErrOf result Refusal.OptionRange ↔ (OPTIONS ≤ option) }
+        ensures full { IsErrOf result Refusal.ChoiceFull ↔ ((option < OPTIONS) × (last_sequence self.now replica ≡ SEQUENCES)) }
+        ensures only { IfErr result (λ e. Contains (Refusal.OptionRange ∷ Refusal.ChoiceFull ∷ Refusal.Memory ∷ []) e) }
+    {
+        if option >= OPTIONS {
+            return Err(Refusal::OptionRange);
+        }
+        let last = self.last_sequence(replica);
+        if last == SEQUENCES {
+            return Err(Refusal::ChoiceFull);
+        }
+        let pair = Pair {
+            option: option as u8,
+            replica,
+            sequence: last + 1,
+        };
+        let mut pairs = Vec::new(alloc);
+        pairs.push((pair, false))?;
+        Ok(Choice { pairs })
+    }
+
+    /// The delta of removing the option: each pair of it that is here and isn't removed, as removed.
+    ///
+    /// Refused where the option isn't below `OPTIONS`, and where it isn't in.
+    ///
+    /// Cost: linear in the pairs.
+    pub fn unchoose(&self, alloc: Global, option: u64) -> Result<Choice, Refusal>
+        ensures ok { IfOk result (λ d. d ≡ withdrawn self.now option) }
+        ensures added { IfOk result (λ d. (o r s : ℕ) → is_added (joined_choices self.now d) o r s ≡ is_added self.now o r s) }
+        ensures removed { IfOk result (λ d. (o r s : ℕ) → is_removed (joined_choices self.now d) o r s ≡ (is_removed self.now o r s || ((o == option) && is_added self.now o r s))) }
+        ensures fresh { IfOk result (λ d. ¬ (joined_choices self.now d ≡ self.now)) }
+        ensures option { IsErrOf result Refusal.OptionRange ↔ (OPTIONS ≤ option) }
+        ensures not_chosen { IsErrOf result Refusal.NotChosen ↔ ((option < OPTIONS) × IsTrue (not (is_chosen self.now option))) }
+        ensures only { IfErr result (λ e. Contains (Refusal.OptionRange ∷ Refusal.NotChosen ∷ Refusal.Memory ∷ []) e) }
+    {
+        if option >= OPTIONS {
+            return Err(Refusal::OptionRange);
+        }
+        if !self.is_chosen(option) {
+            return Err(Refusal::NotChosen);
+        }
+        Ok(Choice {
+            pairs: withdrawn_of(alloc, &self.pairs, option)?,
+        })
+    }
+
+    // Whether some pair of the option isn't removed.
+    fn is_chosen(&self, option: u64) -> bool
+        ensures { result ≡ is_chosen self.now option }
+    {
+        any_live(&self.pairs, option)
+    }
+
+    // The greatest sequence of the replica, 0 without any.
+    fn last_sequence(&self, replica: u8) -> u16
+        ensures value { result ≡ last_sequence self.now replica }
+        ensures in_range { result ≤ SEQUENCES }
+    {
+        last_of(&self.pairs, replica)
+    }
+}
+
+// Bit k for each option k with a pair that isn't removed.
+fn options_of(pairs: &[(Pair, bool)]) -> u64
+    requires { IsTrue (list_all is_pair pairs.now) }
+    ensures { (k : ℕ) → k < OPTIONS → (IsBitSet result k ↔ IsTrue (list_any (is_live k) pairs.now)) }
+{
+    let mut options = 0;
+    for (pair, removed) in pairs {
+        if !removed {
+            options |= 1 << pair.option;
+        }
+    }
+    options
+}
+
+// The greatest sequence of the replica, 0 without any.
+fn last_of(pairs: &[(Pair, bool)], replica: u8) -> u16
+    ensures { result ≡ last_of replica pairs.now }
+{
+    let mut last = 0;
+    for (pair, _) in pairs {
+        if pair.replica == replica && pair.sequence > last {
+            last = pair.sequence;
+        }
+    }
+    last
+}
+
+// Whether some pair of the option isn't removed.
+fn any_live(pairs: &[(Pair, bool)], option: u64) -> bool
+    ensures { result ≡ list_any (is_live option) pairs.now }
+{
+    pairs.iter().any(|entry| is_live(option, entry))
+}
+
+// The pairs of the option that aren't removed, as removed.
+fn withdrawn_of(
+    alloc: Global,
+    pairs: &[(Pair, bool)],
+    option: u64,
+) -> Result<Vec<(Pair, bool)>, AllocError>
+    ensures { IfOk result (λ v. v.items ≡ each (λ e. (e.0, true)) (filter (is_live option) pairs.now)) }
+{
+    pairs
+        .iter()
+        .filter(|entry| is_live(option, entry))
+        .map(|entry| (entry.0, true))
+        .collect(alloc)
+}
+
+// Whether it is a pair of the option that isn't removed.
+fn is_live(option: u64, entry: &(Pair, bool)) -> bool
+    ensures { result ≡ is_live option entry.now }
+{
+    u64::from(entry.0.option) == option && !entry.1
+}
+
+// Whether the pairs ascend and are in range.
+fn is_choice(parts: &[(Pair, bool)]) -> bool
+    ensures { result ≡ is_choice parts.now }
+{
+    entries::is_ascending(parts) && are_in_range(parts)
+}
+
+// Whether each pair is in range.
+fn are_in_range(parts: &[(Pair, bool)]) -> bool
+    ensures { result ≡ list_all is_pair parts.now }
+{
+    parts.iter().all(|entry| is_pair(entry))
+}
+
+// Whether the pair is in range.
+fn is_pair(entry: &(Pair, bool)) -> bool
+    ensures { result ≡ is_pair entry.now }
+{
+    let (pair, _) = *entry;
+    let named = u64::from(pair.option) < OPTIONS && pair.replica >= 1 && pair.replica <= REPLICAS;
+    named && pair.sequence >= 1 && pair.sequence <= SEQUENCES
+}
+
+impl Twin for Choice {
+    fn twin(&self, alloc: Global) -> Result<Self, Refusal> {
+        Ok(Choice {
+            pairs: Vec::from_slice(alloc, &self.pairs)?,
+        })
+    }
+}
+
+impl Join for Choice {
+    ghost use Rattle.ps_lattice.specs.Choice.{joined_choices};
+    ghost use Rattle.ps_lattice.specs.ChoiceLaws.{choices_is_join};
+
+    ghost joined = { joined_choices };
+
+    ghost associative = { choices_is_join.associative };
+
+    ghost commutative = { choices_is_join.commutative };
+
+    ghost idempotent = { choices_is_join.idempotent };
+
+    fn join(&mut self, alloc: Global, other: &Self) -> Result<(), Refusal> {
+        self.pairs = entries::merge_entries(alloc, &self.pairs, &other.pairs)?;
+        Ok(())
+    }
+
+    fn below(&self, other: &Self) -> bool {
+        entries::is_below(&self.pairs, &other.pairs)
+    }
+}

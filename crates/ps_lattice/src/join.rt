@@ -1,0 +1,46 @@
+//! States that join, and values in a linear order.
+
+ghost use Rattle.std.specs.Prelude.{◌≡◌, ◌↔◌, IsTrue, OnOk, OnErr, IfErr};
+ghost use Rattle.ps_grid.specs.declared.refusal.Refusal.{Refusal};
+ghost use Rattle.std.specs.declared.cmp.Ordering.{Ordering};
+
+use ps_grid::Refusal;
+use std::alloc::Global;
+
+/// A join-semilattice: any two states have a least state above both, their join.
+///
+/// States may be joined in any order, in any groups and again: the result is the same.
+pub trait Join: Sized {
+    ghost joined: { Self → Self → Self };
+
+    /// Joins the other state into this one.
+    ///
+    /// Refused only for lack of memory, and then nothing is changed.
+    ///
+    /// Cost: linear in the two states.
+    fn join(&mut self, alloc: Global, other: &Self) -> Result<(), Refusal>
+        ensures ok { OnOk result (self.new ≡ joined self.old other.now) }
+        ensures err { OnErr result (self.new ≡ self.old) }
+        ensures memory { IfErr result (λ e. e ≡ Refusal.Memory) };
+
+    /// Whether this state is below the other one: joining it there changes nothing.
+    fn below(&self, other: &Self) -> bool
+        ensures { IsTrue result ↔ (joined other.now self.now ≡ other.now) };
+
+    ghost associative: { (x y z : Self) → joined (joined x y) z ≡ joined x (joined y z) };
+
+    ghost commutative: { (x y : Self) → joined x y ≡ joined y x };
+
+    ghost idempotent: { (x : Self) → joined x x ≡ x };
+}
+
+/// Values in a linear order: of two different values one is always the greater.
+pub trait Linear: Ord {
+    ghost no_ties: { (x y : Self) → Self.cmp x y ≡ Ordering.Equal → x ≡ y };
+}
+
+impl Linear for u8 {
+    ghost use Rattle.std.specs.FinMap.{nat_cmp-IsAntisymmetric};
+
+    ghost no_ties = { nat_cmp-IsAntisymmetric };
+}

@@ -1,0 +1,174 @@
+//! A register in which the last writer wins.
+
+ghost use Rattle.std.specs.Prelude.{◌≡◌, ◌+◌, ◌≤◌, ◌↔◌, IsTrue, IfOk, IfErr, IsErrOf, IfSome};
+ghost use Rattle.std.specs.Option.{SomeIff, option_copied};
+ghost use Rattle.ps_lattice.specs.Register.{assignment_cmp, joined_registers, time_of, is_stamp};
+
+use crate::join::{Join, Linear};
+use crate::limits::{LAST_TIME, REPLICAS};
+use ps_grid::{Refusal, Twin};
+use std::alloc::Global;
+use std::cmp::Ordering;
+use std::marker::Model;
+
+/// What was assigned, at which time and by which replica.
+#[derive(Debug, Drop)]
+pub struct Assignment<V> {
+    /// 1 to `LAST_TIME`.
+    pub time: u64,
+    /// 1 to `REPLICAS`.
+    pub replica: u8,
+    /// What the register holds.
+    pub content: V,
+}
+
+/// A register: nothing yet, or the greatest assignment that it has seen.
+#[derive(Debug, Drop)]
+pub struct Register<V> {
+    held: Option<Assignment<V>>,
+}
+
+impl<V> Model for Register<V> {
+    ghost use Rattle.std.specs.Prelude.{Option, IsTrue};
+    ghost use Rattle.ps_lattice.specs.declared.register.Assignment.{Assignment};
+    ghost use Rattle.ps_lattice.specs.Register.{is_register};
+
+    ghost Value = { Option (Assignment V) };
+
+    ghost view = { λ r. r.held };
+
+    ghost invariant = { λ r. IsTrue (is_register r.held) };
+}
+
+impl<V> Register<V> {
+    /// A register to which nothing was assigned.
+    ///
+    /// Cost: constant.
+    pub fn empty() -> Self
+        ensures { result ≡ None }
+    {
+        Register { held: None }
+    }
+
+    /// Whether nothing was assigned yet.
+    ///
+    /// Cost: constant.
+    pub fn is_empty(&self) -> bool
+        ensures { IsTrue result ↔ (self.now ≡ None) }
+    {
+        self.held.is_none()
+    }
+
+    /// The assignment that the register holds.
+    ///
+    /// Cost: constant.
+    pub fn parts(&self) -> Option<&Assignment<V>>
+        ensures value { option_copied result ≡ self.now }
+        ensures in_range { IfSome self.now (λ a. IsTrue (is_stamp a.time a.replica)) }
+    {
+        self.held.as_ref()
+    }
+
+    /// The register that holds this assignment, where its stamp is in range.
+    ///
+    /// Cost: constant.
+    pub fn from_parts(assignment: Assignment<V>) -> Option<Register<V>>
+    where
+        V: Drop,
+        ensures { SomeIff result (IsTrue (is_stamp assignment.time assignment.replica)) (Some assignment) }
+    {
+        let time_fits = assignment.time >= 1 && assignment.time <= LAST_TIME;
+        if time_fits && assignment.replica >= 1 && assignment.replica <= REPLICAS {
+            Some(Register {
+                held: Some(assignment),
+            })
+        } else {
+            None
+        }
+    }
+}
+
+impl<V: Linear + Drop> Register<V> {
+    /// The delta of an assignment of the content at the replica: a time one above that of this register.
+    ///
+    /// Refused where the register has the last time already.
+    ///
+    /// Cost: constant.
+    pub fn assign(&self, replica: u8, content: V) -> Result<Register<V>, Refusal>
+        requires { (1 ≤ replica) × (replica ≤ REPLICAS) }
+        ensures ok { IfOk result (λ d. d ≡ Some (record { time = time_of self.now + 1; replica = replica; content = content })) }
+        ensures full { IsErrOf result Refusal.ClockFull ↔ (time_of self.now ≡ LAST_TIME) }
+        ensures only_full { IfErr result (λ e. e ≡ Refusal.ClockFull) }
+        ensures assigns { IfOk result (λ d. joined_registers V.cmp self.now d ≡ d) }
+        ensures fresh { IfOk result (λ d. ¬ (joined_registers V.cmp self.now d ≡ self.now)) }
+    {
+        let time = match &self.held {
+            Some(assignment) => assignment.time,
+            None => 0,
+        };
+        if time == LAST_TIME {
+            return Err(Refusal::ClockFull);
+        }
+        Ok(Register {
+            held: Some(Assignment {
+                time: time + 1,
+                replica,
+                content,
+            }),
+        })
+    }
+}
+
+impl<V: Twin> Twin for Register<V> {
+    fn twin(&self, alloc: Global) -> Result<Self, Refusal> {
+        let held = match &self.held {
+            None => None,
+            Some(assignment) => Some(Assignment {
+                time: assignment.time,
+                replica: assignment.replica,
+                content: assignment.content.twin(alloc)?,
+            }),
+        };
+        Ok(Register { held })
+    }
+}
+
+impl<V: Linear + Twin + Drop> Join for Register<V> {
+    ghost use Rattle.ps_lattice.specs.Register.{joined_registers};
+    ghost use Rattle.ps_lattice.specs.RegisterLaws.{registers_is_join};
+
+    ghost joined = { joined_registers V.cmp };
+
+    ghost associative = { (registers_is_join V.cmp V.Ord.total V.no_ties).associative };
+
+    ghost commutative = { (registers_is_join V.cmp V.Ord.total V.no_ties).commutative };
+
+    ghost idempotent = { (registers_is_join V.cmp V.Ord.total V.no_ties).idempotent };
+
+    fn join(&mut self, alloc: Global, other: &Self) -> Result<(), Refusal> {
+        if !other.below(self) {
+            *self = other.twin(alloc)?;
+        }
+        Ok(())
+    }
+
+    fn below(&self, other: &Self) -> bool {
+        match (&self.held, &other.held) {
+            (None, _) => true,
+            (Some(_), None) => false,
+            (Some(mine), Some(theirs)) => mine.compare(theirs) != Ordering::Greater,
+        }
+    }
+}
+
+impl<V: Ord> Assignment<V> {
+    // By time, then by replica, then by content.
+    fn compare(&self, other: &Assignment<V>) -> Ordering
+        ensures { result ≡ assignment_cmp V.cmp self.now other.now }
+    {
+        self.time
+            .cmp(&other.time)
+            .then(self.replica.cmp(&other.replica))
+            .then(self.content.cmp(&other.content))
+    }
+}

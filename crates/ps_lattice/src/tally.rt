@@ -1,0 +1,272 @@
+//! A counter that goes up and down.
+
+ghost use Rattle.std.specs.Prelude.{◌≡◌, ◌+◌, ◌<◌, ◌≤◌, ◌↔◌, not, [], ◌∷◌, ◌^◌, sum_by, Contains, IsTrue, IfOk, IfErr, IsErrOf};
+ghost use Rattle.std.specs.Option.{SomeIff};
+ghost use Rattle.std.specs.List.{list_all};
+ghost use Rattle.std.specs.FinMap as map;
+ghost use Rattle.ps_lattice.specs.Tally.{added, subtracted, value_of, joined_tallies, with_counts, counts_of, is_tally, is_count, is_amount};
+
+use crate::entries::{self, Merge};
+use crate::join::Join;
+use crate::limits::{AMOUNT_LIMIT, COUNT_LIMIT, REPLICAS};
+use ps_grid::{Refusal, Twin};
+use std::alloc::Global;
+use std::marker::Model;
+
+/// What one replica added to a counter in all, and what it subtracted, each at most `COUNT_LIMIT`.
+#[derive(Clone, Copy, Debug, PartialEq, Eq)]
+pub struct Count {
+    /// P of the replica.
+    pub added: u64,
+    /// N of the replica.
+    pub subtracted: u64,
+}
+
+impl Merge for Count {
+    ghost use Rattle.ps_lattice.specs.Tally.{greater_counts};
+
+    ghost merged = { greater_counts };
+
+    fn merged(self, other: Count) -> Count {
+        Count {
+            added: self.added.max(other.added),
+            subtracted: self.subtracted.max(other.subtracted),
+        }
+    }
+
+    fn covers(self, other: Count) -> bool {
+        other.added <= self.added && other.subtracted <= self.subtracted
+    }
+}
+
+/// A counter: for each replica what it added and what it subtracted.
+#[derive(Debug, Drop)]
+pub struct Tally {
+    // by replica, and only replicas that changed the counter
+    counts: Vec<(u8, Count)>,
+}
+
+impl Model for Tally {
+    ghost use Rattle.std.specs.Prelude.{IsTrue};
+    ghost use Rattle.std.specs.FinMap as map;
+    ghost use Rattle.ps_lattice.specs.Tally.{Counts, is_tally};
+    ghost use Rattle.ps_lattice.specs.TallyCode.{counts_code};
+
+    ghost Value = { Counts };
+
+    ghost coded = { counts_code };
+
+    ghost view = { λ t. map.from_sorted t.counts.items };
+
+    ghost invariant = { λ t. IsTrue (is_tally t.counts.items) };
+}
+
+impl Tally {
+    /// A counter that nobody has changed; its value is 0.
+    ///
+    /// Cost: constant, and no memory.
+    pub fn empty(alloc: Global) -> Self
+        ensures { result ≡ map.empty }
+    {
+        Tally {
+            counts: Vec::new(alloc),
+        }
+    }
+
+    /// Whether nobody has changed the counter.
+    ///
+    /// Cost: constant.
+    pub fn is_empty(&self) -> bool
+        ensures { IsTrue result ↔ (self.now ≡ map.empty) }
+    {
+        self.parts().is_empty()
+    }
+
+    /// The replicas that changed the counter, ascending, each with its counts.
+    ///
+    /// Cost: constant.
+    pub fn parts(&self) -> &[(u8, Count)]
+        ensures value { result.now ≡ map.entries self.now }
+        ensures in_range { IsTrue (is_tally result.now) }
+    {
+        &self.counts
+    }
+
+    /// The counter with these counts: replicas ascending and distinct, counts in range and not both 0.
+    ///
+    /// Cost: linear in the parts.
+    pub fn from_parts(parts: Vec<(u8, Count)>) -> Option<Tally>
+        ensures { SomeIff result (IsTrue (is_tally parts.items)) (map.from_sorted parts.items) }
+    {
+        if is_tally(&parts) {
+            Some(Tally { counts: parts })
+        } else {
+            None
+        }
+    }
+
+    /// The sum of what was added less the sum of what was subtracted.
+    ///
+    /// Cost: linear in the replicas that changed the counter.
+    pub fn value(&self) -> i64
+        ensures { result ≡ value_of self.now }
+    {
+        let (added, subtracted) = totals(&self.counts);
+        added as i64 - subtracted as i64
+    }
+
+    /// The delta of adding the amount at the replica: what it added in all, raised by the amount.
+    ///
+    /// Refused where the amount isn't 1 to `AMOUNT_LIMIT`, and where the replica would have added more than
+    /// `COUNT_LIMIT` in all.
+    ///
+    /// Cost: logarithmic in the replicas that changed the counter.
+    pub fn add(&self, alloc: Global, replica: u8, amount: u64) -> Result<Tally, Refusal>
+        requires { (1 ≤ replica) × (replica ≤ REPLICAS) }
+        ensures ok { IfOk result (λ d. d ≡ counts_of replica (added self.now replica + amount) 0) }
+        ensures raises { IfOk result (λ d. joined_tallies self.now d ≡ with_counts self.now replica (added self.now replica + amount) (subtracted self.now replica)) }
+        ensures fresh { IfOk result (λ d. ¬ (joined_tallies self.now d ≡ self.now)) }
+        ensures amount { IsErrOf result Refusal.Amount ↔ IsTrue (not (is_amount amount)) }
+        ensures full { IsErrOf result Refusal.TallyFull ↔ (IsTrue (is_amount amount) × (COUNT_LIMIT < added self.now replica + amount)) }
+        ensures only { IfErr result (λ e. Contains (Refusal.Amount ∷ Refusal.TallyFull ∷ Refusal.Memory ∷ []) e) }
+    {
+        if amount < 1 || amount > AMOUNT_LIMIT {
+            return Err(Refusal::Amount);
+        }
+        let before = self.count_of(replica);
+        if before.added + amount > COUNT_LIMIT {
+            return Err(Refusal::TallyFull);
+        }
+        let count = Count {
+            added: before.added + amount,
+            subtracted: 0,
+        };
+        Tally::of_one(alloc, replica, count)
+    }
+    /// The delta of subtracting the amount at the replica: what it subtracted in all, raised by the amount.
+    ///
+    /// Refused where the amount isn't 1 to `AMOUNT_LIMIT`, and where the replica would have subtracted more than
+    /// `COUNT_LIMIT` in all.
+    ///
+    /// Cost: logarithmic in the replicas that changed the counter.
+    pub fn sub(&self, alloc: Global, replica: u8, amount: u64) -> Result<Tally, Refusal>
+        requires { (1 ≤ replica) × (replica ≤ REPLICAS) }
+        ensures ok { IfOk result (λ d. d ≡ counts_of replica 0 (subtracted self.now replica + amount)) }
+        ensures raises { IfOk result (λ d. joined_tallies self.now d ≡ with_counts self.now replica (added self.now replica) (subtracted self.now replica + amount)) }
+        ensures fresh { IfOk result (λ d. ¬ (joined_tallies self.now d ≡ self.now)) }
+        ensures amount { IsErrOf result Refusal.Amount ↔ IsTrue (not (is_amount amount)) }
+        ensures full { IsErrOf result Refusal.TallyFull ↔ (IsTrue (is_amount amount) × (COUNT_LIMIT < subtracted self.now replica + amount)) }
+        ensures only { IfErr result (λ e. Contains (Refusal.Amount ∷ Refusal.TallyFull ∷ Refusal.Memory ∷ []) e) }
+    {
+        if amount < 1 || amount > AMOUNT_LIMIT {
+            return Err(Refusal::Amount);
+        }
+        let before = self.count_of(replica);
+        if before.subtracted + amount > COUNT_LIMIT {
+            return Err(Refusal::TallyFull);
+        }
+        let count = Count {
+            added: 0,
+            subtracted: before.subtracted + amount,
+        };
+        Tally::of_one(alloc, replica, count)
+    }
+
+    // The counts of the replica, 0 where it changed nothing.
+    fn count_of(&self, replica: u8) -> Count
+        ensures added { result.added ≡ added self.now replica }
+        ensures subtracted { result.subtracted ≡ subtracted self.now replica }
+        ensures added_fits { result.added ≤ COUNT_LIMIT }
+        ensures subtracted_fits { result.subtracted ≤ COUNT_LIMIT }
+    {
+        let none = Count {
+            added: 0,
+            subtracted: 0,
+        };
+        entries::value_at(&self.counts, replica).unwrap_or(none)
+    }
+
+    // The counter of one replica's counts and nothing else.
+    fn of_one(alloc: Global, replica: u8, count: Count) -> Result<Tally, Refusal>
+        requires { IsTrue (is_count (replica, count)) }
+        ensures ok { IfOk result (λ d. d ≡ counts_of replica count.added count.subtracted) }
+        ensures memory { IfErr result (λ e. e ≡ Refusal.Memory) }
+    {
+        let mut counts = Vec::new(alloc);
+        counts.push((replica, count))?;
+        Ok(Tally { counts })
+    }
+}
+
+// The sums of what was added and of what was subtracted.
+fn totals(counts: &[(u8, Count)]) -> (u64, u64)
+    requires { IsTrue (is_tally counts.now) }
+    ensures added { result.0 ≡ sum_by (λ e. e.1.added) counts.now }
+    ensures subtracted { result.1 ≡ sum_by (λ e. e.1.subtracted) counts.now }
+    ensures added_fits { result.0 ≤ 2 ^ 45 }
+    ensures subtracted_fits { result.1 ≤ 2 ^ 45 }
+{
+    let mut added = 0;
+    let mut subtracted = 0;
+    for (_, count) in counts {
+        added += count.added;
+        subtracted += count.subtracted;
+    }
+    (added, subtracted)
+}
+
+// Whether the replicas ascend, and they and their counts are in range.
+fn is_tally(parts: &[(u8, Count)]) -> bool
+    ensures { result ≡ is_tally parts.now }
+{
+    entries::is_ascending(parts) && are_in_range(parts)
+}
+
+// Whether each replica and its counts are in range.
+fn are_in_range(parts: &[(u8, Count)]) -> bool
+    ensures { result ≡ list_all is_count parts.now }
+{
+    parts.iter().all(|entry| is_count(entry))
+}
+
+// Whether the replica and its counts are in range.
+fn is_count(entry: &(u8, Count)) -> bool
+    ensures { result ≡ is_count entry.now }
+{
+    let (replica, count) = *entry;
+    let in_range = replica >= 1
+        && replica <= REPLICAS
+        && count.added <= COUNT_LIMIT
+        && count.subtracted <= COUNT_LIMIT;
+    in_range && (count.added >= 1 || count.subtracted >= 1)
+}
+
+impl Twin for Tally {
+    fn twin(&self, alloc: Global) -> Result<Self, Refusal> {
+        Ok(Tally {
+            counts: Vec::from_slice(alloc, &self.counts)?,
+        })
+    }
+}
+
+impl Join for Tally {
+    ghost use Rattle.ps_lattice.specs.Tally.{joined_tallies};
+    ghost use Rattle.ps_lattice.specs.TallyLaws.{tallies_is_join};
+
+    ghost joined = { joined_tallies };
+
+    ghost associative = { tallies_is_join.associative };
+
+    ghost commutative = { tallies_is_join.commutative };
+
+    ghost idempotent = { tallies_is_join.idempotent };
+
+    fn join(&mut self, alloc: Global, other: &Self) -> Result<(), Refusal> {
+        self.counts = entries::merge_entries(alloc, &self.counts, &other.counts)?;
+        Ok(())
+    }
+
+    fn below(&self, other: &Self) -> bool {
+        entries::is_below(&self.counts, &other.counts)
+    }
+}
