@@ -1,0 +1,33 @@
+use Rattle.std.proofs.Common.{ap, sym, ◌∙◌, length, rules}
+use Rattle.std.specs.Prelude.{not}
+use Rattle.std.specs.List.{list_all, list_any}
+use Rattle.ps_eval.specs.Number.{is_zero}
+use Rattle.ps_eval.specs.Items.{total, least, greatest}
+use Rattle.ps_eval.proofs.SummaryLemmas.{numbers_in-fault, first_kept, first_put}
+use Rattle.ps_eval.proofs.summary.Summary.take_fault.Goals as goal
+
+pub returns-then-is_none-clause-items : goal.returns-then-is_none-clause-items
+returns-then-is_none-clause-items c = λ items s.
+    let same = sym (numbers_in-fault items c.args.fault) in
+    record {
+      counted = s.counted ∙ ap length same;
+      summed = s.summed ∙ ap total same;
+      lowest = s.lowest ∙ ap least same;
+      highest = s.highest ∙ ap greatest same;
+      every = s.every ∙ ap (list_all (λ n. not (is_zero n))) same;
+      some = s.some ∙ ap (list_any (λ n. not (is_zero n))) same;
+      first = first_put items c.args.fault c.args.self.now.fault s.first (search rules);
+    }
+
+pub returns-else-is_none-clause-items : goal.returns-else-is_none-clause-items
+returns-else-is_none-clause-items c = λ items s.
+    let same = sym (numbers_in-fault items c.args.fault) in
+    record {
+      counted = s.counted ∙ ap length same;
+      summed = s.summed ∙ ap total same;
+      lowest = s.lowest ∙ ap least same;
+      highest = s.highest ∙ ap greatest same;
+      every = s.every ∙ ap (list_all (λ n. not (is_zero n))) same;
+      some = s.some ∙ ap (list_any (λ n. not (is_zero n))) same;
+      first = first_kept items c.args.fault c.args.self.now.fault s.first (search rules);
+    }

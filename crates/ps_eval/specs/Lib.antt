@@ -1,0 +1,5 @@
+pub mod Number
+pub mod Items
+pub mod Value
+pub mod Laws
+pub mod Summarized

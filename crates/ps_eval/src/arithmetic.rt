@@ -1,0 +1,92 @@
+//! What operators and functions make of numbers.
+
+ghost use Rattle.std.specs.Prelude.{◌≡◌, ◌≢◌, pos, ◌+ℤ◌, ◌-ℤ◌, ◌*ℤ◌, MatchOption};
+ghost use Rattle.std.specs.Ordering.{int_eq};
+ghost use Rattle.ps_value.specs.declared.value.Fault.TheVariants.{Num as OutOfRange};
+ghost use Rattle.ps_eval.specs.Number.{absolute, exact, floored, modulo, operation, prefixed, quotient, truth};
+
+use ps_formula::Sign;
+use ps_tokens::Operator;
+use ps_value::Fault;
+
+// A result, or the fault of a number out of range.
+fn ranged(exact_result: Option<i64>) -> Result<i64, Fault>
+    ensures { MatchOption exact_result (result ≡ Err OutOfRange) (λ n. result ≡ Ok n) }
+{
+    exact_result.ok_or(Fault::Num)
+}
+
+// The value of a sign in front of a number.
+pub(crate) fn prefixed(sign: Sign, a: i64) -> Result<i64, Fault>
+    ensures { result ≡ prefixed sign a }
+{
+    match sign {
+        Sign::Plus => Ok(a),
+        Sign::Minus => ranged(a.checked_neg()),
+    }
+}
+
+// The value of an operator between two numbers.
+pub(crate) fn operation(operator: Operator, a: i64, b: i64) -> Result<i64, Fault>
+    ensures { result ≡ operation operator a b }
+{
+    match operator {
+        Operator::Plus => ranged(a.checked_add(b)),
+        Operator::Minus => ranged(a.checked_sub(b)),
+        Operator::Times => ranged(a.checked_mul(b)),
+        Operator::Equal => Ok(truth(a == b)),
+        Operator::NotEqual => Ok(truth(a != b)),
+        Operator::Less => Ok(truth(a < b)),
+        Operator::LessOrEqual => Ok(truth(a <= b)),
+        Operator::Greater => Ok(truth(a > b)),
+        Operator::GreaterOrEqual => Ok(truth(a >= b)),
+    }
+}
+
+// 1 where it holds, else 0.
+pub(crate) fn truth(holds: bool) -> i64
+    ensures { result ≡ truth holds }
+{
+    if holds { 1 } else { 0 }
+}
+
+// MOD: what is left of `a` after whole `b`s, with the sign of `b`.
+pub(crate) fn modulo(a: i64, b: i64) -> Result<i64, Fault>
+    ensures { result ≡ modulo a b }
+{
+    if b == 0 {
+        return Err(Fault::DivZero);
+    }
+    Ok(rest_of(a, b))
+}
+
+// What is left of `a` after whole `b`s: of the sign of `b`, where the machine's remainder has that of `a`.
+fn rest_of(a: i64, b: i64) -> i64
+    requires { b ≢ pos 0 }
+    ensures { result ≡ a -ℤ b *ℤ floored a b }
+{
+    let rest = a.wrapping_rem(b);
+    if b > 0 {
+        if rest < 0 { rest + b } else { rest }
+    } else {
+        if rest > 0 { rest + b } else { rest }
+    }
+}
+
+// QUOTIENT: `a` divided by `b`, cut towards zero.
+pub(crate) fn quotient(a: i64, b: i64) -> Result<i64, Fault>
+    ensures { result ≡ quotient a b }
+{
+    if b == 0 {
+        Err(Fault::DivZero)
+    } else {
+        ranged(a.checked_div(b))
+    }
+}
+
+// ABS: the magnitude.
+pub(crate) fn absolute(a: i64) -> Result<i64, Fault>
+    ensures { result ≡ absolute a }
+{
+    ranged(a.checked_abs())
+}

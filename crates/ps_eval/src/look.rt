@@ -1,0 +1,18 @@
+//! Where the values of cells come from.
+
+ghost use Rattle.std.specs.Prelude.{◌≡◌, ℕ};
+
+use ps_grid::Cell;
+use ps_value::Value;
+
+/// Whoever knows what each cell shows.
+pub trait Look {
+    ghost use Rattle.ps_value.specs.declared.value.Value.{Value as CellValue};
+
+    /// What each cell shows.
+    ghost value_at: { Self → ℕ → CellValue };
+
+    /// What a cell shows.
+    fn at(&self, cell: Cell) -> Value
+        ensures { result ≡ value_at self.now cell };
+}

@@ -1,0 +1,255 @@
+//! The value of a formula, by its tree.
+
+ghost use Rattle.std.specs.Prelude.{◌≡◌, ◌+◌, ◌*◌, ◌^◌, ◌<◌, ◌≤◌, List, ◌∷◌, [], ◌++◌, map, MatchOption};
+ghost use Rattle.ps_grid.specs.declared.size.TheConstants.{CELLS};
+ghost use Rattle.ps_formula.specs.Tree.{call, in_row, reference};
+ghost use Rattle.ps_formula.specs.TreeOf.{item_of, tree_of};
+ghost use Rattle.ps_eval.specs.Number.{Number};
+ghost use Rattle.ps_eval.specs.Items.{Assignment, range_items, single};
+ghost use Rattle.ps_eval.specs.Summarized.{Summarizes};
+ghost use Rattle.ps_eval.specs.Value.{called, ev, items_alone, items_in, items_of, number_of, value_in, values_of};
+
+use crate::arithmetic::{absolute, modulo, operation, prefixed, quotient, truth};
+use crate::look::Look;
+use crate::meter::Meter;
+use crate::summary::Summary;
+use ps_formula::{Argument, Expr, Formula};
+use ps_grid::{Cell, Rect};
+use ps_tokens::Function;
+use ps_value::{Fault, Value};
+use std::sync::ledger::Ledger;
+
+/// The value of a formula where each cell shows what `look` says, with one tick of the meter. It takes no memory.
+///
+/// Cost: the nodes of the tree, and the cells of its ranges.
+pub fn eval<K: Look, L: Ledger>(formula: &Formula, look: &K, meter: &mut Meter<L>) -> Value
+    ensures value { result ≡ ev formula.now (K.value_at look.now) }
+    ensures tick { meter.new ≡ meter.old + 1 }
+{
+    meter.tick();
+    match number(formula.tree(), look) {
+        Ok(n) => Value::Num(n),
+        Err(fault) => Value::Err(fault),
+    }
+}
+
+// The number of a tree.
+#[cycle(numbers)]
+fn number<K: Look>(tree: &Expr, look: &K) -> Result<i64, Fault>
+    ensures { result ≡ number_of (tree_of tree.now) (K.value_at look.now) }
+{
+    match tree {
+        Expr::Numeral(n) => Ok(*n),
+        Expr::Reference(cell) => single(look.at(*cell)),
+        Expr::Prefix(sign, operand) => prefixed(*sign, number(operand, look)?),
+        Expr::Infix(left, operator, right) => {
+            let a = number(left, look)?;
+            let b = number(right, look)?;
+            operation(*operator, a, b)
+        }
+        Expr::Group(inner) => number(inner, look),
+        Expr::Call(function, arguments) => value_of_call(*function, arguments, look),
+    }
+}
+
+// A cell's value where one number is wanted.
+fn single(value: Value) -> Result<i64, Fault>
+    ensures { result ≡ single value }
+{
+    match value {
+        Value::Empty => Ok(0),
+        Value::Num(n) => Ok(n),
+        Value::Text(_) => Err(Fault::Value),
+        Value::Choice(options) => Ok(i64::from(options.count_ones())),
+        Value::Err(fault) => Err(fault),
+    }
+}
+
+// The number of a call.
+#[cycle(numbers)]
+fn value_of_call<K: Look>(
+    function: Function,
+    arguments: &[Argument],
+    look: &K,
+) -> Result<i64, Fault>
+    ensures { result ≡ number_of (call function (in_row (map item_of arguments.now))) (K.value_at look.now) }
+{
+    match function {
+        Function::Sum => items(arguments, look).sum(),
+        Function::Min => items(arguments, look).min(),
+        Function::Max => items(arguments, look).max(),
+        Function::Count => items(arguments, look).count(),
+        Function::And => operands(arguments, look).all(),
+        Function::Or => operands(arguments, look).any(),
+        Function::If => choice(arguments, look),
+        Function::Mod => modulo_of(arguments, look),
+        Function::Quotient => quotient_of(arguments, look),
+        Function::Abs => absolute_of(arguments, look),
+        Function::Not => negation_of(arguments, look),
+        Function::True => match arguments {
+            [] => Ok(1),
+            _ => Err(Fault::Value),
+        },
+        Function::False => match arguments {
+            [] => Ok(0),
+            _ => Err(Fault::Value),
+        },
+    }
+}
+
+// IF: only the chosen branch is evaluated.
+#[cycle(numbers)]
+fn choice<K: Look>(arguments: &[Argument], look: &K) -> Result<i64, Fault>
+    ensures { result ≡ number_of (call Function.If (in_row (map item_of arguments.now))) (K.value_at look.now) }
+{
+    match arguments {
+        [condition, then] => {
+            if operand(condition, look)? == 0 {
+                Ok(0)
+            } else {
+                operand(then, look)
+            }
+        }
+        [condition, then, otherwise] => {
+            if operand(condition, look)? == 0 {
+                operand(otherwise, look)
+            } else {
+                operand(then, look)
+            }
+        }
+        _ => Err(Fault::Value),
+    }
+}
+
+#[cycle(numbers)]
+fn modulo_of<K: Look>(arguments: &[Argument], look: &K) -> Result<i64, Fault>
+    ensures { result ≡ number_of (call Function.Mod (in_row (map item_of arguments.now))) (K.value_at look.now) }
+{
+    match arguments {
+        [left, right] => {
+            let a = operand(left, look)?;
+            let b = operand(right, look)?;
+            modulo(a, b)
+        }
+        _ => Err(Fault::Value),
+    }
+}
+
+#[cycle(numbers)]
+fn quotient_of<K: Look>(arguments: &[Argument], look: &K) -> Result<i64, Fault>
+    ensures { result ≡ number_of (call Function.Quotient (in_row (map item_of arguments.now))) (K.value_at look.now) }
+{
+    match arguments {
+        [left, right] => {
+            let a = operand(left, look)?;
+            let b = operand(right, look)?;
+            quotient(a, b)
+        }
+        _ => Err(Fault::Value),
+    }
+}
+
+#[cycle(numbers)]
+fn absolute_of<K: Look>(arguments: &[Argument], look: &K) -> Result<i64, Fault>
+    ensures { result ≡ number_of (call Function.Abs (in_row (map item_of arguments.now))) (K.value_at look.now) }
+{
+    match arguments {
+        [only] => absolute(operand(only, look)?),
+        _ => Err(Fault::Value),
+    }
+}
+
+#[cycle(numbers)]
+fn negation_of<K: Look>(arguments: &[Argument], look: &K) -> Result<i64, Fault>
+    ensures { result ≡ number_of (call Function.Not (in_row (map item_of arguments.now))) (K.value_at look.now) }
+{
+    match arguments {
+        [only] => {
+            let a = operand(only, look)?;
+            Ok(truth(a == 0))
+        }
+        _ => Err(Fault::Value),
+    }
+}
+
+// The value of an argument: a range is no number.
+#[cycle(numbers)]
+fn operand<K: Look>(argument: &Argument, look: &K) -> Result<i64, Fault>
+    ensures { result ≡ value_in (item_of argument.now) (K.value_at look.now) }
+{
+    match argument {
+        Argument::Expression(tree) => number(tree, look),
+        Argument::Range(_) => Err(Fault::Value),
+    }
+}
+
+// What is known of the values of the arguments.
+#[cycle(numbers)]
+fn operands<K: Look>(arguments: &[Argument], look: &K) -> Summary
+    ensures { Summarizes (values_of (in_row (map item_of arguments.now)) (K.value_at look.now)) result }
+{
+    let mut summary = Summary::new();
+    for argument in arguments {
+        summary.take(operand(argument, look));
+    }
+    summary
+}
+
+// What is known of the items of the arguments.
+#[cycle(numbers)]
+fn items<K: Look>(arguments: &[Argument], look: &K) -> Summary
+    ensures { Summarizes (items_of (in_row (map item_of arguments.now)) (K.value_at look.now)) result }
+{
+    let mut summary = Summary::new();
+    for argument in arguments {
+        take_argument(&mut summary, argument, look);
+    }
+    summary
+}
+
+// The items of one more argument.
+#[cycle(numbers)]
+fn take_argument<K: Look>(summary: &mut Summary, argument: &Argument, look: &K)
+    requires { summary.old.count < 2 ^ 90 }
+    ensures items { (items : List Number)
+        → Summarizes items summary.old
+        → Summarizes (items ++ items_in (item_of argument.now) (K.value_at look.now)) summary.new }
+    ensures count { summary.new.count ≤ summary.old.count + CELLS }
+{
+    match argument {
+        Argument::Range(rect) => take_range(summary, *rect, look),
+        Argument::Expression(tree) => match cell_alone(tree) {
+            Some(cell) => summary.take_cell(look.at(cell)),
+            None => summary.take(number(tree, look)),
+        },
+    }
+}
+
+// The cell of a reference that stands alone.
+fn cell_alone(tree: &Expr) -> Option<Cell>
+    ensures { MatchOption result
+        ((v : Assignment) (x : Number) → items_alone (tree_of tree.now) v x ≡ x ∷ [])
+        (λ c. tree_of tree.now ≡ reference c) }
+{
+    match tree {
+        Expr::Reference(cell) => Some(*cell),
+        Expr::Numeral(_) => None,
+        Expr::Prefix(_, _) => None,
+        Expr::Infix(_, _, _) => None,
+        Expr::Group(_) => None,
+        Expr::Call(_, _) => None,
+    }
+}
+
+// The items of a range, row by row.
+fn take_range<K: Look>(summary: &mut Summary, rect: Rect, look: &K)
+    requires { summary.old.count < 2 ^ 90 }
+    ensures items { (items : List Number)
+        → Summarizes items summary.old
+        → Summarizes (items ++ range_items (K.value_at look.now) rect) summary.new }
+    ensures count { summary.new.count ≤ summary.old.count + CELLS }
+{
+    for k in 0..rect.area() {
+        summary.take_cell(look.at(rect.nth(k)));
+    }
+}
