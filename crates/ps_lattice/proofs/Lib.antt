@@ -6,3 +6,4 @@ pub mod Joining
 pub mod TallyLemmas
 pub mod ChoiceLemmas
 pub mod Bits
+pub mod WordLemmas

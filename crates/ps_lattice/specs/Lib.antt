@@ -9,3 +9,4 @@ pub mod TallyLaws
 pub mod Choice
 pub mod ChoiceCode
 pub mod ChoiceLaws
+pub mod JoinWords
