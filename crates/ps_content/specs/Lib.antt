@@ -1,2 +1,4 @@
 pub mod Content
 pub mod Entry
+pub mod Order
+pub mod OrderLaws

@@ -11,6 +11,7 @@
 #![tactic(auto)]
 
 mod content;
+mod order;
 mod shared;
 
 pub use content::Content;
