@@ -5,10 +5,11 @@ ghost use Rattle.std.specs.Cmp.{partial_equiv_from_equiv, partial_order_from_tot
 ghost use Rattle.std.specs.Option.{option_copied};
 ghost use Rattle.std.specs.Ordering.{as_partial_cmp, int_cmp};
 ghost use Rattle.ps_content.specs.Order.{content_cmp, content_eq, kind_place, number_in, text_in, formula_in};
-ghost use Rattle.ps_content.specs.OrderLaws.{content_cmp-total, content_eq-equivalence};
+ghost use Rattle.ps_content.specs.OrderLaws.{content_cmp-IsAntisymmetric, content_cmp-total, content_eq-equivalence};
 
 use crate::content::Content;
 use ps_formula::Formula;
+use ps_lattice::Linear;
 use std::cmp::Ordering;
 
 impl Content {
@@ -108,4 +109,8 @@ impl PartialOrd for Content {
     }
 
     ghost laws = { partial_order_from_total content_cmp-total };
+}
+
+impl Linear for Content {
+    ghost no_ties = { content_cmp-IsAntisymmetric };
 }
