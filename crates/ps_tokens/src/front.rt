@@ -31,6 +31,7 @@ pub(crate) fn from(text: &[u8], place: usize) -> &[u8]
     }
 }
 
+// The text behind a byte, where that byte stands at the front.
 #[tactic(auto, unfolding(crate::specs::Lexing::after))]
 fn after(byte: u8, text: &[u8]) -> Option<&[u8]>
     ensures { option_map (λ rest. rest.now) result ≡ after byte text.now }
@@ -42,6 +43,7 @@ fn after(byte: u8, text: &[u8]) -> Option<&[u8]>
     }
 }
 
+// The text behind a `$`, if one stands at the front.
 #[tactic(auto, unfolding(crate::specs::Lexing::unmarked))]
 fn unmarked(text: &[u8]) -> &[u8]
     ensures { result.now ≡ unmarked text.now }
@@ -53,6 +55,7 @@ fn unmarked(text: &[u8]) -> &[u8]
     }
 }
 
+// How many digits stand at the front.
 fn digits_at(text: &[u8]) -> usize
     ensures count { result ≡ digits_at text.now }
     ensures in_text { result ≤ length text.now }
@@ -65,6 +68,7 @@ fn digits_at(text: &[u8]) -> usize
     text.len()
 }
 
+// How many capital letters stand at the front.
 fn capitals_at(text: &[u8]) -> usize
     ensures count { result ≡ capitals_at text.now }
     ensures in_text { result ≤ length text.now }
@@ -77,6 +81,7 @@ fn capitals_at(text: &[u8]) -> usize
     text.len()
 }
 
+// How many letters stand at the front.
 fn letters_at(text: &[u8]) -> usize
     ensures count { result ≡ letters_at text.now }
     ensures in_text { result ≤ length text.now }
@@ -110,6 +115,7 @@ fn number(digits: &[u8]) -> Option<u64>
     Some(value)
 }
 
+// The column, counted from 0, that one or two capital letters name. The grid may lack it.
 #[tactic(auto, unfolding(crate::specs::Lexing::column_in))]
 fn column(letters: &[u8]) -> Option<u16>
     requires { AllPass is_ascii_uppercase letters.now }
@@ -122,6 +128,7 @@ fn column(letters: &[u8]) -> Option<u16>
     }
 }
 
+// The row that digits write without a leading zero. The grid may lack it.
 #[tactic(auto, unfolding(crate::specs::Lexing::row_in))]
 fn row(digits: &[u8]) -> Option<u64>
     requires { AllDigits 10 digits.now }
@@ -133,6 +140,7 @@ fn row(digits: &[u8]) -> Option<u64>
     number(digits)
 }
 
+// The cell of a column, counted from 0, and a row, counted from 1, if the grid has it.
 #[tactic(auto, unfolding(crate::specs::Lexing::cell_if))]
 fn cell_if(column: u16, row: u64) -> Option<Cell>
     ensures { result ≡ cell_if column row }
@@ -140,6 +148,7 @@ fn cell_if(column: u16, row: u64) -> Option<Cell>
     Cell::new(u8::try_from(column).ok()?, u16::try_from(row).ok()?)
 }
 
+// The cell of a column's letters and a row's digits.
 #[tactic(auto, unfolding(crate::specs::Lexing::cell_in))]
 fn cell(letters: &[u8], digits: &[u8]) -> Option<Cell>
     requires capitals { AllPass is_ascii_uppercase letters.now }
@@ -151,6 +160,7 @@ fn cell(letters: &[u8], digits: &[u8]) -> Option<Cell>
     cell_if(column, row)
 }
 
+// The corner at the front. Its `$` are read and not kept.
 #[tactic(auto, unfolding(crate::specs::Lexing::corner_at))]
 fn corner(text: &[u8]) -> Option<(Cell, &[u8])>
     ensures { option_map (λ found. (found.0, found.1.now)) result ≡ corner_at text.now }
@@ -163,6 +173,7 @@ fn corner(text: &[u8]) -> Option<(Cell, &[u8])>
     Some((cell, rest))
 }
 
+// The reference whose corner was read, where its bracket is closed.
 #[tactic(auto, unfolding(crate::specs::Lexing::reference_at))]
 fn reference(corner: Cell, text: &[u8]) -> Option<(Token, &[u8])>
     ensures { option_map (λ found. (found.0, found.1.now)) result ≡ reference_at corner text.now }
@@ -171,6 +182,7 @@ fn reference(corner: Cell, text: &[u8]) -> Option<(Token, &[u8])>
     Some((Token::Reference(corner), rest))
 }
 
+// The range whose first corner was read.
 #[tactic(auto, unfolding(crate::specs::Lexing::range_at))]
 fn range(first: Cell, text: &[u8]) -> Option<(Token, &[u8])>
     ensures { option_map (λ found. (found.0, found.1.now)) result ≡ range_at first text.now }
@@ -184,6 +196,7 @@ fn range(first: Cell, text: &[u8]) -> Option<(Token, &[u8])>
     Some((Token::Range(Rect::new(first, second)), rest))
 }
 
+// The reference or the range whose bracket was opened.
 #[tactic(auto, unfolding(crate::specs::Lexing::bracketed_at))]
 fn bracketed(text: &[u8]) -> Option<(Token, &[u8])>
     ensures { option_map (λ found. (found.0, found.1.now)) result ≡ bracketed_at text.now }
@@ -198,6 +211,7 @@ fn bracketed(text: &[u8]) -> Option<(Token, &[u8])>
     range(first, text)
 }
 
+// The numeral at the front.
 #[tactic(auto, unfolding(crate::specs::Lexing::numeral_at))]
 fn numeral(text: &[u8]) -> Option<(Token, &[u8])>
     ensures { option_map (λ found. (found.0, found.1.now)) result ≡ numeral_at text.now }
@@ -207,6 +221,7 @@ fn numeral(text: &[u8]) -> Option<(Token, &[u8])>
     Some((Token::Numeral(value as i64), rest))
 }
 
+// The function of a name in any case.
 #[tactic(auto, unfolding(crate::specs::Lexing::function_of))]
 fn function(name: &[u8]) -> Option<Function>
     ensures { result ≡ function_of name.now }
@@ -219,6 +234,7 @@ fn function(name: &[u8]) -> Option<Function>
     None
 }
 
+// The name at the front.
 #[tactic(auto, unfolding(crate::specs::Lexing::name_at))]
 fn name(text: &[u8]) -> Option<(Token, &[u8])>
     ensures { option_map (λ found. (found.0, found.1.now)) result ≡ name_at text.now }
@@ -228,6 +244,7 @@ fn name(text: &[u8]) -> Option<(Token, &[u8])>
     Some((Token::Name(function), rest))
 }
 
+// The operator of two bytes.
 #[tactic(auto, unfolding(crate::specs::Lexing::operator_of_two))]
 fn operator_of_two(first: u8, second: u8) -> Option<Operator>
     ensures { result ≡ operator_of_two first second }
@@ -240,6 +257,7 @@ fn operator_of_two(first: u8, second: u8) -> Option<Operator>
     }
 }
 
+// The token of one byte that is no digit and no letter.
 #[tactic(auto, unfolding(crate::specs::Lexing::token_of_one))]
 fn token_of_one(byte: u8) -> Option<Token>
     ensures { result ≡ token_of_one byte }
@@ -258,6 +276,7 @@ fn token_of_one(byte: u8) -> Option<Token>
     }
 }
 
+// The operator, the parenthesis or the separator at the front, of two bytes where it can be.
 #[tactic(auto, unfolding(crate::specs::Lexing::sign_at))]
 fn sign(text: &[u8]) -> Option<(Token, &[u8])>
     ensures { option_map (λ found. (found.0, found.1.now)) result ≡ sign_at text.now }

@@ -11,6 +11,7 @@ use crate::token::Token;
 use ps_grid::Refusal;
 use std::alloc::Global;
 
+// Whether a byte may stand between tokens.
 fn is_blank(byte: u8) -> bool
     ensures { result ≡ is_blank byte }
 {
