@@ -1,0 +1,7 @@
+pub mod CellLists
+pub mod EntryLemmas
+pub mod GridLemmas
+pub mod HistoryLemmas
+pub mod MergeLemmas
+pub mod StateLemmas
+pub mod WalkLemmas

@@ -1,0 +1,6 @@
+pub mod CellLaws
+pub mod Deltas
+pub mod Laws
+pub mod Order
+pub mod Room
+pub mod State

@@ -1,0 +1,86 @@
+//! What a cell holds: a register, a counter and a set.
+
+ghost use Rattle.std.specs.Prelude.{◌≡◌, ◌↔◌, IsTrue};
+ghost use Rattle.ps_delta.specs.State.{empty_cell, joined_cell};
+
+use ps_content::Content;
+use ps_grid::{Refusal, Twin};
+use ps_lattice::{Choice, Join, Register, Tally};
+use std::alloc::Global;
+
+/// The state of a cell. All three parts are kept, whichever of them is shown.
+#[derive(Drop)]
+pub struct CellState {
+    /// The content, with the stamp of its assignment.
+    pub register: Register<Content>,
+    /// The counter.
+    pub tally: Tally,
+    /// The set of options.
+    pub choice: Choice,
+}
+
+impl CellState {
+    /// The state of a cell that no edit named.
+    ///
+    /// Cost: constant; it takes no memory.
+    #[tactic(auto, unfolding(crate::specs::State::empty_cell))]
+    pub fn empty(alloc: Global) -> CellState
+        ensures { result ≡ empty_cell }
+    {
+        CellState {
+            register: Register::empty(),
+            tally: Tally::empty(alloc),
+            choice: Choice::empty(alloc),
+        }
+    }
+
+    /// Whether the cell has no register, no counts and no pairs.
+    ///
+    /// Cost: constant.
+    #[tactic(auto, using(crate::specs::CellLaws::empty_from_parts), unfolding(crate::specs::State::empty_cell))]
+    pub fn is_empty(&self) -> bool
+        ensures { IsTrue result ↔ (self.now ≡ empty_cell) }
+    {
+        self.register.is_empty() && self.tally.is_empty() && self.choice.is_empty()
+    }
+}
+
+impl Twin for CellState {
+    fn twin(&self, alloc: Global) -> Result<CellState, Refusal> {
+        Ok(CellState {
+            register: self.register.twin(alloc)?,
+            tally: self.tally.twin(alloc)?,
+            choice: self.choice.twin(alloc)?,
+        })
+    }
+}
+
+impl Join for CellState {
+    ghost use Rattle.ps_delta.specs.State.{joined_cell};
+    ghost use Rattle.ps_delta.specs.CellLaws.{joined_cell-comm, joined_cell-assoc, joined_cell-idem};
+
+    ghost joined = { joined_cell };
+
+    #[tactic(auto, unfolding(crate::specs::State::joined_cell))]
+    fn join(&mut self, alloc: Global, other: &CellState) -> Result<(), Refusal> {
+        let mut tally = self.tally.twin(alloc)?;
+        tally.join(alloc, &other.tally)?;
+        let mut choice = self.choice.twin(alloc)?;
+        choice.join(alloc, &other.choice)?;
+        self.register.join(alloc, &other.register)?;
+        self.tally = tally;
+        self.choice = choice;
+        Ok(())
+    }
+
+    #[tactic(auto, using(crate::specs::CellLaws::below_from_parts), unfolding(crate::specs::State::joined_cell))]
+    fn below(&self, other: &CellState) -> bool {
+        self.register.below(&other.register) && self.tally.below(&other.tally) && self.choice.below(&other.choice)
+    }
+
+    ghost associative = { joined_cell-assoc };
+
+    ghost commutative = { joined_cell-comm };
+
+    ghost idempotent = { joined_cell-idem };
+}

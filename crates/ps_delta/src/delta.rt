@@ -1,0 +1,100 @@
+//! Deltas: what travels between replicas.
+
+ghost use Rattle.std.specs.Prelude.{◌≡◌, ◌↔◌, ◌<◌, IsTrue, IfOk, IfErr, length, map};
+ghost use Rattle.std.specs.Bool.{OnTrue};
+ghost use Rattle.std.specs.Option.{SomeIff};
+ghost use Rattle.std.specs.Arc.{arc_value};
+ghost use Rattle.ps_grid.specs.declared.refusal.Refusal.{Refusal};
+ghost use Rattle.ps_delta.specs.State.{empty_cell, joined_state};
+ghost use Rattle.ps_delta.specs.Deltas.{AreEntries, AreInGrid, IsDelta, joined_history, state_of};
+
+use crate::cell_state::CellState;
+use crate::merge;
+use ps_grid::{Cell, Refusal, Twin};
+use ps_lattice::Join;
+use std::alloc::Global;
+use std::marker::Model;
+use std::sync::Arc;
+
+/// One or more cells in order, each with a state that isn't empty. It stands for the state that has these and nothing
+/// else. A contract sees it as the list of the cells with their states.
+#[derive(Drop)]
+pub struct Delta {
+    cells: Vec<(Cell, CellState)>,
+}
+
+impl Model for Delta {
+    ghost use Rattle.ps_delta.specs.Deltas.{Entries, IsDelta, AreInGrid};
+
+    ghost use Rattle.ps_delta.specs.contracts.cell_state.CellState as cell_state;
+    ghost use Rattle.std.specs.Coded.{codes};
+
+    ghost Value = { Entries };
+
+    ghost coded = { Prim.hlevel (codes, cell_state.the_row.coded) };
+
+    ghost view = { λ d. d.cells.items };
+
+    ghost invariant = { λ d. IsDelta d.cells.items × AreInGrid d.cells.items };
+}
+
+impl Delta {
+    /// The delta of the cells; none where there are no cells, where they aren't ascending and distinct, or where one
+    /// has an empty state.
+    ///
+    /// Cost: the number of cells.
+    pub fn new(cells: Vec<(Cell, CellState)>) -> Option<Delta>
+        ensures { SomeIff result (IsDelta cells.items) cells.items }
+    {
+        if are_entries(&cells) && !cells.is_empty() {
+            Some(Delta { cells })
+        } else {
+            None
+        }
+    }
+
+    /// The join of the deltas.
+    ///
+    /// Refused only for lack of memory.
+    ///
+    /// Cost: the cells of all the deltas, with their counts and pairs, times the number of deltas.
+    pub fn joined(alloc: Global, deltas: &[Arc<Delta>]) -> Result<Delta, Refusal>
+        requires { 0 < length deltas.now }
+        ensures joined { IfOk result (λ d. state_of d ≡ joined_history (map arc_value deltas.now)) }
+        ensures memory { IfErr result (λ e. e ≡ Refusal.Memory) }
+    {
+        let mut cells = Vec::new(alloc);
+        for delta in deltas {
+            cells = merge::merged(alloc, &cells, delta.parts())?;
+        }
+        Ok(Delta { cells })
+    }
+
+    /// The cells with their states.
+    ///
+    /// Cost: constant.
+    pub fn parts(&self) -> &[(Cell, CellState)]
+        ensures value { result.now ≡ self.now }
+        ensures delta { IsDelta result.now }
+        ensures in_grid { AreInGrid result.now }
+    {
+        &self.cells
+    }
+}
+
+// Whether the cells are ascending and distinct, and none has an empty state.
+fn are_entries(cells: &[(Cell, CellState)]) -> bool
+    ensures entries { IsTrue result ↔ AreEntries cells.now }
+    ensures in_grid { OnTrue result (AreInGrid cells.now) }
+{
+    // The least index that the next cell may have.
+    let mut least = 0;
+    for entry in cells {
+        let index = entry.0.index();
+        if index < least || entry.1.is_empty() {
+            return false;
+        }
+        least = index + 1;
+    }
+    true
+}

@@ -1,0 +1,148 @@
+//! The state of a sheet.
+
+ghost use Rattle.std.specs.Prelude.{◌≡◌, ◌↔◌, IsTrue, IfOk, IfErr, OnOk, OnErr};
+ghost use Rattle.ps_grid.specs.declared.refusal.Refusal.{Refusal};
+ghost use Rattle.ps_delta.specs.State.{AreTouched, empty_state, IsBelow, IsInGrid, joined_state, state_at, with_cell};
+ghost use Rattle.ps_delta.specs.Deltas.{overlaid, state_of};
+
+use crate::cell_state::CellState;
+use crate::delta::Delta;
+use crate::touched::Touched;
+use ps_grid::{CELLS, Cell, Refusal, Twin};
+use ps_lattice::Join;
+use std::alloc::Global;
+use std::marker::Model;
+use std::mem;
+
+/// What each cell of the grid holds. A contract sees it as the list of the cell states, and speaks of it by `state_at`.
+#[derive(Drop)]
+pub struct Grid {
+    // One for each cell, at its index.
+    cells: Vec<CellState>,
+}
+
+impl Model for Grid {
+    ghost use Rattle.std.specs.Prelude.{◌≡◌, List, length};
+    ghost use Rattle.ps_grid.specs.declared.size.TheConstants.{CELLS};
+    ghost use Rattle.ps_delta.specs.declared.cell_state.CellState.{CellState};
+
+    ghost use Rattle.ps_delta.specs.contracts.cell_state.CellState as cell_state;
+    ghost use Rattle.std.specs.Coded.{codes};
+
+    ghost Value = { List CellState };
+
+    ghost coded = { Prim.hlevel (codes, cell_state.the_row.coded) };
+
+    ghost view = { λ g. g.cells.items };
+
+    ghost invariant = { λ g. length g.cells.items ≡ CELLS };
+}
+
+impl Grid {
+    /// The grid where no cell holds anything.
+    ///
+    /// Refused only for lack of memory.
+    ///
+    /// Cost: the cells of the grid.
+    pub fn new(alloc: Global) -> Result<Grid, Refusal>
+        ensures empty { IfOk result (λ g. state_at g ≡ empty_state) }
+        ensures memory { IfErr result (λ e. e ≡ Refusal.Memory) }
+    {
+        let mut cells = Vec::with_capacity(alloc, CELLS)?;
+        for _ in 0..CELLS {
+            cells.push(CellState::empty(alloc))?;
+        }
+        Ok(Grid { cells })
+    }
+
+    /// What the cell holds.
+    ///
+    /// Cost: constant.
+    pub fn at(&self, cell: Cell) -> &CellState
+        ensures value { result.now ≡ state_at self.now cell }
+        ensures in_grid { IsInGrid (state_at self.now) }
+    {
+        &self.cells[cell.index()]
+    }
+
+    /// Exchanges what the cell holds with the given state.
+    ///
+    /// Cost: constant; it takes no memory.
+    pub fn swap(&mut self, cell: Cell, state: &mut CellState)
+        ensures given { state_at self.new ≡ with_cell (state_at self.old) cell state.old }
+        ensures taken { state.new ≡ state_at self.old cell }
+    {
+        mem::swap(&mut self.cells[cell.index()], state);
+    }
+
+    /// Joins the delta into the grid.
+    ///
+    /// Refused only for lack of memory, and then nothing is changed.
+    ///
+    /// Cost: the cells of the delta, and the counts and pairs that these have here and there.
+    pub fn join(&mut self, alloc: Global, delta: &Delta) -> Result<(), Refusal>
+        ensures ok { OnOk result (state_at self.new ≡ joined_state (state_at self.old) (state_of delta.now)) }
+        ensures err { OnErr result (self.new ≡ self.old) }
+        ensures memory { IfErr result (λ e. e ≡ Refusal.Memory) }
+    {
+        let raised = self.raised(alloc, delta)?;
+        self.overlay(raised);
+        Ok(())
+    }
+
+    /// Whether the delta is below the grid: joining it changes nothing.
+    ///
+    /// Cost: the cells of the delta, and the counts and pairs that these have here and there; it takes no memory.
+    pub fn covers(&self, delta: &Delta) -> bool
+        ensures { IsTrue result ↔ IsBelow (state_of delta.now) (state_at self.now) }
+    {
+        let parts = delta.parts();
+        for entry in parts {
+            if !entry.1.below(self.at(entry.0)) {
+                return false;
+            }
+        }
+        true
+    }
+
+    /// Finds the cells that a join of the delta would change: those whose register, counter or set is not what it was,
+    /// shown or not.
+    ///
+    /// Cost: the cells of the delta, and the counts and pairs that these have here and there; it takes no memory.
+    pub fn touched(&self, delta: &Delta, touched: &mut Touched)
+        ensures { AreTouched (state_at self.now) (joined_state (state_at self.now) (state_of delta.now)) touched.new }
+    {
+        touched.clear();
+        let parts = delta.parts();
+        for entry in parts {
+            if !entry.1.below(self.at(entry.0)) {
+                touched.add(entry.0);
+            }
+        }
+    }
+
+    // The cells of the delta, each with what it holds here and there, joined.
+    fn raised(&self, alloc: Global, delta: &Delta) -> Result<Vec<(Cell, CellState)>, Refusal>
+        ensures ok { IfOk result (λ r. overlaid (state_at self.now) r.items ≡ joined_state (state_at self.now) (state_of delta.now)) }
+        ensures memory { IfErr result (λ e. e ≡ Refusal.Memory) }
+    {
+        let mut raised = Vec::new(alloc);
+        let parts = delta.parts();
+        for entry in parts {
+            let mut state = self.at(entry.0).twin(alloc)?;
+            state.join(alloc, &entry.1)?;
+            raised.push((entry.0, state))?;
+        }
+        Ok(raised)
+    }
+
+    // Puts each state of the list in its cell's place.
+    fn overlay(&mut self, cells: Vec<(Cell, CellState)>)
+        ensures { state_at self.new ≡ overlaid (state_at self.old) cells.items }
+    {
+        for (cell, state) in cells {
+            let mut state = state;
+            self.swap(cell, &mut state);
+        }
+    }
+}
