@@ -1,6 +1,7 @@
 -- The reader finds what the grammar says: tokens that have a tree are read as that tree, whatever stands behind them,
 -- as long as it is no operator that would go on.
-use Rattle.std.proofs.Common.{◌≡◌, ℕ, zero, suc, ◌+◌, ◌*◌, ◌<◌, ◌≤◌, true, false, cond, eqb, refl, sym, ap, ◌∙◌, subst, List, [], ◌∷◌, ◌++◌, length, length-append, append_assoc, arith}
+use Rattle.std.proofs.Common.{◌≡◌, ℕ, zero, suc, ◌+◌, ◌*◌, ◌<◌, ◌≤◌, true, false, cond, eqb, refl, sym, ap, ◌∙◌}
+use Rattle.std.proofs.Common.{subst, List, [], ◌∷◌, ◌++◌, length, length-append, append_assoc, arith}
 use Rattle.std.specs.Prelude.{Some, None, option_and_then}
 use Rattle.std.proofs.lemmas.Bool.Decides.{nat_tests}
 use Rattle.ps_tokens.specs.declared.token.Function.{Function}
@@ -9,9 +10,12 @@ use Rattle.ps_tokens.specs.declared.token.Token.{Token}
 use Rattle.ps_tokens.specs.declared.token.Token.TheVariants.{Symbol, Open, Close, Separator}
 use Rattle.ps_formula.specs.declared.expr.Sign.{Sign}
 use Rattle.ps_formula.specs.declared.expr.Sign.TheVariants.{Plus, Minus}
-use Rattle.ps_formula.specs.Grammar.{Has, More, Arguments, Argument, accepts, takes_ranges, level_of, a_numeral, a_reference, a_sign, a_group, a_bare_call, a_call, a_chain, no_more, one_more, last_argument, next_argument, a_comparison, a_range}
+use Rattle.ps_formula.specs.Grammar.{Has, More, Arguments, Argument, accepts, takes_ranges, level_of, a_numeral}
+use Rattle.ps_formula.specs.Grammar.{a_reference, a_sign, a_group, a_bare_call, a_call, a_chain, no_more, one_more}
+use Rattle.ps_formula.specs.Grammar.{last_argument, next_argument, a_comparison, a_range}
 use Rattle.ps_formula.specs.Canonical.{symbol_of}
-use Rattle.ps_formula.specs.Reading.{level_at, more_at, prefixed_at, arguments_at, behind_at, argument_at, either_way, closed_at, range_at, operator_at, sign_of}
+use Rattle.ps_formula.specs.Reading.{level_at, more_at, prefixed_at, arguments_at, behind_at, argument_at, either_way}
+use Rattle.ps_formula.specs.Reading.{closed_at, range_at, operator_at, sign_of}
 use Rattle.ps_formula.specs.Tree.{Tree, Item, Items, signed, joined, group, call, expression, range, no_items, in_row}
 use Rattle.ps_formula.proofs.Rows.{listed, in_row-listed, length-listed}
 
@@ -31,11 +35,13 @@ operator_at-stops l (Symbol o ∷ ts) h =
 operator_at-stops l [] h = refl
 operator_at-stops l (_ ∷ ts) h = refl
 
-operator_at-here : (l : ℕ) (o : Operator) (ts : List Token) → level_of o ≡ l → operator_at l (Symbol o ∷ ts) ≡ Some (o, ts)
+operator_at-here : (l : ℕ) (o : Operator) (ts : List Token) → level_of o ≡ l
+    → operator_at l (Symbol o ∷ ts) ≡ Some (o, ts)
 operator_at-here l o ts h =
     let same : eqb (level_of o) l ≡ true = grind (arith, nat_tests) in ap (λ b. cond b (Some (o, ts)) None) same
 
-Stops-behind : {l : ℕ} {a t : Tree} {us : List Token} → More l a us t → (rest : List Token) → Stops (suc l) rest → Stops l (us ++ rest)
+Stops-behind : {l : ℕ} {a t : Tree} {us : List Token} → More l a us t → (rest : List Token) → Stops (suc l) rest
+    → Stops l (us ++ rest)
 Stops-behind {l} no_more rest h = Stops-below l rest h
 Stops-behind (one_more here operand others) rest h = omega (arith, here)
 
@@ -55,13 +61,16 @@ starts (a_sign h) rest = record { no_range = refl; not_closed = refl }
 starts (a_group h) rest = record { no_range = refl; not_closed = refl }
 starts (a_bare_call h) rest = record { no_range = refl; not_closed = refl }
 starts (a_call h k) rest = record { no_range = refl; not_closed = refl }
-starts (a_chain {ts = ts} {us = us} h more) rest = subst Starts (sym (append_assoc ts us rest)) (starts h (us ++ rest))
+starts (a_chain {ts = ts} {us = us} h more) rest =
+    subst Starts (sym (append_assoc ts us rest)) (starts h (us ++ rest))
 
-argument_not_closed : {f : Function} {ts : List Token} {i : Item} → Argument f ts i → (rest : List Token) → closed_at (ts ++ rest) ≡ None
+argument_not_closed : {f : Function} {ts : List Token} {i : Item} → Argument f ts i → (rest : List Token)
+    → closed_at (ts ++ rest) ≡ None
 argument_not_closed (a_comparison h) rest = (starts h rest).not_closed
 argument_not_closed (a_range h) rest = refl
 
-arguments_not_closed : {f : Function} {ts : List Token} {is : Items} → Arguments f ts is → (rest : List Token) → closed_at (ts ++ rest) ≡ None
+arguments_not_closed : {f : Function} {ts : List Token} {is : Items} → Arguments f ts is → (rest : List Token)
+    → closed_at (ts ++ rest) ≡ None
 arguments_not_closed (last_argument {ts = ts} h) rest =
     ap closed_at (append_assoc ts (Close ∷ []) rest) ∙ argument_not_closed h (Close ∷ rest)
 arguments_not_closed (next_argument {ts = ts} {us = us} h others) rest =
@@ -70,54 +79,79 @@ arguments_not_closed (next_argument {ts = ts} {us = us} h others) rest =
 mutual
   unfolding level_at
 
-  pub again_level : {l : ℕ} {ts : List Token} {t : Tree} → Has l ts t → (n : ℕ) (rest : List Token) → 8 * length ts + l < n → Stops l rest → level_at n l (ts ++ rest) ≡ Some (t, rest)
+  pub again_level : {l : ℕ} {ts : List Token} {t : Tree} → Has l ts t → (n : ℕ) (rest : List Token)
+      → 8 * length ts + l < n → Stops l rest → level_at n l (ts ++ rest) ≡ Some (t, rest)
   again_level a_numeral (suc (suc n)) rest fuel stops = refl
   again_level a_reference (suc (suc n)) rest fuel stops = refl
   again_level (a_sign {s = s} {ts = ts} {a = a} h) (suc (suc n)) rest fuel stops =
-      ap (λ o. option_and_then (λ r. option_and_then (λ b. Some (signed r b.0, b.1)) (prefixed_at n (ts ++ rest))) o) (sign_of-symbol_of s)
-      ∙ ap (λ o. option_and_then (λ b. Some (signed s b.0, b.1)) o) (again_level h (suc n) rest (omega (arith, fuel)) stops)
+      ap (λ o. option_and_then (λ r. option_and_then (λ b. Some (signed r b.0, b.1)) (prefixed_at n (ts ++ rest))) o)
+      (sign_of-symbol_of s)
+      ∙ ap (λ o. option_and_then (λ b. Some (signed s b.0, b.1)) o)
+      (again_level h (suc n) rest (omega (arith, fuel)) stops)
   again_level (a_group {ts = ts} {a = a} h) (suc (suc n)) rest fuel stops =
       ap (λ v. prefixed_at (suc n) (Open ∷ v)) (append_assoc ts (Close ∷ []) rest)
       ∙ ap (λ o. option_and_then (λ b. option_and_then (λ us. Some (group b.0, us)) (closed_at b.1)) o)
       (again_level h n (Close ∷ rest) (omega (arith, fuel, length-append ts (Close ∷ []))) tt)
-  again_level (a_bare_call {f = f} h) (suc (suc (suc n))) rest fuel stops = ap (λ b. cond b (Some (call f no_items, rest)) None) h
+  again_level (a_bare_call {f = f} h) (suc (suc (suc n))) rest fuel stops =
+      ap (λ b. cond b (Some (call f no_items, rest)) None) h
   again_level (a_call {f = f} {ts = ts} {is = is} h accepted) (suc (suc (suc n))) rest fuel stops =
-      ap (λ o. either_way o (option_and_then (λ x. cond (accepts f (length x.0)) (Some (call f (in_row x.0), x.1)) None) (arguments_at n f [] (ts ++ rest))) (λ us. cond (accepts f 0) (Some (call f no_items, us)) None))
+      ap (λ o. either_way o
+      (option_and_then (λ x. cond (accepts f (length x.0)) (Some (call f (in_row x.0), x.1)) None)
+      (arguments_at n f [] (ts ++ rest))) (λ us. cond (accepts f 0) (Some (call f no_items, us)) None))
       (arguments_not_closed h rest)
-      ∙ ap (λ o. option_and_then (λ x. cond (accepts f (length x.0)) (Some (call f (in_row x.0), x.1)) None) o) (again_arguments h n [] rest (omega (arith, fuel)))
-      ∙ ap (λ b. cond b (Some (call f (in_row (listed is)), rest)) None) (ap (accepts f) (length-listed is) ∙ accepted)
+      ∙ ap (λ o. option_and_then (λ x. cond (accepts f (length x.0)) (Some (call f (in_row x.0), x.1)) None) o)
+      (again_arguments h n [] rest (omega (arith, fuel)))
+      ∙ ap (λ b. cond b (Some (call f (in_row (listed is)), rest)) None)
+      (ap (accepts f) (length-listed is) ∙ accepted)
       ∙ ap (λ v. Some (call f v, rest)) (in_row-listed is)
   again_level (a_chain {l = l} {ts = ts} {us = us} {a = a} h more) (suc n) rest fuel stops =
       ap (level_at (suc n) (suc l)) (append_assoc ts us rest)
-      ∙ ap (option_and_then (λ b. more_at n l b.0 b.1)) (again_level h n (us ++ rest) (omega (arith, fuel, length-append ts us)) (Stops-behind more rest stops))
+      ∙ ap (option_and_then (λ b. more_at n l b.0 b.1))
+      (again_level h n (us ++ rest) (omega (arith, fuel, length-append ts us)) (Stops-behind more rest stops))
       ∙ again_more more n rest (omega (arith, fuel, length-append ts us)) stops
   again_level _ _ rest fuel stops = absurd (omega (arith, fuel))
 
-  again_more : {l : ℕ} {a t : Tree} {us : List Token} → More l a us t → (n : ℕ) (rest : List Token) → 8 * length us + l < n → Stops (suc l) rest → more_at n l a (us ++ rest) ≡ Some (t, rest)
+  again_more : {l : ℕ} {a t : Tree} {us : List Token} → More l a us t → (n : ℕ) (rest : List Token)
+      → 8 * length us + l < n → Stops (suc l) rest → more_at n l a (us ++ rest) ≡ Some (t, rest)
   again_more {l} {a} no_more (suc n) rest fuel stops =
-      ap (λ o. either_way o (Some (a, rest)) (λ x. option_and_then (λ b. more_at n l (joined a x.0 b.0) b.1) (level_at n l x.1))) (operator_at-stops l rest stops)
+      ap (λ o. either_way o (Some (a, rest))
+      (λ x. option_and_then (λ b. more_at n l (joined a x.0 b.0) b.1) (level_at n l x.1)))
+      (operator_at-stops l rest stops)
   again_more {l} {a} (one_more {b = b} {o = o} {ts = ts} {us = us} here operand others) (suc n) rest fuel stops =
       ap (λ v. more_at (suc n) l a (Symbol o ∷ v)) (append_assoc ts us rest)
-      ∙ ap (λ p. either_way p (Some (a, Symbol o ∷ ts ++ (us ++ rest))) (λ x. option_and_then (λ c. more_at n l (joined a x.0 c.0) c.1) (level_at n l x.1))) (operator_at-here l o (ts ++ (us ++ rest)) here)
-      ∙ ap (option_and_then (λ c. more_at n l (joined a o c.0) c.1)) (again_level operand n (us ++ rest) (omega (arith, fuel, length-append ts us)) (Stops-behind others rest stops))
+      ∙ ap (λ p. either_way p (Some (a, Symbol o ∷ ts ++ (us ++ rest)))
+      (λ x. option_and_then (λ c. more_at n l (joined a x.0 c.0) c.1) (level_at n l x.1)))
+      (operator_at-here l o (ts ++ (us ++ rest)) here)
+      ∙ ap (option_and_then (λ c. more_at n l (joined a o c.0) c.1))
+      (again_level operand n (us ++ rest) (omega (arith, fuel, length-append ts us))
+      (Stops-behind others rest stops))
       ∙ again_more others n rest (omega (arith, fuel, length-append ts us)) stops
   again_more _ zero rest fuel stops = absurd (omega (arith, fuel))
 
-  again_arguments : {f : Function} {ts : List Token} {is : Items} → Arguments f ts is → (n : ℕ) (before : List Item) (rest : List Token) → 8 * length ts < n → arguments_at n f before (ts ++ rest) ≡ Some (before ++ listed is, rest)
+  again_arguments : {f : Function} {ts : List Token} {is : Items} → Arguments f ts is
+      → (n : ℕ) (before : List Item) (rest : List Token) → 8 * length ts < n
+      → arguments_at n f before (ts ++ rest) ≡ Some (before ++ listed is, rest)
   again_arguments {f} (last_argument {ts = ts} {i = i} h) (suc (suc n)) before rest fuel =
       ap (arguments_at (suc (suc n)) f before) (append_assoc ts (Close ∷ []) rest)
-      ∙ ap (option_and_then (λ j. behind_at (suc n) f (before ++ j.0 ∷ []) j.1)) (again_argument h (suc n) (Close ∷ rest) (omega (arith, fuel, length-append ts (Close ∷ []))) tt)
+      ∙ ap (option_and_then (λ j. behind_at (suc n) f (before ++ j.0 ∷ []) j.1))
+      (again_argument h (suc n) (Close ∷ rest) (omega (arith, fuel, length-append ts (Close ∷ []))) tt)
   again_arguments {f} (next_argument {ts = ts} {us = us} {i = i} {is = is} h others) (suc (suc n)) before rest fuel =
       ap (arguments_at (suc (suc n)) f before) (append_assoc ts (Separator ∷ us) rest)
-      ∙ ap (option_and_then (λ j. behind_at (suc n) f (before ++ j.0 ∷ []) j.1)) (again_argument h (suc n) (Separator ∷ us ++ rest) (omega (arith, fuel, length-append ts (Separator ∷ us))) tt)
+      ∙ ap (option_and_then (λ j. behind_at (suc n) f (before ++ j.0 ∷ []) j.1))
+      (again_argument h (suc n) (Separator ∷ us ++ rest)
+      (omega (arith, fuel, length-append ts (Separator ∷ us))) tt)
       ∙ again_arguments others n (before ++ i ∷ []) rest (omega (arith, fuel, length-append ts (Separator ∷ us)))
       ∙ ap (λ v. Some (v, rest)) (append_assoc before (i ∷ []) (listed is))
-  again_arguments (last_argument {ts = ts} h) _ before rest fuel = absurd (omega (arith, fuel, length-append ts (Close ∷ [])))
-  again_arguments (next_argument {ts = ts} {us = us} h others) _ before rest fuel = absurd (omega (arith, fuel, length-append ts (Separator ∷ us)))
+  again_arguments (last_argument {ts = ts} h) _ before rest fuel =
+      absurd (omega (arith, fuel, length-append ts (Close ∷ [])))
+  again_arguments (next_argument {ts = ts} {us = us} h others) _ before rest fuel =
+      absurd (omega (arith, fuel, length-append ts (Separator ∷ us)))
 
-  again_argument : {f : Function} {ts : List Token} {i : Item} → Argument f ts i → (n : ℕ) (rest : List Token) → 8 * length ts + 4 < n → Stops 3 rest → argument_at n f (ts ++ rest) ≡ Some (i, rest)
+  again_argument : {f : Function} {ts : List Token} {i : Item} → Argument f ts i → (n : ℕ) (rest : List Token)
+      → 8 * length ts + 4 < n → Stops 3 rest → argument_at n f (ts ++ rest) ≡ Some (i, rest)
   again_argument {f} (a_comparison {ts = ts} h) (suc n) rest fuel stops =
-      ap (λ o. either_way o (option_and_then (λ b. Some (expression b.0, b.1)) (level_at n 3 (ts ++ rest))) (λ x. cond (takes_ranges f) (Some (range x.0, x.1)) None)) ((starts h rest).no_range)
+      ap (λ o. either_way o (option_and_then (λ b. Some (expression b.0, b.1)) (level_at n 3 (ts ++ rest)))
+      (λ x. cond (takes_ranges f) (Some (range x.0, x.1)) None)) ((starts h rest).no_range)
       ∙ ap (option_and_then (λ b. Some (expression b.0, b.1))) (again_level h n rest (omega (arith, fuel)) stops)
   again_argument {f} (a_range {r = r} h) (suc n) rest fuel stops = ap (λ b. cond b (Some (range r, rest)) None) h
   again_argument _ zero rest fuel stops = absurd (omega (arith, fuel))

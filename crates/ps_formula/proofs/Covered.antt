@@ -4,8 +4,10 @@ use Rattle.std.specs.List.{list_any}
 use Rattle.std.proofs.lemmas.List.Folds.{list_any-append}
 use Rattle.std.proofs.lemmas.Bool.Decides.{nat_tests}
 use Rattle.ps_grid.specs.Rectangle.{Area, is_inside}
-use Rattle.ps_formula.specs.Tree.{Tree, Item, Items, number, reference, signed, joined, group, call, expression, range, no_items, item_and}
-use Rattle.ps_formula.specs.References.{mentions, mentions_among, mentions_in, rects_of, rects_among, rects_in, one_cell}
+use Rattle.ps_formula.specs.Tree.{Tree, Item, Items, number, reference, signed, joined, group, call, expression}
+use Rattle.ps_formula.specs.Tree.{range, no_items, item_and}
+use Rattle.ps_formula.specs.References.{mentions, mentions_among, mentions_in, rects_of, rects_among, rects_in}
+use Rattle.ps_formula.specs.References.{one_cell}
 
 is_inside-one_cell : (d c : ℕ) → is_inside (one_cell d) c ≡ nat_eq d c
 is_inside-one_cell d c = grind (arith, nat_tests)
@@ -27,7 +29,8 @@ mutual
   is_covered-rects_of (reference d) c = or_false (is_inside (one_cell d) c) ∙ is_inside-one_cell d c
   is_covered-rects_of (signed s a) c = is_covered-rects_of a c
   is_covered-rects_of (joined a o b) c =
-      is_covered-append (rects_of a) (rects_of b) c ∙ ap (λ x. x || is_covered (rects_of b) c) (is_covered-rects_of a c)
+      is_covered-append (rects_of a) (rects_of b) c
+      ∙ ap (λ x. x || is_covered (rects_of b) c) (is_covered-rects_of a c)
       ∙ ap (λ x. mentions a c || x) (is_covered-rects_of b c)
   is_covered-rects_of (group a) c = is_covered-rects_of a c
   is_covered-rects_of (call f is) c = is_covered-rects_among is c
@@ -35,7 +38,8 @@ mutual
   is_covered-rects_among : (is : Items) (c : ℕ) → is_covered (rects_among is) c ≡ mentions_among is c
   is_covered-rects_among no_items c = refl
   is_covered-rects_among (item_and i is) c =
-      is_covered-append (rects_in i) (rects_among is) c ∙ ap (λ x. x || is_covered (rects_among is) c) (is_covered-rects_in i c)
+      is_covered-append (rects_in i) (rects_among is) c
+      ∙ ap (λ x. x || is_covered (rects_among is) c) (is_covered-rects_in i c)
       ∙ ap (λ x. mentions_in i c || x) (is_covered-rects_among is c)
 
   is_covered-rects_in : (i : Item) (c : ℕ) → is_covered (rects_in i) c ≡ mentions_in i c

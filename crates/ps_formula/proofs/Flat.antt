@@ -7,9 +7,12 @@ use Rattle.ps_tokens.specs.declared.token.Function.{Function}
 use Rattle.ps_tokens.specs.declared.token.Token.{Token}
 use Rattle.ps_tokens.specs.declared.token.Token.TheVariants.{Name, Symbol, Open, Close, Separator}
 use Rattle.ps_formula.specs.Canonical.{tokens_of, tokens_of_items, tokens_behind, tokens_of_item, symbol_of}
-use Rattle.ps_formula.specs.Grammar.{Has, More, Arguments, Argument, a_numeral, a_reference, a_sign, a_group, a_bare_call, a_call, a_chain, no_more, one_more, last_argument, next_argument, a_comparison, a_range}
+use Rattle.ps_formula.specs.Grammar.{Has, More, Arguments, Argument, a_numeral, a_reference, a_sign, a_group}
+use Rattle.ps_formula.specs.Grammar.{a_bare_call, a_call, a_chain, no_more, one_more, last_argument, next_argument}
+use Rattle.ps_formula.specs.Grammar.{a_comparison, a_range}
 use Rattle.ps_formula.specs.References.{rects_of, rects_among, rects_in, rects_at}
-use Rattle.ps_formula.specs.Tree.{Tree, Item, Items, number, reference, signed, joined, group, call, expression, range, no_items, item_and}
+use Rattle.ps_formula.specs.Tree.{Tree, Item, Items, number, reference, signed, joined, group, call, expression}
+use Rattle.ps_formula.specs.Tree.{range, no_items, item_and}
 
 mutual
   pub tokens_of-has : {l : ℕ} {ts : List Token} {t : Tree} → Has l ts t → tokens_of t ≡ ts
@@ -27,15 +30,18 @@ mutual
       tokens_of-more others ∙ append_assoc (tokens_of a) (Symbol o ∷ tokens_of b) us
       ∙ ap (λ v. tokens_of a ++ (Symbol o ∷ v ++ us)) (tokens_of-has h)
 
-  tokens_of_items-arguments : {f : Function} {ts : List Token} {is : Items} → Arguments f ts is → tokens_of_items is ≡ ts
+  tokens_of_items-arguments : {f : Function} {ts : List Token} {is : Items} → Arguments f ts is
+      → tokens_of_items is ≡ ts
   tokens_of_items-arguments (last_argument h) = ap (λ v. v ++ (Close ∷ [])) (tokens_of_item-argument h)
   tokens_of_items-arguments (next_argument {ts = ts} {is = is} h others) =
       ap (λ v. v ++ tokens_behind is) (tokens_of_item-argument h) ∙ ap (λ v. ts ++ v) (tokens_behind-arguments others)
 
-  tokens_behind-arguments : {f : Function} {ts : List Token} {is : Items} → Arguments f ts is → tokens_behind is ≡ Separator ∷ ts
+  tokens_behind-arguments : {f : Function} {ts : List Token} {is : Items} → Arguments f ts is
+      → tokens_behind is ≡ Separator ∷ ts
   tokens_behind-arguments (last_argument h) = ap (λ v. Separator ∷ v ++ (Close ∷ [])) (tokens_of_item-argument h)
   tokens_behind-arguments (next_argument {ts = ts} {is = is} h others) =
-      ap (λ v. Separator ∷ v ++ tokens_behind is) (tokens_of_item-argument h) ∙ ap (λ v. Separator ∷ ts ++ v) (tokens_behind-arguments others)
+      ap (λ v. Separator ∷ v ++ tokens_behind is) (tokens_of_item-argument h)
+      ∙ ap (λ v. Separator ∷ ts ++ v) (tokens_behind-arguments others)
 
   tokens_of_item-argument : {f : Function} {ts : List Token} {i : Item} → Argument f ts i → tokens_of_item i ≡ ts
   tokens_of_item-argument (a_comparison h) = tokens_of-has h

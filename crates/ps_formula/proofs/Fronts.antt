@@ -16,7 +16,8 @@ use Rattle.ps_formula.specs.Canonical.{symbol_of}
 use Rattle.ps_formula.specs.Grammar.{level_of}
 use Rattle.ps_formula.specs.Reading.{either_way, opened_at, closed_at, separated_at, range_at, operator_at, sign_of}
 
-pub either_way_cases : {X Y P : Type 0} (o : Option X) (y z : Y) (f : X → Y) → either_way o y f ≡ z → (o ≡ None → y ≡ z → P) → ((x : X) → o ≡ Some x → f x ≡ z → P) → P
+pub either_way_cases : {X Y P : Type 0} (o : Option X) (y z : Y) (f : X → Y) → either_way o y f ≡ z
+    → (o ≡ None → y ≡ z → P) → ((x : X) → o ≡ Some x → f x ≡ z → P) → P
 either_way_cases None y z f e at_none at_some = at_none refl e
 either_way_cases (Some x) y z f e at_none at_some = at_some x refl e
 
@@ -40,7 +41,8 @@ range_at-some (Range r ∷ ts) x e = let same : (r, ts) ≡ x = cc in ap (λ y. 
 range_at-some (_ ∷ ts) x e = cc
 range_at-some [] x e = cc
 
-pub operator_at-some : (l : ℕ) (ts : List Token) (x : Operator × List Token) → operator_at l ts ≡ Some x → (ts ≡ Symbol x.0 ∷ x.1) × (level_of x.0 ≡ l)
+pub operator_at-some : (l : ℕ) (ts : List Token) (x : Operator × List Token) → operator_at l ts ≡ Some x
+    → (ts ≡ Symbol x.0 ∷ x.1) × (level_of x.0 ≡ l)
 operator_at-some l (Symbol o ∷ ts) x e =
     let found = cond_some (level_of o == l) (o, ts) x e in
     (ap (λ y. Symbol y.0 ∷ y.1) found.1, ap (λ y. level_of y.0) (sym found.1) ∙ grind (arith, nat_tests, found.0))

@@ -18,17 +18,21 @@ then_itself Equal p h = h refl
 then_itself Greater p h = refl
 
 -- trees that are the trees of their canonical texts are ordered by these texts
-pub tree_cmp-canon : (t u : Tree) → HasTree (canon t) t → HasTree (canon u) u → tree_cmp t u ≡ slice_cmp nat_cmp (canon t) (canon u)
+pub tree_cmp-canon : (t u : Tree) → HasTree (canon t) t → HasTree (canon u) u
+    → tree_cmp t u ≡ slice_cmp nat_cmp (canon t) (canon u)
 unfolding tree_cmp
 tree_cmp-canon t u h k =
     then_itself (slice_cmp nat_cmp (canon t) (canon u)) (slice_cmp nat_cmp (tree_numbers t) (tree_numbers u))
     (λ e.
     let texts = byte_lists_untied (canon t) (canon u) e in
     let same = one_tree (canon u) t u (subst (λ v. HasTree v t) texts h) k in
-    subst (λ v. slice_cmp nat_cmp (tree_numbers t) (tree_numbers v) ≡ Equal) same (tied_itself nat_list_cmp_total (tree_numbers t)))
+    subst (λ v. slice_cmp nat_cmp (tree_numbers t) (tree_numbers v) ≡ Equal) same
+    (tied_itself nat_list_cmp_total (tree_numbers t)))
 
 -- the same of texts that are known to be canonical
-pub tree_cmp-texts : (t u : Tree) (x y : List ℕ) → x ≡ canon t → y ≡ canon u → HasTree x t → HasTree y u → tree_cmp t u ≡ slice_cmp nat_cmp x y
+pub tree_cmp-texts : (t u : Tree) (x y : List ℕ) → x ≡ canon t → y ≡ canon u → HasTree x t → HasTree y u
+    → tree_cmp t u ≡ slice_cmp nat_cmp x y
 tree_cmp-texts t u x y e f h k =
-    tree_cmp-canon t u (subst (λ v. HasTree v t) e h) (subst (λ v. HasTree v u) f k) ∙ ap (λ v. slice_cmp nat_cmp v (canon u)) (sym e)
+    tree_cmp-canon t u (subst (λ v. HasTree v t) e h) (subst (λ v. HasTree v u) f k)
+    ∙ ap (λ v. slice_cmp nat_cmp v (canon u)) (sym e)
     ∙ ap (slice_cmp nat_cmp x) (sym f)

@@ -5,12 +5,18 @@ use Rattle.std.proofs.lemmas.Option.{option_and_then_some, cond_some}
 use Rattle.std.proofs.lemmas.List.{append_assoc}
 use Rattle.ps_tokens.specs.declared.token.Function.{Function}
 use Rattle.ps_tokens.specs.declared.token.Token.{Token}
-use Rattle.ps_tokens.specs.declared.token.Token.TheVariants.{Numeral, Reference, Range, Name, Symbol, Open, Close, Separator}
-use Rattle.ps_formula.specs.Grammar.{Has, More, Arguments, Argument, accepts, takes_ranges, a_numeral, a_reference, a_sign, a_group, a_bare_call, a_call, a_chain, no_more, one_more, last_argument, next_argument, a_comparison, a_range}
+use Rattle.ps_tokens.specs.declared.token.Token.TheVariants.{Numeral, Reference, Range, Name, Symbol, Open, Close}
+use Rattle.ps_tokens.specs.declared.token.Token.TheVariants.{Separator}
+use Rattle.ps_formula.specs.Grammar.{Has, More, Arguments, Argument, accepts, takes_ranges, a_numeral, a_reference}
+use Rattle.ps_formula.specs.Grammar.{a_sign, a_group, a_bare_call, a_call, a_chain, no_more, one_more, last_argument}
+use Rattle.ps_formula.specs.Grammar.{next_argument, a_comparison, a_range}
 use Rattle.ps_formula.specs.Canonical.{symbol_of}
-use Rattle.ps_formula.specs.Reading.{level_at, more_at, prefixed_at, call_at, arguments_at, behind_at, argument_at, closed_at, opened_at, separated_at, range_at, operator_at, sign_of}
-use Rattle.ps_formula.specs.Tree.{Tree, Item, Items, number, reference, signed, joined, group, call, expression, range, no_items, item_and, in_row}
-use Rattle.ps_formula.proofs.Fronts.{either_way_cases, opened_at-some, closed_at-some, separated_at-some, range_at-some, operator_at-some, sign_of-some, cut_twice}
+use Rattle.ps_formula.specs.Reading.{level_at, more_at, prefixed_at, call_at, arguments_at, behind_at, argument_at}
+use Rattle.ps_formula.specs.Reading.{closed_at, opened_at, separated_at, range_at, operator_at, sign_of}
+use Rattle.ps_formula.specs.Tree.{Tree, Item, Items, number, reference, signed, joined, group, call, expression}
+use Rattle.ps_formula.specs.Tree.{range, no_items, item_and, in_row}
+use Rattle.ps_formula.proofs.Fronts.{either_way_cases, opened_at-some, closed_at-some, separated_at-some}
+use Rattle.ps_formula.proofs.Fronts.{range_at-some, operator_at-some, sign_of-some, cut_twice}
 use Rattle.ps_formula.proofs.Rows.{listed, in_row-listed, length-listed}
 
 pub record Takes (l : ℕ) (ts : List Token) (x : Tree × List Token) : Type 0 where
@@ -28,7 +34,8 @@ pub record TakesArgument (f : Function) (ts : List Token) (x : Item × List Toke
   pub splits : ts ≡ front ++ x.1
   pub has : Argument f front x.0
 
-pub record TakesArguments (f : Function) (before : List Item) (ts : List Token) (x : List Item × List Token) : Type 0 where
+pub record TakesArguments (f : Function) (before : List Item) (ts : List Token)
+    (x : List Item × List Token) : Type 0 where
   pub front : List Token
   pub items : Items
   pub splits : ts ≡ front ++ x.1
@@ -39,10 +46,12 @@ pub data TakesBehind (f : Function) (before : List Item) (ts : List Token) (x : 
   is_closed : ts ≡ Close ∷ x.1 → x.0 ≡ before → TakesBehind f before ts x
   goes_on : (us : List Token) → ts ≡ Separator ∷ us → TakesArguments f before us x → TakesBehind f before ts x
 
-group_splits : (ts front rest us : List Token) → ts ≡ front ++ rest → rest ≡ Close ∷ us → Open ∷ ts ≡ (Open ∷ front ++ (Close ∷ [])) ++ us
+group_splits : (ts front rest us : List Token) → ts ≡ front ++ rest → rest ≡ Close ∷ us
+    → Open ∷ ts ≡ (Open ∷ front ++ (Close ∷ [])) ++ us
 group_splits ts front rest us e f = ap (λ v. Open ∷ v) (cut_twice ts front rest (Close ∷ []) us e f)
 
-arguments_taken : (f : Function) (before : List Item) (ts : List Token) (i : Item × List Token) (x : List Item × List Token)
+arguments_taken : (f : Function) (before : List Item) (ts : List Token) (i : Item × List Token)
+    (x : List Item × List Token)
     → TakesArgument f ts i → TakesBehind f (before ++ i.0 ∷ []) i.1 x → TakesArguments f before ts x
 arguments_taken f before ts i x a (is_closed closed all) = record {
   front = a.front ++ (Close ∷ []);
@@ -54,7 +63,9 @@ arguments_taken f before ts i x a (is_closed closed all) = record {
 arguments_taken f before ts i x a (goes_on us separated others) = record {
   front = a.front ++ (Separator ∷ others.front);
   items = item_and i.0 others.items;
-  splits = cut_twice ts a.front i.1 (Separator ∷ others.front) x.1 a.splits (separated ∙ ap (λ v. Separator ∷ v) others.splits);
+  splits =
+      cut_twice ts a.front i.1 (Separator ∷ others.front) x.1 a.splits
+      (separated ∙ ap (λ v. Separator ∷ v) others.splits);
   has = next_argument a.has others.has;
   all = others.all ∙ append_assoc before (i.0 ∷ []) (listed others.items);
 }
@@ -76,11 +87,14 @@ mutual
         has = a_chain first.has others.has;
       })
 
-  takes_more : (n l : ℕ) (a : Tree) (ts : List Token) (x : Tree × List Token) → more_at n l a ts ≡ Some x → TakesMore l a ts x
+  takes_more : (n l : ℕ) (a : Tree) (ts : List Token) (x : Tree × List Token) → more_at n l a ts ≡ Some x
+      → TakesMore l a ts x
   takes_more zero l a ts x e = cc
   takes_more (suc n) l a ts x e =
-      either_way_cases (operator_at l ts) (Some (a, ts)) (Some x) (λ o. option_and_then (λ b. more_at n l (joined a o.0 b.0) b.1) (level_at n l o.1)) e
-      (λ none ends. let same : (a, ts) ≡ x = cc in subst (λ y. TakesMore l a ts y) same (record { front = []; splits = refl; has = no_more }))
+      either_way_cases (operator_at l ts) (Some (a, ts)) (Some x)
+      (λ o. option_and_then (λ b. more_at n l (joined a o.0 b.0) b.1) (level_at n l o.1)) e
+      (λ none ends. let same : (a, ts) ≡ x = cc in subst (λ y. TakesMore l a ts y) same
+      (record { front = []; splits = refl; has = no_more }))
       (λ o some rest.
       let sign = operator_at-some l ts o some in
       option_and_then_some (λ b. more_at n l (joined a o.0 b.0) b.1) (level_at n l o.1) x rest
@@ -89,7 +103,10 @@ mutual
       let others = takes_more n l (joined a o.0 b.0) b.1 x rest' in
       record {
         front = Symbol o.0 ∷ operand.front ++ others.front;
-        splits = sign.0 ∙ ap (λ v. Symbol o.0 ∷ v) (cut_twice o.1 operand.front b.1 others.front x.1 operand.splits others.splits);
+        splits =
+            sign.0
+            ∙ ap (λ v. Symbol o.0 ∷ v)
+            (cut_twice o.1 operand.front b.1 others.front x.1 operand.splits others.splits);
         has = one_more sign.1 operand.has others.has;
       }))
 
@@ -101,7 +118,8 @@ mutual
       subst (λ y. Takes 0 (Numeral z ∷ ts) y) same (record { front = Numeral z ∷ []; splits = refl; has = a_numeral })
   takes_prefixed (suc n) (Reference c ∷ ts) x e =
       let same : (reference c, ts) ≡ x = cc in
-      subst (λ y. Takes 0 (Reference c ∷ ts) y) same (record { front = Reference c ∷ []; splits = refl; has = a_reference })
+      subst (λ y. Takes 0 (Reference c ∷ ts) y) same
+      (record { front = Reference c ∷ []; splits = refl; has = a_reference })
   takes_prefixed (suc n) (Symbol o ∷ ts) x e =
       option_and_then_some (λ s. option_and_then (λ a. Some (signed s a.0, a.1)) (prefixed_at n ts)) (sign_of o) x e
       (λ s sign rest.
@@ -111,7 +129,12 @@ mutual
       let same : (signed s a.0, a.1) ≡ x = cc in
       subst (λ y. Takes 0 (Symbol o ∷ ts) y) same
       (subst (λ y. Takes 0 (Symbol y ∷ ts) (signed s a.0, a.1)) (sym (sign_of-some o s sign))
-      (record { front = Symbol (symbol_of s) ∷ operand.front; splits = ap (λ v. Symbol (symbol_of s) ∷ v) operand.splits; has = a_sign operand.has }))))
+      (record {
+        front = Symbol (symbol_of s) ∷ operand.front;
+        splits = ap
+            (λ v. Symbol (symbol_of s) ∷ v) operand.splits;
+        has = a_sign operand.has;
+      }))))
   takes_prefixed (suc n) (Open ∷ ts) x e =
       option_and_then_some (λ a. option_and_then (λ us. Some (group a.0, us)) (closed_at a.1)) (level_at n 3 ts) x e
       (λ a found rest.
@@ -133,23 +156,30 @@ mutual
   takes_prefixed (suc n) (Close ∷ ts) x e = cc
   takes_prefixed (suc n) (Separator ∷ ts) x e = cc
 
-  takes_call : (n : ℕ) (f : Function) (ts : List Token) (x : Tree × List Token) → call_at n f ts ≡ Some x → Takes 0 (Name f ∷ Open ∷ ts) x
+  takes_call : (n : ℕ) (f : Function) (ts : List Token) (x : Tree × List Token) → call_at n f ts ≡ Some x
+      → Takes 0 (Name f ∷ Open ∷ ts) x
   takes_call zero f ts x e = cc
   takes_call (suc n) f ts x e =
       either_way_cases (closed_at ts)
-      (option_and_then (λ y. cond (accepts f (length y.0)) (Some (call f (in_row y.0), y.1)) None) (arguments_at n f [] ts)) (Some x)
+      (option_and_then (λ y. cond (accepts f (length y.0)) (Some (call f (in_row y.0), y.1)) None)
+      (arguments_at n f [] ts)) (Some x)
       (λ us. cond (accepts f 0) (Some (call f no_items, us)) None) e
       (λ none rest.
-      option_and_then_some (λ y. cond (accepts f (length y.0)) (Some (call f (in_row y.0), y.1)) None) (arguments_at n f [] ts) x rest
+      option_and_then_some (λ y. cond (accepts f (length y.0)) (Some (call f (in_row y.0), y.1)) None)
+      (arguments_at n f [] ts) x rest
       (λ y found ends.
       let items = takes_arguments n f [] ts y found in
       let accepted = cond_some (accepts f (length y.0)) (call f (in_row y.0), y.1) x ends in
       subst (λ v. Takes 0 (Name f ∷ Open ∷ ts) v) accepted.1
-      (subst (λ v. Takes 0 (Name f ∷ Open ∷ ts) (call f v, y.1)) (sym (ap in_row items.all ∙ in_row-listed items.items))
+      (subst (λ v. Takes 0 (Name f ∷ Open ∷ ts) (call f v, y.1))
+      (sym (ap in_row items.all ∙ in_row-listed items.items))
       (record {
         front = Name f ∷ Open ∷ items.front;
         splits = ap (λ v. Name f ∷ Open ∷ v) items.splits;
-        has = a_call items.has (ap (accepts f) (sym (length-listed items.items)) ∙ ap (λ v. accepts f (length v)) (sym items.all) ∙ accepted.0);
+        has =
+            a_call items.has
+            (ap (accepts f) (sym (length-listed items.items)) ∙ ap (λ v. accepts f (length v))
+            (sym items.all) ∙ accepted.0);
       }))))
       (λ us closed ends.
       let accepted = cond_some (accepts f 0) (call f no_items, us) x ends in
@@ -157,16 +187,20 @@ mutual
       (subst (λ v. Takes 0 (Name f ∷ Open ∷ v) (call f no_items, us)) (sym (closed_at-some ts us closed))
       (record { front = Name f ∷ Open ∷ Close ∷ []; splits = refl; has = a_bare_call accepted.0 })))
 
-  takes_arguments : (n : ℕ) (f : Function) (before : List Item) (ts : List Token) (x : List Item × List Token) → arguments_at n f before ts ≡ Some x → TakesArguments f before ts x
+  takes_arguments : (n : ℕ) (f : Function) (before : List Item) (ts : List Token) (x : List Item × List Token)
+      → arguments_at n f before ts ≡ Some x → TakesArguments f before ts x
   takes_arguments zero f before ts x e = cc
   takes_arguments (suc n) f before ts x e =
       option_and_then_some (λ i. behind_at n f (before ++ i.0 ∷ []) i.1) (argument_at n f ts) x e
-      (λ i found rest. arguments_taken f before ts i x (takes_argument n f ts i found) (takes_behind n f (before ++ i.0 ∷ []) i.1 x rest))
+      (λ i found rest. arguments_taken f before ts i x (takes_argument n f ts i found)
+      (takes_behind n f (before ++ i.0 ∷ []) i.1 x rest))
 
-  takes_behind : (n : ℕ) (f : Function) (before : List Item) (ts : List Token) (x : List Item × List Token) → behind_at n f before ts ≡ Some x → TakesBehind f before ts x
+  takes_behind : (n : ℕ) (f : Function) (before : List Item) (ts : List Token) (x : List Item × List Token)
+      → behind_at n f before ts ≡ Some x → TakesBehind f before ts x
   takes_behind zero f before ts x e = cc
   takes_behind (suc n) f before ts x e =
-      either_way_cases (closed_at ts) (option_and_then (λ us. arguments_at n f before us) (separated_at ts)) (Some x) (λ us. Some (before, us)) e
+      either_way_cases (closed_at ts) (option_and_then (λ us. arguments_at n f before us) (separated_at ts)) (Some x)
+      (λ us. Some (before, us)) e
       (λ none rest.
       option_and_then_some (λ us. arguments_at n f before us) (separated_at ts) x rest
       (λ us separated found. goes_on us (separated_at-some ts us separated) (takes_arguments n f before us x found)))
@@ -174,16 +208,19 @@ mutual
       let same : (before, us) ≡ x = cc in
       is_closed (closed_at-some ts us closed ∙ ap (λ y. Close ∷ y.1) same) (ap (λ y. y.0) (sym same)))
 
-  takes_argument : (n : ℕ) (f : Function) (ts : List Token) (x : Item × List Token) → argument_at n f ts ≡ Some x → TakesArgument f ts x
+  takes_argument : (n : ℕ) (f : Function) (ts : List Token) (x : Item × List Token) → argument_at n f ts ≡ Some x
+      → TakesArgument f ts x
   takes_argument zero f ts x e = cc
   takes_argument (suc n) f ts x e =
-      either_way_cases (range_at ts) (option_and_then (λ a. Some (expression a.0, a.1)) (level_at n 3 ts)) (Some x) (λ r. cond (takes_ranges f) (Some (range r.0, r.1)) None) e
+      either_way_cases (range_at ts) (option_and_then (λ a. Some (expression a.0, a.1)) (level_at n 3 ts)) (Some x)
+      (λ r. cond (takes_ranges f) (Some (range r.0, r.1)) None) e
       (λ none rest.
       option_and_then_some (λ a. Some (expression a.0, a.1)) (level_at n 3 ts) x rest
       (λ a found ends.
       let inner = takes_level n 3 ts a found in
       let same : (expression a.0, a.1) ≡ x = cc in
-      subst (λ y. TakesArgument f ts y) same (record { front = inner.front; splits = inner.splits; has = a_comparison inner.has })))
+      subst (λ y. TakesArgument f ts y) same
+      (record { front = inner.front; splits = inner.splits; has = a_comparison inner.has })))
       (λ r some ends.
       let taken = cond_some (takes_ranges f) (range r.0, r.1) x ends in
       subst (λ y. TakesArgument f ts y) taken.1

@@ -15,14 +15,16 @@ abbrev tree_in : Option (Tree × List Token) → Tree
 tree_in None = reference 0
 tree_in (Some x) = x.0
 
-pub read_whole : (n : ℕ) (ts : List Token) (a : Tree) (rest : List Token) → level_at n 3 ts ≡ Some (a, rest) → length rest ≡ 0 → Has 3 ts a
+pub read_whole : (n : ℕ) (ts : List Token) (a : Tree) (rest : List Token) → level_at n 3 ts ≡ Some (a, rest)
+    → length rest ≡ 0 → Has 3 ts a
 read_whole n ts a [] e none =
     let taken = takes_level n 3 ts (a, []) e in
     subst (λ v. Has 3 v a) (sym (taken.splits ∙ append-nil taken.front)) taken.has
 read_whole n ts a (x ∷ rest) e none = absurd (omega (arith, none))
 
 pub reads_whole : (ts : List Token) (t : Tree) → Has 3 ts t → level_at (8 * length ts + 4) 3 ts ≡ Some (t, [])
-reads_whole ts t h = ap (level_at (8 * length ts + 4) 3) (sym (append-nil ts)) ∙ again_level h (8 * length ts + 4) [] (omega arith) tt
+reads_whole ts t h =
+    ap (level_at (8 * length ts + 4) 3) (sym (append-nil ts)) ∙ again_level h (8 * length ts + 4) [] (omega arith) tt
 
 -- a list of tokens has one tree
 pub one_tree_of : (ts : List Token) (t u : Tree) → Has 3 ts t → Has 3 ts u → t ≡ u
@@ -39,7 +41,8 @@ left_of None = 0
 left_of (Some x) = length x.1
 
 -- some token is left, so nothing has a tree
-pub not_all_read : (ts : List Token) (a : Tree) (rest : List Token) → level_at (8 * length ts + 4) 3 ts ≡ Some (a, rest) → 0 < length rest → (t : Tree) → Has 3 ts t → ⊥
+pub not_all_read : (ts : List Token) (a : Tree) (rest : List Token)
+    → level_at (8 * length ts + 4) 3 ts ≡ Some (a, rest) → 0 < length rest → (t : Tree) → Has 3 ts t → ⊥
 not_all_read ts a rest e left t h =
     let found = reads_whole ts t h in
     let none : length rest ≡ 0 = ap left_of (sym e ∙ found) in omega (arith, left, none)

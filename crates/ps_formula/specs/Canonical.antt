@@ -3,11 +3,13 @@ use Rattle.std.specs.Prelude.{ℕ, List, [], ◌∷◌, ◌++◌}
 use Rattle.ps_tokens.specs.declared.token.Operator.{Operator}
 use Rattle.ps_tokens.specs.declared.token.Operator.TheVariants.{Plus as plus_sign, Minus as minus_sign}
 use Rattle.ps_tokens.specs.declared.token.Token.{Token}
-use Rattle.ps_tokens.specs.declared.token.Token.TheVariants.{Numeral, Reference, Range, Name, Symbol, Open, Close, Separator}
+use Rattle.ps_tokens.specs.declared.token.Token.TheVariants.{Numeral, Reference, Range, Name, Symbol, Open, Close}
+use Rattle.ps_tokens.specs.declared.token.Token.TheVariants.{Separator}
 use Rattle.ps_tokens.specs.Text.{tokens_text}
 use Rattle.ps_formula.specs.declared.expr.Sign.{Sign}
 use Rattle.ps_formula.specs.declared.expr.Sign.TheVariants.{Plus, Minus}
-use Rattle.ps_formula.specs.Tree.{Tree, Item, Items, number, reference, signed, joined, group, call, expression, range, no_items, item_and}
+use Rattle.ps_formula.specs.Tree.{Tree, Item, Items, number, reference, signed, joined, group, call, expression}
+use Rattle.ps_formula.specs.Tree.{range, no_items, item_and}
 
 -- a sign is written as the operator of its name
 abbrev pub symbol_of : Sign → Operator

@@ -22,7 +22,8 @@ codes_after (suc zero ∷ n ∷ ns) gs = codes_after ns (gnum n ∷ gs)
 codes_after (suc (suc k) ∷ ns) (b ∷ a ∷ gs) = codes_after ns (gcons a b ∷ gs)
 codes_after _ gs = gs
 
-codes_after-numbers_of : (g : Gv) (ns : List ℕ) (gs : List Gv) → codes_after (numbers_of g ns) gs ≡ codes_after ns (g ∷ gs)
+codes_after-numbers_of : (g : Gv) (ns : List ℕ) (gs : List Gv)
+    → codes_after (numbers_of g ns) gs ≡ codes_after ns (g ∷ gs)
 codes_after-numbers_of gnil ns gs = refl
 codes_after-numbers_of (gnum n) ns gs = refl
 codes_after-numbers_of (gcons a b) ns gs =

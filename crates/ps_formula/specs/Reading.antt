@@ -9,11 +9,13 @@ use Rattle.ps_tokens.specs.declared.token.Function.{Function}
 use Rattle.ps_tokens.specs.declared.token.Operator.{Operator}
 use Rattle.ps_tokens.specs.declared.token.Operator.TheVariants.{Plus as plus_sign, Minus as minus_sign}
 use Rattle.ps_tokens.specs.declared.token.Token.{Token}
-use Rattle.ps_tokens.specs.declared.token.Token.TheVariants.{Numeral, Reference, Range, Name, Symbol, Open, Close, Separator}
+use Rattle.ps_tokens.specs.declared.token.Token.TheVariants.{Numeral, Reference, Range, Name, Symbol, Open, Close}
+use Rattle.ps_tokens.specs.declared.token.Token.TheVariants.{Separator}
 use Rattle.ps_formula.specs.declared.expr.Sign.{Sign}
 use Rattle.ps_formula.specs.declared.expr.Sign.TheVariants.{Plus, Minus}
 use Rattle.ps_formula.specs.Grammar.{accepts, level_of, takes_ranges}
-use Rattle.ps_formula.specs.Tree.{Tree, Item, number, reference, signed, joined, group, call, expression, range, no_items, in_row}
+use Rattle.ps_formula.specs.Tree.{Tree, Item, number, reference, signed, joined, group, call, expression, range}
+use Rattle.ps_formula.specs.Tree.{no_items, in_row}
 
 -- what a refused call says of what was read: nothing where memory was short
 abbrev pub Refuses : {Y : Type 0} → Refusal → Option Y → Type 0
@@ -65,7 +67,8 @@ unfoldable mutual
   pub more_at : ℕ → ℕ → Tree → List Token → Option (Tree × List Token)
   more_at zero l a ts = None
   more_at (suc n) l a ts =
-      either_way (operator_at l ts) (Some (a, ts)) (λ x. option_and_then (λ b. more_at n l (joined a x.0 b.0) b.1) (level_at n l x.1))
+      either_way (operator_at l ts) (Some (a, ts))
+      (λ x. option_and_then (λ b. more_at n l (joined a x.0 b.0) b.1) (level_at n l x.1))
 
   pub prefixed_at : ℕ → List Token → Option (Tree × List Token)
   prefixed_at zero ts = None
@@ -82,7 +85,8 @@ unfoldable mutual
   call_at zero f ts = None
   call_at (suc n) f ts =
       either_way (closed_at ts)
-      (option_and_then (λ x. if accepts f (length x.0) then Some (call f (in_row x.0), x.1) else None) (arguments_at n f [] ts))
+      (option_and_then (λ x. if accepts f (length x.0) then Some (call f (in_row x.0), x.1) else None)
+      (arguments_at n f [] ts))
       (λ us. if accepts f 0 then Some (call f no_items, us) else None)
 
   -- the arguments before, and those that are read
@@ -94,7 +98,8 @@ unfoldable mutual
   pub behind_at : ℕ → Function → List Item → List Token → Option (List Item × List Token)
   behind_at zero f is ts = None
   behind_at (suc n) f is ts =
-      either_way (closed_at ts) (option_and_then (λ us. arguments_at n f is us) (separated_at ts)) (λ us. Some (is, us))
+      either_way (closed_at ts) (option_and_then (λ us. arguments_at n f is us) (separated_at ts))
+      (λ us. Some (is, us))
 
   pub argument_at : ℕ → Function → List Token → Option (Item × List Token)
   argument_at zero f ts = None

@@ -10,7 +10,8 @@ use Rattle.ps_tokens.specs.contracts.token.Function as of_function
 use Rattle.ps_tokens.specs.contracts.token.Operator as of_operator
 use Rattle.ps_formula.specs.declared.expr.Sign.{Sign}
 use Rattle.ps_formula.specs.contracts.expr.Sign as of_sign
-use Rattle.ps_formula.specs.Tree.{Tree, Item, Items, number, reference, signed, joined, group, call, expression, range, no_items, item_and}
+use Rattle.ps_formula.specs.Tree.{Tree, Item, Items, number, reference, signed, joined, group, call, expression}
+use Rattle.ps_formula.specs.Tree.{range, no_items, item_and}
 
 -- what stands at one place of the list
 pub data Mark : Type 0 where
@@ -72,7 +73,8 @@ top (a_tree a ∷ ps) = a
 top _ = reference 0
 
 mutual
-  pub after-marks : (t : Tree) (ms : List Mark) (ps : List Part) → stack_after (marks t ms) ps ≡ stack_after ms (a_tree t ∷ ps)
+  pub after-marks : (t : Tree) (ms : List Mark) (ps : List Part)
+      → stack_after (marks t ms) ps ≡ stack_after ms (a_tree t ∷ ps)
   after-marks (number z) ms ps = refl
   after-marks (reference c) ms ps = refl
   after-marks (signed s a) ms ps = after-marks a (a_sign s ∷ ms) ps
@@ -81,14 +83,17 @@ mutual
   after-marks (group a) ms ps = after-marks a (a_group ∷ ms) ps
   after-marks (call f is) ms ps = after-marks_of_items is (a_call f ∷ ms) ps
 
-  pub after-marks_of_item : (i : Item) (ms : List Mark) (ps : List Part) → stack_after (marks_of_item i ms) ps ≡ stack_after ms (one_item i ∷ ps)
+  pub after-marks_of_item : (i : Item) (ms : List Mark) (ps : List Part)
+      → stack_after (marks_of_item i ms) ps ≡ stack_after ms (one_item i ∷ ps)
   after-marks_of_item (expression a) ms ps = after-marks a (an_expression ∷ ms) ps
   after-marks_of_item (range r) ms ps = refl
 
-  pub after-marks_of_items : (is : Items) (ms : List Mark) (ps : List Part) → stack_after (marks_of_items is ms) ps ≡ stack_after ms (all_items is ∷ ps)
+  pub after-marks_of_items : (is : Items) (ms : List Mark) (ps : List Part)
+      → stack_after (marks_of_items is ms) ps ≡ stack_after ms (all_items is ∷ ps)
   after-marks_of_items no_items ms ps = refl
   after-marks_of_items (item_and i is) ms ps =
-      after-marks_of_item i (marks_of_items is (an_item ∷ ms)) ps ∙ after-marks_of_items is (an_item ∷ ms) (one_item i ∷ ps)
+      after-marks_of_item i (marks_of_items is (an_item ∷ ms)) ps
+      ∙ after-marks_of_items is (an_item ∷ ms) (one_item i ∷ ps)
 
 -- what a mark carries
 abbrev pub Carried : Type 0
@@ -136,7 +141,8 @@ coded_four = coded× (coded× coded_ℕ coded_ℕ) (coded× coded_ℕ coded_ℕ)
 abbrev pub coded_carried : Coded Carried
 coded_carried =
     coded⊎ (coded⊎ coded_ℤ coded_ℕ)
-    (coded⊎ (coded⊎ of_sign.the_row.coded of_operator.the_row.coded) (coded⊎ (coded⊎ of_function.the_row.coded coded_four) (coded⊎ coded_bool coded_bool)))
+    (coded⊎ (coded⊎ of_sign.the_row.coded of_operator.the_row.coded)
+    (coded⊎ (coded⊎ of_function.the_row.coded coded_four) (coded⊎ coded_bool coded_bool)))
 
 abbrev pub coded_mark : Coded Mark
 coded_mark = code_by Carried coded_carried carried_by mark_of mark_of-carried_by
@@ -144,4 +150,5 @@ coded_mark = code_by Carried coded_carried carried_by mark_of mark_of-carried_by
 -- the code of a tree: its marks
 abbrev pub tree_code : Coded Tree
 tree_code =
-    code_by (List Mark) (coded_list coded_mark) (λ t. marks t []) (λ ms. top (stack_after ms [])) (λ t. ap top (after-marks t [] []))
+    code_by (List Mark) (coded_list coded_mark) (λ t. marks t []) (λ ms. top (stack_after ms []))
+    (λ t. ap top (after-marks t [] []))

@@ -1,5 +1,6 @@
 -- What an expression of the program stands for: its tree, with each box as what it holds.
-use Rattle.ps_formula.specs.Tree.{Tree, Item, number, reference, signed, joined, group, call, expression, range, in_row}
+use Rattle.ps_formula.specs.Tree.{Tree, Item, number, reference, signed, joined, group, call, expression, range}
+use Rattle.ps_formula.specs.Tree.{in_row}
 use Rattle.ps_formula.specs.declared.expr.Expr.{Expr}
 use Rattle.ps_formula.specs.declared.expr.Argument.{Argument}
 use Rattle.ps_formula.specs.declared.expr.Argument.TheOpen.{Expr-F, Argument-F}

@@ -21,6 +21,7 @@ use std::alloc::Global;
 /// The loosest level, that of comparisons: below it are sums, products and prefixed operands.
 const COMPARISON: usize = 3;
 
+// The level whose operands the operator joins.
 fn level_of(operator: Operator) -> usize
     ensures { result ≡ level_of operator }
 {
@@ -31,18 +32,21 @@ fn level_of(operator: Operator) -> usize
     }
 }
 
+// Whether the function takes so many arguments.
 fn accepts(function: Function, count: usize) -> bool
     ensures { result ≡ accepts function count }
 {
     match function {
+        Function::Sum | Function::Min | Function::Max | Function::Count => 1 <= count,
+        Function::And | Function::Or => 1 <= count,
         Function::If => 2 <= count && count <= 3,
         Function::Mod | Function::Quotient => count == 2,
         Function::Abs | Function::Not => count == 1,
         Function::True | Function::False => count == 0,
-        _ => 1 <= count,
     }
 }
 
+// Whether an argument of the function may be a range.
 fn takes_ranges(function: Function) -> bool
     ensures { result ≡ takes_ranges function }
 {
@@ -52,6 +56,7 @@ fn takes_ranges(function: Function) -> bool
     )
 }
 
+// The sign that the operator is in front of an operand.
 fn sign(operator: Operator) -> Option<Sign>
     ensures { result ≡ sign_of operator }
 {
