@@ -1,5 +1,5 @@
 -- What an entry means.
-use Rattle.std.specs.Prelude.{◌≡◌, ◌⊎◌, ◌==◌, ◌^◌, ℕ, ℤ, pos, negsuc, ◌<◌, ◌≤◌, Bool, ◌&&◌, ◌||◌, if◌then◌else◌, nat_lt, nat_eq, List, length, drop, codes, bytes_eq, Result, Ok, Err, IfOk, IfErr, MatchResult}
+use Rattle.std.specs.Prelude.{◌≡◌, ◌⊎◌, ◌==◌, ◌^◌, ℕ, ℤ, pos, negsuc, ◌<◌, ◌≤◌, Bool, ◌&&◌, ◌||◌, if◌then◌else◌, nat_lt, nat_eq, List, length, drop, codes, bytes_eq, Option, None, Some, Result, Ok, Err, IfOk, IfErr, MatchResult}
 use Rattle.std.specs.List.{starts_with}
 use Rattle.std.specs.Str.{all_ascii_digits}
 use Rattle.std.specs.Str.Parse.{without_leading_sign, signed_digits_value}
@@ -34,6 +34,18 @@ pub data Kind : Type 0 where
   number : ℤ → Kind
   text : List ℕ → Kind
 
+-- the number that an entry writes
+unfoldable pub number_of : List ℕ → Option ℤ
+number_of bytes = if is_number bytes then Some (signed_digits_value 10 bytes) else None
+
+-- an entry that is no number and no formula is a word or a text, from which one apostrophe in front is dropped
+unfoldable pub word_of : List ℕ → Kind
+word_of bytes =
+    if bytes_eq bytes (codes "@tally") then tally
+    else if bytes_eq bytes (codes "@choice") then choice
+    else if starts_with nat_eq bytes (codes "'") then text (drop 1 bytes)
+    else text bytes
+
 -- the first line that fits decides
 unfoldable pub kind_of : List ℕ → Kind
 kind_of bytes =
@@ -41,10 +53,7 @@ kind_of bytes =
     else if length bytes == 0 then empty
     else if is_number bytes then number (signed_digits_value 10 bytes)
     else if is_formula bytes then formula
-    else if bytes_eq bytes (codes "@tally") then tally
-    else if bytes_eq bytes (codes "@choice") then choice
-    else if starts_with nat_eq bytes (codes "'") then text (drop 1 bytes)
-    else text bytes
+    else word_of bytes
 
 -- a formula entry is the formula that it has by the grammar; 3 where it has none, 4 where its canonical text is too long
 pub record ReadsFormula (bytes : List ℕ) (result : Result Content Refusal) : Type 0 where

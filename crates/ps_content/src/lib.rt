@@ -11,8 +11,10 @@
 #![tactic(auto)]
 
 mod content;
+mod entry;
 mod order;
 mod shared;
 
 pub use content::Content;
+pub use entry::read_entry;
 pub use shared::SharedFormula;

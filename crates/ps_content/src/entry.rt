@@ -1,0 +1,93 @@
+//! Entries: what people type into a cell.
+
+ghost use Rattle.std.specs.Prelude.{◌≡◌, ◌≤◌, Ok, Err, length, if◌then◌else◌};
+ghost use Rattle.ps_value.specs.Label.{is_label};
+ghost use Rattle.ps_formula.specs.declared.formula.TheConstants.{LONGEST_ENTRY};
+ghost use Rattle.ps_content.specs.Entry.{is_formula, kind_of, number_of, word_of, Reads, ReadsFormula};
+
+use crate::content::Content;
+use crate::shared::SharedFormula;
+use ps_formula::{Formula, LONGEST_ENTRY};
+use ps_grid::Refusal;
+use ps_value::Label;
+use std::alloc::Global;
+
+/// The content that an entry stands for. The first line that fits decides:
+///
+/// - longer than 512 bytes: refused as `TooLong`;
+/// - empty: blank;
+/// - digits, perhaps behind a sign, of a number of 64 bits: that number;
+/// - beginning with `=` or `of:=`: the formula that it has by the grammar; refused as `Formula` where it has none, and
+///   as `TooLong` where the canonical text would pass 256 bytes;
+/// - `@tally` and `@choice`: those;
+/// - beginning with an apostrophe: the text behind it, refused as `Text` where that is no label;
+/// - anything else: that text, refused as `Text` where it is no label.
+///
+/// A formula may be refused for lack of memory, and nothing else.
+///
+/// Cost: linear in the bytes; only a formula takes memory.
+pub fn read_entry(alloc: Global, bytes: &[u8]) -> Result<Content, Refusal>
+    ensures { Reads (kind_of bytes.now) bytes.now result }
+{
+    if bytes.len() > LONGEST_ENTRY {
+        return Err(Refusal::TooLong);
+    }
+    if bytes.is_empty() {
+        return Ok(Content::Blank);
+    }
+    if let Some(number) = read_number(bytes) {
+        return Ok(Content::Number(number));
+    }
+    if begins_formula(bytes) {
+        return read_formula(alloc, bytes);
+    }
+    read_word(bytes)
+}
+
+fn read_number(bytes: &[u8]) -> Option<i64>
+    ensures { result ≡ number_of bytes.now }
+{
+    match str::from_utf8(bytes) {
+        Ok(text) => text.parse::<i64>().ok(),
+        Err(_) => None,
+    }
+}
+
+fn begins_formula(bytes: &[u8]) -> bool
+    ensures { result ≡ is_formula bytes.now }
+{
+    bytes.starts_with(b"=") || bytes.starts_with(b"of:=")
+}
+
+fn read_formula(alloc: Global, bytes: &[u8]) -> Result<Content, Refusal>
+    requires { length bytes.now ≤ LONGEST_ENTRY }
+    ensures { ReadsFormula bytes.now result }
+{
+    let formula = Formula::read(alloc, bytes)?;
+    let shared = SharedFormula::new(alloc, formula)?;
+    Ok(Content::Formula(shared))
+}
+
+fn read_word(bytes: &[u8]) -> Result<Content, Refusal>
+    ensures { Reads (word_of bytes.now) bytes.now result }
+{
+    if bytes == b"@tally".as_slice() {
+        return Ok(Content::Tally);
+    }
+    if bytes == b"@choice".as_slice() {
+        return Ok(Content::Choice);
+    }
+    if bytes.starts_with(b"'") {
+        return read_text(&bytes[1..]);
+    }
+    read_text(bytes)
+}
+
+fn read_text(bytes: &[u8]) -> Result<Content, Refusal>
+    ensures { result ≡ (if is_label bytes.now then Ok (Content.Text bytes.now) else Err Refusal.Text) }
+{
+    match Label::new(bytes) {
+        Some(label) => Ok(Content::Text(label)),
+        None => Err(Refusal::Text),
+    }
+}
