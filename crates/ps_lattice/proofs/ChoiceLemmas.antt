@@ -1,5 +1,7 @@
 -- What edits of a choice do to it.
-use Rattle.std.proofs.Common.{◌≡◌, ℕ, zero, suc, ◌+◌, ◌<◌, ◌≤◌, max, length, get_or, Bool, true, false, cond, not, ◌&&◌, ◌||◌, ◌==◌, nat_le, nat_lt, List, [], ◌∷◌, Option, Some, None, unwrap_or, is_some, refl, sym, ap, ◌∙◌, arith, lit≤, map as each}
+use Rattle.std.proofs.Common.{◌≡◌, ℕ, zero, suc, ◌+◌, ◌<◌, ◌≤◌, max, length, get_or, Bool, true, false, cond, not}
+use Rattle.std.proofs.Common.{◌&&◌, ◌||◌, ◌==◌, nat_le, nat_lt, List, [], ◌∷◌, Option, Some, None, unwrap_or, is_some}
+use Rattle.std.proofs.Common.{refl, sym, ap, ◌∙◌, arith, lit≤, map as each}
 use mathlib.Core.Bool.{false≢true}
 use borrow.Author.Tests.{leb-true, ltb-true, eq-eqb}
 use Rattle.std.specs.List.{list_all, list_any, filter}
@@ -12,7 +14,8 @@ use Rattle.ps_lattice.specs.declared.choice.Pair.{Pair}
 use Rattle.ps_lattice.specs.declared.limits.TheConstants.{OPTIONS, SEQUENCES, REPLICAS}
 use Rattle.ps_lattice.specs.Maps.{both_of, raised}
 use Rattle.ps_lattice.specs.MapLaws.{get-joined_maps}
-use Rattle.ps_lattice.specs.Choice.{Pairs, pair_cmp, pair_of, is_added, is_removed, is_live, is_chosen, joined_choices, greatest, last_of, last_sequence, with_pair, withdrawn, is_pair}
+use Rattle.ps_lattice.specs.Choice.{Pairs, pair_cmp, pair_of, is_added, is_removed, is_live, is_chosen}
+use Rattle.ps_lattice.specs.Choice.{joined_choices, greatest, last_of, last_sequence, with_pair, withdrawn, is_pair}
 use Rattle.ps_lattice.specs.ChoiceLaws.{pairs_total, pairs_apart}
 use Rattle.ps_lattice.proofs.Rising.{to_T, and_left, and_right, and_both, sorted_head, sorted_rest, find_tied_below}
 use Rattle.ps_lattice.proofs.Views.{joined-one, get_set, entries_rise}
@@ -21,17 +24,23 @@ use Rattle.ps_lattice.proofs.Views.{joined-one, get_set, entries_rise}
 pub sequence_fits : (e : Pair × Bool) → is_pair e ≡ true → e.0.sequence ≤ SEQUENCES
 sequence_fits e h =
     leb-true e.0.sequence SEQUENCES
-    (and_right (((nat_lt e.0.option OPTIONS && nat_le 1 e.0.replica) && nat_le e.0.replica REPLICAS) && nat_le 1 e.0.sequence) _ h)
+    (and_right
+    (((nat_lt e.0.option OPTIONS && nat_le 1 e.0.replica) && nat_le e.0.replica REPLICAS) && nat_le 1
+    e.0.sequence) _ h)
 
 pub option_fits : (e : Pair × Bool) → is_pair e ≡ true → e.0.option < OPTIONS
 option_fits e h =
     ltb-true e.0.option OPTIONS
     (and_left (nat_lt e.0.option OPTIONS) (nat_le 1 e.0.replica)
     (and_left (nat_lt e.0.option OPTIONS && nat_le 1 e.0.replica) (nat_le e.0.replica REPLICAS)
-    (and_left ((nat_lt e.0.option OPTIONS && nat_le 1 e.0.replica) && nat_le e.0.replica REPLICAS) (nat_le 1 e.0.sequence)
-    (and_left (((nat_lt e.0.option OPTIONS && nat_le 1 e.0.replica) && nat_le e.0.replica REPLICAS) && nat_le 1 e.0.sequence) _ h))))
+    (and_left ((nat_lt e.0.option OPTIONS && nat_le 1 e.0.replica) && nat_le e.0.replica REPLICAS)
+    (nat_le 1 e.0.sequence)
+    (and_left
+    (((nat_lt e.0.option OPTIONS && nat_le 1 e.0.replica) && nat_le e.0.replica REPLICAS) && nat_le 1
+    e.0.sequence) _ h))))
 
-pub all_at : (es : List (Pair × Bool)) (i : ℕ) (d : Pair × Bool) → list_all is_pair es ≡ true → i < length es → is_pair (get_or es i d) ≡ true
+pub all_at : (es : List (Pair × Bool)) (i : ℕ) (d : Pair × Bool) → list_all is_pair es ≡ true → i < length es
+    → is_pair (get_or es i d) ≡ true
 all_at [] i d h within = absurd (omega arith)
 all_at (e ∷ es) zero d h within = and_left (is_pair e) (list_all is_pair es) h
 all_at (e ∷ es) (suc i) d h within = all_at es i d (and_right (is_pair e) (list_all is_pair es) h) (omega arith)
@@ -42,26 +51,35 @@ last_fits r [] h = lit≤ tt
 last_fits r (e ∷ es) h =
     let one = sequence_fits e (and_left (is_pair e) (list_all is_pair es) h) in
     let rest = last_fits r es (and_right (is_pair e) (list_all is_pair es) h) in
-    elim (e.0.replica == r) as (λ b. greatest (each (λ (d : Pair × Bool). d.0.sequence) (cond b (e ∷ filter (λ (d : Pair × Bool). d.0.replica == r) es) (filter (λ (d : Pair × Bool). d.0.replica == r) es))) ≤ SEQUENCES) [
+    elim (e.0.replica == r) as (λ b. greatest (each (λ (d : Pair × Bool). d.0.sequence)
+    (cond b (e ∷ filter (λ (d : Pair × Bool). d.0.replica == r) es)
+    (filter (λ (d : Pair × Bool). d.0.replica == r) es))) ≤ SEQUENCES) [
       | true ↦ omega arith
       | false ↦ rest
     ]
 
 last_rest : (r : ℕ) (e : Pair × Bool) (es : List (Pair × Bool)) → last_of r es ≤ last_of r (e ∷ es)
 last_rest r e es =
-    elim (e.0.replica == r) as (λ b. last_of r es ≤ greatest (each (λ (d : Pair × Bool). d.0.sequence) (cond b (e ∷ filter (λ (d : Pair × Bool). d.0.replica == r) es) (filter (λ (d : Pair × Bool). d.0.replica == r) es)))) [
+    elim (e.0.replica == r) as (λ b. last_of r es ≤ greatest (each (λ (d : Pair × Bool). d.0.sequence)
+    (cond b (e ∷ filter (λ (d : Pair × Bool). d.0.replica == r) es)
+    (filter (λ (d : Pair × Bool). d.0.replica == r) es)))) [
       | true ↦ omega arith
       | false ↦ omega arith
     ]
 
-last_first : (r : ℕ) (e : Pair × Bool) (es : List (Pair × Bool)) → (e.0.replica == r) ≡ true → e.0.sequence ≤ last_of r (e ∷ es)
+last_first : (r : ℕ) (e : Pair × Bool) (es : List (Pair × Bool)) → (e.0.replica == r) ≡ true
+    → e.0.sequence ≤ last_of r (e ∷ es)
 last_first r e es same =
     let is : last_of r (e ∷ es) ≡ max e.0.sequence (last_of r es) =
-    ap (λ b. greatest (each (λ (d : Pair × Bool). d.0.sequence) (cond b (e ∷ filter (λ (d : Pair × Bool). d.0.replica == r) es) (filter (λ (d : Pair × Bool). d.0.replica == r) es)))) same in
+    ap (λ b. greatest (each (λ (d : Pair × Bool). d.0.sequence) (cond b
+    (e ∷ filter (λ (d : Pair × Bool). d.0.replica == r) es)
+    (filter (λ (d : Pair × Bool). d.0.replica == r) es)))) same in
     omega arith
 
-unused_step : (o r s : ℕ) (e : Pair × Bool) (es : List (Pair × Bool)) → last_of r (e ∷ es) < s → map.find pair_cmp (pair_of o r s) es ≡ None
-    → (b : Bool) → eq_by_cmp pair_cmp (pair_of o r s) e.0 ≡ b → cond b (Some e.1) (map.find pair_cmp (pair_of o r s) es) ≡ None
+unused_step : (o r s : ℕ) (e : Pair × Bool) (es : List (Pair × Bool)) → last_of r (e ∷ es) < s
+    → map.find pair_cmp (pair_of o r s) es ≡ None
+    → (b : Bool) → eq_by_cmp pair_cmp (pair_of o r s) e.0 ≡ b → cond b (Some e.1)
+    (map.find pair_cmp (pair_of o r s) es) ≡ None
 unused_step o r s e es above before true t =
     let is = pairs_apart (pair_of o r s) e.0 ((Equal-is (pair_cmp (pair_of o r s) e.0)).0 t) in
     let replica : e.0.replica ≡ r = sym (ap (λ (p : Pair). p.replica) is) in
@@ -79,21 +97,24 @@ unused o r s (e ∷ es) above =
 
 unused_pair : (c : Pairs) (o r : ℕ) → map.get c (pair_of o r (last_sequence c r + 1)) ≡ None
 unused_pair c o r =
-    get-entries c (pair_of o r (last_sequence c r + 1)) ∙ unused o r (last_sequence c r + 1) (map.entries c) (omega arith)
+    get-entries c (pair_of o r (last_sequence c r + 1)) ∙ unused o r (last_sequence c r + 1) (map.entries c)
+    (omega arith)
 
 -- choosing adds one pair
 pub joined-with_pair : (c : Pairs) (o r : ℕ)
     → joined_choices c (with_pair map.empty o r (last_sequence c r + 1)) ≡ with_pair c o r (last_sequence c r + 1)
 joined-with_pair c o r =
     joined-one pair_cmp pairs_total pairs_apart ◌||◌ c (pair_of o r (last_sequence c r + 1)) false
-    ∙ ap (λ (a : Option Bool). map.insert c (pair_of o r (last_sequence c r + 1)) (raised ◌||◌ a false)) (unused_pair c o r)
+    ∙ ap (λ (a : Option Bool). map.insert c (pair_of o r (last_sequence c r + 1)) (raised ◌||◌ a false))
+    (unused_pair c o r)
 
 -- that wasn't there
 pub chosen_is_fresh : (c : Pairs) (o r : ℕ) → ¬ (joined_choices c (with_pair map.empty o r (last_sequence c r + 1)) ≡ c)
 chosen_is_fresh c o r same =
     let q = pair_of o r (last_sequence c r + 1) in
     let there : map.get c q ≡ Some false =
-    ap (λ d. map.get d q) (sym (sym (joined-with_pair c o r) ∙ same)) ∙ get_set pair_cmp pairs_total pairs_apart c q false in
+    ap (λ d. map.get d q) (sym (sym (joined-with_pair c o r) ∙ same))
+    ∙ get_set pair_cmp pairs_total pairs_apart c q false in
     let gone = unused_pair c o r in
     false≢true (ap is_some (sym gone ∙ there))
 
@@ -101,20 +122,24 @@ chosen_is_fresh c o r same =
 abbrev pub kept : ℕ → List (Pair × Bool) → List (Pair × Bool)
 kept o es = each (λ e. (e.0, true)) (filter (is_live o) es)
 
-below_kept : (o : ℕ) (x : Pair) (es : List (Pair × Bool)) → below_all pair_cmp x es ≡ true → below_all pair_cmp x (kept o es) ≡ true
+below_kept : (o : ℕ) (x : Pair) (es : List (Pair × Bool)) → below_all pair_cmp x es ≡ true
+    → below_all pair_cmp x (kept o es) ≡ true
 below_kept o x [] h = refl
 below_kept o x (e ∷ es) h =
     let rest = below_kept o x es (and_right (is_lt (pair_cmp x e.0)) (below_all pair_cmp x es) h) in
-    elim (is_live o e) as (λ b. below_all pair_cmp x (each (λ (d : Pair × Bool). (d.0, true)) (cond b (e ∷ filter (is_live o) es) (filter (is_live o) es))) ≡ true) [
+    elim (is_live o e) as (λ b. below_all pair_cmp x (each (λ (d : Pair × Bool). (d.0, true))
+    (cond b (e ∷ filter (is_live o) es) (filter (is_live o) es))) ≡ true) [
       | true ↦ and_both _ _ (and_left (is_lt (pair_cmp x e.0)) (below_all pair_cmp x es) h) rest
       | false ↦ rest
     ]
 
-pub sorted_kept : (o : ℕ) (es : List (Pair × Bool)) → map.is_sorted pair_cmp es ≡ true → map.is_sorted pair_cmp (kept o es) ≡ true
+pub sorted_kept : (o : ℕ) (es : List (Pair × Bool)) → map.is_sorted pair_cmp es ≡ true
+    → map.is_sorted pair_cmp (kept o es) ≡ true
 sorted_kept o [] h = refl
 sorted_kept o (e ∷ es) h =
     let rest = sorted_kept o es (sorted_rest pair_cmp pairs_total e es h) in
-    elim (is_live o e) as (λ b. map.is_sorted pair_cmp (each (λ (d : Pair × Bool). (d.0, true)) (cond b (e ∷ filter (is_live o) es) (filter (is_live o) es))) ≡ true) [
+    elim (is_live o e) as (λ b. map.is_sorted pair_cmp (each (λ (d : Pair × Bool). (d.0, true))
+    (cond b (e ∷ filter (is_live o) es) (filter (is_live o) es))) ≡ true) [
       | true ↦ and_both _ _ (below_kept o e.0 es (sorted_head pair_cmp pairs_total e es h)) rest
       | false ↦ rest
     ]
@@ -123,7 +148,8 @@ pub all_kept : (o : ℕ) (es : List (Pair × Bool)) → list_all is_pair es ≡ 
 all_kept o [] h = refl
 all_kept o (e ∷ es) h =
     let rest = all_kept o es (and_right (is_pair e) (list_all is_pair es) h) in
-    elim (is_live o e) as (λ b. list_all is_pair (each (λ (d : Pair × Bool). (d.0, true)) (cond b (e ∷ filter (is_live o) es) (filter (is_live o) es))) ≡ true) [
+    elim (is_live o e) as (λ b. list_all is_pair (each (λ (d : Pair × Bool). (d.0, true))
+    (cond b (e ∷ filter (is_live o) es) (filter (is_live o) es))) ≡ true) [
       | true ↦ and_both (is_pair e) _ (and_left (is_pair e) (list_all is_pair es) h) rest
       | false ↦ rest
     ]
@@ -136,7 +162,8 @@ removed_at o q (Some gone) = cond (is_live o (q, gone)) (Some true) None
 kept_step : (o : ℕ) (q : Pair) (e : Pair × Bool) (es : List (Pair × Bool)) → map.is_sorted pair_cmp (e ∷ es) ≡ true
     → map.find pair_cmp q (kept o es) ≡ removed_at o q (map.find pair_cmp q es)
     → (tied live : Bool) → eq_by_cmp pair_cmp q e.0 ≡ tied → is_live o e ≡ live
-    → map.find pair_cmp q (each (λ (d : Pair × Bool). (d.0, true)) (cond live (e ∷ filter (is_live o) es) (filter (is_live o) es)))
+    → map.find pair_cmp q (each (λ (d : Pair × Bool). (d.0, true))
+    (cond live (e ∷ filter (is_live o) es) (filter (is_live o) es)))
     ≡ removed_at o q (cond tied (Some e.1) (map.find pair_cmp q es))
 kept_step o q e es h before true true t l =
     let is = pairs_apart q e.0 ((Equal-is (pair_cmp q e.0)).0 t) in
@@ -144,7 +171,8 @@ kept_step o q e es h before true true t l =
     ∙ sym (ap (λ b. cond b (Some true) None) (ap (λ p. is_live o (p, e.1)) is ∙ l))
 kept_step o q e es h before true false t l =
     let is = pairs_apart q e.0 ((Equal-is (pair_cmp q e.0)).0 t) in
-    find_tied_below pair_cmp pairs_total q e.0 (kept o es) t (below_kept o e.0 es (sorted_head pair_cmp pairs_total e es h))
+    find_tied_below pair_cmp pairs_total q e.0 (kept o es) t (below_kept o e.0 es
+    (sorted_head pair_cmp pairs_total e es h))
     ∙ sym (ap (λ b. cond b (Some true) None) (ap (λ p. is_live o (p, e.1)) is ∙ l))
 kept_step o q e es h before false true t l = ap (λ b. cond b (Some true) (map.find pair_cmp q (kept o es))) t ∙ before
 kept_step o q e es h before false false t l = before
@@ -153,13 +181,16 @@ find-kept : (o : ℕ) (q : Pair) (es : List (Pair × Bool)) → map.is_sorted pa
     → map.find pair_cmp q (kept o es) ≡ removed_at o q (map.find pair_cmp q es)
 find-kept o q [] h = refl
 find-kept o q (e ∷ es) h =
-    kept_step o q e es h (find-kept o q es (sorted_rest pair_cmp pairs_total e es h)) (eq_by_cmp pair_cmp q e.0) (is_live o e) refl refl
+    kept_step o q e es h (find-kept o q es (sorted_rest pair_cmp pairs_total e es h)) (eq_by_cmp pair_cmp q e.0)
+    (is_live o e) refl refl
 
 -- the delta is seen as the pairs withdrawn
-pub seen_withdrawn : (c : Pairs) (o : ℕ) (es : List (Pair × Bool)) → map.is_sorted pair_cmp es ≡ true → es ≡ map.entries c
+pub seen_withdrawn : (c : Pairs) (o : ℕ) (es : List (Pair × Bool)) → map.is_sorted pair_cmp es ≡ true
+    → es ≡ map.entries c
     → map.from_sorted {R = pair_cmp} (kept o es) ≡ withdrawn c o
 seen_withdrawn c o es h is =
-    same_map pairs_total pairs_apart _ _ (λ q. get-from_sorted pair_cmp (kept o es) q (to_T _ (sorted_kept o es h)) ∙ sym (get-from_entries pairs_total (kept o es) q))
+    same_map pairs_total pairs_apart _ _ (λ q. get-from_sorted pair_cmp (kept o es) q (to_T _ (sorted_kept o es h))
+    ∙ sym (get-from_entries pairs_total (kept o es) q))
     ∙ ap (λ l. map.from_entries {R = pair_cmp} (kept o l)) is
 
 get-withdrawn : (c : Pairs) (o : ℕ) (q : Pair) → map.get (withdrawn c o) q ≡ removed_at o q (map.get c q)
@@ -171,17 +202,21 @@ get-withdrawn c o q =
 get-joined : (c : Pairs) (o : ℕ) (q : Pair)
     → map.get (joined_choices c (withdrawn c o)) q ≡ both_of ◌||◌ (map.get c q) (removed_at o q (map.get c q))
 get-joined c o q =
-    get-joined_maps pair_cmp ◌||◌ pairs_total c (withdrawn c o) q ∙ ap (both_of ◌||◌ (map.get c q)) (get-withdrawn c o q)
+    get-joined_maps pair_cmp ◌||◌ pairs_total c (withdrawn c o) q
+    ∙ ap (both_of ◌||◌ (map.get c q)) (get-withdrawn c o q)
 
 still_there : (o : ℕ) (q : Pair) (a : Option Bool) → is_some (both_of ◌||◌ a (removed_at o q a)) ≡ is_some a
 still_there o q None = refl
-still_there o q (Some gone) = elim (is_live o (q, gone)) as (λ b. is_some (both_of ◌||◌ (Some gone) (cond b (Some true) None)) ≡ true) [ true ↦ refl | false ↦ refl ]
+still_there o q (Some gone) = elim (is_live o (q, gone)) as (λ b.
+    is_some (both_of ◌||◌ (Some gone) (cond b (Some true) None)) ≡ true) [ true ↦ refl | false ↦ refl ]
 
 -- the added pairs stay
 pub added-joined : (c : Pairs) (o p r s : ℕ) → is_added (joined_choices c (withdrawn c o)) p r s ≡ is_added c p r s
-added-joined c o p r s = ap is_some (get-joined c o (pair_of p r s)) ∙ still_there o (pair_of p r s) (map.get c (pair_of p r s))
+added-joined c o p r s = ap is_some (get-joined c o (pair_of p r s))
+    ∙ still_there o (pair_of p r s) (map.get c (pair_of p r s))
 
-gone_by : (mine gone : Bool) → unwrap_or (both_of ◌||◌ (Some gone) (cond (mine && not gone) (Some true) None)) false ≡ (gone || (mine && true))
+gone_by : (mine gone : Bool) → unwrap_or (both_of ◌||◌ (Some gone) (cond (mine && not gone) (Some true) None)) false
+    ≡ (gone || (mine && true))
 gone_by true true = refl
 gone_by true false = refl
 gone_by false true = refl
@@ -200,7 +235,8 @@ then_gone o q (Some gone) = gone_by (q.option == o) gone
 pub removed-joined : (c : Pairs) (o p r s : ℕ)
     → is_removed (joined_choices c (withdrawn c o)) p r s ≡ (is_removed c p r s || ((p == o) && is_added c p r s))
 removed-joined c o p r s =
-    ap (λ a. unwrap_or a false) (get-joined c o (pair_of p r s)) ∙ then_gone o (pair_of p r s) (map.get c (pair_of p r s))
+    ap (λ a. unwrap_or a false) (get-joined c o (pair_of p r s))
+    ∙ then_gone o (pair_of p r s) (map.get c (pair_of p r s))
 
 -- a live pair that is found
 record SomeLive (o : ℕ) (es : List (Pair × Bool)) : Type 0 where
@@ -213,10 +249,12 @@ live_is true true h = absurd (false≢true h)
 live_is true false h = (refl, refl)
 live_is false gone h = absurd (false≢true h)
 
-later_live : (o : ℕ) (e : Pair × Bool) (es : List (Pair × Bool)) → map.is_sorted pair_cmp (e ∷ es) ≡ true → (l : SomeLive o es)
+later_live : (o : ℕ) (e : Pair × Bool) (es : List (Pair × Bool)) → map.is_sorted pair_cmp (e ∷ es) ≡ true
+    → (l : SomeLive o es)
     → (b : Bool) → eq_by_cmp pair_cmp l.pair e.0 ≡ b → cond b (Some e.1) (map.find pair_cmp l.pair es) ≡ Some false
 later_live o e es h l true t =
-    absurd (false≢true (ap is_some (sym (find_tied_below pair_cmp pairs_total l.pair e.0 es t (sorted_head pair_cmp pairs_total e es h)) ∙ l.found)))
+    absurd (false≢true (ap is_some (sym (find_tied_below pair_cmp pairs_total l.pair e.0 es t
+    (sorted_head pair_cmp pairs_total e es h)) ∙ l.found)))
 later_live o e es h l false t = l.found
 
 some_live_by : (o : ℕ) (e : Pair × Bool) (es : List (Pair × Bool)) → map.is_sorted pair_cmp (e ∷ es) ≡ true
@@ -226,14 +264,21 @@ some_live_by o e es h rest true l any =
     let facts = live_is (e.0.option == o) e.1 l in
     record {
       pair = e.0;
-      found = ap (λ b. cond b (Some e.1) (map.find pair_cmp e.0 es)) (ap is_eq (tied_itself pairs_total e.0)) ∙ ap Some facts.1;
+      found = ap (λ b. cond b (Some e.1) (map.find pair_cmp e.0 es)) (ap is_eq (tied_itself pairs_total e.0))
+          ∙ ap Some facts.1;
       mine = facts.0;
     }
 some_live_by o e es h rest false l any =
     let later = rest any in
-    record { pair = later.pair; found = later_live o e es h later (eq_by_cmp pair_cmp later.pair e.0) refl; mine = later.mine }
+    record {
+      pair = later.pair;
+      found = later_live o e es h later (eq_by_cmp pair_cmp later.pair e.0) refl;
+      mine =
+          later.mine;
+    }
 
-some_live : (o : ℕ) (es : List (Pair × Bool)) → map.is_sorted pair_cmp es ≡ true → list_any (is_live o) es ≡ true → SomeLive o es
+some_live : (o : ℕ) (es : List (Pair × Bool)) → map.is_sorted pair_cmp es ≡ true → list_any (is_live o) es ≡ true
+    → SomeLive o es
 some_live o [] h any = absurd (false≢true any)
 some_live o (e ∷ es) h any =
     some_live_by o e es h (some_live o es (sorted_rest pair_cmp pairs_total e es h)) (is_live o e) refl any
@@ -247,7 +292,8 @@ withdrawn_is_fresh c o chosen same =
     ap (λ a. unwrap_or a false) (get-joined c o live.pair)
     ∙ then_gone o live.pair (map.get c live.pair)
     ∙ (λ i. unwrap_or (here i) false || (live.mine i && is_some (here i))) in
-    false≢true (ap (λ a. unwrap_or a false) (sym here) ∙ ap (λ d. unwrap_or (map.get d live.pair) false) (sym same) ∙ after)
+    false≢true (ap (λ a. unwrap_or a false) (sym here) ∙ ap (λ d. unwrap_or (map.get d live.pair) false) (sym same)
+    ∙ after)
 
 -- what is joined keeps a pair's ranges
 pub is_pair-joined : (a b : Pair × Bool) → is_pair a ≡ true → is_pair b ≡ true → is_pair (a.0, a.1 || b.1) ≡ true

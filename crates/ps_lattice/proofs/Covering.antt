@@ -1,5 +1,6 @@
 -- When joining a list of entries into a map changes nothing.
-use Rattle.std.proofs.Common.{◌≡◌, ℕ, suc, ◌<◌, length, get_or, Bool, true, false, cond, List, [], ◌∷◌, Option, Some, None, refl, sym, ap, ◌∙◌, arith}
+use Rattle.std.proofs.Common.{◌≡◌, ℕ, suc, ◌<◌, length, get_or, Bool, true, false, cond, List, [], ◌∷◌, Option, Some}
+use Rattle.std.proofs.Common.{None, refl, sym, ap, ◌∙◌, arith}
 use Rattle.std.specs.List.{AllWithin}
 use Rattle.std.specs.declared.cmp.Ordering.{Ordering}
 use Rattle.std.specs.Ordering.{eq_by_cmp}
@@ -22,7 +23,8 @@ module _ {K X : Type 0} (R : K → K → Ordering) (f : X → X → X) (o : IsTo
 
   at_key : (theirs : List (K × X)) (e : K × X) (rest : Option X) (q : K) → IsCovered R f theirs e
       → both_of f (map.find R q theirs) rest ≡ map.find R q theirs
-      → (b : Bool) → eq_by_cmp R q e.0 ≡ b → both_of f (map.find R q theirs) (cond b (Some e.1) rest) ≡ map.find R q theirs
+      → (b : Bool) → eq_by_cmp R q e.0 ≡ b → both_of f (map.find R q theirs) (cond b (Some e.1) rest)
+      ≡ map.find R q theirs
   at_key theirs e rest q covered before true t =
       let tied = find_tied R o q e.0 ((Equal-is (R q e.0)).0 t) theirs in
       ap (λ a. both_of f a (Some e.1)) (sym tied) ∙ covered ∙ tied

@@ -13,7 +13,8 @@ use Rattle.ps_lattice.proofs.Merging.{list_all-merged, entries-joined}
 module _ {K X : Type 0} (R : K → K → Ordering) (f : X → X → X) (xs ys zs : List (K × X))
     (is : zs ≡ map.entries (joined_maps f (map.from_sorted {R = R} xs) (map.from_sorted {R = R} ys))) where
   -- it is seen as the join
-  pub seen_joined : (s t : map.FinMap R X) → map.from_sorted xs ≡ s → map.from_sorted ys ≡ t → map.from_sorted zs ≡ joined_maps f s t
+  pub seen_joined : (s t : map.FinMap R X) → map.from_sorted xs ≡ s → map.from_sorted ys ≡ t
+      → map.from_sorted zs ≡ joined_maps f s t
   seen_joined s t p q =
       ap (λ es. map.from_sorted {R = R} es) is
       ∙ from_entries_of R (joined_maps f (map.from_sorted {R = R} xs) (map.from_sorted {R = R} ys))
@@ -30,5 +31,7 @@ module _ {K X : Type 0} (R : K → K → Ordering) (f : X → X → X) (xs ys zs
       let ax = and_right (map.is_sorted R xs) (list_all fits xs) hx in
       let ay = and_right (map.is_sorted R ys) (list_all fits ys) hy in
       and_both (map.is_sorted R zs) (list_all fits zs)
-      (ap (λ es. map.is_sorted R es) is ∙ entries_rise R (joined_maps f (map.from_sorted {R = R} xs) (map.from_sorted {R = R} ys)))
-      (ap (list_all fits) (is ∙ sym (entries-joined R f o same xs ys sx sy)) ∙ list_all-merged R f fits keeps xs ys ax ay)
+      (ap (λ es. map.is_sorted R es) is ∙ entries_rise R (joined_maps f (map.from_sorted {R = R} xs)
+      (map.from_sorted {R = R} ys)))
+      (ap (list_all fits) (is ∙ sym (entries-joined R f o same xs ys sx sy))
+      ∙ list_all-merged R f fits keeps xs ys ax ay)

@@ -1,5 +1,6 @@
 -- Lists of entries whose keys rise: what is found in them, and where.
-use Rattle.std.proofs.Common.{◌≡◌, ℕ, zero, suc, ◌+◌, ◌-◌, ◌<◌, ◌≤◌, Bool, true, false, cond, ◌&&◌, List, [], ◌∷◌, length, get_or, Some, None, T, refl, sym, ap, subst, ◌∙◌, arith, add-one}
+use Rattle.std.proofs.Common.{◌≡◌, ℕ, zero, suc, ◌+◌, ◌-◌, ◌<◌, ◌≤◌, Bool, true, false, cond, ◌&&◌, List, [], ◌∷◌}
+use Rattle.std.proofs.Common.{length, get_or, Some, None, T, refl, sym, ap, subst, ◌∙◌, arith, add-one}
 use native.Mathlib.Numerals.{unary_clauses}
 use Rattle.std.specs.declared.cmp.Ordering.{Ordering}
 use Rattle.std.specs.declared.cmp.Ordering.TheVariants.{Less, Equal, Greater}
@@ -98,7 +99,8 @@ module _ {K X : Type 0} (R : K → K → Ordering) (o : IsTotalOrder R) where
       ∙ find_below q es (below_rest q e es h)
 
   -- nor is one that ties with it
-  pub find_tied_below : (q x : K) (es : List (K × X)) → eq_by_cmp R q x ≡ true → below_all R x es ≡ true → map.find R q es ≡ None
+  pub find_tied_below : (q x : K) (es : List (K × X)) → eq_by_cmp R q x ≡ true → below_all R x es ≡ true
+      → map.find R q es ≡ None
   find_tied_below q x es tied h = find_below q es (below_tied q x es ((Equal-is (R q x)).0 tied) h)
 
   -- the comparisons with a key rise along the list, as a binary search asks
@@ -107,14 +109,16 @@ module _ {K X : Type 0} (R : K → K → Ordering) (o : IsTotalOrder R) where
   comparisons_rise k [] h i j d le within = absurd (omega arith)
   comparisons_rise k (e ∷ es) h zero zero d le within = omega arith
   comparisons_rise k (e ∷ es) h zero (suc j) d le within =
-      index_rises_by R o e.0 (get_or es j d).0 k (R (get_or es j d).0 k) (below_index e.0 es (sorted_head e es h) j d (omega arith)) refl
+      index_rises_by R o e.0 (get_or es j d).0 k (R (get_or es j d).0 k)
+      (below_index e.0 es (sorted_head e es h) j d (omega arith)) refl
   comparisons_rise k (e ∷ es) h (suc i) zero d le within = absurd (omega arith)
   comparisons_rise k (e ∷ es) h (suc i) (suc j) d le within =
       comparisons_rise k es (sorted_rest e es h) i j d (omega arith) (omega arith)
 
   -- the value at a place whose key ties is found
   pub find_at : (k : K) (es : List (K × X)) → map.is_sorted R es ≡ true
-      → (at : ℕ) (d : K × X) → at < length es → R (get_or es at d).0 k ≡ Equal → map.find R k es ≡ Some (get_or es at d).1
+      → (at : ℕ) (d : K × X) → at < length es → R (get_or es at d).0 k ≡ Equal
+      → map.find R k es ≡ Some (get_or es at d).1
   find_at k [] h at d within tied = absurd (omega arith)
   find_at k (e ∷ es) h zero d within tied =
       ap (λ b. cond b (Some e.1) (map.find R k es)) (ap is_eq (tied_back o e.0 k tied))
@@ -149,10 +153,12 @@ module _ {K X : Type 0} (R : K → K → Ordering) (o : IsTotalOrder R) where
   adjacent_sorted [] rise = refl
   adjacent_sorted (e ∷ []) rise = refl
   adjacent_sorted (e ∷ f ∷ es) rise =
-      let rest = adjacent_sorted (f ∷ es) (λ k d within. rw add-one (simp unary_clauses at (rise (suc k) d (omega arith)))) in
+      let rest = adjacent_sorted (f ∷ es) (λ k d within. rw add-one
+      (simp unary_clauses at (rise (suc k) d (omega arith)))) in
       let less : R e.0 f.0 ≡ Less = rise 0 e (omega arith) in
       and_both (below_all R e.0 (f ∷ es)) (map.is_sorted R (f ∷ es))
-      (and_both (is_lt (R e.0 f.0)) (below_all R e.0 es) (ap is_lt less) (below_chain e.0 f.0 es less (sorted_head f es rest))) rest
+      (and_both (is_lt (R e.0 f.0)) (below_all R e.0 es) (ap is_lt less)
+      (below_chain e.0 f.0 es less (sorted_head f es rest))) rest
 
   -- in a list whose keys rise, a key is less than the next
   sorted_adjacent : (es : List (K × X)) → map.is_sorted R es ≡ true

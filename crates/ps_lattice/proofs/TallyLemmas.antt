@@ -1,5 +1,7 @@
 -- What edits of a counter do to it, and the bounds of its sums.
-use Rattle.std.proofs.Common.{◌≡◌, ℕ, ◌+◌, ◌*◌, ◌^◌, ◌<◌, ◌≤◌, max, suc, take, drop, drop-cons, get_or, length, true, false, cond, ◌&&◌, ◌||◌, nat_le, List, [], ◌∷◌, Option, Some, None, unwrap_or, sum_by, refl, sym, ap, ◌∙◌, arith}
+use Rattle.std.proofs.Common.{◌≡◌, ℕ, ◌+◌, ◌*◌, ◌^◌, ◌<◌, ◌≤◌, max, suc, take, drop, drop-cons, get_or, length, true}
+use Rattle.std.proofs.Common.{false, cond, ◌&&◌, ◌||◌, nat_le, List, [], ◌∷◌, Option, Some, None, unwrap_or, sum_by}
+use Rattle.std.proofs.Common.{refl, sym, ap, ◌∙◌, arith}
 use Rattle.std.specs.List.{list_all}
 use Rattle.std.specs.Option.{option_map_or}
 use Rattle.std.specs.Ordering.{nat_cmp, eq_by_cmp, is_lt}
@@ -14,7 +16,8 @@ use Rattle.std.proofs.Common.{lit≤}
 use Rattle.ps_lattice.specs.declared.tally.Count.{Count}
 use Rattle.ps_lattice.specs.declared.limits.TheConstants.{REPLICAS, COUNT_LIMIT}
 use Rattle.ps_lattice.specs.Maps.{raised}
-use Rattle.ps_lattice.specs.Tally.{Counts, added, subtracted, greater_counts, joined_tallies, with_counts, counts_of, is_count, is_tally}
+use Rattle.ps_lattice.specs.Tally.{Counts, added, subtracted, greater_counts, joined_tallies, with_counts, counts_of}
+use Rattle.ps_lattice.specs.Tally.{is_count, is_tally}
 use Rattle.ps_lattice.proofs.Rising.{and_left, and_right, and_both, sorted_head, sorted_rest}
 use Rattle.ps_lattice.proofs.Views.{joined-one, get_set}
 
@@ -41,35 +44,41 @@ raised_subtracted (Some c) k =
 pub joined-added : (t : Counts) (r k : ℕ)
     → joined_tallies t (counts_of r (added t r + k) 0) ≡ with_counts t r (added t r + k) (subtracted t r)
 joined-added t r k =
-    joined-one nat_cmp nat_cmp_total nat_cmp-IsAntisymmetric greater_counts t r (record { added = added t r + k; subtracted = 0 })
+    joined-one nat_cmp nat_cmp_total nat_cmp-IsAntisymmetric greater_counts t r
+    (record { added = added t r + k; subtracted = 0 })
     ∙ ap (map.insert t r) (raised_added (map.get t r) k)
 
 -- what is subtracted raises its N alone
 pub joined-subtracted : (t : Counts) (r k : ℕ)
     → joined_tallies t (counts_of r 0 (subtracted t r + k)) ≡ with_counts t r (added t r) (subtracted t r + k)
 joined-subtracted t r k =
-    joined-one nat_cmp nat_cmp_total nat_cmp-IsAntisymmetric greater_counts t r (record { added = 0; subtracted = subtracted t r + k })
+    joined-one nat_cmp nat_cmp_total nat_cmp-IsAntisymmetric greater_counts t r
+    (record { added = 0; subtracted = subtracted t r + k })
     ∙ ap (map.insert t r) (raised_subtracted (map.get t r) k)
 
 pub added-with_counts : (t : Counts) (r p n : ℕ) → added (with_counts t r p n) r ≡ p
 added-with_counts t r p n =
-    ap (λ o. option_map_or (λ (c : Count). c.added) o 0) (get_set nat_cmp nat_cmp_total nat_cmp-IsAntisymmetric t r (record { added = p; subtracted = n }))
+    ap (λ o. option_map_or (λ (c : Count). c.added) o 0) (get_set nat_cmp nat_cmp_total nat_cmp-IsAntisymmetric t r
+    (record { added = p; subtracted = n }))
 
 pub subtracted-with_counts : (t : Counts) (r p n : ℕ) → subtracted (with_counts t r p n) r ≡ n
 subtracted-with_counts t r p n =
-    ap (λ o. option_map_or (λ (c : Count). c.subtracted) o 0) (get_set nat_cmp nat_cmp_total nat_cmp-IsAntisymmetric t r (record { added = p; subtracted = n }))
+    ap (λ o. option_map_or (λ (c : Count). c.subtracted) o 0)
+    (get_set nat_cmp nat_cmp_total nat_cmp-IsAntisymmetric t r (record { added = p; subtracted = n }))
 
 -- so a delta of an amount above 0 changes the counter
 pub added_is_fresh : (t : Counts) (r k : ℕ) → 1 ≤ k → ¬ (joined_tallies t (counts_of r (added t r + k) 0) ≡ t)
 added_is_fresh t r k some same =
     let e : added t r + k ≡ added t r =
-    sym (added-with_counts t r (added t r + k) (subtracted t r)) ∙ ap (λ u. added u r) (sym (joined-added t r k) ∙ same) in
+    sym (added-with_counts t r (added t r + k) (subtracted t r))
+    ∙ ap (λ u. added u r) (sym (joined-added t r k) ∙ same) in
     omega arith
 
 pub subtracted_is_fresh : (t : Counts) (r k : ℕ) → 1 ≤ k → ¬ (joined_tallies t (counts_of r 0 (subtracted t r + k)) ≡ t)
 subtracted_is_fresh t r k some same =
     let e : subtracted t r + k ≡ subtracted t r =
-    sym (subtracted-with_counts t r (added t r) (subtracted t r + k)) ∙ ap (λ u. subtracted u r) (sym (joined-subtracted t r k) ∙ same) in
+    sym (subtracted-with_counts t r (added t r) (subtracted t r + k))
+    ∙ ap (λ u. subtracted u r) (sym (joined-subtracted t r k) ∙ same) in
     omega arith
 
 -- the ranges of an entry
@@ -100,21 +109,25 @@ count_fits e h =
 
 -- counts that are found fit
 pub found_fits : (q : ℕ) (es : List (ℕ × Count)) → list_all is_count es ≡ true
-    → let c = unwrap_or (map.find nat_cmp q es) (record { added = 0; subtracted = 0 }) in (c.added ≤ COUNT_LIMIT) × (c.subtracted ≤ COUNT_LIMIT)
+    → let c = unwrap_or (map.find nat_cmp q es) (record { added = 0; subtracted = 0 }) in
+    (c.added ≤ COUNT_LIMIT) × (c.subtracted ≤ COUNT_LIMIT)
 found_fits q [] h = (lit≤ tt, lit≤ tt)
 found_fits q (e ∷ es) h =
     let fits = count_fits e (and_left (is_count e) (list_all is_count es) h) in
-    elim (eq_by_cmp nat_cmp q e.0) as (λ b. let c = unwrap_or (cond b (Some e.1) (map.find nat_cmp q es)) (record { added = 0; subtracted = 0 }) in (c.added ≤ COUNT_LIMIT) × (c.subtracted ≤ COUNT_LIMIT)) [
+    elim (eq_by_cmp nat_cmp q e.0) as (λ b. let c = unwrap_or (cond b (Some e.1) (map.find nat_cmp q es))
+    (record { added = 0; subtracted = 0 }) in (c.added ≤ COUNT_LIMIT) × (c.subtracted ≤ COUNT_LIMIT)) [
       | true ↦ (fits.added, fits.subtracted)
       | false ↦ found_fits q es (and_right (is_count e) (list_all is_count es) h)
     ]
 
 -- counts that may be missing
-pub added-unwrap_or : (o : Option Count) → (unwrap_or o (record { added = 0; subtracted = 0 })).added ≡ option_map_or (λ c. c.added) o 0
+pub added-unwrap_or : (o : Option Count) → (unwrap_or o (record { added = 0; subtracted = 0 })).added
+    ≡ option_map_or (λ c. c.added) o 0
 added-unwrap_or None = refl
 added-unwrap_or (Some c) = refl
 
-pub subtracted-unwrap_or : (o : Option Count) → (unwrap_or o (record { added = 0; subtracted = 0 })).subtracted ≡ option_map_or (λ c. c.subtracted) o 0
+pub subtracted-unwrap_or : (o : Option Count) → (unwrap_or o (record { added = 0; subtracted = 0 })).subtracted
+    ≡ option_map_or (λ c. c.subtracted) o 0
 subtracted-unwrap_or None = refl
 subtracted-unwrap_or (Some c) = refl
 
@@ -122,14 +135,16 @@ less_is : (x y : ℕ) → is_lt (nat_cmp x y) ≡ true → x < y
 less_is x y h = grind (arith, nat_tests)
 
 -- replicas from k + 1 on leave room for 32 - k entries
-room : (k : ℕ) (es : List (ℕ × Count)) → k ≤ REPLICAS → below_all nat_cmp k es ≡ true → is_tally es ≡ true → length es + k ≤ REPLICAS
+room : (k : ℕ) (es : List (ℕ × Count)) → k ≤ REPLICAS → below_all nat_cmp k es ≡ true → is_tally es ≡ true
+    → length es + k ≤ REPLICAS
 room k [] low below h = omega arith
 room k (e ∷ es) low below h =
     let sorted = and_left (map.is_sorted nat_cmp (e ∷ es)) (list_all is_count (e ∷ es)) h in
     let all = and_right (map.is_sorted nat_cmp (e ∷ es)) (list_all is_count (e ∷ es)) h in
     let fits = count_fits e (and_left (is_count e) (list_all is_count es) all) in
     let above = less_is k e.0 (and_left (is_lt (nat_cmp k e.0)) (below_all nat_cmp k es) below) in
-    let rest = and_both _ _ (sorted_rest nat_cmp nat_cmp_total e es sorted) (and_right (is_count e) (list_all is_count es) all) in
+    let rest = and_both _ _ (sorted_rest nat_cmp nat_cmp_total e es sorted)
+    (and_right (is_count e) (list_all is_count es) all) in
     let ih = room e.0 es fits.high (sorted_head nat_cmp nat_cmp_total e es sorted) rest in
     omega arith
 
@@ -140,7 +155,8 @@ length_fits (e ∷ es) h =
     let sorted = and_left (map.is_sorted nat_cmp (e ∷ es)) (list_all is_count (e ∷ es)) h in
     let all = and_right (map.is_sorted nat_cmp (e ∷ es)) (list_all is_count (e ∷ es)) h in
     let fits = count_fits e (and_left (is_count e) (list_all is_count es) all) in
-    let rest = and_both _ _ (sorted_rest nat_cmp nat_cmp_total e es sorted) (and_right (is_count e) (list_all is_count es) all) in
+    let rest = and_both _ _ (sorted_rest nat_cmp nat_cmp_total e es sorted)
+    (and_right (is_count e) (list_all is_count es) all) in
     let ih = room e.0 es fits.high (sorted_head nat_cmp nat_cmp_total e es sorted) rest in
     let low = fits.low in
     omega arith
@@ -183,10 +199,12 @@ max_fits : (a b : ℕ) → a ≤ COUNT_LIMIT → b ≤ COUNT_LIMIT → nat_le (m
 max_fits a b p q = le-leb (max a b) COUNT_LIMIT (omega arith)
 
 -- entries of one replica in range are so when they are joined
-pub is_count-joined : (a b : ℕ × Count) → is_count a ≡ true → is_count b ≡ true → is_count (a.0, greater_counts a.1 b.1) ≡ true
+pub is_count-joined : (a b : ℕ × Count) → is_count a ≡ true → is_count b ≡ true
+    → is_count (a.0, greater_counts a.1 b.1) ≡ true
 is_count-joined a b ha hb =
     let fa = count_fits a ha in
     let fb = count_fits b hb in
     and_both _ _ (and_both _ _ (and_both _ _ (and_both _ _ (le-leb 1 a.0 fa.low) (le-leb a.0 REPLICAS fa.high))
-    (max_fits a.1.added b.1.added fa.added fb.added)) (max_fits a.1.subtracted b.1.subtracted fa.subtracted fb.subtracted))
+    (max_fits a.1.added b.1.added fa.added fb.added))
+    (max_fits a.1.subtracted b.1.subtracted fa.subtracted fb.subtracted))
     (either_max a.1.added a.1.subtracted b.1.added b.1.subtracted fa.some)

@@ -1,11 +1,13 @@
 -- What a list of entries is seen as.
-use Rattle.std.proofs.Common.{◌≡◌, length, Bool, true, false, cond, List, [], ◌∷◌, ◌==◌, Option, Some, None, refl, sym, ap, ◌∙◌, ◌↔◌, IsTrue}
+use Rattle.std.proofs.Common.{◌≡◌, length, Bool, true, false, cond, List, [], ◌∷◌, ◌==◌, Option, Some, None, refl}
+use Rattle.std.proofs.Common.{sym, ap, ◌∙◌, ◌↔◌, IsTrue}
 use Rattle.std.specs.declared.cmp.Ordering.{Ordering}
 use Rattle.std.specs.Ordering.{eq_by_cmp, is_eq}
 use Rattle.std.specs.Cmp.{IsTotalOrder, Equal-is, tied_itself}
 use borrow.Author.Tests.{eqb-true}
 use Rattle.std.specs.FinMap as map
-use Rattle.std.specs.FinMap.{IsAntisymmetric, same_map, same_entries_map, entries_sorted, entries-from_sorted, get-from_sorted, get-empty, get-insert, get_tied, len-entries, empty_of_len, len-empty}
+use Rattle.std.specs.FinMap.{IsAntisymmetric, same_map, same_entries_map, entries_sorted, entries-from_sorted}
+use Rattle.std.specs.FinMap.{get-from_sorted, get-empty, get-insert, get_tied, len-entries, empty_of_len, len-empty}
 use Rattle.ps_lattice.specs.Maps.{both_of, raised, joined_maps}
 use Rattle.ps_lattice.specs.MapLaws.{get-joined_maps}
 use Rattle.ps_lattice.proofs.Rising.{to_T, from_T}
@@ -17,7 +19,8 @@ module _ {K X : Type 0} (R : K → K → Ordering) where
 
   -- a map is what its entries are seen as
   pub from_entries_of : (m : map.FinMap R X) → map.from_sorted {R = R} (map.entries m) ≡ m
-  from_entries_of m = same_entries_map (map.from_sorted {R = R} (map.entries m)) m (entries-from_sorted R (map.entries m) (entries_sorted m))
+  from_entries_of m = same_entries_map (map.from_sorted {R = R} (map.entries m)) m
+      (entries-from_sorted R (map.entries m) (entries_sorted m))
 
   pub entries_rise : (m : map.FinMap R X) → map.is_sorted R (map.entries m) ≡ true
   entries_rise m = from_T _ (entries_sorted m)
@@ -32,7 +35,8 @@ module _ {K X : Type 0} (R : K → K → Ordering) (o : IsTotalOrder R) (same : 
       ∙ sym (get-insert o map.empty k x q ∙ ap (cond (eq_by_cmp R q k) (Some x)) (get-empty R q)))
 
   -- what a key holds, by the list
-  pub get_by_list : (es : List (K × X)) (m : map.FinMap R X) → map.is_sorted R es ≡ true → map.from_sorted es ≡ m → (q : K)
+  pub get_by_list : (es : List (K × X)) (m : map.FinMap R X) → map.is_sorted R es ≡ true → map.from_sorted es ≡ m
+      → (q : K)
       → map.get m q ≡ map.find R q es
   get_by_list es m h is q = ap (λ n. map.get n q) (sym is) ∙ get-from_sorted R es q (to_T _ h)
 
@@ -68,7 +72,8 @@ module _ {K X : Type 0} (R : K → K → Ordering) (o : IsTotalOrder R) (same : 
       → joined_maps f m (map.insert map.empty k x) ≡ map.insert m k (raised f (map.get m k) x)
   joined-one f m k x = same_map o same _ _ (λ q.
       get-joined_maps R f o m (map.insert map.empty k x) q
-      ∙ ap (both_of f (map.get m q)) (get-insert o map.empty k x q ∙ ap (cond (eq_by_cmp R q k) (Some x)) (get-empty R q))
+      ∙ ap (both_of f (map.get m q)) (get-insert o map.empty k x q
+      ∙ ap (cond (eq_by_cmp R q k) (Some x)) (get-empty R q))
       ∙ one_joined f m k x q (eq_by_cmp R q k) refl
       ∙ sym (get-insert o m k (raised f (map.get m k) x) q))
 

@@ -1,5 +1,6 @@
 -- The joins by each entry and each pair, and the least states.
-use Rattle.std.proofs.Common.{◌≡◌, ℕ, max, Bool, true, false, ◌||◌, Option, Some, None, unwrap_or, is_some, refl, sym, ap, ◌∙◌, arith}
+use Rattle.std.proofs.Common.{◌≡◌, ℕ, max, Bool, true, false, ◌||◌, Option, Some, None, unwrap_or, is_some, refl, sym}
+use Rattle.std.proofs.Common.{ap, ◌∙◌, arith}
 use mathlib.Core.Bool.{false≢true}
 use Rattle.std.specs.Option.{option_map_or}
 use Rattle.std.specs.declared.cmp.Ordering.{Ordering}
@@ -23,7 +24,8 @@ zero_max : (n : ℕ) → n ≡ max 0 n
 zero_max n = omega arith
 
 added_both : (a b : Option Count)
-    → option_map_or (λ c. c.added) (both_of greater_counts a b) 0 ≡ max (option_map_or (λ c. c.added) a 0) (option_map_or (λ c. c.added) b 0)
+    → option_map_or (λ c. c.added) (both_of greater_counts a b) 0
+    ≡ max (option_map_or (λ c. c.added) a 0) (option_map_or (λ c. c.added) b 0)
 added_both None b = zero_max (option_map_or (λ c. c.added) b 0)
 added_both (Some x) None = max_zero x.added
 added_both (Some x) (Some y) = refl
@@ -40,7 +42,8 @@ by_maximum s t r =
     let at = get-joined_maps nat_cmp greater_counts nat_cmp_total s t r in
     record {
       added = ap (λ o. option_map_or (λ (c : Count). c.added) o 0) at ∙ added_both (map.get s r) (map.get t r);
-      subtracted = ap (λ o. option_map_or (λ (c : Count). c.subtracted) o 0) at ∙ subtracted_both (map.get s r) (map.get t r);
+      subtracted = ap (λ o. option_map_or (λ (c : Count). c.subtracted) o 0) at
+          ∙ subtracted_both (map.get s r) (map.get t r);
     }
 
 or_false : (a : Bool) → a ≡ (a || false)
@@ -72,7 +75,8 @@ by_union = (
         removed = ap (λ a. unwrap_or a false) at ∙ gone_both (map.get c (pair_of o r s)) (map.get d (pair_of o r s));
       },
   λ c d same. same_map pairs_total pairs_apart c d (λ q.
-      same_value (map.get c q) (map.get d q) (same.added q.option q.replica q.sequence) (same.removed q.option q.replica q.sequence)),
+      same_value (map.get c q) (map.get d q) (same.added q.option q.replica q.sequence)
+      (same.removed q.option q.replica q.sequence)),
 )
 
 module _ {K X : Type 0} (R : K → K → Ordering) (f : X → X → X) (o : IsTotalOrder R) (same : IsAntisymmetric R) where
@@ -85,4 +89,7 @@ module _ {K X : Type 0} (R : K → K → Ordering) (f : X → X → X) (o : IsTo
       get-joined_maps R f o m map.empty q ∙ ap (both_of f (map.get m q)) (get-empty R q) ∙ unchanged (map.get m q))
 
 pub least : EmptyIsLeast
-least = (joined_empty nat_cmp greater_counts nat_cmp_total nat_cmp-IsAntisymmetric, joined_empty pair_cmp ◌||◌ pairs_total pairs_apart)
+least = (
+  joined_empty nat_cmp greater_counts nat_cmp_total nat_cmp-IsAntisymmetric,
+  joined_empty pair_cmp ◌||◌ pairs_total pairs_apart,
+)

@@ -32,7 +32,12 @@ module _ {X : Type 0} {f : X → X → X} (law : IsJoin f) where
   both_of_idempotent (Some x) = ap Some (law.idempotent x)
 
   pub both_of_is_join : IsJoin (both_of f)
-  both_of_is_join = record { associative = both_of_associative; commutative = both_of_commutative; idempotent = both_of_idempotent }
+  both_of_is_join = record {
+    associative = both_of_associative;
+    commutative = both_of_commutative;
+    idempotent =
+        both_of_idempotent;
+  }
 
 both_of-Some : {X : Type 0} (f : X → X → X) (a : Option X) (x : X) → Some (raised f a x) ≡ both_of f a (Some x)
 both_of-Some f None x = refl
@@ -45,7 +50,8 @@ both_of-None f (Some w) = refl
 module _ {K X : Type 0} (R : K → K → Ordering) (f : X → X → X) (o : IsTotalOrder R) where
   at_entry : (m n : map.FinMap R X) (e : K × X) (rest : Option X) (q : K) → map.get n q ≡ both_of f (map.get m q) rest
       → (tied : Bool) → eq_by_cmp R q e.0 ≡ tied
-      → cond tied (Some (raised f (map.get m e.0) e.1)) (map.get n q) ≡ both_of f (map.get m q) (cond tied (Some e.1) rest)
+      → cond tied (Some (raised f (map.get m e.0) e.1)) (map.get n q)
+      ≡ both_of f (map.get m q) (cond tied (Some e.1) rest)
   at_entry m n e rest q before true t =
       ap (λ a. Some (raised f a e.1)) (get_tied o m q e.0 ((Equal-is (R q e.0)).0 t)) ∙ both_of-Some f (map.get m q) e.1
   at_entry m n e rest q before false t = before
@@ -64,7 +70,8 @@ module _ {K X : Type 0} (R : K → K → Ordering) (f : X → X → X) (o : IsTo
   get-joined_maps m n q = get-with_entries m (map.entries n) q ∙ ap (both_of f (map.get m q)) (sym (get-entries n q))
 
   module _ (same : IsAntisymmetric R) (law : IsJoin f) where
-    pub maps_associative : (x y z : map.FinMap R X) → joined_maps f (joined_maps f x y) z ≡ joined_maps f x (joined_maps f y z)
+    pub maps_associative : (x y z : map.FinMap R X) → joined_maps f (joined_maps f x y) z
+        ≡ joined_maps f x (joined_maps f y z)
     maps_associative x y z = same_map o same _ _ (λ q.
         get-joined_maps (joined_maps f x y) z q
         ∙ ap (λ a. both_of f a (map.get z q)) (get-joined_maps x y q)
@@ -79,4 +86,9 @@ module _ {K X : Type 0} (R : K → K → Ordering) (f : X → X → X) (o : IsTo
     maps_idempotent x = same_map o same _ _ (λ q. get-joined_maps x x q ∙ both_of_idempotent law (map.get x q))
 
     pub maps_is_join : IsJoin (joined_maps {R = R} f)
-    maps_is_join = record { associative = maps_associative; commutative = maps_commutative; idempotent = maps_idempotent }
+    maps_is_join = record {
+      associative = maps_associative;
+      commutative = maps_commutative;
+      idempotent =
+          maps_idempotent;
+    }

@@ -15,10 +15,12 @@ raised f None y = y
 raised f (Some x) y = f x y
 
 -- m with each entry of the list joined in: its key holds its value raised by what m holds there
-abbrev pub with_entries : {K X : Type 0} {R : K → K → Ordering} → (X → X → X) → map.FinMap R X → List (K × X) → map.FinMap R X
+abbrev pub with_entries : {K X : Type 0} {R : K → K → Ordering} → (X → X → X) → map.FinMap R X → List (K × X)
+    → map.FinMap R X
 with_entries f m [] = m
 with_entries f m (e ∷ es) = map.insert (with_entries f m es) e.0 (raised f (map.get m e.0) e.1)
 
 -- two maps joined: each key holds what both hold there, joined
-unfoldable pub joined_maps : {K X : Type 0} {R : K → K → Ordering} → (X → X → X) → map.FinMap R X → map.FinMap R X → map.FinMap R X
+unfoldable pub joined_maps : {K X : Type 0} {R : K → K → Ordering} → (X → X → X) → map.FinMap R X → map.FinMap R X
+    → map.FinMap R X
 joined_maps f m n = with_entries f m (map.entries n)

@@ -19,7 +19,8 @@ abbrev pub later : {V : Type 0} → (V → V → Ordering) → Assignment V → 
 later by_content = larger (assignment_cmp by_content)
 
 -- the greater of two registers; nothing is least
-abbrev pub joined_registers : {V : Type 0} → (V → V → Ordering) → Option (Assignment V) → Option (Assignment V) → Option (Assignment V)
+abbrev pub joined_registers : {V : Type 0} → (V → V → Ordering) → Option (Assignment V) → Option (Assignment V)
+    → Option (Assignment V)
 joined_registers by_content = both_of (later by_content)
 
 -- the stamp: time and replica

@@ -1,10 +1,12 @@
 //! A set of options from which only what was observed is removed.
 
-ghost use Rattle.std.specs.Prelude.{◌≡◌, ℕ, ◌+◌, ◌<◌, ◌≤◌, ◌↔◌, not, ◌&&◌, ◌||◌, ◌==◌, [], ◌∷◌, Contains, IsTrue, IfOk, IfErr, IsErrOf, IsBitSet, true, filter, map as each};
+ghost use Rattle.std.specs.Prelude.{◌≡◌, ℕ, ◌+◌, ◌<◌, ◌≤◌, ◌↔◌, not, ◌&&◌, ◌||◌, ◌==◌, [], ◌∷◌, Contains, IsTrue};
+ghost use Rattle.std.specs.Prelude.{IfOk, IfErr, IsErrOf, IsBitSet, true, filter, map as each};
 ghost use Rattle.std.specs.List.{list_all, list_any};
 ghost use Rattle.std.specs.Option.{SomeIff};
 ghost use Rattle.std.specs.FinMap as map;
-ghost use Rattle.ps_lattice.specs.Choice.{pair_cmp, is_added, is_removed, is_live, is_chosen, last_of, last_sequence, with_pair, withdrawn, joined_choices, is_pair, is_choice};
+ghost use Rattle.ps_lattice.specs.Choice.{pair_cmp, is_added, is_removed, is_live, is_chosen, last_of};
+ghost use Rattle.ps_lattice.specs.Choice.{last_sequence, with_pair, withdrawn, joined_choices, is_pair, is_choice};
 
 use crate::entries::{self, Merge};
 use crate::join::{Join, Linear};
@@ -168,10 +170,12 @@ impl Choice {
     pub fn choose(&self, alloc: Global, replica: u8, option: u64) -> Result<Choice, Refusal>
         requires { (1 ≤ replica) × (replica ≤ REPLICAS) }
         ensures ok { IfOk result (λ d. d ≡ with_pair map.empty option replica (last_sequence self.now replica + 1)) }
-        ensures adds { IfOk result (λ d. joined_choices self.now d ≡ with_pair self.now option replica (last_sequence self.now replica + 1)) }
+        ensures adds { IfOk result (λ d. joined_choices self.now d
+            ≡ with_pair self.now option replica (last_sequence self.now replica + 1)) }
         ensures fresh { IfOk result (λ d. ¬ (joined_choices self.now d ≡ self.now)) }
         ensures option { IsErrOf result Refusal.OptionRange ↔ (OPTIONS ≤ option) }
-        ensures full { IsErrOf result Refusal.ChoiceFull ↔ ((option < OPTIONS) × (last_sequence self.now replica ≡ SEQUENCES)) }
+        ensures full { IsErrOf result Refusal.ChoiceFull
+            ↔ ((option < OPTIONS) × (last_sequence self.now replica ≡ SEQUENCES)) }
         ensures only { IfErr result (λ e. Contains (Refusal.OptionRange ∷ Refusal.ChoiceFull ∷ Refusal.Memory ∷ []) e) }
     {
         if option >= OPTIONS {
@@ -198,11 +202,14 @@ impl Choice {
     /// Cost: linear in the pairs.
     pub fn unchoose(&self, alloc: Global, option: u64) -> Result<Choice, Refusal>
         ensures ok { IfOk result (λ d. d ≡ withdrawn self.now option) }
-        ensures added { IfOk result (λ d. (o r s : ℕ) → is_added (joined_choices self.now d) o r s ≡ is_added self.now o r s) }
-        ensures removed { IfOk result (λ d. (o r s : ℕ) → is_removed (joined_choices self.now d) o r s ≡ (is_removed self.now o r s || ((o == option) && is_added self.now o r s))) }
+        ensures added { IfOk result (λ d. (o r s : ℕ) → is_added (joined_choices self.now d) o r s
+            ≡ is_added self.now o r s) }
+        ensures removed { IfOk result (λ d. (o r s : ℕ) → is_removed (joined_choices self.now d) o r s
+            ≡ (is_removed self.now o r s || ((o == option) && is_added self.now o r s))) }
         ensures fresh { IfOk result (λ d. ¬ (joined_choices self.now d ≡ self.now)) }
         ensures option { IsErrOf result Refusal.OptionRange ↔ (OPTIONS ≤ option) }
-        ensures not_chosen { IsErrOf result Refusal.NotChosen ↔ ((option < OPTIONS) × IsTrue (not (is_chosen self.now option))) }
+        ensures not_chosen { IsErrOf result Refusal.NotChosen
+            ↔ ((option < OPTIONS) × IsTrue (not (is_chosen self.now option))) }
         ensures only { IfErr result (λ e. Contains (Refusal.OptionRange ∷ Refusal.NotChosen ∷ Refusal.Memory ∷ []) e) }
     {
         if option >= OPTIONS {

@@ -54,7 +54,9 @@ pub(crate) fn merge_entries<K: Linear + Copy, X: Merge>(
 ) -> Result<Vec<(K, X)>, Refusal>
     requires mine { IsTrue (map.is_sorted K.cmp mine.now) }
     requires theirs { IsTrue (map.is_sorted K.cmp theirs.now) }
-    ensures ok { IfOk result (λ v. v.items ≡ map.entries (joined_maps X.merged (map.from_sorted {R = K.cmp} mine.now) (map.from_sorted {R = K.cmp} theirs.now))) }
+    ensures ok { IfOk result (λ v. v.items
+        ≡ map.entries (joined_maps X.merged (map.from_sorted {R = K.cmp} mine.now)
+        (map.from_sorted {R = K.cmp} theirs.now))) }
     ensures memory { IfErr result (λ e. e ≡ Refusal.Memory) }
 {
     let mut all = Vec::new(alloc);
@@ -85,7 +87,9 @@ pub(crate) fn merge_entries<K: Linear + Copy, X: Merge>(
 pub(crate) fn is_below<K: Linear + Copy, X: Merge>(mine: &[(K, X)], theirs: &[(K, X)]) -> bool
     requires mine { IsTrue (map.is_sorted K.cmp mine.now) }
     requires theirs { IsTrue (map.is_sorted K.cmp theirs.now) }
-    ensures { IsTrue result ↔ (joined_maps X.merged (map.from_sorted {R = K.cmp} theirs.now) (map.from_sorted {R = K.cmp} mine.now) ≡ map.from_sorted {R = K.cmp} theirs.now) }
+    ensures { IsTrue result
+        ↔ (joined_maps X.merged (map.from_sorted {R = K.cmp} theirs.now) (map.from_sorted {R = K.cmp} mine.now)
+        ≡ map.from_sorted {R = K.cmp} theirs.now) }
 {
     for (key, value) in mine {
         if !covers_at(value_at(theirs, *key), *value) {

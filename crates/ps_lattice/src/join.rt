@@ -24,6 +24,8 @@ pub trait Join: Sized {
         ensures memory { IfErr result (λ e. e ≡ Refusal.Memory) };
 
     /// Whether this state is below the other one: joining it there changes nothing.
+    ///
+    /// Cost: for each part of this state a search in the other; no memory.
     fn below(&self, other: &Self) -> bool
         ensures { IsTrue result ↔ (joined other.now self.now ≡ other.now) };
 

@@ -96,7 +96,8 @@ impl<V: Linear + Drop> Register<V> {
     /// Cost: constant.
     pub fn assign(&self, replica: u8, content: V) -> Result<Register<V>, Refusal>
         requires { (1 ≤ replica) × (replica ≤ REPLICAS) }
-        ensures ok { IfOk result (λ d. d ≡ Some (record { time = time_of self.now + 1; replica = replica; content = content })) }
+        ensures ok { IfOk result (λ d. d
+            ≡ Some (record { time = time_of self.now + 1; replica = replica; content = content })) }
         ensures full { IsErrOf result Refusal.ClockFull ↔ (time_of self.now ≡ LAST_TIME) }
         ensures only_full { IfErr result (λ e. e ≡ Refusal.ClockFull) }
         ensures assigns { IfOk result (λ d. joined_registers V.cmp self.now d ≡ d) }

@@ -1,10 +1,12 @@
 //! A counter that goes up and down.
 
-ghost use Rattle.std.specs.Prelude.{◌≡◌, ◌+◌, ◌<◌, ◌≤◌, ◌↔◌, not, [], ◌∷◌, ◌^◌, sum_by, Contains, IsTrue, IfOk, IfErr, IsErrOf};
+ghost use Rattle.std.specs.Prelude.{◌≡◌, ◌+◌, ◌<◌, ◌≤◌, ◌↔◌, not, [], ◌∷◌, ◌^◌, sum_by, Contains, IsTrue, IfOk};
+ghost use Rattle.std.specs.Prelude.{IfErr, IsErrOf};
 ghost use Rattle.std.specs.Option.{SomeIff};
 ghost use Rattle.std.specs.List.{list_all};
 ghost use Rattle.std.specs.FinMap as map;
-ghost use Rattle.ps_lattice.specs.Tally.{added, subtracted, value_of, joined_tallies, with_counts, counts_of, is_tally, is_count, is_amount};
+ghost use Rattle.ps_lattice.specs.Tally.{added, subtracted, value_of, joined_tallies, with_counts, counts_of};
+ghost use Rattle.ps_lattice.specs.Tally.{is_tally, is_count, is_amount};
 
 use crate::entries::{self, Merge};
 use crate::join::Join;
@@ -124,10 +126,12 @@ impl Tally {
     pub fn add(&self, alloc: Global, replica: u8, amount: u64) -> Result<Tally, Refusal>
         requires { (1 ≤ replica) × (replica ≤ REPLICAS) }
         ensures ok { IfOk result (λ d. d ≡ counts_of replica (added self.now replica + amount) 0) }
-        ensures raises { IfOk result (λ d. joined_tallies self.now d ≡ with_counts self.now replica (added self.now replica + amount) (subtracted self.now replica)) }
+        ensures raises { IfOk result (λ d. joined_tallies self.now d
+            ≡ with_counts self.now replica (added self.now replica + amount) (subtracted self.now replica)) }
         ensures fresh { IfOk result (λ d. ¬ (joined_tallies self.now d ≡ self.now)) }
         ensures amount { IsErrOf result Refusal.Amount ↔ IsTrue (not (is_amount amount)) }
-        ensures full { IsErrOf result Refusal.TallyFull ↔ (IsTrue (is_amount amount) × (COUNT_LIMIT < added self.now replica + amount)) }
+        ensures full { IsErrOf result Refusal.TallyFull
+            ↔ (IsTrue (is_amount amount) × (COUNT_LIMIT < added self.now replica + amount)) }
         ensures only { IfErr result (λ e. Contains (Refusal.Amount ∷ Refusal.TallyFull ∷ Refusal.Memory ∷ []) e) }
     {
         if amount < 1 || amount > AMOUNT_LIMIT {
@@ -152,10 +156,12 @@ impl Tally {
     pub fn sub(&self, alloc: Global, replica: u8, amount: u64) -> Result<Tally, Refusal>
         requires { (1 ≤ replica) × (replica ≤ REPLICAS) }
         ensures ok { IfOk result (λ d. d ≡ counts_of replica 0 (subtracted self.now replica + amount)) }
-        ensures raises { IfOk result (λ d. joined_tallies self.now d ≡ with_counts self.now replica (added self.now replica) (subtracted self.now replica + amount)) }
+        ensures raises { IfOk result (λ d. joined_tallies self.now d
+            ≡ with_counts self.now replica (added self.now replica) (subtracted self.now replica + amount)) }
         ensures fresh { IfOk result (λ d. ¬ (joined_tallies self.now d ≡ self.now)) }
         ensures amount { IsErrOf result Refusal.Amount ↔ IsTrue (not (is_amount amount)) }
-        ensures full { IsErrOf result Refusal.TallyFull ↔ (IsTrue (is_amount amount) × (COUNT_LIMIT < subtracted self.now replica + amount)) }
+        ensures full { IsErrOf result Refusal.TallyFull
+            ↔ (IsTrue (is_amount amount) × (COUNT_LIMIT < subtracted self.now replica + amount)) }
         ensures only { IfErr result (λ e. Contains (Refusal.Amount ∷ Refusal.TallyFull ∷ Refusal.Memory ∷ []) e) }
     {
         if amount < 1 || amount > AMOUNT_LIMIT {

@@ -21,11 +21,14 @@ loop-pair-preserved c k within =
     elim c.if-not-removed.branch [
       | then-not-removed w ↦
           ap (λ n. bit_at n k) w.options-is
-          ∙ live_step c.loop-pair.options k e done within (option_fits e (all_at es i none c.requires c.loop-pair-test.true)) before w.if-not-removed.true
+          ∙ live_step c.loop-pair.options k e done within (option_fits e
+          (all_at es i none c.requires c.loop-pair-test.true)) before w.if-not-removed.true
           ∙ more
-      | else-not-removed w ↦ ap (λ n. bit_at n k) w.options-is ∙ removed_step c.loop-pair.options k e done before w.if-not-removed.false ∙ more
+      | else-not-removed w ↦ ap (λ n. bit_at n k) w.options-is
+          ∙ removed_step c.loop-pair.options k e done before w.if-not-removed.false ∙ more
     ]
 
 pub returns : goal.returns
 returns c k within = tells_bit c.loop-pair.options k (list_any (is_live k) c.args.pairs.now)
-    (c.loop-pair.invariant k within ∙ ap (λ l. cond (list_any (is_live k) l) 1 0) (take_all c.loop-pair.pair-index c.args.pairs.now c.loop-pair-test.false))
+    (c.loop-pair.invariant k within ∙ ap (λ l. cond (list_any (is_live k) l) 1 0)
+    (take_all c.loop-pair.pair-index c.args.pairs.now c.loop-pair-test.false))

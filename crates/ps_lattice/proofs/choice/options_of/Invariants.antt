@@ -7,4 +7,5 @@ use Rattle.ps_lattice.proofs.choice.options_of.Given as goal
 
 -- bit k for each option k with such a pair so far
 abbrev pub invariant-loop-pair : goal.invariant-loop-pair
-invariant-loop-pair l = (k : ℕ) → k < OPTIONS → bit_at l.options k ≡ cond (list_any (is_live k) (take l.pair-index l.pairs)) 1 0
+invariant-loop-pair l = (k : ℕ) → k < OPTIONS → bit_at l.options k
+    ≡ cond (list_any (is_live k) (take l.pair-index l.pairs)) 1 0

@@ -17,7 +17,8 @@ returns-clause-ok g c =
     let j = c.loop-i.j in
     let joined : (all ++ drop i mine) ++ drop j theirs ≡ total =
     elim c.loop-i-test.branch [
-      | then-loop-i-test+else-j-theirs w ↦ ended_right R f all mine theirs total i j w.if-j-theirs.false c.loop-i.invariant.so_far
+      | then-loop-i-test+else-j-theirs w ↦
+          ended_right R f all mine theirs total i j w.if-j-theirs.false c.loop-i.invariant.so_far
       | else-loop-i-test w ↦ ended_left R f all mine theirs total i j w.loop-i-test.false c.loop-i.invariant.so_far
     ] in
     c.in_ok-extend_from_slice-2.ensures.items

@@ -7,7 +7,8 @@ use Rattle.ps_lattice.proofs.entries.value_at.Goals as goal
 pub returns-in-Ok : goal.returns-in-Ok
 returns-in-Ok g c =
     let here = c.in-Ok.ensures.position (λ e. e.0) (answers_always _ _ _ (λ f a r h called. search rules)) in
-    sym (find_at g.K.Ord.cmp g.met.K.Ord.total c.args.key c.args.entries.now c.requires c.in-Ok.at c.index-entries-at.result c.in-Ok.ensures.bound (here c.index-entries-at.result))
+    sym (find_at g.K.Ord.cmp g.met.K.Ord.total c.args.key c.args.entries.now c.requires c.in-Ok.at
+    c.index-entries-at.result c.in-Ok.ensures.bound (here c.index-entries-at.result))
 
 -- the key isn't there
 pub returns-in-Err : goal.returns-in-Err

@@ -10,13 +10,16 @@ use Rattle.ps_lattice.proofs.choice.Choice.choose.Goals as goal
 pub returns-clause-ok : goal.returns-clause-ok
 returns-clause-ok c =
     rw (c.in_ok-push.ensures.items, c.new-pairs.ensures.items)
-    (seen_one pair_cmp pairs_total pairs_apart (pair_of c.args.option c.args.replica (c.last_sequence-last.result + 1)) false
+    (seen_one pair_cmp pairs_total pairs_apart (pair_of c.args.option c.args.replica
+    (c.last_sequence-last.result + 1)) false
     ∙ ap (λ n. with_pair map.empty c.args.option c.args.replica (n + 1)) c.last_sequence-last.ensures.value)
 
 pub returns-clause-adds : goal.returns-clause-adds
 returns-clause-adds c =
-    ap (joined_choices c.args.self.now) (returns-clause-ok c) ∙ joined-with_pair c.args.self.now c.args.option c.args.replica
+    ap (joined_choices c.args.self.now) (returns-clause-ok c)
+    ∙ joined-with_pair c.args.self.now c.args.option c.args.replica
 
 pub returns-clause-fresh : goal.returns-clause-fresh
 returns-clause-fresh c same =
-    chosen_is_fresh c.args.self.now c.args.option c.args.replica (ap (joined_choices c.args.self.now) (sym (returns-clause-ok c)) ∙ same)
+    chosen_is_fresh c.args.self.now c.args.option c.args.replica
+    (ap (joined_choices c.args.self.now) (sym (returns-clause-ok c)) ∙ same)

@@ -10,4 +10,6 @@ pub returns : goal.returns
 returns c =
     let es = c.self.inside.pairs.items in
     c.any_live.ensures
-    ∙ ap (list_any (is_live c.args.option)) (c.deref.ensures.value ∙ entries_of pair_cmp es (and_left (map.is_sorted pair_cmp es) (list_all is_pair es) c.self.invariant) ∙ ap map.entries c.self.view_is)
+    ∙ ap (list_any (is_live c.args.option)) (c.deref.ensures.value
+    ∙ entries_of pair_cmp es (and_left (map.is_sorted pair_cmp es) (list_all is_pair es) c.self.invariant)
+    ∙ ap map.entries c.self.view_is)

@@ -13,7 +13,8 @@ pub returns-clause-value : goal.returns-clause-value
 returns-clause-value c =
     let es = c.self.inside.pairs.items in
     c.last_of.ensures
-    ∙ ap (last_of c.args.replica) (c.deref.ensures.value ∙ entries_of pair_cmp es (and_left (map.is_sorted pair_cmp es) (list_all is_pair es) c.self.invariant) ∙ ap map.entries c.self.view_is)
+    ∙ ap (last_of c.args.replica) (c.deref.ensures.value ∙ entries_of pair_cmp es
+    (and_left (map.is_sorted pair_cmp es) (list_all is_pair es) c.self.invariant) ∙ ap map.entries c.self.view_is)
 
 pub returns-clause-in_range : goal.returns-clause-in_range
 returns-clause-in_range c =

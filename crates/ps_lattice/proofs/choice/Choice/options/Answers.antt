@@ -9,5 +9,7 @@ use Rattle.ps_lattice.proofs.choice.Choice.options.Goals as goal
 pub returns : goal.returns
 returns c k within =
     let es = c.self.inside.pairs.items in
-    let is = ap (list_any (is_live k)) (c.deref.ensures.value ∙ entries_of pair_cmp es (and_left (map.is_sorted pair_cmp es) (list_all is_pair es) c.self.invariant) ∙ ap map.entries c.self.view_is) in
+    let is = ap (list_any (is_live k)) (c.deref.ensures.value ∙ entries_of pair_cmp es
+    (and_left (map.is_sorted pair_cmp es) (list_all is_pair es) c.self.invariant)
+    ∙ ap map.entries c.self.view_is) in
     (λ set. sym is ∙ (c.options_of.ensures k within).0 set, λ chosen. (c.options_of.ensures k within).1 (is ∙ chosen))

@@ -10,4 +10,5 @@ use Rattle.ps_lattice.proofs.choice.Choice.parts.Goals as goal
 pub returns-clause-value : goal.returns-clause-value
 returns-clause-value c =
     let es = c.self.inside.pairs.items in
-    c.deref.ensures.value ∙ entries_of pair_cmp es (and_left (map.is_sorted pair_cmp es) (list_all is_pair es) c.self.invariant) ∙ ap map.entries c.self.view_is
+    c.deref.ensures.value ∙ entries_of pair_cmp es (and_left (map.is_sorted pair_cmp es)
+    (list_all is_pair es) c.self.invariant) ∙ ap map.entries c.self.view_is

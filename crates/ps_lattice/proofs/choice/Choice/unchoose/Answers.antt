@@ -5,7 +5,8 @@ use Rattle.std.specs.FinMap as map
 use Rattle.std.specs.List.{list_all}
 use Rattle.ps_lattice.proofs.Rising.{and_left, and_right, and_both}
 use Rattle.ps_lattice.proofs.Views.{entries_of}
-use Rattle.ps_lattice.proofs.ChoiceLemmas.{kept, sorted_kept, all_kept, seen_withdrawn, added-joined, removed-joined, withdrawn_is_fresh}
+use Rattle.ps_lattice.proofs.ChoiceLemmas.{kept, sorted_kept, all_kept, seen_withdrawn, added-joined, removed-joined}
+use Rattle.ps_lattice.proofs.ChoiceLemmas.{withdrawn_is_fresh}
 use Rattle.ps_lattice.proofs.choice.Choice.unchoose.Goals as goal
 
 -- the delta's pairs ascend and are in range
@@ -29,11 +30,13 @@ returns-clause-ok c =
 
 pub returns-clause-added : goal.returns-clause-added
 returns-clause-added c p r s =
-    ap (λ d. is_added (joined_choices c.args.self.now d) p r s) (returns-clause-ok c) ∙ added-joined c.args.self.now c.args.option p r s
+    ap (λ d. is_added (joined_choices c.args.self.now d) p r s) (returns-clause-ok c)
+    ∙ added-joined c.args.self.now c.args.option p r s
 
 pub returns-clause-removed : goal.returns-clause-removed
 returns-clause-removed c p r s =
-    ap (λ d. is_removed (joined_choices c.args.self.now d) p r s) (returns-clause-ok c) ∙ removed-joined c.args.self.now c.args.option p r s
+    ap (λ d. is_removed (joined_choices c.args.self.now d) p r s) (returns-clause-ok c)
+    ∙ removed-joined c.args.self.now c.args.option p r s
 
 pub returns-clause-fresh : goal.returns-clause-fresh
 returns-clause-fresh c same =

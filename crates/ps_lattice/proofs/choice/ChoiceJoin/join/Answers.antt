@@ -13,13 +13,19 @@ pub invariant_of-self : goal.invariant_of-self
 invariant_of-self c =
     let xs = c.self.inside.pairs.items in
     let ys = c.other.inside.pairs.items in
-    let is = c.in_ok-self-inside.ensures.ok ∙ (λ i. map.entries (joined_maps ◌||◌ (map.from_sorted {R = pair_cmp} (c.deref.ensures.value i)) (map.from_sorted {R = pair_cmp} (c.deref-2.ensures.value i)))) in
-    in_range_joined pair_cmp ◌||◌ xs ys c.in_ok-self-inside.field-0.items is pairs_total pairs_apart is_pair is_pair-joined c.self.invariant c.other.invariant
+    let is = c.in_ok-self-inside.ensures.ok ∙ (λ i. map.entries (joined_maps ◌||◌
+    (map.from_sorted {R = pair_cmp} (c.deref.ensures.value i))
+    (map.from_sorted {R = pair_cmp} (c.deref-2.ensures.value i)))) in
+    in_range_joined pair_cmp ◌||◌ xs ys c.in_ok-self-inside.field-0.items is pairs_total pairs_apart is_pair
+    is_pair-joined c.self.invariant c.other.invariant
 
 -- and is seen as the join
 pub returns-clause-ok : goal.returns-clause-ok
 returns-clause-ok c =
     let xs = c.self.inside.pairs.items in
     let ys = c.other.inside.pairs.items in
-    let is = c.in_ok-self-inside.ensures.ok ∙ (λ i. map.entries (joined_maps ◌||◌ (map.from_sorted {R = pair_cmp} (c.deref.ensures.value i)) (map.from_sorted {R = pair_cmp} (c.deref-2.ensures.value i)))) in
-    seen_joined pair_cmp ◌||◌ xs ys c.in_ok-self-inside.field-0.items is c.args.self.now c.args.other.now c.self.view_is c.other.view_is
+    let is = c.in_ok-self-inside.ensures.ok ∙ (λ i. map.entries (joined_maps ◌||◌
+    (map.from_sorted {R = pair_cmp} (c.deref.ensures.value i))
+    (map.from_sorted {R = pair_cmp} (c.deref-2.ensures.value i)))) in
+    seen_joined pair_cmp ◌||◌ xs ys c.in_ok-self-inside.field-0.items is c.args.self.now c.args.other.now
+    c.self.view_is c.other.view_is

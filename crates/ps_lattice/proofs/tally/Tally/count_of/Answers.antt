@@ -21,13 +21,17 @@ returns c =
     let none : Count = record { added = 0; subtracted = 0 } in
     let sorted = and_left (map.is_sorted nat_cmp es) (list_all is_count es) c.self.invariant in
     let all = and_right (map.is_sorted nat_cmp es) (list_all is_count es) c.self.invariant in
-    let got = sym (get_by_list nat_cmp nat_cmp_total nat_cmp-IsAntisymmetric es c.args.self.now sorted c.self.view_is r) in
+    let got =
+    sym (get_by_list nat_cmp nat_cmp_total nat_cmp-IsAntisymmetric es c.args.self.now sorted c.self.view_is r) in
     let is : c.unwrap_or.result ≡ unwrap_or (map.find nat_cmp r es) none =
-    c.unwrap_or.ensures ∙ ap (λ o. unwrap_or o none) (c.value_at.ensures ∙ ap (λ l. map.find nat_cmp r l) c.deref.ensures.value) in
+    c.unwrap_or.ensures ∙ ap (λ o. unwrap_or o none) (c.value_at.ensures
+    ∙ ap (λ l. map.find nat_cmp r l) c.deref.ensures.value) in
     let fits = found_fits r es all in
     record {
-      added = ap (λ (k : Count). k.added) is ∙ added-unwrap_or (map.find nat_cmp r es) ∙ ap (λ o. option_map_or (λ (k : Count). k.added) o 0) got;
-      subtracted = ap (λ (k : Count). k.subtracted) is ∙ subtracted-unwrap_or (map.find nat_cmp r es) ∙ ap (λ o. option_map_or (λ (k : Count). k.subtracted) o 0) got;
+      added = ap (λ (k : Count). k.added) is ∙ added-unwrap_or (map.find nat_cmp r es)
+          ∙ ap (λ o. option_map_or (λ (k : Count). k.added) o 0) got;
+      subtracted = ap (λ (k : Count). k.subtracted) is ∙ subtracted-unwrap_or (map.find nat_cmp r es)
+          ∙ ap (λ o. option_map_or (λ (k : Count). k.subtracted) o 0) got;
       added_fits = subst (λ (k : Count). k.added ≤ COUNT_LIMIT) (sym is) fits.0;
       subtracted_fits = subst (λ (k : Count). k.subtracted ≤ COUNT_LIMIT) (sym is) fits.1;
     }

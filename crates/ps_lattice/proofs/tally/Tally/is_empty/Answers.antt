@@ -6,4 +6,5 @@ use Rattle.ps_lattice.proofs.Views.{empty_tells}
 use Rattle.ps_lattice.proofs.tally.Tally.is_empty.Goals as goal
 
 pub returns : goal.returns
-returns c = empty_tells nat_cmp nat_cmp_total nat_cmp-IsAntisymmetric c.args.self.now c.is_empty.result (c.is_empty.ensures ∙ ap (λ es. length es == 0) c.parts.ensures.value)
+returns c = empty_tells nat_cmp nat_cmp_total nat_cmp-IsAntisymmetric c.args.self.now c.is_empty.result
+    (c.is_empty.ensures ∙ ap (λ es. length es == 0) c.parts.ensures.value)

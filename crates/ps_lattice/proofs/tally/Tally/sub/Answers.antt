@@ -7,10 +7,13 @@ use Rattle.ps_lattice.proofs.tally.Tally.sub.Goals as goal
 pub returns-clause-raises : goal.returns-clause-raises
 returns-clause-raises c =
     let t = c.args.self.now in
-    IfOk-weaker c.of_one.result _ _ (λ d is. ap (joined_tallies t) (is ∙ ap (λ p. counts_of c.args.replica 0 (p + c.args.amount)) c.count_of-before.ensures.subtracted) ∙ joined-subtracted t c.args.replica c.args.amount) c.of_one.ensures.ok
+    IfOk-weaker c.of_one.result _ _ (λ d is. ap (joined_tallies t)
+    (is ∙ ap (λ p. counts_of c.args.replica 0 (p + c.args.amount)) c.count_of-before.ensures.subtracted)
+    ∙ joined-subtracted t c.args.replica c.args.amount) c.of_one.ensures.ok
 
 pub returns-clause-fresh : goal.returns-clause-fresh
 returns-clause-fresh c =
     let t = c.args.self.now in
     IfOk-weaker c.of_one.result _ _ (λ d is same. subtracted_is_fresh t c.args.replica c.args.amount (omega arith)
-    (ap (joined_tallies t) (sym (is ∙ ap (λ p. counts_of c.args.replica 0 (p + c.args.amount)) c.count_of-before.ensures.subtracted)) ∙ same)) c.of_one.ensures.ok
+    (ap (joined_tallies t) (sym (is ∙ ap (λ p. counts_of c.args.replica 0
+    (p + c.args.amount)) c.count_of-before.ensures.subtracted)) ∙ same)) c.of_one.ensures.ok

@@ -14,13 +14,19 @@ pub invariant_of-self : goal.invariant_of-self
 invariant_of-self c =
     let xs = c.self.inside.counts.items in
     let ys = c.other.inside.counts.items in
-    let is = c.in_ok-self-inside.ensures.ok ∙ (λ i. map.entries (joined_maps greater_counts (map.from_sorted {R = nat_cmp} (c.deref.ensures.value i)) (map.from_sorted {R = nat_cmp} (c.deref-2.ensures.value i)))) in
-    in_range_joined nat_cmp greater_counts xs ys c.in_ok-self-inside.field-0.items is nat_cmp_total nat_cmp-IsAntisymmetric is_count is_count-joined c.self.invariant c.other.invariant
+    let is = c.in_ok-self-inside.ensures.ok ∙ (λ i. map.entries (joined_maps greater_counts
+    (map.from_sorted {R = nat_cmp} (c.deref.ensures.value i))
+    (map.from_sorted {R = nat_cmp} (c.deref-2.ensures.value i)))) in
+    in_range_joined nat_cmp greater_counts xs ys c.in_ok-self-inside.field-0.items is nat_cmp_total
+    nat_cmp-IsAntisymmetric is_count is_count-joined c.self.invariant c.other.invariant
 
 -- and is seen as the join
 pub returns-clause-ok : goal.returns-clause-ok
 returns-clause-ok c =
     let xs = c.self.inside.counts.items in
     let ys = c.other.inside.counts.items in
-    let is = c.in_ok-self-inside.ensures.ok ∙ (λ i. map.entries (joined_maps greater_counts (map.from_sorted {R = nat_cmp} (c.deref.ensures.value i)) (map.from_sorted {R = nat_cmp} (c.deref-2.ensures.value i)))) in
-    seen_joined nat_cmp greater_counts xs ys c.in_ok-self-inside.field-0.items is c.args.self.now c.args.other.now c.self.view_is c.other.view_is
+    let is = c.in_ok-self-inside.ensures.ok ∙ (λ i. map.entries (joined_maps greater_counts
+    (map.from_sorted {R = nat_cmp} (c.deref.ensures.value i))
+    (map.from_sorted {R = nat_cmp} (c.deref-2.ensures.value i)))) in
+    seen_joined nat_cmp greater_counts xs ys c.in_ok-self-inside.field-0.items is c.args.self.now c.args.other.now
+    c.self.view_is c.other.view_is
