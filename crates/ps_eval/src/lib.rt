@@ -6,6 +6,8 @@ mod laws;
 mod look;
 mod meter;
 mod summary;
+#[cfg(test)]
+mod tests;
 mod total;
 mod tree;
 
