@@ -3,7 +3,8 @@ use Rattle.std.proofs.Common.{◌≡◌, ℕ, Bool, true, false, cond, List, [],
 use Rattle.std.specs.List.{filter, flat_map}
 use Rattle.std.proofs.lemmas.Bool.{or_left, or_right, eq-eqb}
 use Rattle.ps_grid.specs.Rectangle.{is_inside, cells_of}
-use Rattle.ps_formula.specs.Tree.{Tree, Item, Items, number, reference, signed, joined, group, call, expression, range, no_items, item_and}
+use Rattle.ps_formula.specs.Tree.{Tree, Item, Items, number, reference, signed, joined, group, call, expression}
+use Rattle.ps_formula.specs.Tree.{range, no_items, item_and}
 use Rattle.ps_formula.specs.References.{mentions, mentions_among, mentions_in}
 use Rattle.ps_eval.specs.Number.{prefixed, operation, on_one, on_both}
 use Rattle.ps_eval.specs.Items.{Assignment, single, cell_items}
@@ -18,7 +19,9 @@ cells_agree : (test : ℕ → Bool) (cells : List ℕ) (v w : Assignment) → Ag
     flat_map (λ c. cell_items (v c)) (filter test cells) ≡ flat_map (λ c. cell_items (w c)) (filter test cells)
 cells_agree test [] v w h = refl
 cells_agree test (c ∷ cells) v w h =
-    elim (test c) as (λ b. test c ≡ b → flat_map (λ c. cell_items (v c)) (cond b (c ∷ filter test cells) (filter test cells)) ≡ flat_map (λ c. cell_items (w c)) (cond b (c ∷ filter test cells) (filter test cells))) [
+    elim (test c) as (λ b. test c ≡ b
+    → flat_map (λ c. cell_items (v c)) (cond b (c ∷ filter test cells) (filter test cells)) ≡ flat_map
+    (λ c. cell_items (w c)) (cond b (c ∷ filter test cells) (filter test cells))) [
       | true ↦ λ is. ap₂ ◌++◌ (ap cell_items (h c is)) (cells_agree test cells v w h)
       | false ↦ λ is. cells_agree test cells v w h
     ] refl
@@ -34,23 +37,27 @@ mutual
   number_of-agrees (group a) v w h = number_of-agrees a v w h
   number_of-agrees (call f args) v w h = ap₂ (called f) (items_of-agrees args v w h) (values_of-agrees args v w h)
 
-  items_of-agrees : (args : Items) (v w : Assignment) → AgreeWhere (mentions_among args) v w → items_of args v ≡ items_of args w
+  items_of-agrees : (args : Items) (v w : Assignment) → AgreeWhere (mentions_among args) v w
+      → items_of args v ≡ items_of args w
   items_of-agrees no_items v w h = refl
   items_of-agrees (item_and arg args) v w h =
       ap₂ ◌++◌ (items_in-agrees arg v w (λ c m. h c (or_left (mentions_in arg c) (mentions_among args c) m)))
       (items_of-agrees args v w (λ c m. h c (or_right (mentions_in arg c) (mentions_among args c) m)))
 
-  items_in-agrees : (arg : Item) (v w : Assignment) → AgreeWhere (mentions_in arg) v w → items_in arg v ≡ items_in arg w
+  items_in-agrees : (arg : Item) (v w : Assignment) → AgreeWhere (mentions_in arg) v w
+      → items_in arg v ≡ items_in arg w
   items_in-agrees (expression a) v w h = alone_agrees a v w h (number_of-agrees a v w h)
   items_in-agrees (range a) v w h = cells_agree (is_inside a) (cells_of a) v w h
 
-  values_of-agrees : (args : Items) (v w : Assignment) → AgreeWhere (mentions_among args) v w → values_of args v ≡ values_of args w
+  values_of-agrees : (args : Items) (v w : Assignment) → AgreeWhere (mentions_among args) v w
+      → values_of args v ≡ values_of args w
   values_of-agrees no_items v w h = refl
   values_of-agrees (item_and arg args) v w h =
       ap₂ ◌∷◌ (value_in-agrees arg v w (λ c m. h c (or_left (mentions_in arg c) (mentions_among args c) m)))
       (values_of-agrees args v w (λ c m. h c (or_right (mentions_in arg c) (mentions_among args c) m)))
 
-  value_in-agrees : (arg : Item) (v w : Assignment) → AgreeWhere (mentions_in arg) v w → value_in arg v ≡ value_in arg w
+  value_in-agrees : (arg : Item) (v w : Assignment) → AgreeWhere (mentions_in arg) v w
+      → value_in arg v ≡ value_in arg w
   value_in-agrees (expression a) v w h = number_of-agrees a v w h
   value_in-agrees (range a) v w h = refl
 

@@ -1,5 +1,6 @@
 -- One more item in a summary.
-use Rattle.std.proofs.Common.{◌≡◌, ◌+◌, ◌==◌, List, [], ◌∷◌, ◌++◌, length, Option, Some, None, Ok, Err, ℤ, pos, ◌+ℤ◌, refl, ap, sym, ◌∙◌, arith, length-append}
+use Rattle.std.proofs.Common.{◌≡◌, ◌+◌, ◌==◌, List, [], ◌∷◌, ◌++◌, length, Option, Some, None, Ok, Err, ℤ, pos}
+use Rattle.std.proofs.Common.{◌+ℤ◌, refl, ap, sym, ◌∙◌, arith, length-append}
 use Rattle.std.specs.List.{list_all, list_any}
 use Rattle.std.proofs.Math.Bool.{and-true, or-false}
 use Rattle.std.proofs.lemmas.List.Folds.{list_all-append, list_any-append}
@@ -26,7 +27,8 @@ first_fault-number [] n = refl
 first_fault-number (Ok m ∷ xs) n = first_fault-number xs n
 first_fault-number (Err fault ∷ xs) n = refl
 
-pub first_fault-fault : (xs : List Number) (fault : Fault) → first_fault (xs ++ Err fault ∷ []) ≡ or_fault (first_fault xs) fault
+pub first_fault-fault : (xs : List Number) (fault : Fault)
+    → first_fault (xs ++ Err fault ∷ []) ≡ or_fault (first_fault xs) fault
 first_fault-fault [] fault = refl
 first_fault-fault (Ok m ∷ xs) fault = first_fault-fault xs fault
 first_fault-fault (Err first ∷ xs) fault = refl
@@ -39,38 +41,51 @@ not_empty n ns = ne_eqb (length (n ∷ ns)) 0 (λ e. omega arith)
 
 pub least-push : (ns : List ℤ) (n : ℤ) → least (ns ++ n ∷ []) ≡ (if length ns == 0 then n else int_min (least ns) n)
 least-push [] n = refl
-least-push (m ∷ ns) n = fold-append int_min m ns (n ∷ []) ∙ sym (cond-false (length (m ∷ ns) == 0) n (int_min (fold int_min m ns) n) (not_empty m ns))
+least-push (m ∷ ns) n =
+    fold-append int_min m ns (n ∷ [])
+    ∙ sym (cond-false (length (m ∷ ns) == 0) n (int_min (fold int_min m ns) n) (not_empty m ns))
 
-pub greatest-push : (ns : List ℤ) (n : ℤ) → greatest (ns ++ n ∷ []) ≡ (if length ns == 0 then n else int_max (greatest ns) n)
+pub greatest-push : (ns : List ℤ) (n : ℤ)
+    → greatest (ns ++ n ∷ []) ≡ (if length ns == 0 then n else int_max (greatest ns) n)
 greatest-push [] n = refl
-greatest-push (m ∷ ns) n = fold-append int_max m ns (n ∷ []) ∙ sym (cond-false (length (m ∷ ns) == 0) n (int_max (fold int_max m ns) n) (not_empty m ns))
+greatest-push (m ∷ ns) n =
+    fold-append int_max m ns (n ∷ [])
+    ∙ sym (cond-false (length (m ∷ ns) == 0) n (int_max (fold int_max m ns) n) (not_empty m ns))
 
 -- ---- the same of the numbers among items
 
-pub counted_more : (items : List Number) (n : ℤ) → length (numbers_in (items ++ Ok n ∷ [])) ≡ length (numbers_in items) + 1
+pub counted_more : (items : List Number) (n : ℤ)
+    → length (numbers_in (items ++ Ok n ∷ [])) ≡ length (numbers_in items) + 1
 counted_more items n = ap length (numbers_in-append items (Ok n ∷ [])) ∙ length-append (numbers_in items) (n ∷ [])
 
-pub summed_more : (items : List Number) (n : ℤ) → total (numbers_in (items ++ Ok n ∷ [])) ≡ total (numbers_in items) +ℤ n
+pub summed_more : (items : List Number) (n : ℤ)
+    → total (numbers_in (items ++ Ok n ∷ [])) ≡ total (numbers_in items) +ℤ n
 summed_more items n = ap total (numbers_in-append items (Ok n ∷ [])) ∙ total-push (numbers_in items) n
 
 pub lowest_more : (items : List Number) (n : ℤ) →
-    least (numbers_in (items ++ Ok n ∷ [])) ≡ (if length (numbers_in items) == 0 then n else int_min (least (numbers_in items)) n)
+    least (numbers_in (items ++ Ok n ∷ [])) ≡
+    (if length (numbers_in items) == 0 then n else int_min (least (numbers_in items)) n)
 lowest_more items n = ap least (numbers_in-append items (Ok n ∷ [])) ∙ least-push (numbers_in items) n
 
 pub highest_more : (items : List Number) (n : ℤ) →
-    greatest (numbers_in (items ++ Ok n ∷ [])) ≡ (if length (numbers_in items) == 0 then n else int_max (greatest (numbers_in items)) n)
+    greatest (numbers_in (items ++ Ok n ∷ [])) ≡
+    (if length (numbers_in items) == 0 then n else int_max (greatest (numbers_in items)) n)
 highest_more items n = ap greatest (numbers_in-append items (Ok n ∷ [])) ∙ greatest-push (numbers_in items) n
 
 pub every_more : (items : List Number) (n : ℤ) →
-    list_all (λ k. not (is_zero k)) (numbers_in (items ++ Ok n ∷ [])) ≡ (list_all (λ k. not (is_zero k)) (numbers_in items) && not (is_zero n))
+    list_all (λ k. not (is_zero k)) (numbers_in (items ++ Ok n ∷ [])) ≡
+    (list_all (λ k. not (is_zero k)) (numbers_in items) && not (is_zero n))
 every_more items n =
-    ap (list_all (λ k. not (is_zero k))) (numbers_in-append items (Ok n ∷ [])) ∙ list_all-append (λ k. not (is_zero k)) (numbers_in items) (n ∷ [])
+    ap (list_all (λ k. not (is_zero k))) (numbers_in-append items (Ok n ∷ []))
+    ∙ list_all-append (λ k. not (is_zero k)) (numbers_in items) (n ∷ [])
     ∙ ap (λ b. list_all (λ k. not (is_zero k)) (numbers_in items) && b) (and-true (not (is_zero n)))
 
 pub some_more : (items : List Number) (n : ℤ) →
-    list_any (λ k. not (is_zero k)) (numbers_in (items ++ Ok n ∷ [])) ≡ (list_any (λ k. not (is_zero k)) (numbers_in items) || not (is_zero n))
+    list_any (λ k. not (is_zero k)) (numbers_in (items ++ Ok n ∷ [])) ≡
+    (list_any (λ k. not (is_zero k)) (numbers_in items) || not (is_zero n))
 some_more items n =
-    ap (list_any (λ k. not (is_zero k))) (numbers_in-append items (Ok n ∷ [])) ∙ list_any-append (λ k. not (is_zero k)) (numbers_in items) (n ∷ [])
+    ap (list_any (λ k. not (is_zero k))) (numbers_in-append items (Ok n ∷ []))
+    ∙ list_any-append (λ k. not (is_zero k)) (numbers_in items) (n ∷ [])
     ∙ ap (λ b. list_any (λ k. not (is_zero k)) (numbers_in items) || b) (or-false (not (is_zero n)))
 
 -- a fault is no number
@@ -79,10 +94,13 @@ numbers_in-fault [] fault = refl
 numbers_in-fault (Ok n ∷ items) fault = ap (λ ns. n ∷ ns) (numbers_in-fault items fault)
 numbers_in-fault (Err first ∷ items) fault = numbers_in-fault items fault
 
-pub first_kept : (items : List Number) (fault : Fault) (o : Option Fault) → o ≡ first_fault items → is_none o ≡ false → o ≡ first_fault (items ++ Err fault ∷ [])
-first_kept items fault (Some first) is some = sym (first_fault-fault items fault ∙ ap (λ p. or_fault p fault) (sym is))
+pub first_kept : (items : List Number) (fault : Fault) (o : Option Fault) → o ≡ first_fault items
+    → is_none o ≡ false → o ≡ first_fault (items ++ Err fault ∷ [])
+first_kept items fault (Some first) is some =
+    sym (first_fault-fault items fault ∙ ap (λ p. or_fault p fault) (sym is))
 first_kept items fault None is some = cc
 
-pub first_put : (items : List Number) (fault : Fault) (o : Option Fault) → o ≡ first_fault items → is_none o ≡ true → Some fault ≡ first_fault (items ++ Err fault ∷ [])
+pub first_put : (items : List Number) (fault : Fault) (o : Option Fault) → o ≡ first_fault items
+    → is_none o ≡ true → Some fault ≡ first_fault (items ++ Err fault ∷ [])
 first_put items fault None is none = sym (first_fault-fault items fault ∙ ap (λ p. or_fault p fault) (sym is))
 first_put items fault (Some first) is none = cc

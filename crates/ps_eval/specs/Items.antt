@@ -1,5 +1,6 @@
 -- The items that SUM, MIN, MAX and COUNT take, and what they make of a list of items.
-use Rattle.std.specs.Prelude.{ℕ, not, List, [], ◌∷◌, length, fold, filter, flat_map, count_ones, Option, Some, None, Ok, Err, ℤ, pos, ◌+ℤ◌}
+use Rattle.std.specs.Prelude.{ℕ, not, List, [], ◌∷◌, length, fold, filter, flat_map, count_ones, Option, Some}
+use Rattle.std.specs.Prelude.{None, Ok, Err, ℤ, pos, ◌+ℤ◌}
 use Rattle.std.specs.List.{list_all, list_any}
 use Rattle.std.specs.Int.{int_min, int_max}
 use Rattle.ps_grid.specs.Rectangle.{Area, is_inside, cells_of}
@@ -29,7 +30,8 @@ cell_items (Text text) = []
 cell_items (Choice options) = Ok (pos (count_ones options)) ∷ []
 cell_items (Shows fault) = Err fault ∷ []
 
--- the cells that a range refers to, row by row. No range of a formula reaches past the grid, so the filter leaves none out
+-- the cells that a range refers to, row by row. No range of a formula reaches past the grid, so the filter
+-- leaves none out
 abbrev pub range_cells : Area → List ℕ
 range_cells a = filter (is_inside a) (cells_of a)
 

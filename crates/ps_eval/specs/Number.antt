@@ -1,10 +1,12 @@
 -- What operators and functions make of whole numbers: exact results, with one test of the range.
-use Rattle.std.specs.Prelude.{ℕ, suc, ◌/◌, ◌^◌, Bool, true, false, not, nat_lt, Result, Ok, Err, ℤ, pos, negsuc, ◌+ℤ◌, ◌-ℤ◌, ◌*ℤ◌, neg_ℤ, int_lt, int_le, int_div, unsigned_abs, if◌then◌else◌}
+use Rattle.std.specs.Prelude.{ℕ, suc, ◌/◌, ◌^◌, Bool, true, false, not, nat_lt, Result, Ok, Err, ℤ, pos, negsuc}
+use Rattle.std.specs.Prelude.{◌+ℤ◌, ◌-ℤ◌, ◌*ℤ◌, neg_ℤ, int_lt, int_le, int_div, unsigned_abs, if◌then◌else◌}
 use Rattle.std.specs.Ordering.{int_eq}
 use Rattle.ps_value.specs.declared.value.Fault.{Fault}
 use Rattle.ps_value.specs.declared.value.Fault.TheVariants.{DivZero, Num as OutOfRange}
 use Rattle.ps_tokens.specs.declared.token.Operator.{Operator}
-use Rattle.ps_tokens.specs.declared.token.Operator.TheVariants.{Plus, Minus, Times, Equal, NotEqual, Less, LessOrEqual, Greater, GreaterOrEqual}
+use Rattle.ps_tokens.specs.declared.token.Operator.TheVariants.{Plus, Minus, Times, Equal, NotEqual, Less}
+use Rattle.ps_tokens.specs.declared.token.Operator.TheVariants.{LessOrEqual, Greater, GreaterOrEqual}
 use Rattle.ps_formula.specs.declared.expr.Sign.{Sign}
 use Rattle.ps_formula.specs.declared.expr.Sign.TheVariants.{Plus as PlusSign, Minus as MinusSign}
 

@@ -4,12 +4,17 @@ use Rattle.ps_value.specs.declared.value.Value.{Value}
 use Rattle.ps_value.specs.declared.value.Value.TheVariants.{Num, Err as Shows}
 use Rattle.ps_value.specs.declared.value.Fault.TheVariants.{Value as NoNumber}
 use Rattle.ps_tokens.specs.declared.token.Function.{Function}
-use Rattle.ps_tokens.specs.declared.token.Function.TheVariants.{Sum, Min, Max, Count, If, Mod, Quotient, Abs, And, Or, Not, True, False}
-use Rattle.ps_formula.specs.Tree.{Tree, Item, Items, number, reference, signed, joined, group, call, expression, range, no_items, item_and}
-use Rattle.ps_eval.specs.Number.{Number, is_zero, truth, modulo, quotient, absolute, prefixed, operation, on_one, on_both, chosen}
-use Rattle.ps_eval.specs.Items.{Assignment, single, cell_items, range_items, sum_of, min_of, max_of, count_of, all_of, any_of}
+use Rattle.ps_tokens.specs.declared.token.Function.TheVariants.{Sum, Min, Max, Count, If, Mod, Quotient, Abs}
+use Rattle.ps_tokens.specs.declared.token.Function.TheVariants.{And, Or, Not, True, False}
+use Rattle.ps_formula.specs.Tree.{Tree, Item, Items, number, reference, signed, joined, group, call, expression}
+use Rattle.ps_formula.specs.Tree.{range, no_items, item_and}
+use Rattle.ps_eval.specs.Number.{Number, is_zero, truth, modulo, quotient, absolute, prefixed, operation}
+use Rattle.ps_eval.specs.Number.{on_one, on_both, chosen}
+use Rattle.ps_eval.specs.Items.{Assignment, single, cell_items, range_items, sum_of, min_of, max_of, count_of}
+use Rattle.ps_eval.specs.Items.{all_of, any_of}
 
--- what a call makes of its arguments' items, or of its arguments' values. A call that the grammar doesn't have is no number
+-- what a call makes of its arguments' items, or of its arguments' values. A call that the grammar doesn't
+-- have is no number
 abbrev pub called : Function → List Number → List Number → Number
 called Sum items values = sum_of items
 called Min items values = min_of items

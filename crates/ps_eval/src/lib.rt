@@ -1,4 +1,15 @@
-//! The value of a formula.
+//! The value of a formula where each cell shows a value.
+//!
+//! It is not the sheet: it knows no edits, no replicas and no threads, finds no cycles, and keeps nothing between two
+//! calls. It is the only crate that evaluates formulas.
+//!
+//! Where A1 shows 5 and A2 a text, `=SUM([.A1:.A2];7)*2` has the value 24: the text is passed over. `=[.A2]*2` has the
+//! value `#VALUE!`, and `=9223372036854775807+1` the value `#NUM!`.
+//!
+//! Numbers are whole. All results are exact, with one test of the 64-bit range for each operation, and a sum has one
+//! test at its end. The meter that is lent to each evaluation counts it.
+//!
+//! Cost: no memory, and a walk of the tree and of the cells in its ranges.
 #![tactic(auto)]
 
 mod arithmetic;

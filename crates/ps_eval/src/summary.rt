@@ -1,6 +1,7 @@
 //! What SUM, MIN, MAX and COUNT need to know of their items, and AND and OR of their arguments.
 
-ghost use Rattle.std.specs.Prelude.{◌≡◌, ◌+◌, ◌*◌, ◌^◌, ◌<◌, ◌≤◌, ◌==◌, not, ◌&&◌, ◌||◌, List, [], ◌∷◌, ◌++◌, unsigned_abs, if◌then◌else◌};
+ghost use Rattle.std.specs.Prelude.{◌≡◌, ◌+◌, ◌*◌, ◌^◌, ◌<◌, ◌≤◌, ◌==◌, not, ◌&&◌, ◌||◌, if◌then◌else◌};
+ghost use Rattle.std.specs.Prelude.{List, [], ◌∷◌, ◌++◌, unsigned_abs};
 ghost use Rattle.std.specs.Int.{int_max, int_min};
 ghost use Rattle.ps_eval.specs.Number.{is_zero, Number};
 
@@ -47,7 +48,9 @@ impl Summary {
     // One more number.
     fn take_number(&mut self, number: i64)
         requires { self.old.count < 2 ^ 100 }
-        ensures items { (items : List Number) → Summarizes items self.old → Summarizes (items ++ Ok number ∷ []) self.new }
+        ensures items { (items : List Number)
+            → Summarizes items self.old
+            → Summarizes (items ++ Ok number ∷ []) self.new }
         ensures count { self.new.count ≡ self.old.count + 1 }
     {
         self.least = lesser(self.count, self.least, number);
@@ -61,7 +64,9 @@ impl Summary {
     // One more item.
     pub(crate) fn take(&mut self, item: Result<i64, Fault>)
         requires { self.old.count < 2 ^ 100 }
-        ensures items { (items : List Number) → Summarizes items self.old → Summarizes (items ++ item ∷ []) self.new }
+        ensures items { (items : List Number)
+            → Summarizes items self.old
+            → Summarizes (items ++ item ∷ []) self.new }
         ensures count { self.new.count ≤ self.old.count + 1 }
     {
         match item {
@@ -72,7 +77,9 @@ impl Summary {
 
     // One more fault: the first one stays.
     fn take_fault(&mut self, fault: Fault)
-        ensures items { (items : List Number) → Summarizes items self.old → Summarizes (items ++ Err fault ∷ []) self.new }
+        ensures items { (items : List Number)
+            → Summarizes items self.old
+            → Summarizes (items ++ Err fault ∷ []) self.new }
         ensures count { self.new.count ≡ self.old.count }
     {
         if self.fault.is_none() {
@@ -83,7 +90,9 @@ impl Summary {
     // The value of one more cell, which may be no item.
     pub(crate) fn take_cell(&mut self, value: Value)
         requires { self.old.count < 2 ^ 100 }
-        ensures items { (items : List Number) → Summarizes items self.old → Summarizes (items ++ cell_items value) self.new }
+        ensures items { (items : List Number)
+            → Summarizes items self.old
+            → Summarizes (items ++ cell_items value) self.new }
         ensures count { self.new.count ≤ self.old.count + 1 }
     {
         match value {

@@ -5,14 +5,17 @@ use Rattle.ps_formula.specs.TreeOf.{item_of}
 use Rattle.ps_tokens.specs.declared.token.Function.{Function}
 use Rattle.ps_eval.specs.Value.{items_of, values_of, number_of}
 use Rattle.ps_eval.specs.Summarized.{Summarizes}
-use Rattle.ps_eval.proofs.Calls.{items_of-push, values_of-push, if_few, if_many, mod_few, mod_many, quotient_few, quotient_many, abs_many, not_many, true_many, false_many}
+use Rattle.ps_eval.proofs.Calls.{items_of-push, values_of-push, if_few, if_many, mod_few, mod_many}
+use Rattle.ps_eval.proofs.Calls.{quotient_few, quotient_many, abs_many, not_many, true_many, false_many}
 use Rattle.ps_eval.proofs.tree.+numbers.Goals as goal
 
 pub absolute_of-returns-in_default-2 : goal.absolute_of-returns-in_default-2
-absolute_of-returns-in_default-2 g t c = abs_many c.args.arguments.now (g.K.Look.value_at c.args.look.now) (omega arith)
+absolute_of-returns-in_default-2 g t c =
+    abs_many c.args.arguments.now (g.K.Look.value_at c.args.look.now) (omega arith)
 
 pub negation_of-returns-in_default-2 : goal.negation_of-returns-in_default-2
-negation_of-returns-in_default-2 g t c = not_many c.args.arguments.now (g.K.Look.value_at c.args.look.now) (omega arith)
+negation_of-returns-in_default-2 g t c =
+    not_many c.args.arguments.now (g.K.Look.value_at c.args.look.now) (omega arith)
 
 pub choice-returns-in_default : goal.choice-returns-in_default
 choice-returns-in_default g t c = if_few c.args.arguments.now (g.K.Look.value_at c.args.look.now) (omega arith)
@@ -27,22 +30,26 @@ pub modulo_of-returns-in_default-2 : goal.modulo_of-returns-in_default-2
 modulo_of-returns-in_default-2 g t c = mod_many c.args.arguments.now (g.K.Look.value_at c.args.look.now) (omega arith)
 
 pub quotient_of-returns-in_default : goal.quotient_of-returns-in_default
-quotient_of-returns-in_default g t c = quotient_few c.args.arguments.now (g.K.Look.value_at c.args.look.now) (omega arith)
+quotient_of-returns-in_default g t c =
+    quotient_few c.args.arguments.now (g.K.Look.value_at c.args.look.now) (omega arith)
 
 pub quotient_of-returns-in_default-2 : goal.quotient_of-returns-in_default-2
-quotient_of-returns-in_default-2 g t c = quotient_many c.args.arguments.now (g.K.Look.value_at c.args.look.now) (omega arith)
+quotient_of-returns-in_default-2 g t c =
+    quotient_many c.args.arguments.now (g.K.Look.value_at c.args.look.now) (omega arith)
 
 pub value_of_call-returns-in_default : goal.value_of_call-returns-in_default
 value_of_call-returns-in_default g t c =
     let xs = c.args.arguments.now in
     let v = g.K.Look.value_at c.args.look.now in
-    true_many xs v (omega arith) ∙ ap (λ (f : Function). number_of (call f (in_row (map item_of xs))) v) (sym c.in-True.is)
+    true_many xs v (omega arith)
+    ∙ ap (λ (f : Function). number_of (call f (in_row (map item_of xs))) v) (sym c.in-True.is)
 
 pub value_of_call-returns-in_default-arguments : goal.value_of_call-returns-in_default-arguments
 value_of_call-returns-in_default-arguments g t c =
     let xs = c.args.arguments.now in
     let v = g.K.Look.value_at c.args.look.now in
-    false_many xs v (omega arith) ∙ ap (λ (f : Function). number_of (call f (in_row (map item_of xs))) v) (sym c.in-False.is)
+    false_many xs v (omega arith)
+    ∙ ap (λ (f : Function). number_of (call f (in_row (map item_of xs))) v) (sym c.in-False.is)
 
 pub items-loop-argument-preserved : goal.items-loop-argument-preserved
 items-loop-argument-preserved g t c =
@@ -51,11 +58,15 @@ items-loop-argument-preserved g t c =
     let i = c.loop-argument.argument-index in
     let x = c.argument-item.result in
     let before = items_of (in_row (map item_of (take i xs))) v in
-    let more : take (i + 1) xs ≡ take i xs ++ x ∷ [] = take_more xs i x (omega arith) ∙ ap (λ y. take i xs ++ y ∷ []) (sym c.argument-item.is) in
+    let more : take (i + 1) xs ≡ take i xs ++ x ∷ [] = take_more xs i x (omega arith)
+    ∙ ap (λ y. take i xs ++ y ∷ []) (sym c.argument-item.is) in
     let items = ap (λ ys. items_of (in_row (map item_of ys)) v) more ∙ items_of-push (take i xs) x v in
     let few = c.take_argument.ensures.count in
-    let fewer = c.loop-argument.invariant.1 in
-    (subst (λ ns. Summarizes ns c.take_argument.new.summary) (sym items) (c.take_argument.ensures.items before c.loop-argument.invariant.0), omega arith)
+    let fewer = c.loop-argument.invariant.1 in (
+      subst (λ ns. Summarizes ns c.take_argument.new.summary) (sym items)
+          (c.take_argument.ensures.items before c.loop-argument.invariant.0),
+      omega arith,
+    )
 
 pub operands-loop-argument-preserved : goal.operands-loop-argument-preserved
 operands-loop-argument-preserved g t c =
@@ -64,8 +75,10 @@ operands-loop-argument-preserved g t c =
     let i = c.loop-argument.argument-index in
     let x = c.argument-item.result in
     let before = values_of (in_row (map item_of (take i xs))) v in
-    let more : take (i + 1) xs ≡ take i xs ++ x ∷ [] = take_more xs i x (omega arith) ∙ ap (λ y. take i xs ++ y ∷ []) (sym c.argument-item.is) in
-    let values = ap (λ ys. values_of (in_row (map item_of ys)) v) more ∙ values_of-push (take i xs) x v ∙ ap (λ n. before ++ n ∷ []) (sym c.operand.ensures) in
+    let more : take (i + 1) xs ≡ take i xs ++ x ∷ [] = take_more xs i x (omega arith)
+    ∙ ap (λ y. take i xs ++ y ∷ []) (sym c.argument-item.is) in
+    let values = ap (λ ys. values_of (in_row (map item_of ys)) v) more ∙ values_of-push (take i xs) x v
+    ∙ ap (λ n. before ++ n ∷ []) (sym c.operand.ensures) in
     let few = c.take.ensures.count in
     let fewer = c.loop-argument.invariant.1 in
     let taken = c.take.ensures.items before c.loop-argument.invariant.0 in

@@ -8,10 +8,12 @@ use Rattle.ps_eval.proofs.tree.+numbers.Given as goal
 
 abbrev pub invariant-operands-loop-argument : goal.invariant-operands-loop-argument
 invariant-operands-loop-argument g l =
-    Summarizes (values_of (in_row (map item_of (take l.argument-index l.arguments))) (g.K.Look.value_at l.look)) l.summary
+    Summarizes (values_of (in_row (map item_of (take l.argument-index l.arguments))) (g.K.Look.value_at l.look))
+    l.summary
     × (l.summary.count ≤ l.argument-index)
 
 abbrev pub invariant-items-loop-argument : goal.invariant-items-loop-argument
 invariant-items-loop-argument g l =
-    Summarizes (items_of (in_row (map item_of (take l.argument-index l.arguments))) (g.K.Look.value_at l.look)) l.summary
+    Summarizes (items_of (in_row (map item_of (take l.argument-index l.arguments))) (g.K.Look.value_at l.look))
+    l.summary
     × (l.summary.count ≤ l.argument-index * CELLS)

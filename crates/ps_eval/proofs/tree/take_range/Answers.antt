@@ -14,8 +14,11 @@ loop-k-preserved g c =
     let most = c.loop-k.invariant.1 in (
       λ items s.
           let shown = c.at.ensures ∙ ap v c.nth.ensures in
-          let whole = append_assoc items (items_before v a k) (cell_items c.at.result) ∙ ap (λ ns. items ++ ns) (ap (λ x. items_before v a k ++ cell_items x) shown ∙ sym (items_before_more v a k)) in
-          subst (λ ns. Summarizes ns c.take_cell.new.self) whole (c.take_cell.ensures.items (items ++ items_before v a k) (c.loop-k.invariant.0 items s)),
+          let whole = append_assoc items (items_before v a k) (cell_items c.at.result)
+          ∙ ap (λ ns. items ++ ns) (ap (λ x. items_before v a k ++ cell_items x) shown
+          ∙ sym (items_before_more v a k)) in
+          subst (λ ns. Summarizes ns c.take_cell.new.self) whole
+          (c.take_cell.ensures.items (items ++ items_before v a k) (c.loop-k.invariant.0 items s)),
       omega arith,
     )
 

@@ -6,5 +6,6 @@ use Rattle.ps_eval.proofs.tree.take_range.Given as goal
 
 abbrev pub invariant-loop-k : goal.invariant-loop-k
 invariant-loop-k g l =
-    ((items : List Number) → Summarizes items l.fn.summary → Summarizes (items ++ items_before (g.K.Look.value_at l.look) l.rect l.k) l.summary)
+    ((items : List Number) → Summarizes items l.fn.summary
+    → Summarizes (items ++ items_before (g.K.Look.value_at l.look) l.rect l.k) l.summary)
     × (l.summary.count ≤ l.fn.summary.count + l.k)

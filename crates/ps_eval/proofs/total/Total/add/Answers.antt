@@ -9,11 +9,13 @@ returns-then-sum-gt-GREATEST c =
     let sum = to_z w128 (of_z w128 (to_z w128 (of_z w128 c.from.result) +ℤ to_z w128 (of_z w128 c.from-2.result))) in
     let low' = to_z w64 (of_z w64 (to_z w128 (of_z w128 (sum -ℤ pos (2 ^ 64))))) in
     let turns' = to_z w128 (of_z w128 (to_z w128 (of_z w128 c.self.inside.turns) +ℤ pos 1)) in
-    turned_up c.self.inside.low c.self.inside.turns c.args.number c.args.self.now low' turns' c.self.view_is (omega (arith, ints)) (omega (arith, ints))
+    turned_up c.self.inside.low c.self.inside.turns c.args.number c.args.self.now low' turns' c.self.view_is
+    (omega (arith, ints)) (omega (arith, ints))
 
 pub returns-then-sum-lt-LEAST : goal.returns-then-sum-lt-LEAST
 returns-then-sum-lt-LEAST c =
     let sum = to_z w128 (of_z w128 (to_z w128 (of_z w128 c.from.result) +ℤ to_z w128 (of_z w128 c.from-2.result))) in
     let low' = to_z w64 (of_z w64 (to_z w128 (of_z w128 (sum +ℤ pos (2 ^ 64))))) in
     let turns' = to_z w128 (of_z w128 (to_z w128 (of_z w128 c.self.inside.turns) -ℤ pos 1)) in
-    turned_down c.self.inside.low c.self.inside.turns c.args.number c.args.self.now low' turns' c.self.view_is (omega (arith, ints)) (omega (arith, ints))
+    turned_down c.self.inside.low c.self.inside.turns c.args.number c.args.self.now low' turns' c.self.view_is
+    (omega (arith, ints)) (omega (arith, ints))
