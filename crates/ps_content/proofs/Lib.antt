@@ -1,3 +1,4 @@
+pub mod CanonicalLemmas
 pub mod EntryLemmas
 pub mod NumberLemmas
 pub mod OrderLemmas

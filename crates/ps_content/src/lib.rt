@@ -10,11 +10,13 @@
 //! the texts that are copied or compared.
 #![tactic(auto)]
 
+mod canonical;
 mod content;
 mod entry;
 mod order;
 mod shared;
 
+pub use canonical::read_canonical;
 pub use content::Content;
 pub use entry::read_entry;
 pub use shared::SharedFormula;
