@@ -9,13 +9,12 @@ use Rattle.std.specs.Cmp.{IsTotalOrder, nat_cmp_total}
 use Rattle.std.specs.FinMap as map
 use Rattle.std.specs.FinMap.{IsAntisymmetric, same_map, get-empty, nat_cmp-IsAntisymmetric}
 use Rattle.ps_lattice.specs.declared.tally.Count.{Count}
-use Rattle.ps_lattice.specs.declared.choice.Pair.{Pair}
 use Rattle.ps_lattice.specs.Maps.{both_of, joined_maps}
 use Rattle.ps_lattice.specs.MapLaws.{get-joined_maps}
-use Rattle.ps_lattice.specs.Tally.{Counts, greater_counts}
-use Rattle.ps_lattice.specs.Choice.{Pairs, pair_cmp, pair_of, is_added, is_removed}
+use Rattle.ps_lattice.specs.Tally.{greater_counts}
+use Rattle.ps_lattice.specs.Choice.{pair_cmp, pair_of}
 use Rattle.ps_lattice.specs.ChoiceLaws.{pairs_total, pairs_apart}
-use Rattle.ps_lattice.specs.JoinWords.{TalliesJoinByMaximum, ChoicesJoinByUnion, EmptyIsLeast, SamePairs}
+use Rattle.ps_lattice.specs.JoinWords.{TalliesJoinByMaximum, ChoicesJoinByUnion, EmptyIsLeast}
 
 max_zero : (n : ℕ) → n ≡ max n 0
 max_zero n = omega arith
