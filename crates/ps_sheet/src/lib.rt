@@ -1,0 +1,13 @@
+//! The sheet of one replica.
+#![tactic(auto)]
+
+mod changes;
+mod contents;
+mod edit;
+mod laws;
+mod rounds;
+mod sheet;
+
+pub use edit::{Batch, Edit};
+pub use laws::{same_join_shows_the_same, settled_at_least_once, settled_at_most_once};
+pub use sheet::{Report, Sheet};
