@@ -1,5 +1,6 @@
 -- A canonical text is an entry that is read as its content.
-use Rattle.std.proofs.Common.{◌≡◌, ℕ, ℤ, pos, negsuc, ◌<◌, ◌≤◌, Bool, true, false, ◌&&◌, List, [], ◌∷◌, length, Result, Ok, Err, refl, sym, ap, ◌∙◌, arith}
+use Rattle.std.proofs.Common.{◌≡◌, ℕ, ℤ, pos, negsuc, ◌<◌, ◌≤◌, Bool, true, false, ◌&&◌, List, [], ◌∷◌, length}
+use Rattle.std.proofs.Common.{Result, Ok, Err, refl, sym, ap, ◌∙◌, arith}
 use Rattle.std.specs.Prelude.{FitsSigned, MatchResult, bytes_eq, ◌==◌}
 use Rattle.std.specs.Fmt.{signed_decimal}
 use Rattle.std.specs.Int.{w64}
@@ -21,7 +22,8 @@ use Rattle.ps_content.proofs.NumberLemmas.{is_number-from, is_number-to}
 use Rattle.ps_content.proofs.EntryLemmas.{kind_of-number, kind_of-formula, kind_of-word}
 
 -- the decimal text of a number writes that number
-number_written : (bytes : List ℕ) (z : ℤ) → FitsSigned w64 z → bytes ≡ signed_decimal z → (t : Bool) → is_number bytes ≡ t
+number_written : (bytes : List ℕ) (z : ℤ) → FitsSigned w64 z → bytes ≡ signed_decimal z → (t : Bool)
+    → is_number bytes ≡ t
     → (is_number bytes ≡ true) × (signed_digits_value 10 bytes ≡ z)
 number_written bytes z fits e true is =
     let value = signed_digits_value 10 bytes in
@@ -45,8 +47,10 @@ is_filled-test bytes some = ne_eqb (length bytes) 0 (λ e. omega arith)
 kind_of_decimal : (z : ℤ) → FitsSigned w64 z → kind_of (signed_decimal z) ≡ number z
 kind_of_decimal z fits =
     let written = number_written (signed_decimal z) z fits refl (is_number (signed_decimal z)) refl in
-    let short : length (signed_decimal z) ≤ LONGEST_ENTRY = omega (arith, length_signed_le 19 z (omega (arith, fits.sfits)) fits.sfits) in
-    kind_of-number (signed_decimal z) short (is_filled-test (signed_decimal z) (signed_nonempty z fits)) written.0 ∙ ap number written.1
+    let short : length (signed_decimal z) ≤ LONGEST_ENTRY = omega
+    (arith, length_signed_le 19 z (omega (arith, fits.sfits)) fits.sfits) in
+    kind_of-number (signed_decimal z) short (is_filled-test (signed_decimal z) (signed_nonempty z fits))
+    written.0 ∙ ap number written.1
 
 -- a first byte that is neither a sign nor a digit
 middle_fails : (a c : Bool) → (a && false && c) ≡ false
@@ -69,7 +73,8 @@ kind_of_quoted bytes label =
 
 kind_of_equals : (bytes : List ℕ) → length (61 ∷ bytes) ≤ 256 → kind_of (61 ∷ bytes) ≡ formula
 unfolding is_formula
-kind_of_equals bytes short = kind_of-formula (61 ∷ bytes) (omega arith) (is_filled-test (61 ∷ bytes) (omega arith)) (not_number-61 bytes) refl
+kind_of_equals bytes short = kind_of-formula (61 ∷ bytes) (omega arith)
+    (is_filled-test (61 ∷ bytes) (omega arith)) (not_number-61 bytes) refl
 
 -- what is read of the canonical text of a content is that content, but for lack of memory
 abbrev pub ReadsBack : Content → Result Content Refusal → Type 0
@@ -78,7 +83,8 @@ ReadsBack c result = MatchResult result (λ d. d ≡ c) (λ e. e ≡ Memory)
 from_ok : (c : Content) (result : Result Content Refusal) → result ≡ Ok c → ReadsBack c result
 from_ok c result e = rw e refl
 
-pub reads_canonical : (c : Content) (result : Result Content Refusal) → IsContent c → Reads (kind_of (canonical_text c)) (canonical_text c) result → ReadsBack c result
+pub reads_canonical : (c : Content) (result : Result Content Refusal) → IsContent c
+    → Reads (kind_of (canonical_text c)) (canonical_text c) result → ReadsBack c result
 unfolding kind_of word_of is_number is_formula
 reads_canonical Blank result is reads = from_ok Blank result reads
 reads_canonical (Number z) result is reads = from_ok (Number z) result (rw (kind_of_decimal z is) at reads)
@@ -91,7 +97,8 @@ reads_canonical Tally result is reads = from_ok Tally result reads
 reads_canonical Choice result is reads = from_ok Choice result reads
 
 -- the same, of bytes that are a canonical text
-pub reads_back : (c : Content) (bytes : List ℕ) (result : Result Content Refusal) → IsContent c → bytes ≡ canonical_text c → Reads (kind_of bytes) bytes result → ReadsBack c result
+pub reads_back : (c : Content) (bytes : List ℕ) (result : Result Content Refusal) → IsContent c
+    → bytes ≡ canonical_text c → Reads (kind_of bytes) bytes result → ReadsBack c result
 reads_back c bytes result is e reads = reads_canonical c result is (rw e at reads)
 
 bytes_eq-itself : (bytes : List ℕ) → bytes_eq bytes bytes ≡ true
@@ -99,5 +106,6 @@ bytes_eq-itself [] = refl
 bytes_eq-itself (b ∷ bs) = rw (eq-eqb b b refl) (bytes_eq-itself bs)
 
 -- a content is written as its canonical text
-pub not_written : (c d : Content) (bytes : List ℕ) → d ≡ c → bytes ≡ canonical_text c → bytes_eq bytes (canonical_text d) ≡ false → ⊥
+pub not_written : (c d : Content) (bytes : List ℕ) → d ≡ c → bytes ≡ canonical_text c
+    → bytes_eq bytes (canonical_text d) ≡ false → ⊥
 not_written c d bytes same e test = false≢true (sym (rw (same, ← e) at test) ∙ bytes_eq-itself bytes)

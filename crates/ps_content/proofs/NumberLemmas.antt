@@ -1,11 +1,13 @@
 -- What an entry writes as a number.
-use Rattle.std.proofs.Common.{◌≡◌, ℕ, ℤ, pos, negsuc, ◌^◌, Bool, true, false, cond, ◌&&◌, List, [], ◌∷◌, length, drop, Option, None, Some, Result, Ok, Err, refl, sym, ap, ◌∙◌, arith}
+use Rattle.std.proofs.Common.{◌≡◌, ℕ, ℤ, pos, negsuc, ◌^◌, Bool, true, false, cond, ◌&&◌, List, [], ◌∷◌, length}
+use Rattle.std.proofs.Common.{drop, Option, None, Some, Result, Ok, Err, refl, sym, ap, ◌∙◌, arith}
 use Rattle.std.specs.Prelude.{FitsSigned, ◌==◌, IsUtf8, nat_lt}
 use Rattle.std.specs.Int.{w64}
 use mir.Val.{to_z, of_z}
 use Rattle.std.specs.Result.{result_ok}
 use Rattle.std.specs.Str.{all_ascii_digits, IsAscii}
-use Rattle.std.specs.Str.Parse.{AllDigits, IsNumeral, ParsesSigned, without_leading_sign, signed_digits_value, digits_value}
+use Rattle.std.specs.Str.Parse.{AllDigits, IsNumeral, ParsesSigned, without_leading_sign, signed_digits_value}
+use Rattle.std.specs.Str.Parse.{digits_value}
 use Rattle.std.proofs.lemmas.Bool.{ltb-true, lt-ltb, false≢true, eqb-true}
 use Rattle.std.proofs.lemmas.Int.{to_z-of_z}
 use Rattle.std.proofs.lemmas.Str.Ascii.{IsAscii-cons, IsAscii-nil}
@@ -37,19 +39,31 @@ fits_64-to : (z : ℤ) → fits_64 z ≡ true → FitsSigned w64 z
 fits_64-to (pos n) test = record { sfits = ltb-true n (2 ^ 63) test }
 fits_64-to (negsuc n) test = record { sfits = ltb-true n (2 ^ 63) test }
 
-pub is_number-from : (bytes : List ℕ) → IsNumeral 10 (without_leading_sign bytes) → FitsSigned w64 (signed_digits_value 10 bytes) → is_number bytes ≡ true
+pub is_number-from : (bytes : List ℕ) → IsNumeral 10 (without_leading_sign bytes)
+    → FitsSigned w64 (signed_digits_value 10 bytes) → is_number bytes ≡ true
 unfolding is_number
 is_number-from bytes numeral fits =
-    rw (lt-ltb 0 (length (without_leading_sign bytes)) numeral.0, digits.from (without_leading_sign bytes) numeral.1, fits_64-from (signed_digits_value 10 bytes) fits) refl
+    rw (
+      lt-ltb 0 (length (without_leading_sign bytes)) numeral.0,
+      digits.from (without_leading_sign bytes)
+          numeral.1,
+      fits_64-from (signed_digits_value 10 bytes) fits,
+    ) refl
 
-pub is_number-to : (bytes : List ℕ) → is_number bytes ≡ true → IsNumeral 10 (without_leading_sign bytes) × FitsSigned w64 (signed_digits_value 10 bytes)
+pub is_number-to : (bytes : List ℕ) → is_number bytes ≡ true
+    → IsNumeral 10 (without_leading_sign bytes) × FitsSigned w64 (signed_digits_value 10 bytes)
 unfolding is_number
 is_number-to bytes test =
     let ds = without_leading_sign bytes in
     let some = nat_lt 0 (length ds) in
     let front = left_of_and (some && all_ascii_digits ds) (fits_64 (signed_digits_value 10 bytes)) test in (
-      (ltb-true 0 (length ds) (left_of_and some (all_ascii_digits ds) front), digits.to ds (right_of_and some (all_ascii_digits ds) front)),
-      fits_64-to (signed_digits_value 10 bytes) (right_of_and (some && all_ascii_digits ds) (fits_64 (signed_digits_value 10 bytes)) test),
+      (
+        ltb-true 0 (length ds) (left_of_and some (all_ascii_digits ds) front),
+        digits.to ds
+            (right_of_and some (all_ascii_digits ds) front),
+      ),
+      fits_64-to (signed_digits_value 10 bytes)
+          (right_of_and (some && all_ascii_digits ds) (fits_64 (signed_digits_value 10 bytes)) test),
     )
 
 pub number_of-some : (bytes : List ℕ) → is_number bytes ≡ true → number_of bytes ≡ Some (signed_digits_value 10 bytes)
@@ -61,9 +75,12 @@ unfolding number_of
 number_of-none bytes test = rw test refl
 
 -- what `parse` answers is the number
-pub number_of-parsed : (E : Type 0) (bytes : List ℕ) (r : Result ℤ E) → ParsesSigned w64 10 bytes r → result_ok r ≡ number_of bytes
-number_of-parsed E bytes (Ok z) parses = ap Some parses.1 ∙ sym (number_of-some bytes (is_number-from bytes parses.0.0 parses.0.1))
-number_of-parsed E bytes (Err e) parses = sym (number_of-none bytes (test_fails (is_number bytes) (λ test. parses (is_number-to bytes test))))
+pub number_of-parsed : (E : Type 0) (bytes : List ℕ) (r : Result ℤ E) → ParsesSigned w64 10 bytes r
+    → result_ok r ≡ number_of bytes
+number_of-parsed E bytes (Ok z) parses = ap Some parses.1 ∙ sym
+    (number_of-some bytes (is_number-from bytes parses.0.0 parses.0.1))
+number_of-parsed E bytes (Err e) parses = sym
+    (number_of-none bytes (test_fails (is_number bytes) (λ test. parses (is_number-to bytes test))))
 
 number_cases : (b : Bool) (v z : ℤ) → cond b (Some v) None ≡ Some z → (b ≡ true) × (v ≡ z)
 number_cases true v z e = (refl, cc)
@@ -82,12 +99,14 @@ pub is_number-none : (bytes : List ℕ) → None ≡ number_of bytes → is_numb
 unfolding number_of
 is_number-none bytes e = none_cases (is_number bytes) (signed_digits_value 10 bytes) (sym e)
 
-pub is_number-default : (bytes : List ℕ) (r : Option ℤ) → r ≡ number_of bytes → ((z : ℤ) → r ≡ Some z → ⊥) → is_number bytes ≡ false
+pub is_number-default : (bytes : List ℕ) (r : Option ℤ) → r ≡ number_of bytes → ((z : ℤ) → r ≡ Some z → ⊥)
+    → is_number bytes ≡ false
 is_number-default bytes None e other = is_number-none bytes e
 is_number-default bytes (Some z) e other = absurd (other z refl)
 
 -- which number it writes, as the code keeps it
-pub kept_number : (bytes : List ℕ) (z : ℤ) → Some z ≡ number_of bytes → to_z w64 (of_z w64 z) ≡ signed_digits_value 10 bytes
+pub kept_number : (bytes : List ℕ) (z : ℤ) → Some z ≡ number_of bytes
+    → to_z w64 (of_z w64 z) ≡ signed_digits_value 10 bytes
 unfolding number_of
 kept_number bytes z e =
     let value = (number_cases (is_number bytes) (signed_digits_value 10 bytes) z (sym e)).1 in
@@ -112,8 +131,10 @@ ascii_signed (b ∷ bs) digits = by_minus (b == 45) refl
 
 -- a number is ASCII
 pub IsUtf8-number : (bytes : List ℕ) → is_number bytes ≡ true → IsUtf8 bytes
-IsUtf8-number bytes test = IsUtf8-from_ascii bytes (ascii_signed bytes (ascii_digits (without_leading_sign bytes) (is_number-to bytes test).0.1))
+IsUtf8-number bytes test = IsUtf8-from_ascii bytes
+    (ascii_signed bytes (ascii_digits (without_leading_sign bytes) (is_number-to bytes test).0.1))
 
 -- bytes that are no UTF-8 are no number
 pub number_of-no_text : (bytes : List ℕ) → ¬ (IsUtf8 bytes) → None ≡ number_of bytes
-number_of-no_text bytes refuted = sym (number_of-none bytes (test_fails (is_number bytes) (λ test. refuted (IsUtf8-number bytes test))))
+number_of-no_text bytes refuted = sym (number_of-none bytes
+    (test_fails (is_number bytes) (λ test. refuted (IsUtf8-number bytes test))))

@@ -1,5 +1,7 @@
 -- What an entry means.
-use Rattle.std.specs.Prelude.{◌≡◌, ◌⊎◌, ◌==◌, ◌^◌, ℕ, ℤ, pos, negsuc, ◌<◌, ◌≤◌, Bool, ◌&&◌, ◌||◌, if◌then◌else◌, nat_lt, nat_eq, List, length, drop, codes, bytes_eq, Option, None, Some, Result, Ok, Err, IfOk, IfErr, MatchResult}
+use Rattle.std.specs.Prelude.{◌≡◌, ◌⊎◌, ◌==◌, ◌^◌, ℕ, ℤ, pos, negsuc, ◌<◌, ◌≤◌, Bool, ◌&&◌, ◌||◌, if◌then◌else◌}
+use Rattle.std.specs.Prelude.{nat_lt, nat_eq, List, length, drop, codes, bytes_eq, Option, None, Some, Result, Ok}
+use Rattle.std.specs.Prelude.{Err, IfOk, IfErr, MatchResult}
 use Rattle.std.specs.List.{starts_with}
 use Rattle.std.specs.Str.{all_ascii_digits}
 use Rattle.std.specs.Str.Parse.{without_leading_sign, signed_digits_value}
@@ -55,13 +57,16 @@ kind_of bytes =
     else if is_formula bytes then formula
     else word_of bytes
 
--- a formula entry is the formula that it has by the grammar; 3 where it has none, 4 where its canonical text is too long
+-- a formula entry is the formula that it has by the grammar; it is refused where it has none, and where the
+-- canonical text is too long
 pub record ReadsFormula (bytes : List ℕ) (result : Result Content Refusal) : Type 0 where
-  pub found : IfOk result (λ c. (tree : Tree) × (c ≡ Formula tree) × HasTree bytes tree × (length (canon tree) ≤ LONGEST_TEXT))
+  pub found : IfOk result (λ c. (tree : Tree) × (c ≡ Formula tree) × HasTree bytes tree
+      × (length (canon tree) ≤ LONGEST_TEXT))
   pub read : (tree : Tree) → HasTree bytes tree → length (canon tree) ≤ LONGEST_TEXT
       → MatchResult result (λ c. c ≡ Formula tree) (λ e. e ≡ refusals.Memory)
   pub no_formula : result ≡ Err refusals.Formula → (tree : Tree) → ¬ (HasTree bytes tree)
-  pub too_long : result ≡ Err refusals.TooLong → (tree : Tree) × HasTree bytes tree × (LONGEST_TEXT < length (canon tree))
+  pub too_long : result ≡ Err refusals.TooLong
+      → (tree : Tree) × HasTree bytes tree × (LONGEST_TEXT < length (canon tree))
   pub refused : IfErr result (λ e. (e ≡ refusals.Formula) ⊎ ((e ≡ refusals.TooLong) ⊎ (e ≡ refusals.Memory)))
 
 -- what an entry of a kind is read as

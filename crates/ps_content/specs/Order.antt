@@ -35,7 +35,8 @@ formula_in _ = None
 
 -- contents of one kind: by number, by bytes, in the order of formulas
 abbrev pub within_kind : Content → Content → Ordering
-within_kind = then_cmp (on number_in int_cmp) (then_cmp (on text_in (slice_cmp nat_cmp)) (on formula_in (option_cmp tree_cmp)))
+within_kind = then_cmp (on number_in int_cmp)
+    (then_cmp (on text_in (slice_cmp nat_cmp)) (on formula_in (option_cmp tree_cmp)))
 
 unfoldable pub content_cmp : Content → Content → Ordering
 content_cmp = then_cmp (on kind_place nat_cmp) within_kind

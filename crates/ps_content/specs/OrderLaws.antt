@@ -2,13 +2,15 @@
 use Rattle.std.specs.Prelude.{◌≡◌, ℕ, ℤ, zero, suc, refl, List, Option, None, Some}
 use Rattle.std.specs.Cmp.{IsEquivalence, IsTotalOrder}
 use Rattle.std.specs.Cmp.Lexicographic.{slice_cmp, options_total}
-use Rattle.std.specs.FinMap.{IsAntisymmetric, nat_cmp-IsAntisymmetric, int_cmp-IsAntisymmetric, slice_cmp-IsAntisymmetric}
+use Rattle.std.specs.FinMap.{IsAntisymmetric, nat_cmp-IsAntisymmetric, int_cmp-IsAntisymmetric}
+use Rattle.std.specs.FinMap.{slice_cmp-IsAntisymmetric}
 use Rattle.std.specs.Option.{option_cmp}
 use Rattle.std.specs.Ordering.{int_cmp, nat_cmp, ordering_then}
 use Rattle.std.specs.declared.cmp.Ordering.{Ordering}
 use Rattle.std.specs.declared.cmp.Ordering.TheVariants.{Less, Equal, Greater}
 use Rattle.std.proofs.Common.{◌∙◌, ap, sym}
-use Rattle.std.proofs.lemmas.Cmp.{eq_by_cmp_equiv, int_cmp_total, nat_cmp_total, nat_list_cmp_total, on_total, then_total}
+use Rattle.std.proofs.lemmas.Cmp.{eq_by_cmp_equiv, int_cmp_total, nat_cmp_total, nat_list_cmp_total, on_total}
+use Rattle.std.proofs.lemmas.Cmp.{then_total}
 use Rattle.ps_formula.specs.Order.{tree_cmp}
 use Rattle.ps_formula.specs.OrderLaws.{tree_cmp-total, tree_cmp-IsAntisymmetric}
 use Rattle.ps_formula.specs.Tree.{Tree}
@@ -62,9 +64,11 @@ rebuilt_itself (Formula f) = refl
 rebuilt_itself Tally = refl
 rebuilt_itself Choice = refl
 
-same_parts : (c d : Content) → kind_place c ≡ kind_place d → number_in c ≡ number_in d → text_in c ≡ text_in d → formula_in c ≡ formula_in d → c ≡ d
+same_parts : (c d : Content) → kind_place c ≡ kind_place d → number_in c ≡ number_in d → text_in c ≡ text_in d
+    → formula_in c ≡ formula_in d → c ≡ d
 same_parts c d k n t f =
-    let same : rebuilt (kind_place c) (number_in c) (text_in c) (formula_in c) ≡ rebuilt (kind_place d) (number_in d) (text_in d) (formula_in d) = cc in
+    let same : rebuilt (kind_place c) (number_in c) (text_in c) (formula_in c) ≡ rebuilt (kind_place d)
+    (number_in d) (text_in d) (formula_in d) = cc in
     sym (rebuilt_itself c) ∙ same ∙ rebuilt_itself d
 
 -- no two contents are tied

@@ -20,3 +20,6 @@ pub use canonical::read_canonical;
 pub use content::Content;
 pub use entry::read_entry;
 pub use shared::SharedFormula;
+
+#[cfg(test)]
+mod tests;

@@ -1,5 +1,7 @@
 -- Writes, one after another, over plain values.
-use Rattle.std.proofs.Common.{◌≡◌, ◌≢◌, ℕ, zero, suc, ◌+◌, ◌-◌, ◌<◌, ◌≤◌, List, [], ◌++◌, length, take, drop, Option, None, Some, Result, Ok, Err, refl, sym, ap, ◌∙◌, arith, append_assoc, append-nil, length-append, length-drop}
+use Rattle.std.proofs.Common.{◌≡◌, ◌≢◌, ℕ, zero, suc, ◌+◌, ◌-◌, ◌<◌, ◌≤◌, List, [], ◌++◌, length, take, drop}
+use Rattle.std.proofs.Common.{Option, None, Some, Result, Ok, Err, refl, sym, ap, ◌∙◌, arith, append_assoc}
+use Rattle.std.proofs.Common.{append-nil, length-append, length-drop}
 use Rattle.std.specs.Result.{IsErr}
 use Rattle.std.specs.Io.KnownBytes.{Appends}
 use Rattle.std.proofs.lemmas.Bool.{false≢true}
@@ -11,7 +13,8 @@ pub Appends-nil : (old : Option (List ℕ)) → Appends old old []
 Appends-nil None = tt
 Appends-nil (Some bytes) = sym (append-nil bytes)
 
-pub Appends-append : (old mid new : Option (List ℕ)) (first second : List ℕ) → Appends old mid first → Appends mid new second → Appends old new (first ++ second)
+pub Appends-append : (old mid new : Option (List ℕ)) (first second : List ℕ) → Appends old mid first
+    → Appends mid new second → Appends old new (first ++ second)
 Appends-append None mid new first second p q = tt
 Appends-append (Some x) None new first second p q = absurd p
 Appends-append (Some x) (Some y) None first second p q = absurd q
@@ -22,13 +25,16 @@ pub rest-range : (bytes : List ℕ) (start : ℕ) → take (length bytes - start
 rest-range bytes start = rw (← length-drop start bytes) (take-length (drop start bytes))
 
 -- a write of the front of what is left
-pub Appends-further : (old mid new : Option (List ℕ)) (bytes : List ℕ) (start count : ℕ) → Appends old mid (take start bytes)
-    → Appends mid new (take count (take (length bytes - start) (drop start bytes))) → Appends old new (take (start + count) bytes)
+pub Appends-further : (old mid new : Option (List ℕ)) (bytes : List ℕ) (start count : ℕ)
+    → Appends old mid (take start bytes)
+    → Appends mid new (take count (take (length bytes - start) (drop start bytes))) → Appends old new
+        (take (start + count) bytes)
 Appends-further old mid new bytes start count p q =
     rw (take-add start count bytes) (Appends-append old mid new _ _ p (rw rest-range at q))
 
 -- a write that took some bytes was no failure
-pub calm_put : (E : Type 0) (old mid new count : ℕ) (piece : List ℕ) → count ≢ 0 → new ≡ mid + failed_put {E = E} (Ok count) piece → mid ≡ old → new ≡ old
+pub calm_put : (E : Type 0) (old mid new count : ℕ) (piece : List ℕ) → count ≢ 0 → new ≡ mid + failed_put
+    {E = E} (Ok count) piece → mid ≡ old → new ≡ old
 calm_put E old mid new zero piece some counted calm = absurd (some refl)
 calm_put E old mid new (suc count) piece some counted calm = omega arith
 
@@ -37,16 +43,19 @@ pub cut_behind : (old mid new : Option (List ℕ)) (first second : List ℕ) →
     → (count : ℕ) × (count < length second) × Appends mid new (take count second)
     → (count : ℕ) × (count < length (first ++ second)) × Appends old new (take count (first ++ second))
 cut_behind old mid new first second p q =
-    (length first + q.0, simp length-append (omega (arith, q.1)), rw take-append-add (Appends-append old mid new _ _ p q.2))
+    (length first + q.0, simp length-append (omega (arith, q.1)), rw take-append-add
+        (Appends-append old mid new _ _ p q.2))
 
 -- a write behind bytes that were written
-pub Sends-behind : (E : Type 0) (old mid new : Option (List ℕ)) (result : Result (Unit {0}) E) (first second : List ℕ) → Appends old mid first
+pub Sends-behind : (E : Type 0) (old mid new : Option (List ℕ)) (result : Result (Unit {0}) E)
+    (first second : List ℕ) → Appends old mid first
     → Sends mid new result second → Sends old new result (first ++ second)
 Sends-behind E old mid new (Ok done) first second p q = Appends-append old mid new first second p q
 Sends-behind E old mid new (Err error) first second p q = cut_behind old mid new first second p q
 
 -- what a write that failed says of a longer text
-pub Sends-cut : (E : Type 0) (old new : Option (List ℕ)) (result : Result (Unit {0}) E) (whole bytes rest : List ℕ) → whole ≡ bytes ++ rest → IsErr result
+pub Sends-cut : (E : Type 0) (old new : Option (List ℕ)) (result : Result (Unit {0}) E) (whole bytes rest : List ℕ)
+    → whole ≡ bytes ++ rest → IsErr result
     → (count : ℕ) × (count < length bytes) × Appends old new (take count bytes) → Sends old new result whole
 Sends-cut E old new (Ok done) whole bytes rest e is p = absurd (false≢true is)
 Sends-cut E old new (Err error) whole bytes rest e is p =
@@ -54,7 +63,8 @@ Sends-cut E old new (Err error) whole bytes rest e is p =
     (p.0, rw (e, length-append) (omega (arith, p.1)), rw (e, take-append-le) p.2)
 
 -- the same, behind bytes that were written
-pub Sends-cut_behind : (E : Type 0) (old mid new : Option (List ℕ)) (result : Result (Unit {0}) E) (whole first second rest : List ℕ)
+pub Sends-cut_behind : (E : Type 0) (old mid new : Option (List ℕ)) (result : Result (Unit {0}) E)
+    (whole first second rest : List ℕ)
     → whole ≡ first ++ second ++ rest → IsErr result → Appends old mid first
     → (count : ℕ) × (count < length second) × Appends mid new (take count second) → Sends old new result whole
 Sends-cut_behind E old mid new result whole first second rest e is p q =

@@ -1,5 +1,6 @@
 -- What follows of a label's bytes.
-use Rattle.std.proofs.Common.{◌≡◌, ℕ, ◌≤◌, Bool, true, false, ◌&&◌, List, ◌++◌, length, take, drop, Result, Ok, Err, refl, sym, arith}
+use Rattle.std.proofs.Common.{◌≡◌, ℕ, ◌≤◌, Bool, true, false, ◌&&◌, List, ◌++◌, length, take, drop, Result, Ok, Err}
+use Rattle.std.proofs.Common.{refl, sym, arith}
 use Rattle.std.specs.Prelude.{IsUtf8, MatchResult, replicate, is_ok, nat_le}
 use Rattle.std.specs.List.{list_all}
 use Rattle.std.specs.Str.{is_utf8}
@@ -38,7 +39,8 @@ IsLabel-short bytes label =
     let short = nat_le (length bytes) LABEL_BYTES in
     let printed = list_all is_printed bytes in
     leb-true (length bytes) LABEL_BYTES
-    (right_of_and some short (left_of_and (some && short) printed (left_of_and (some && short && printed) (is_utf8 bytes) label)))
+    (right_of_and some short (left_of_and (some && short) printed
+        (left_of_and (some && short && printed) (is_utf8 bytes) label)))
 
 -- the bytes in front of zeros
 pub padded_front : (bytes : List ℕ) → bytes ++ drop (length bytes) (replicate LABEL_BYTES 0) ≡ padded bytes

@@ -2,7 +2,8 @@
 //!
 //! What is written waits in memory, and is sent before the next read. So a peer that waits for a reply
 //! has it before the console waits for the peer, and a batch of lines costs one write a piece.
-ghost use Rattle.std.specs.Prelude.{◌≡◌, ◌<◌, ◌≤◌, ◌-◌, [], None, IfOk, IfErr, OnOk, length, take, min, vec_len, vec_capacity};
+ghost use Rattle.std.specs.Prelude.{◌≡◌, ◌<◌, ◌≤◌, ◌-◌, [], None, IfOk, IfErr, OnOk, length, take, min, vec_len};
+ghost use Rattle.std.specs.Prelude.{vec_capacity};
 ghost use Rattle.std.specs.Io.KnownBytes.{Appends, append_known};
 ghost use Rattle.ps_value.specs.declared.console.TheConstants.{ROOM};
 
@@ -31,7 +32,8 @@ struct Waiting<W: Write + Drop> {
 impl<W: Write + Drop> Waiting<W> {
     /// Sends what waits. Whatever comes of it, nothing waits then.
     fn send(&mut self) -> io::Result<()>
-        ensures sent { OnOk result (Appends (W.contents self.old.writer) (W.contents self.new.writer) self.old.bytes.items) }
+        ensures sent { OnOk result (Appends (W.contents self.old.writer) (W.contents self.new.writer)
+            self.old.bytes.items) }
         ensures empty { self.new.bytes.items ≡ [] }
     {
         let sent = self.writer.write_all(self.bytes.as_slice());

@@ -1,5 +1,6 @@
 //! The text of what a cell shows.
-ghost use Rattle.std.specs.Prelude.{◌≡◌, ◌<◌, ◌≤◌, ◌+◌, [], ◌∷◌, ◌++◌, Bool, codes, decimal, length, OnOk, OnErr, IfErr, if◌then◌else◌};
+ghost use Rattle.std.specs.Prelude.{◌≡◌, ◌<◌, ◌≤◌, ◌+◌, [], ◌∷◌, ◌++◌, Bool, codes, decimal, length, OnOk, OnErr};
+ghost use Rattle.std.specs.Prelude.{IfErr, if◌then◌else◌};
 ghost use Rattle.ps_value.specs.Device.{Sends};
 ghost use Rattle.ps_value.specs.Shown.{choice_text, fault_text, is_chosen, listed, options_below, shown_text};
 

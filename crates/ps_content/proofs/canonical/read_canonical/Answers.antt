@@ -8,7 +8,8 @@ returns-then-is_written-clause-read c content is e =
 
 pub returns-else-is_written-clause-read : goal.returns-else-is_written-clause-read
 returns-else-is_written-clause-read c content is e =
-    absurd (not_written content c.in-Ok.content c.args.bytes.now (reads_back content c.args.bytes.now (Ok c.in-Ok.content) is e c.in-Ok.ensures) e
+    absurd (not_written content c.in-Ok.content c.args.bytes.now
+    (reads_back content c.args.bytes.now (Ok c.in-Ok.content) is e c.in-Ok.ensures) e
     (sym c.if-is_written.ensures.test))
 
 pub returns-in_default-clause-read : goal.returns-in_default-clause-read
