@@ -28,7 +28,7 @@ rest-range bytes start = rw (← length-drop start bytes) (take-length (drop sta
 pub Appends-further : (old mid new : Option (List ℕ)) (bytes : List ℕ) (start count : ℕ)
     → Appends old mid (take start bytes)
     → Appends mid new (take count (take (length bytes - start) (drop start bytes))) → Appends old new
-        (take (start + count) bytes)
+    (take (start + count) bytes)
 Appends-further old mid new bytes start count p q =
     rw (take-add start count bytes) (Appends-append old mid new _ _ p (rw rest-range at q))
 
@@ -42,9 +42,12 @@ calm_put E old mid new (suc count) piece some counted calm = omega arith
 pub cut_behind : (old mid new : Option (List ℕ)) (first second : List ℕ) → Appends old mid first
     → (count : ℕ) × (count < length second) × Appends mid new (take count second)
     → (count : ℕ) × (count < length (first ++ second)) × Appends old new (take count (first ++ second))
-cut_behind old mid new first second p q =
-    (length first + q.0, simp length-append (omega (arith, q.1)), rw take-append-add
-        (Appends-append old mid new _ _ p q.2))
+cut_behind old mid new first second p q = (
+  length first + q.0,
+  simp length-append (omega (arith, q.1)),
+  rw take-append-add
+      (Appends-append old mid new _ _ p q.2),
+)
 
 -- a write behind bytes that were written
 pub Sends-behind : (E : Type 0) (old mid new : Option (List ℕ)) (result : Result (Unit {0}) E)

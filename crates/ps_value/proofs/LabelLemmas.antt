@@ -40,7 +40,7 @@ IsLabel-short bytes label =
     let printed = list_all is_printed bytes in
     leb-true (length bytes) LABEL_BYTES
     (right_of_and some short (left_of_and (some && short) printed
-        (left_of_and (some && short && printed) (is_utf8 bytes) label)))
+    (left_of_and (some && short && printed) (is_utf8 bytes) label)))
 
 -- the bytes in front of zeros
 pub padded_front : (bytes : List ℕ) → bytes ++ drop (length bytes) (replicate LABEL_BYTES 0) ≡ padded bytes

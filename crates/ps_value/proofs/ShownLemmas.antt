@@ -50,7 +50,7 @@ options_below-more n bits =
 
 pub listed_below-chosen : (n bits : ℕ) → is_chosen bits n ≡ true
     → listed (options_below (n + 1) bits) ≡ listed (options_below n bits) ++ listed_next
-        (is_empty (options_below n bits)) n
+    (is_empty (options_below n bits)) n
 listed_below-chosen n bits chosen = rw (options_below-more, chosen) (listed-push (options_below n bits) n)
 
 pub listed_below-other : (n bits : ℕ) → is_chosen bits n ≡ false
@@ -93,7 +93,7 @@ listed-front (suc more) n bits =
 -- the options below a bound, at the next one that is chosen, as the front of all
 pub listed-front_chosen : (n bound bits : ℕ) → n < bound → is_chosen bits n ≡ true
     → (rest : List ℕ) × (listed (options_below bound bits) ≡ listed (options_below n bits) ++ listed_next
-        (is_empty (options_below n bits)) n ++ rest)
+    (is_empty (options_below n bits)) n ++ rest)
 listed-front_chosen n bound bits below chosen =
     let others = listed-front (bound - (n + 1)) (n + 1) bits in
     let bound_is : n + 1 + (bound - (n + 1)) ≡ bound = omega arith in

@@ -18,4 +18,4 @@ failed_put (Ok (suc count)) piece = 0
 abbrev pub Sends : {E : Type 0} → Option (List ℕ) → Option (List ℕ) → Result (Unit {0}) E → List ℕ → Type 0
 Sends old new result bytes =
     MatchResult result (λ _. Appends old new bytes)
-        (λ _. (count : ℕ) × (count < length bytes) × Appends old new (take count bytes))
+    (λ _. (count : ℕ) × (count < length bytes) × Appends old new (take count bytes))

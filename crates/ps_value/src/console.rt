@@ -79,7 +79,8 @@ impl<W: Write + Drop> Console<W> {
         })
     }
 
-    /// Sends what waits. At a failure what waited is dropped. O(n), one write.
+    /// Sends what waits. At a failure what waited is dropped. No contract says what was sent: `Waiting` has that
+    /// contract, and a cell tells nothing of what it holds. O(n), one write.
     pub fn flush(&self) -> Result<(), Failed> {
         match self.waiting.try_borrow_mut() {
             Ok(mut waiting) => waiting.send().map_err(|_| Failed),
@@ -111,6 +112,8 @@ impl<'a, R: Read + Drop, W: Write + Drop, L: Ledger> ConsoleInput<'a, R, W, L> {
         requires name { blank.name ≡ L.name }
         requires parts { blank.parts ≡ L.parts }
         requires some { 0 < L.parts }
+        ensures calm { ⟦<ConsoleInput<'a, R, W, L> as Source>⟧.failures result ≡ 0 }
+        ensures remaining { ⟦<ConsoleInput<'a, R, W, L> as Source>⟧.remaining result ≡ R.remaining reader }
     {
         ConsoleInput {
             console,
@@ -148,6 +151,7 @@ impl<'a, W: Write + Drop, L: Ledger> ConsoleOutput<'a, W, L> {
         requires name { blank.name ≡ L.name }
         requires parts { blank.parts ≡ L.parts }
         requires some { 0 < L.parts }
+        ensures { ⟦<ConsoleOutput<'a, W, L> as Sink>⟧.failures result ≡ 0 }
     {
         ConsoleOutput {
             console,

@@ -21,6 +21,8 @@ impl<R: Read + Drop, L: Ledger> Reading<R, L> {
         requires name { blank.name ≡ L.name }
         requires parts { blank.parts ≡ L.parts }
         requires some { 0 < L.parts }
+        ensures calm { ⟦<Reading<R, L> as Source>⟧.failures result ≡ 0 }
+        ensures remaining { ⟦<Reading<R, L> as Source>⟧.remaining result ≡ R.remaining reader }
     {
         Reading {
             reader,
@@ -78,6 +80,8 @@ impl<W: Write + Drop, L: Ledger> Writing<W, L> {
         requires name { blank.name ≡ L.name }
         requires parts { blank.parts ≡ L.parts }
         requires some { 0 < L.parts }
+        ensures calm { ⟦<Writing<W, L> as Sink>⟧.failures result ≡ 0 }
+        ensures contents { ⟦<Writing<W, L> as Sink>⟧.contents result ≡ W.contents writer }
     {
         Writing {
             writer,

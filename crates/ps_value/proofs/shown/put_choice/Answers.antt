@@ -8,14 +8,14 @@ use Rattle.ps_value.proofs.shown.put_choice.Goals as goal
 pub returns-in_err-put_all-clause-shown : goal.returns-in_err-put_all-clause-shown
 returns-in_err-put_all-clause-shown g c =
     Sends-cut Failed _ _ _ (choice_text c.args.bits) (123 ∷ [])
-        (listed (options_below 64 c.args.bits) ++ 125 ∷ [])
-        (choice_text-parts c.args.bits ∙ append_assoc (123 ∷ []) (listed (options_below 64 c.args.bits))
-        (125 ∷ [])) c.from_residual.ensures.0 c.in_err-put_all.ensures.sent
+    (listed (options_below 64 c.args.bits) ++ 125 ∷ [])
+    (choice_text-parts c.args.bits ∙ append_assoc (123 ∷ []) (listed (options_below 64 c.args.bits))
+    (125 ∷ [])) c.from_residual.ensures.0 c.in_err-put_all.ensures.sent
 
 pub returns-in_err-put_options-clause-shown : goal.returns-in_err-put_options-clause-shown
 returns-in_err-put_options-clause-shown g c =
     Sends-cut_behind Failed _ _ _ _ (choice_text c.args.bits) (123 ∷ []) (listed (options_below 64 c.args.bits))
-        (125 ∷ []) (choice_text-parts c.args.bits) c.from_residual-in_err-put_options.ensures.0
+    (125 ∷ []) (choice_text-parts c.args.bits) c.from_residual-in_err-put_options.ensures.0
     c.in_ok-put_all.ensures.sent c.in_err-put_options.ensures.shown
 
 pub returns-clause-shown : goal.returns-clause-shown

@@ -6,4 +6,4 @@ use Rattle.ps_value.proofs.shown.put_option.Goals as goal
 pub returns-clause-shown : goal.returns-clause-shown
 returns-clause-shown g c =
     rw c.if-is_first.false (Sends-behind Failed _ _ _ _ (44 ∷ []) _ c.in_ok-put_all.ensures.sent
-        c.put_number-2.ensures.shown)
+    c.put_number-2.ensures.shown)

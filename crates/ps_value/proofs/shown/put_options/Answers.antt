@@ -20,9 +20,9 @@ returns-in_err-put_option-clause-shown g c =
     let n = c.loop-option.option in
     let bits = c.args.bits in
     let front = listed-front_chosen n 64 bits c.loop-option-test.true
-        (is_chosen-bit bits n c.if-bits-option-eq1.true) in
+    (is_chosen-bit bits n c.if-bits-option-eq1.true) in
     Sends-cut_behind Failed _ _ _ _ (listed (options_below 64 bits)) (listed (options_below n bits))
-        (listed_next (is_empty (options_below n bits)) n)
+    (listed_next (is_empty (options_below n bits)) n)
     front.0 front.1 c.from_residual.ensures.0
     c.loop-option.invariant.sent (rw c.loop-option.invariant.first at c.in_err-put_option.ensures.shown)
 
@@ -36,7 +36,7 @@ loop-option-preserved g c =
           record {
             sent = rw (w.sink-is, listed_below-chosen n bits chosen)
                 (Appends-append _ _ _ _ _ c.loop-option.invariant.sent
-                    (rw c.loop-option.invariant.first at w.in_ok-put_option.ensures.shown));
+                (rw c.loop-option.invariant.first at w.in_ok-put_option.ensures.shown));
             calm = rw w.sink-is (w.in_ok-put_option.ensures.calm ∙ c.loop-option.invariant.calm);
             first = w.is_first-is ∙ sym (is_empty_below-chosen n bits chosen);
           }
