@@ -5,3 +5,4 @@ pub mod ModuloLemmas
 pub mod Ranges
 pub mod SummaryLemmas
 pub mod TotalLemmas
+pub mod WalkLemmas

@@ -8,7 +8,7 @@ use Rattle.std.proofs.lemmas.Bool.{cases_lt}
 use Rattle.ps_eval.specs.Number.{floored}
 
 -- one more: the remainder is one more, or begins again
-next_rest : (n m : ℕ) → 0 < m →
+pub next_rest : (n m : ℕ) → 0 < m →
     ((suc n % m ≡ n % m + 1) × (suc n / m ≡ n / m)) ⊎ ((n % m + 1 ≡ m) × (suc n % m ≡ 0) × (suc n / m ≡ n / m + 1))
 next_rest n m h =
     let whole = div-add-mod' n m in

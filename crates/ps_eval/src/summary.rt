@@ -46,6 +46,7 @@ impl Summary {
     }
 
     // One more number.
+    #[inline]
     fn take_number(&mut self, number: i64)
         requires { self.old.count < 2 ^ 100 }
         ensures items { (items : List Number)
@@ -88,6 +89,7 @@ impl Summary {
     }
 
     // The value of one more cell, which may be no item.
+    #[inline]
     pub(crate) fn take_cell(&mut self, value: Value)
         requires { self.old.count < 2 ^ 100 }
         ensures items { (items : List Number)
@@ -169,6 +171,7 @@ impl Summary {
 const GREATEST: u128 = 0x7fff_ffff_ffff_ffff;
 
 // The least number of one more than `count`.
+#[inline]
 fn lesser(count: u128, least: i64, number: i64) -> i64
     ensures { result ≡ (if count == 0 then number else int_min least number) }
 {
@@ -180,6 +183,7 @@ fn lesser(count: u128, least: i64, number: i64) -> i64
 }
 
 // The greatest number of one more than `count`.
+#[inline]
 fn greater(count: u128, greatest: i64, number: i64) -> i64
     ensures { result ≡ (if count == 0 then number else int_max greatest number) }
 {
@@ -191,6 +195,7 @@ fn greater(count: u128, greatest: i64, number: i64) -> i64
 }
 
 // Whether none is 0 where there is one more.
+#[inline]
 fn every(all: bool, number: i64) -> bool
     ensures { result ≡ (all && not (is_zero number)) }
 {
@@ -198,6 +203,7 @@ fn every(all: bool, number: i64) -> bool
 }
 
 // Whether one isn't 0 where there is one more.
+#[inline]
 fn some(any: bool, number: i64) -> bool
     ensures { result ≡ (any || not (is_zero number)) }
 {

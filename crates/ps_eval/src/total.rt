@@ -37,6 +37,7 @@ impl Total {
     }
 
     /// Adds a number. Most additions stay within the 64 bits.
+    #[inline]
     pub(crate) fn add(&mut self, number: i64)
         requires { unsigned_abs self.old < 2 ^ 180 }
         ensures { self.new ≡ self.old +ℤ number }
