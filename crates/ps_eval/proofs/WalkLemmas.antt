@@ -9,7 +9,8 @@ use Rattle.ps_eval.proofs.ModuloLemmas.{next_rest}
 -- from a cell to the next: one further, or to the front of the next row
 pub next_cell : (a : Area) (k : ℕ) → IsInGrid a →
     ((suc k % a.width ≡ k % a.width + 1) × (nth_cell a (suc k) ≡ nth_cell a k + 1))
-    ⊎ ((k % a.width + 1 ≡ a.width) × (suc k % a.width ≡ 0) × (nth_cell a (suc k) ≡ nth_cell a k + 1 + (COLUMNS - a.width)))
+    ⊎ ((k % a.width + 1 ≡ a.width) × (suc k % a.width ≡ 0)
+    × (nth_cell a (suc k) ≡ nth_cell a k + 1 + (COLUMNS - a.width)))
 next_cell a k g =
     let fits = g.within_columns in
     ⊎_elim

@@ -1,4 +1,4 @@
-use Rattle.std.proofs.Common.{◌≡◌, ◌+◌, ◌++◌, ap, sym, ◌∙◌, subst, arith, append_assoc}
+use Rattle.std.proofs.Common.{◌≡◌, ◌<◌, ◌+◌, ◌++◌, ap, sym, ◌∙◌, subst, arith, append_assoc}
 use Rattle.ps_grid.specs.Rectangle.{area, nth_cell}
 use Rattle.ps_grid.proofs.AreaLemmas.{nth_cell-below}
 use Rattle.std.proofs.lemmas.Nat.{mod_below}
@@ -11,7 +11,8 @@ pub cell-requires : goal.cell-requires
 cell-requires g c =
     let at = c.loop-k.invariant.2 in
     let p = at.place in
-    let below = nth_cell-below c.args.rect c.loop-k.k c.area-k-end.ensures.in_grid (omega (arith, c.area-k-end.ensures.area)) in
+    let inside : c.loop-k.k < area c.args.rect = omega (arith, c.area-k-end.ensures.area) in
+    let below = nth_cell-below c.args.rect c.loop-k.k c.area-k-end.ensures.in_grid inside in
     omega (arith, p, below)
 
 pub step-requires-clause-across : goal.step-requires-clause-across
@@ -41,7 +42,8 @@ loop-k-preserved g c =
     let more = c.take_cell.ensures.count in
     let most = c.loop-k.invariant.1 in (
       λ items s.
-          subst (λ ns. Summarizes ns c.take_cell.new.self) (append_assoc items before (cell_items c.at.result) ∙ ap (λ ns. items ++ ns) last)
+          subst (λ ns. Summarizes ns c.take_cell.new.self)
+          (append_assoc items before (cell_items c.at.result) ∙ ap (λ ns. items ++ ns) last)
           (c.take_cell.ensures.items (items ++ before) (c.loop-k.invariant.0 items s)),
       omega arith,
       c.step.ensures a k c.area-k-end.ensures.in_grid at,
