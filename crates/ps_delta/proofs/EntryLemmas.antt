@@ -82,12 +82,12 @@ push_at : (es : Entries) (e : ℕ × CellState) (c : ℕ) → Under e.0 (cells_o
 push_at [] e c u = sym (ap (λ x. joined_cell x (state_of (e ∷ []) c)) (nothing c) ∙ joined_cell-empty (state_of (e ∷ []) c))
 push_at (d ∷ es) e c u =
     ⊎_elim
-      (λ p. state_of-here d (es ++ e ∷ []) c p ∙ sym (joined_cell-empty_right d.1)
-        ∙ ap (λ x. joined_cell x empty_cell) (sym (state_of-here d es c p))
-        ∙ ap (joined_cell (state_of (d ∷ es) c)) (sym (state_of-there e [] c (λ q. omega (arith, p, q, u.0)) ∙ nothing c)))
-      (λ p. state_of-there d (es ++ e ∷ []) c p ∙ push_at es e c u.1
-        ∙ ap (λ x. joined_cell x (state_of (e ∷ []) c)) (sym (state_of-there d es c p)))
-      (cases_eq d.0 c)
+    (λ p. state_of-here d (es ++ e ∷ []) c p ∙ sym (joined_cell-empty_right d.1)
+    ∙ ap (λ x. joined_cell x empty_cell) (sym (state_of-here d es c p))
+    ∙ ap (joined_cell (state_of (d ∷ es) c)) (sym (state_of-there e [] c (λ q. omega (arith, p, q, u.0)) ∙ nothing c)))
+    (λ p. state_of-there d (es ++ e ∷ []) c p ∙ push_at es e c u.1
+    ∙ ap (λ x. joined_cell x (state_of (e ∷ []) c)) (sym (state_of-there d es c p)))
+    (cases_eq d.0 c)
 
 pub state_of-push : (es : Entries) (e : ℕ × CellState) → Under e.0 (cells_of es)
     → state_of (es ++ e ∷ []) ≡ joined_state (state_of es) (state_of (e ∷ []))

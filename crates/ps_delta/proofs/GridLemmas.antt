@@ -28,7 +28,7 @@ set_at : (cells : List CellState) (cell c : ℕ) (x : CellState) → cell < leng
 unfolding state_at
 set_at cells cell c x h (inl p) =
     subst (λ b. get_or (set cells cell x) b empty_cell ≡ with_cell (state_at cells) cell x b) p
-      (get_or-set_same cells cell x empty_cell h ∙ sym (with_cell-same (state_at cells) cell x))
+    (get_or-set_same cells cell x empty_cell h ∙ sym (with_cell-same (state_at cells) cell x))
 set_at cells cell c x h (inr p) =
     get_or-set_other cells cell c x empty_cell (λ q. p (sym q)) ∙ sym (with_cell-other (state_at cells) cell c x p)
 
@@ -70,7 +70,7 @@ pub not_below : (s : State) (n : ℕ) (es : Entries) (i : ℕ) (d : ℕ × CellS
     → joined_cell (s (get_or es i d).0) (get_or es i d).1 ≢ s (get_or es i d).0 → ¬ IsBelow (state_of es) s
 not_below s n es i d r h ne b =
     ne (ap (joined_cell (s (get_or es i d).0)) (sym (state_of-at n es i d r h))
-      ∙ sym (joined_state-at s (state_of es) (get_or es i d).0) ∙ ap (λ f. f (get_or es i d).0) b)
+    ∙ sym (joined_state-at s (state_of es) (get_or es i d).0) ∙ ap (λ f. f (get_or es i d).0) b)
 
 -- nothing is touched by no entry
 pub touched_none : (s : State) → AreTouched s (joined_state s (state_of [])) []
@@ -86,24 +86,25 @@ pub touched_same : (s : State) (es : Entries) (e : ℕ × CellState) (cs : List 
     → AreTouched s (joined_state s (state_of (es ++ e ∷ []))) cs
 touched_same s es e cs u h t =
     subst (λ f. AreTouched s f cs)
-      (sym (ap (joined_state s) (state_of-push es e u) ∙ sym (joined_state-assoc s (state_of es) (state_of (e ∷ [])))
-        ∙ joined_state-swap s (state_of es) (state_of (e ∷ [])) ∙ ap (λ f. joined_state f (state_of es)) (below_one s e h)))
-      t
+    (sym (ap (joined_state s) (state_of-push es e u) ∙ sym (joined_state-assoc s (state_of es) (state_of (e ∷ [])))
+    ∙ joined_state-swap s (state_of es) (state_of (e ∷ [])) ∙ ap (λ f. joined_state f (state_of es)) (below_one s e h)))
+    t
 
 -- the touched cells are among those of the entries
 pub touched_under : (s : State) (es : Entries) (n : ℕ) (cs : List ℕ) → Under n (cells_of es)
     → AreTouched s (joined_state s (state_of es)) cs → (c : ℕ) → In cs c → c < n
 touched_under s es n cs u t c h =
     ⊎_elim (λ p. p)
-      (λ p. absurd (t.differ c h (sym (joined_state-at s (state_of es) c
-        ∙ ap (joined_cell (s c)) (state_of-under n es c u p) ∙ joined_cell-empty_right (s c)))))
-      (cases_lt c n)
+    (λ p. absurd (t.differ c h (sym (joined_state-at s (state_of es) c
+    ∙ ap (joined_cell (s c)) (state_of-under n es c u p) ∙ joined_cell-empty_right (s c)))))
+    (cases_lt c n)
 
 pub Under-from_in : (n : ℕ) (cs : List ℕ) → ((c : ℕ) → In cs c → c < n) → Under n cs
 Under-from_in n [] h = tt
-Under-from_in n (c ∷ cs) h =
-    (h c (or_left (eqb c c) (list_any (eqb c) cs) (eq-eqb c c refl)),
-      Under-from_in n cs (λ d p. h d (or_right (eqb d c) (list_any (eqb d) cs) p)))
+Under-from_in n (c ∷ cs) h = (
+  h c (or_left (eqb c c) (list_any (eqb c) cs) (eq-eqb c c refl)),
+  Under-from_in n cs (λ d p. h d (or_right (eqb d c) (list_any (eqb d) cs) p)),
+)
 
 -- a place of a list is in it
 pub In-at : (cs : List ℕ) (k d : ℕ) → k < length cs → In cs (get_or cs k d)
@@ -115,8 +116,8 @@ In-push : (cs : List ℕ) (e c : ℕ) → In cs c → In (cs ++ e ∷ []) c
 In-push [] e c h = cc
 In-push (d ∷ cs) e c h =
     ⊎_elim (λ p. or_left (eqb c d) (list_any (eqb c) (cs ++ e ∷ [])) p)
-      (λ p. or_right (eqb c d) (list_any (eqb c) (cs ++ e ∷ [])) (In-push cs e c p))
-      (or_cases (eqb c d) (list_any (eqb c) cs) h)
+    (λ p. or_right (eqb c d) (list_any (eqb c) (cs ++ e ∷ [])) (In-push cs e c p))
+    (or_cases (eqb c d) (list_any (eqb c) cs) h)
 
 In-last : (cs : List ℕ) (e : ℕ) → In (cs ++ e ∷ []) e
 In-last [] e = or_left (eqb e e) false (eq-eqb e e refl)
@@ -126,8 +127,8 @@ In-push_cases : (cs : List ℕ) (e c : ℕ) → In (cs ++ e ∷ []) c → In cs 
 In-push_cases [] e c h = ⊎_elim (λ p. inr (eqb-true c e p)) (λ p. cc) (or_cases (eqb c e) false h)
 In-push_cases (d ∷ cs) e c h =
     ⊎_elim (λ p. inl (or_left (eqb c d) (list_any (eqb c) cs) p))
-      (λ p. ⊎_elim (λ q. inl (or_right (eqb c d) (list_any (eqb c) cs) q)) (λ q. inr q) (In-push_cases cs e c p))
-      (or_cases (eqb c d) (list_any (eqb c) (cs ++ e ∷ [])) h)
+    (λ p. ⊎_elim (λ q. inl (or_right (eqb c d) (list_any (eqb c) cs) q)) (λ q. inr q) (In-push_cases cs e c p))
+    (or_cases (eqb c d) (list_any (eqb c) (cs ++ e ∷ [])) h)
 
 -- what the entries with one more give at a cell
 at_last : (s : State) (es : Entries) (e : ℕ × CellState) → Under e.0 (cells_of es)
@@ -135,16 +136,16 @@ at_last : (s : State) (es : Entries) (e : ℕ × CellState) → Under e.0 (cells
 at_last s es e u =
     joined_state-at s (state_of (es ++ e ∷ [])) e.0
     ∙ ap (joined_cell (s e.0)) (ap (λ f. f e.0) (state_of-push es e u) ∙ joined_state-at (state_of es) (state_of (e ∷ [])) e.0
-      ∙ ap (λ x. joined_cell x (state_of (e ∷ []) e.0)) (state_of-under e.0 es e.0 u (omega arith))
-      ∙ joined_cell-empty (state_of (e ∷ []) e.0) ∙ state_of-here e [] e.0 refl)
+    ∙ ap (λ x. joined_cell x (state_of (e ∷ []) e.0)) (state_of-under e.0 es e.0 u (omega arith))
+    ∙ joined_cell-empty (state_of (e ∷ []) e.0) ∙ state_of-here e [] e.0 refl)
 
 at_others : (s : State) (es : Entries) (e : ℕ × CellState) (c : ℕ) → Under e.0 (cells_of es) → e.0 ≢ c
     → joined_state s (state_of (es ++ e ∷ [])) c ≡ joined_state s (state_of es) c
 at_others s es e c u p =
     joined_state-at s (state_of (es ++ e ∷ [])) c
     ∙ ap (joined_cell (s c)) (ap (λ f. f c) (state_of-push es e u) ∙ joined_state-at (state_of es) (state_of (e ∷ [])) c
-      ∙ ap (joined_cell (state_of es c)) (state_of-there e [] c p ∙ state_of-under 0 [] c tt (omega arith))
-      ∙ joined_cell-empty_right (state_of es c))
+    ∙ ap (joined_cell (state_of es c)) (state_of-there e [] c p ∙ state_of-under 0 [] c tt (omega arith))
+    ∙ joined_cell-empty_right (state_of es c))
     ∙ sym (joined_state-at s (state_of es) c)
 
 -- one more entry that changes its cell
@@ -154,12 +155,12 @@ pub touched_more : (s : State) (es : Entries) (e : ℕ × CellState) (cs : List 
 touched_more s es e cs u ne t = record {
   ascending = increasing_from_rising 0 (cs ++ e.0 ∷ [])
       (Rising-push 0 cs e.0 (rising_from_increasing 0 cs t.ascending (λ _. omega arith))
-        (Under-from_in e.0 cs (touched_under s es e.0 cs u t)) (omega arith));
+      (Under-from_in e.0 cs (touched_under s es e.0 cs u t)) (omega arith));
   differ = λ c h.
       ⊎_elim
-        (λ q. λ same. t.differ c q (same ∙ at_others s es e c u (λ p. omega (arith, p, touched_under s es e.0 cs u t c q))))
-        (λ q. λ same. ne (sym (at_last s es e u) ∙ sym (subst (λ x. s x ≡ joined_state s (state_of (es ++ e ∷ [])) x) q same)))
-        (In-push_cases cs e.0 c h);
+      (λ q. λ same. t.differ c q (same ∙ at_others s es e c u (λ p. omega (arith, p, touched_under s es e.0 cs u t c q))))
+      (λ q. λ same. ne (sym (at_last s es e u) ∙ sym (subst (λ x. s x ≡ joined_state s (state_of (es ++ e ∷ [])) x) q same)))
+      (In-push_cases cs e.0 c h);
   same = λ c h.
       t.same c (λ q. h (In-push cs e.0 c q))
       ∙ sym (at_others s es e c u (λ p. h (subst (In (cs ++ e.0 ∷ [])) p (In-last cs e.0))));
@@ -183,13 +184,13 @@ overlaid_at : (s t : State) (n : ℕ) (es : Entries) (c : ℕ) → Rising n (cel
 overlaid_at s t n [] c r h = h ∙ sym (ap (joined_cell (s c)) (state_of-under 0 [] c tt (omega arith)) ∙ joined_cell-empty_right (s c))
 overlaid_at s t n (e ∷ es) c r h =
     ⊎_elim
-      (λ p. overlaid-rising s (with_cell t e.0 (joined_cell (s e.0) e.1)) (e.0 + 1) es c r.1 (omega (arith, p))
-        ∙ subst (λ b. with_cell t e.0 (joined_cell (s e.0) e.1) b ≡ joined_cell (s b) e.1) p (with_cell-same t e.0 (joined_cell (s e.0) e.1))
-        ∙ ap (joined_cell (s c)) (sym (state_of-here e es c p)))
-      (λ p. overlaid_at s (with_cell t e.0 (joined_cell (s e.0) e.1)) (e.0 + 1) es c r.1
-          (with_cell-other t e.0 c (joined_cell (s e.0) e.1) p ∙ h)
-        ∙ ap (joined_cell (s c)) (sym (state_of-there e es c p)))
-      (cases_eq e.0 c)
+    (λ p. overlaid-rising s (with_cell t e.0 (joined_cell (s e.0) e.1)) (e.0 + 1) es c r.1 (omega (arith, p))
+    ∙ subst (λ b. with_cell t e.0 (joined_cell (s e.0) e.1) b ≡ joined_cell (s b) e.1) p (with_cell-same t e.0 (joined_cell (s e.0) e.1))
+    ∙ ap (joined_cell (s c)) (sym (state_of-here e es c p)))
+    (λ p. overlaid_at s (with_cell t e.0 (joined_cell (s e.0) e.1)) (e.0 + 1) es c r.1
+    (with_cell-other t e.0 c (joined_cell (s e.0) e.1) p ∙ h)
+    ∙ ap (joined_cell (s c)) (sym (state_of-there e es c p)))
+    (cases_eq e.0 c)
 
 pub overlaid-raised : (s : State) (n : ℕ) (es : Entries) → Rising n (cells_of es)
     → overlaid s (raised_entries s es) ≡ joined_state s (state_of es)

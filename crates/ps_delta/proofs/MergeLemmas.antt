@@ -41,12 +41,13 @@ merging_start left right l r = record {
 
 rest_entries : (es : Entries) (i n : ℕ) → Rising n (cells_of (drop i es)) → AreEntries es × AreInGrid es
     → AreEntries (drop i es) × AreInGrid (drop i es)
-rest_entries es i n r h =
-    (record {
-      ascending = increasing_from_rising n (cells_of (drop i es)) r;
-      none_empty = All-drop (λ d. d.1 ≢ empty_cell) i es h.0.none_empty;
-      },
-      All-drop (λ d. d.0 < CELLS) i es h.1)
+rest_entries es i n r h = (
+  record {
+    ascending = increasing_from_rising n (cells_of (drop i es)) r;
+    none_empty = All-drop (λ d. d.1 ≢ empty_cell) i es h.0.none_empty;
+  },
+  All-drop (λ d. d.0 < CELLS) i es h.1,
+)
 
 cells_of-push : (es : Entries) (e : ℕ × CellState) → cells_of es ++ e.0 ∷ [] ≡ cells_of (es ++ e ∷ [])
 cells_of-push es e = sym (map-append (λ d. d.0) es (e ∷ []))
@@ -55,8 +56,8 @@ pub merging_step : (left right all mine theirs : Entries) (e : ℕ × CellState)
     → IsFirst mine theirs e i j → Merging left right (all ++ e ∷ []) (drop i mine) (drop j theirs)
 merging_step left right all mine theirs e i j m f =
     let below : All (λ d. d.0 < e.0) all =
-        (λ k d h. let low : (get_or all k d).0 + 1 ≤ e.0 = f.lowest ((get_or all k d).0 + 1) (m.before k d h).0 (m.before k d h).1 in
-          let lower : (get_or all k d).0 < e.0 = omega (arith, low) in lower) in
+    (λ k d h. let low : (get_or all k d).0 + 1 ≤ e.0 = f.lowest ((get_or all k d).0 + 1) (m.before k d h).0 (m.before k d h).1 in
+    let lower : (get_or all k d).0 < e.0 = omega (arith, low) in lower) in
     let under : Under e.0 (cells_of all) = recursion_from_All (λ c. c < e.0) (cells_of all) (All-map (λ c. c < e.0) (λ d. d.0) all below) in
     record {
       state =
@@ -66,9 +67,10 @@ merging_step left right all mine theirs e i j m f =
       rising = subst (Rising 0) (cells_of-push all e) (Rising-push 0 (cells_of all) e.0 m.rising under (omega arith));
       before = All-push (λ d. Rising (d.0 + 1) (cells_of (drop i mine)) × Rising (d.0 + 1) (cells_of (drop j theirs))) all e
           (λ k d h. let low : (get_or all k d).0 < e.0 = below k d h in
-            let weak : (get_or all k d).0 + 1 ≤ e.0 + 1 = omega (arith, low) in
-            (Rising-weaker ((get_or all k d).0 + 1) (e.0 + 1) (cells_of (drop i mine)) weak f.left_after,
-              Rising-weaker ((get_or all k d).0 + 1) (e.0 + 1) (cells_of (drop j theirs)) weak f.right_after))
+          let weak : (get_or all k d).0 + 1 ≤ e.0 + 1 = omega (arith, low) in (
+            Rising-weaker ((get_or all k d).0 + 1) (e.0 + 1) (cells_of (drop i mine)) weak f.left_after,
+            Rising-weaker ((get_or all k d).0 + 1) (e.0 + 1) (cells_of (drop j theirs)) weak f.right_after,
+          ))
           (f.left_after, f.right_after);
       none_empty = All-push (λ d. d.1 ≢ empty_cell) all e m.none_empty f.none_empty;
       in_grid = All-push (λ d. d.0 < CELLS) all e m.in_grid f.in_grid;
@@ -93,7 +95,7 @@ merging_entries left right all mine theirs m =
 none_joined : (x y : CellState) → x ≢ empty_cell → joined_cell x y ≢ empty_cell
 none_joined x y h e =
     h (sym (joined_cell-empty_right x) ∙ ap (joined_cell x) (sym e) ∙ sym (joined_cell-assoc x x y)
-      ∙ ap (λ z. joined_cell z y) (joined_cell-idem x) ∙ e)
+    ∙ ap (λ z. joined_cell z y) (joined_cell-idem x) ∙ e)
 
 rising_rest : (e : ℕ × CellState) (rest : Entries) → AreEntries (e ∷ rest) → Rising (e.0 + 1) (cells_of rest)
 rising_rest e rest h = (rising_from_increasing 0 (cells_of (e ∷ rest)) h.ascending (λ _. omega arith)).1
@@ -237,7 +239,7 @@ same_cell (a' ∷ left) (b' ∷ right) a b l r p q h =
     let is' : b' ≡ b = cc in
     let same : a'.0 ≡ b'.0 = ap (λ d. d.0) is ∙ h ∙ ap (λ d. d.0) (sym is') in
     subst (λ d. IsFirst (a' ∷ left) (b' ∷ right) (d.0, joined_cell d.1 b.1) 1 1) is
-      (subst (λ d. IsFirst (a' ∷ left) (b' ∷ right) (a'.0, joined_cell a'.1 d.1) 1 1) is' (first_both a' b' left right l r same))
+    (subst (λ d. IsFirst (a' ∷ left) (b' ∷ right) (a'.0, joined_cell a'.1 d.1) 1 1) is' (first_both a' b' left right l r same))
 
 pub both_empty : (es : Entries) → slice_get es 0 ≡ None → es ≡ []
 both_empty [] p = refl
@@ -249,8 +251,8 @@ some_merged s (d ∷ m) es h some is = omega arith
 some_merged s [] [] h some is = absurd (omega (arith, some))
 some_merged s [] (e ∷ es) h some is =
     absurd (none_joined e.1 (s e.0) (first_some e es h)
-      (joined_cell-comm e.1 (s e.0) ∙ ap (joined_cell (s e.0)) (sym (state_of-here e es e.0 refl))
-        ∙ sym (joined_state-at s (state_of (e ∷ es)) e.0) ∙ sym (ap (λ f. f e.0) is) ∙ state_of-under 0 [] e.0 tt (omega arith)))
+    (joined_cell-comm e.1 (s e.0) ∙ ap (joined_cell (s e.0)) (sym (state_of-here e es e.0 refl))
+    ∙ sym (joined_state-at s (state_of (e ∷ es)) e.0) ∙ sym (ap (λ f. f e.0) is) ∙ state_of-under 0 [] e.0 tt (omega arith)))
 
 -- the first i deltas of a list joined
 pub record Joined (deltas : List Entries) (i : ℕ) (cells : Entries) : Type 0 where
@@ -287,4 +289,4 @@ pub joined_more_of : {X : Type 0} (f : X → Entries) (xs : List X) (i : ℕ) (x
 joined_more_of f xs i x cells more delta within is same d state entries j =
     let inside : i < length (map f xs) = rw length-map within in
     joined_more (map f xs) i cells more delta inside
-      (same ∙ ap f is ∙ sym (mapped_at f xs i x) ∙ ap (get_or (map f xs) i) (sym same)) d state entries j
+    (same ∙ ap f is ∙ sym (mapped_at f xs i x) ∙ ap (get_or (map f xs) i) (sym same)) d state entries j

@@ -29,24 +29,24 @@ module _ (s : State) (es : Entries) (i : ℕ) (e : ℕ × CellState) (x : CellSt
   pub walk-below : joined_cell x e.1 ≡ x → IsBelow (state_of (take i es)) s → IsBelow (state_of (take (i + 1) es)) s
   walk-below h b =
       subst (λ ds. IsBelow (state_of ds) s) so_far
-        (below_more s (take i es) e walk-under b (subst (λ y. joined_cell y e.1 ≡ y) holds h))
+      (below_more s (take i es) e walk-under b (subst (λ y. joined_cell y e.1 ≡ y) holds h))
 
   pub walk-not_below : joined_cell x e.1 ≢ x → ¬ IsBelow (state_of es) s
   walk-not_below h =
       not_below s 0 es i e (rising_of es delta) within
-        (subst (λ d. joined_cell (s d.0) d.1 ≢ s d.0) is (subst (λ y. joined_cell y e.1 ≢ y) holds h))
+      (subst (λ d. joined_cell (s d.0) d.1 ≢ s d.0) is (subst (λ y. joined_cell y e.1 ≢ y) holds h))
 
   pub walk-same : (cs : List ℕ) → joined_cell x e.1 ≡ x → AreTouched s (joined_state s (state_of (take i es))) cs
       → AreTouched s (joined_state s (state_of (take (i + 1) es))) cs
   walk-same cs h t =
       subst (λ ds. AreTouched s (joined_state s (state_of ds)) cs) so_far
-        (touched_same s (take i es) e cs walk-under (subst (λ y. joined_cell y e.1 ≡ y) holds h) t)
+      (touched_same s (take i es) e cs walk-under (subst (λ y. joined_cell y e.1 ≡ y) holds h) t)
 
   pub walk-more : (cs : List ℕ) → joined_cell x e.1 ≢ x → AreTouched s (joined_state s (state_of (take i es))) cs
       → AreTouched s (joined_state s (state_of (take (i + 1) es))) (cs ++ e.0 ∷ [])
   walk-more cs h t =
       subst (λ ds. AreTouched s (joined_state s (state_of ds)) (cs ++ e.0 ∷ [])) so_far
-        (touched_more s (take i es) e cs walk-under (subst (λ y. joined_cell y e.1 ≢ y) holds h) t)
+      (touched_more s (take i es) e cs walk-under (subst (λ y. joined_cell y e.1 ≢ y) holds h) t)
 
   pub walk-last : (cs : List ℕ) → AreTouched s (joined_state s (state_of (take i es))) cs → All (λ c. c < e.0) cs
   walk-last cs t k d h = touched_under s (take i es) e.0 cs walk-under t (get_or cs k d) (In-at cs k d h)
@@ -89,11 +89,11 @@ pub so_far-more : (es : Entries) (i least : ℕ) (e : ℕ × CellState) → i < 
 so_far-more es i least e within is above grid some f = record {
   rising = subst (λ ds. Rising 0 (cells_of ds)) (more_entries es i e within is)
       (subst (Rising 0) (cells_of-push (take i es) e)
-        (Rising-push 0 (cells_of (take i es)) e.0 f.rising (Under-weaker least e.0 (cells_of (take i es)) above f.under) (omega arith)));
+      (Rising-push 0 (cells_of (take i es)) e.0 f.rising (Under-weaker least e.0 (cells_of (take i es)) above f.under) (omega arith)));
   under = subst (λ ds. Under (e.0 + 1) (cells_of ds)) (more_entries es i e within is)
       (subst (Under (e.0 + 1)) (cells_of-push (take i es) e)
-        (Under-push (e.0 + 1) (cells_of (take i es)) e.0
-          (Under-weaker least (e.0 + 1) (cells_of (take i es)) (omega (arith, above)) f.under) (omega arith)));
+      (Under-push (e.0 + 1) (cells_of (take i es)) e.0
+      (Under-weaker least (e.0 + 1) (cells_of (take i es)) (omega (arith, above)) f.under) (omega arith)));
   sharp = λ n u.
       let last : e.0 < n = last_under n (take i es) e (subst (λ ds. Under n (cells_of ds)) (sym (more_entries es i e within is)) u) in
       omega (arith, last);
@@ -106,12 +106,13 @@ pub so_far-order : (es : Entries) (i least : ℕ) (e : ℕ × CellState) → i <
     → SoFar es i least → AreEntries es → least ≤ e.0
 so_far-order es i least e within is f entries =
     f.sharp e.0 (subst (λ d. Under d.0 (cells_of (take i es))) (sym is)
-      (under_entry 0 es i e (rising_from_increasing 0 (cells_of es) entries.ascending (λ _. omega arith)) within))
+    (under_entry 0 es i e (rising_from_increasing 0 (cells_of es) entries.ascending (λ _. omega arith)) within))
 
 pub so_far-all : (es : Entries) (i least : ℕ) → length es ≤ i → SoFar es i least → AreEntries es × AreInGrid es
-so_far-all es i least h f =
-    (record {
-      ascending = increasing_from_rising 0 (cells_of es) (subst (λ ds. Rising 0 (cells_of ds)) (take_all i es h) f.rising);
-      none_empty = subst (All (λ d. d.1 ≢ empty_cell)) (take_all i es h) f.none_empty;
-      },
-      subst AreInGrid (take_all i es h) f.in_grid)
+so_far-all es i least h f = (
+  record {
+    ascending = increasing_from_rising 0 (cells_of es) (subst (λ ds. Rising 0 (cells_of ds)) (take_all i es h) f.rising);
+    none_empty = subst (All (λ d. d.1 ≢ empty_cell)) (take_all i es h) f.none_empty;
+  },
+  subst AreInGrid (take_all i es h) f.in_grid,
+)

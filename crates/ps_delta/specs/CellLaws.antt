@@ -27,19 +27,19 @@ pub joined_cell-comm : (s t : CellState) → joined_cell s t ≡ joined_cell t s
 unfolding joined_cell
 joined_cell-comm s t =
     by_parts ((registers_is_join content_cmp content_cmp-total content_cmp-IsAntisymmetric).commutative s.register t.register)
-      (tallies_is_join.commutative s.tally t.tally) (choices_is_join.commutative s.choice t.choice)
+    (tallies_is_join.commutative s.tally t.tally) (choices_is_join.commutative s.choice t.choice)
 
 pub joined_cell-assoc : (s t u : CellState) → joined_cell (joined_cell s t) u ≡ joined_cell s (joined_cell t u)
 unfolding joined_cell
 joined_cell-assoc s t u =
     by_parts ((registers_is_join content_cmp content_cmp-total content_cmp-IsAntisymmetric).associative s.register t.register u.register)
-      (tallies_is_join.associative s.tally t.tally u.tally) (choices_is_join.associative s.choice t.choice u.choice)
+    (tallies_is_join.associative s.tally t.tally u.tally) (choices_is_join.associative s.choice t.choice u.choice)
 
 pub joined_cell-idem : (s : CellState) → joined_cell s s ≡ s
 unfolding joined_cell
 joined_cell-idem s =
     by_parts ((registers_is_join content_cmp content_cmp-total content_cmp-IsAntisymmetric).idempotent s.register)
-      (tallies_is_join.idempotent s.tally) (choices_is_join.idempotent s.choice)
+    (tallies_is_join.idempotent s.tally) (choices_is_join.idempotent s.choice)
 
 -- a map joined with the map that has no key
 none_left : {K X : Type 0} (R : K → K → Ordering) (f : X → X → X) → IsTotalOrder R → IsAntisymmetric R

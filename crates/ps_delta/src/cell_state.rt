@@ -34,6 +34,32 @@ impl CellState {
         }
     }
 
+    /// The state with these three parts.
+    ///
+    /// Cost: constant.
+    pub fn from_parts(register: Register<Content>, tally: Tally, choice: Choice) -> CellState
+        ensures register { result.register ≡ register }
+        ensures tally { result.tally ≡ tally }
+        ensures choice { result.choice ≡ choice }
+    {
+        CellState {
+            register,
+            tally,
+            choice,
+        }
+    }
+
+    /// The register, the counter and the set.
+    ///
+    /// Cost: constant.
+    pub fn parts(&self) -> (&Register<Content>, &Tally, &Choice)
+        ensures register { result.0.now ≡ self.now.register }
+        ensures tally { result.1.now ≡ self.now.tally }
+        ensures choice { result.2.now ≡ self.now.choice }
+    {
+        (&self.register, &self.tally, &self.choice)
+    }
+
     /// Whether the cell has no register, no counts and no pairs.
     ///
     /// Cost: constant.
@@ -75,7 +101,9 @@ impl Join for CellState {
 
     #[tactic(auto, using(crate::specs::CellLaws::below_from_parts), unfolding(crate::specs::State::joined_cell))]
     fn below(&self, other: &CellState) -> bool {
-        self.register.below(&other.register) && self.tally.below(&other.tally) && self.choice.below(&other.choice)
+        self.register.below(&other.register)
+            && self.tally.below(&other.tally)
+            && self.choice.below(&other.choice)
     }
 
     ghost associative = { joined_cell-assoc };

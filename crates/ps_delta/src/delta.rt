@@ -25,7 +25,6 @@ pub struct Delta {
 
 impl Model for Delta {
     ghost use Rattle.ps_delta.specs.Deltas.{Entries, IsDelta, AreInGrid};
-
     ghost use Rattle.ps_delta.specs.contracts.cell_state.CellState as cell_state;
     ghost use Rattle.std.specs.Coded.{codes};
 

@@ -25,7 +25,6 @@ impl Model for Grid {
     ghost use Rattle.std.specs.Prelude.{◌≡◌, List, length};
     ghost use Rattle.ps_grid.specs.declared.size.TheConstants.{CELLS};
     ghost use Rattle.ps_delta.specs.declared.cell_state.CellState.{CellState};
-
     ghost use Rattle.ps_delta.specs.contracts.cell_state.CellState as cell_state;
     ghost use Rattle.std.specs.Coded.{codes};
 
@@ -114,9 +113,9 @@ impl Grid {
     {
         touched.clear();
         let parts = delta.parts();
-        for entry in parts {
-            if !entry.1.below(self.at(entry.0)) {
-                touched.add(entry.0);
+        for change in parts {
+            if !change.1.below(self.at(change.0)) {
+                touched.add(change.0);
             }
         }
     }

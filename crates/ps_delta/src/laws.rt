@@ -5,23 +5,19 @@ ghost use Rattle.ps_delta.specs.Laws.{CoveredChangesNothing, GroupsJoin, History
 /// States are joined in any order, in any groups and again with the same result, and the empty state adds nothing.
 pub fn states_join()
     ensures { StatesJoin }
-{
-}
+{}
 
 /// Two lists with the same deltas, in any order and each any number of times, have the same joined history.
 pub fn history_is_a_set()
     ensures { HistoryIsASet }
-{
-}
+{}
 
 /// Deltas in groups have the same joined history as the joins of the groups.
 pub fn groups_join()
     ensures { GroupsJoin }
-{
-}
+{}
 
 /// A delta below the joined history changes nothing.
 pub fn covered_changes_nothing()
     ensures { CoveredChangesNothing }
-{
-}
+{}

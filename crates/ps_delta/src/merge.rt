@@ -22,7 +22,11 @@ struct First {
 /// The cells of both lists, in order; what a cell has in both is joined.
 ///
 /// Cost: the cells of both lists, with their counts and pairs.
-pub(crate) fn merged(alloc: Global, left: &[(Cell, CellState)], right: &[(Cell, CellState)]) -> Result<Vec<(Cell, CellState)>, Refusal>
+pub(crate) fn merged(
+    alloc: Global,
+    left: &[(Cell, CellState)],
+    right: &[(Cell, CellState)],
+) -> Result<Vec<(Cell, CellState)>, Refusal>
     requires left { AreEntries left.now × AreInGrid left.now }
     requires right { AreEntries right.now × AreInGrid right.now }
     ensures joined { IfOk result (λ m. state_of m.items ≡ joined_state (state_of left.now) (state_of right.now)) }
@@ -49,7 +53,11 @@ fn rest(entries: &[(Cell, CellState)], count: usize) -> &[(Cell, CellState)]
 }
 
 // The first cell of two lists.
-fn first_of(alloc: Global, left: &[(Cell, CellState)], right: &[(Cell, CellState)]) -> Result<Option<First>, Refusal>
+fn first_of(
+    alloc: Global,
+    left: &[(Cell, CellState)],
+    right: &[(Cell, CellState)],
+) -> Result<Option<First>, Refusal>
     requires left { AreEntries left.now × AreInGrid left.now }
     requires right { AreEntries right.now × AreInGrid right.now }
     ensures ok { IfOk result (λ o. MatchOption o ((left.now ≡ []) × (right.now ≡ [])) (λ f. IsFirst left.now right.now f.entry f.left f.right)) }
@@ -96,7 +104,11 @@ fn of_right(alloc: Global, entry: &(Cell, CellState)) -> Result<First, Refusal>
     })
 }
 
-fn of_both(alloc: Global, mine: &(Cell, CellState), theirs: &(Cell, CellState)) -> Result<First, Refusal>
+fn of_both(
+    alloc: Global,
+    mine: &(Cell, CellState),
+    theirs: &(Cell, CellState),
+) -> Result<First, Refusal>
     ensures ok { IfOk result (λ f. (f.entry ≡ (mine.now.0, joined_cell mine.now.1 theirs.now.1)) × (f.left ≡ 1) × (f.right ≡ 1)) }
     ensures memory { IfErr result (λ e. e ≡ Refusal.Memory) }
 {

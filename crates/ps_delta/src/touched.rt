@@ -18,7 +18,6 @@ pub struct Touched {
 
 impl Model for Touched {
     ghost use Rattle.std.specs.Prelude.{ℕ, List};
-    
 
     ghost Value = { List ℕ };
 
