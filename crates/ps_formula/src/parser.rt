@@ -248,7 +248,8 @@ fn arguments(
     mut before: Vec<Argument>,
     tokens: &[Token],
 ) -> Result<(Vec<Argument>, &[Token]), Refusal>
-    ensures { Gives (λ x. (map item_of x.0.items, x.1.now)) result (arguments_at depth function (map item_of before.items) tokens.now) }
+    ensures { Gives (λ x. (map item_of x.0.items, x.1.now)) result
+        (arguments_at depth function (map item_of before.items) tokens.now) }
 {
     if depth == 0 {
         return Err(Refusal::Formula);
@@ -268,7 +269,8 @@ fn behind(
     before: Vec<Argument>,
     tokens: &[Token],
 ) -> Result<(Vec<Argument>, &[Token]), Refusal>
-    ensures { Gives (λ x. (map item_of x.0.items, x.1.now)) result (behind_at depth function (map item_of before.items) tokens.now) }
+    ensures { Gives (λ x. (map item_of x.0.items, x.1.now)) result
+        (behind_at depth function (map item_of before.items) tokens.now) }
 {
     if depth == 0 {
         return Err(Refusal::Formula);
