@@ -1,18 +1,19 @@
 -- What an edit at a replica makes of a state: its delta, or the first refusal that holds.
-use Rattle.std.specs.Prelude.{ℕ, ◌+◌, ◌<◌, Bool, true, false, not, ◌==◌, nat_lt, nat_le, List, [], ◌∷◌, length, map as each, Option, Some, Result, Ok, Err}
+use Rattle.std.specs.Prelude.{ℕ, ◌+◌, ◌<◌, Bool, true, false, not, ◌==◌, nat_lt, nat_le, List, [], ◌∷◌, length, map as each, Option, Some, None, Result, Ok, Err}
 use Rattle.std.specs.List.{list_any}
 use Rattle.std.specs.List.Sorted.{IsStrictlyIncreasing}
 use Rattle.std.specs.FinMap as map
 use Rattle.ps_grid.specs.declared.refusal.Refusal.{Refusal}
 use Rattle.ps_grid.specs.declared.refusal.Refusal.TheVariants.{NotTally, NotChoice, Amount, OptionRange, TallyFull, ChoiceFull, NotChosen, ClockFull}
 use Rattle.ps_lattice.specs.declared.limits.TheConstants.{LAST_TIME, COUNT_LIMIT, OPTIONS, SEQUENCES}
+use Rattle.ps_lattice.specs.declared.register.Assignment.{Assignment}
 use Rattle.ps_lattice.specs.Register.{time_of}
 use Rattle.ps_lattice.specs.Tally.{Counts, added, subtracted, counts_of, is_amount}
 use Rattle.ps_lattice.specs.Choice.{Pairs, is_chosen, last_sequence, with_pair, withdrawn}
 use Rattle.ps_content.specs.declared.content.Content.{Content}
 use Rattle.ps_content.specs.declared.content.Content.TheVariants.{Tally, Choice}
 use Rattle.ps_delta.specs.declared.cell_state.CellState.{CellState}
-use Rattle.ps_delta.specs.State.{State, empty_cell}
+use Rattle.ps_delta.specs.State.{State}
 use Rattle.ps_delta.specs.Deltas.{Entries}
 use Rattle.ps_sheet.specs.Settled.{content_of}
 use Rattle.ps_sheet.specs.declared.edit.Edit.{Edit}
@@ -35,17 +36,19 @@ holds_choice _ = false
 abbrev pub is_clock_full : CellState → Bool
 is_clock_full x = time_of x.register == LAST_TIME
 
--- the assignment of a content at replica r, a time above that of the register: nothing but a register
-abbrev pub assigned : ℕ → CellState → Content → CellState
-assigned r x content =
-    record empty_cell { register = Some (record { time = time_of x.register + 1; replica = r; content = content }) }
+-- a cell with nothing but a register, nothing but counts, or nothing but pairs
+abbrev pub registered : Option (Assignment Content) → CellState
+registered register = record { register = register; tally = map.empty; choice = map.empty }
 
--- nothing but counts, or pairs
 abbrev pub counted : Counts → CellState
-counted counts = record empty_cell { tally = counts }
+counted counts = record { register = None; tally = counts; choice = map.empty }
 
 abbrev pub paired : Pairs → CellState
-paired pairs = record empty_cell { choice = pairs }
+paired pairs = record { register = None; tally = map.empty; choice = pairs }
+
+-- the assignment of a content at replica r, a time above that of the cell's register
+abbrev pub assigned : ℕ → CellState → Content → CellState
+assigned r x content = registered (Some (record { time = time_of x.register + 1; replica = r; content = content }))
 
 -- cells with contents: 13 for any of them refuses the whole
 abbrev pub delta_of_batch : ℕ → State → List (ℕ × Content) → Result Entries Refusal

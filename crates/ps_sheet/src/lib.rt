@@ -5,6 +5,7 @@ mod changes;
 mod contents;
 mod edit;
 mod laws;
+mod made;
 mod rounds;
 mod sheet;
 

@@ -8,6 +8,7 @@ ghost use Rattle.ps_sheet.specs.Settled.{Cyclic, shown_at};
 
 use crate::changes::take_in;
 use crate::edit::Edit;
+use crate::made::delta_of;
 use crate::rounds::value_in;
 use ps_delta::{Delta, Grid};
 use ps_eval::{Look, Meter};
@@ -115,11 +116,9 @@ impl Sheet {
         ensures kept { OnErr result (self.new ≡ self.old) }
         ensures unmetered { OnErr result (meter.new ≡ meter.old) }
     {
-        let _ = self.report();
-        let _ = alloc;
-        let _ = edit;
-        let _ = meter;
-        Err(Refusal::Memory)
+        let delta = delta_of(alloc, &self.grid, self.replica, edit)?;
+        let delta = Arc::new(alloc, delta)?;
+        self.append(alloc, delta, meter)
     }
 
     /// Accepts a delta made elsewhere: appends it to the history, unless it is below the state already.
