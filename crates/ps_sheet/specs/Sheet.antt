@@ -1,5 +1,5 @@
 -- The sheet of one replica, as contracts see it.
-use Rattle.std.specs.Prelude.{◌≡◌, ℕ, ◌<◌, ◌≤◌, ◌⊎◌, List, [], ◌∷◌, ◌++◌, length, take, slice_index_or}
+use Rattle.std.specs.Prelude.{◌≡◌, ℕ, ◌<◌, ◌≤◌, ◌⊎◌, List, [], ◌∷◌, ◌++◌, length, take, slice_index_or, ◌↔◌, Contains}
 use Rattle.ps_grid.specs.declared.size.TheConstants.{CELLS}
 use Rattle.ps_value.specs.declared.value.Value.{Value}
 use Rattle.ps_delta.specs.State.{IsInGrid, IsBelow}
@@ -36,3 +36,13 @@ Takes d h k =
 abbrev pub Accepts : List Entries → List Entries → List Entries → Type 0
 Accepts h [] k = k ≡ h
 Accepts h (d ∷ ds) k = (m : List Entries) × Takes d h m × Accepts m ds k
+
+-- LAW: a run of accepted deltas joins to the joined history, whether each was appended or was below the state
+abbrev pub AcceptedDeltasJoin : Type 0
+AcceptedDeltasJoin = (ds h k : List Entries) → Accepts h ds k → joined_history k ≡ joined_history (h ++ ds)
+
+-- two histories come from the empty one by accepting the same deltas, in whatever order and however often
+abbrev pub TookTheSame : List Entries → List Entries → Type 0
+TookTheSame h k =
+    (ds : List Entries) × (es : List Entries) × ((d : Entries) → Contains ds d ↔ Contains es d)
+    × Accepts [] ds h × Accepts [] es k
