@@ -1,0 +1,205 @@
+-- A session whose input is read on piece by piece, and its end.
+use Rattle.std.proofs.Common.{◌≡◌, ◌≢◌, ◌^◌, ◌+◌, ◌-◌, ◌<◌, ◌≤◌, ℕ, min, Bool, true, false, List, [], ◌∷◌, ◌++◌}
+use Rattle.std.proofs.Common.{length, take, drop, refl, sym, ap, ◌∙◌, rules, arith, Option, Some, None, subst}
+use Rattle.std.proofs.Common.{append_assoc, append-nil, length-drop, nat_le}
+use Rattle.std.specs.Prelude.{⊤, if◌then◌else◌}
+use Rattle.std.specs.Io.KnownBytes.{Appends}
+use Rattle.std.proofs.Math.Seq.{take-add}
+use Rattle.std.proofs.lemmas.List.{take-append-drop}
+use Rattle.ps_value.proofs.DeviceLemmas.{Appends-append, Appends-nil, rest-range}
+use Rattle.ps_session.specs.Kept.{kept, kept_after}
+use Rattle.ps_session.specs.Feeding.{Ends, Reading}
+use Rattle.ps_session.specs.Transcript.{Answered, Answering, Cut, IsBehindLine, Run, Transcribed, answered_count}
+use Rattle.ps_session.specs.Transcript.{has_reply, stream_of, with_last}
+use Rattle.ps_session.specs.Stands.{Stands}
+use Rattle.ps_session.specs.Holds.{Holds, as_one}
+use Rattle.ps_session.specs.declared.session.Line.{Line}
+use Rattle.ps_session.specs.declared.session.Line.TheVariants as lines
+use Rattle.ps_session.proofs.HoldsLemmas.{fits_kept}
+use Rattle.ps_session.proofs.RunLemmas.{Run-push, answered-push}
+
+-- one turn more, as the code takes it
+pub read-more : (read bytes : List ℕ) (start taken : ℕ)
+    → (read ++ take start bytes) ++ take taken (take (length bytes - start) (drop start bytes)) ≡ read ++ take (start
+    + taken) bytes
+read-more read bytes start taken =
+    ap (λ r. (read ++ take start bytes) ++ take taken r) (rest-range bytes start)
+    ∙ append_assoc read (take start bytes) (take taken (drop start bytes))
+    ∙ ap (λ t. read ++ t) (sym (take-add start taken bytes))
+
+-- .. and all that is left
+pub read-rest : (read bytes : List ℕ) (start : ℕ)
+    → (read ++ take start bytes) ++ take (length bytes - start) (drop start bytes) ≡ read ++ bytes
+read-rest read bytes start =
+    ap (λ r. (read ++ take start bytes) ++ r) (rest-range bytes start)
+    ∙ append_assoc read (take start bytes) (drop start bytes)
+    ∙ ap (λ t. read ++ t) (take-append-drop start bytes)
+
+-- what holds nothing is empty
+pub nothing_kept : (rest : List ℕ) → kept rest ≡ Some [] → rest ≡ []
+nothing_kept rest is = (fits_kept rest [] is).1
+
+pub with_last-filled : (lines : List (List ℕ)) (rest : List ℕ) → 0 < length rest
+    → with_last lines rest ≡ lines ++ rest ∷ []
+with_last-filled lines [] some = absurd (omega (arith, some))
+with_last-filled lines (b ∷ bs) some = refl
+
+long_filled : (rest : List ℕ) → kept rest ≡ None → 0 < length rest
+long_filled [] is = search (rules, is)
+long_filled (b ∷ bs) is = omega arith
+
+module _ {State : Type 0} (Handles : Answering State) (first : State) (written : Option (List ℕ)) (read : List ℕ)
+  where
+    pub end_none : (board : State) (before after : Reading) (contents : Option (List ℕ)) (answered : ℕ)
+        → Ends before after lines.None → Stands Handles first written read board before.pending contents answered
+        → Transcribed Handles first written read board contents answered
+    end_none board before after contents answered ends s =
+        let all : with_last s.lines s.rest ≡ s.lines = ap (with_last s.lines) (nothing_kept s.rest (sym s.held
+        ∙ ends.0)) in
+        record {
+          lines = s.lines;
+          rest = s.rest;
+          text = s.text;
+          split = s.split;
+          run = subst (λ ls. Run Handles first ls s.text board) (sym all) s.run;
+          sent = s.sent;
+          counted = s.counted ∙ ap answered_count (sym all);
+        }
+
+    -- the rest is a line, and the session holds it
+    pub end_held : (board : State) (before after : Reading) (contents : Option (List ℕ)) (answered : ℕ) (line : Line)
+        → line ≢ lines.None → Ends before after line
+        → (s : Stands Handles first written read board before.pending contents answered)
+        → Holds line after s.rest × (0 < length s.rest)
+    end_held board before after contents answered lines.None some ends s = absurd (some refl)
+    end_held board before after contents answered lines.Full some ends s =
+        let is = sym s.held ∙ ends.0 in
+        (is, subst (λ l. 0 < length l) (sym (fits_kept s.rest after.line is).1) ends.2)
+    end_held board before after contents answered lines.TooLong some ends s =
+        let is = sym s.held ∙ ends.0 in (is, long_filled s.rest is)
+
+    pub end_line : (old new : State) (before after : Reading) (contents more : Option (List ℕ)) (answered counted : ℕ)
+        (line : Line)
+        → line ≢ lines.None → Ends before after line
+        → ((raw : List ℕ) → Holds line after raw → (reply : List ℕ) × Handles old raw reply new
+        × Appends contents more reply × (counted ≡ min (answered + as_one (has_reply raw)) (2 ^ 64 - 1)))
+        → Stands Handles first written read old before.pending contents answered
+        → Transcribed Handles first written read new more counted
+    end_line old new before after contents more answered counted line some ends replied s =
+        let held = end_held old before after contents answered line some ends s in
+        let r = replied s.rest held.0 in
+        let all : with_last s.lines s.rest ≡ s.lines ++ s.rest ∷ [] = with_last-filled s.lines s.rest held.1 in
+        record {
+          lines = s.lines;
+          rest = s.rest;
+          text = s.text ++ r.0;
+          split = s.split;
+          run = subst (λ ls. Run Handles first ls (s.text ++ r.0) new) (sym all) (Run-push Handles s.lines first old
+              new s.text r.0 s.rest s.run r.1);
+          sent = Appends-append written contents more s.text r.0 s.sent r.2;
+          counted = answered-push s.lines s.rest answered counted s.counted r.3 ∙ ap answered_count (sym all);
+        }
+
+    pub end_cut : (old new : State) (before after : Reading) (contents more : Option (List ℕ)) (answered : ℕ) (line :
+        Line)
+        → line ≢ lines.None → Ends before after line
+        → ((raw : List ℕ) → Holds line after raw → (reply : List ℕ) × (count : ℕ) × Handles old raw reply new
+        × (count < length reply) × Appends contents more (take count reply))
+        → Stands Handles first written read old before.pending contents answered
+        → Cut Handles ⊤ first written read new more
+    end_cut old new before after contents more answered line some ends replied s =
+        let held = end_held old before after contents answered line some ends s in
+        let r = replied s.rest held.0 in
+        record {
+          lines = s.lines;
+          line = s.rest;
+          after = [];
+          text = s.text;
+          middle = old;
+          reply = r.0;
+          count = r.1;
+          whole = s.split.whole ∙ ap (stream_of s.lines) (sym (append-nil s.rest));
+          each = s.split.each;
+          one = s.split.partial;
+          behind = tt;
+          run = s.run;
+          answers = r.2;
+          short = r.3;
+          sent = Appends-append written contents more s.text (take r.1 r.0) s.sent r.4;
+        }
+
+    -- the source failed: the complete lines were answered
+    pub stands_answered : (board : State) (pending contents : Option (List ℕ)) (answered : ℕ)
+        → Stands Handles first written read board pending contents answered
+        → Answered Handles first written read board contents
+    stands_answered board pending contents answered s =
+        record { lines = s.lines; rest = s.rest; text = s.text; split = s.split; run = s.run; sent = s.sent }
+
+    -- a cut reply, with what is known of the end of the input
+    pub cut_behind_end : (P Q : Type 0) (last : State) (contents : Option (List ℕ)) → (P → Q)
+        → Cut Handles P first written read last contents
+        → Cut Handles Q first written read last contents
+    cut_behind_end P Q last contents known c = record {
+      lines = c.lines;
+      line = c.line;
+      after = c.after;
+      text = c.text;
+      middle = c.middle;
+      reply = c.reply;
+      count = c.count;
+      whole = c.whole;
+      each = c.each;
+      one = c.one;
+      behind = go c.after c.behind;
+      run = c.run;
+      answers = c.answers;
+      short = c.short;
+      sent = c.sent;
+    }
+      where
+        go : (after : List ℕ) → IsBehindLine P after → IsBehindLine Q after
+        go [] p = known p
+        go (b ∷ bs) p = p
+
+    pub stands_more : (bytes : List ℕ) (start taken : ℕ) (board : State) (pending contents : Option (List ℕ)) (answered
+        : ℕ)
+        → Stands Handles first written ((read ++ take start bytes) ++ take taken (take (length bytes - start) (drop
+        start bytes))) board pending contents answered
+        → Stands Handles first written (read ++ take (start + taken) bytes) board pending contents answered
+    stands_more bytes start taken board pending contents answered s =
+        subst (λ r. Stands Handles first written r board pending contents answered) (read-more read bytes start taken) s
+
+    pub cut_rest : (bytes : List ℕ) (start : ℕ) (board : State) (contents : Option (List ℕ))
+        → Cut Handles ⊥ first written ((read ++ take start bytes) ++ take (length bytes - start) (drop start bytes))
+        board contents
+        → Cut Handles ⊥ first written (read ++ bytes) board contents
+    cut_rest bytes start board contents c = subst (λ r. Cut Handles ⊥ first written r board contents) (read-rest read
+        bytes start) c
+
+pub turn_within : (bytes : List ℕ) (start taken : ℕ) → start < length bytes
+    → taken ≤ length (take (length bytes - start) (drop start bytes))
+    → start + taken ≤ length bytes
+turn_within bytes start taken lt le =
+    let shorter : length (take (length bytes - start) (drop start bytes)) ≡ length bytes - start = ap length
+    (rest-range bytes start) ∙ length-drop start bytes in
+    omega (arith, shorter, lt, le)
+
+-- nothing is read yet
+pub stands_first : {State : Type 0} (Handles : Answering State) (board : State) (contents pending : Option (List ℕ))
+    → pending ≡ Some []
+    → Stands Handles board contents [] board pending contents 0
+stands_first Handles board contents pending is = record {
+  lines = [];
+  rest = [];
+  text = [];
+  split = record {
+    whole = refl;
+    each = λ k d lt. absurd (omega (arith, lt));
+    partial = λ k d lt. absurd (omega
+        (arith, lt));
+  };
+  run = (refl, refl);
+  held = is;
+  sent = Appends-nil contents;
+  counted = refl;
+}

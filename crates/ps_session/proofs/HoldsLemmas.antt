@@ -1,0 +1,59 @@
+-- What the line that a session holds says of the bytes between two line feeds.
+use Rattle.std.proofs.Common.{◌≡◌, ◌^◌, ◌+◌, ◌-◌, ℕ, min, Bool, true, false, List, length, refl, sym, ap, ◌∙◌, rules}
+use Rattle.std.proofs.Common.{Option, Some, None, Result, Ok, Err, subst, nat_le}
+use Rattle.std.specs.Prelude.{if◌then◌else◌, MatchBool, OnOk}
+use Rattle.ps_value.specs.Device.{Sends}
+use Rattle.ps_session.specs.declared.session.TheConstants.{LINE_LIMIT}
+use Rattle.ps_session.specs.Kept.{kept}
+use Rattle.ps_session.specs.Feeding.{without_return}
+use Rattle.ps_session.specs.Transcript.{Answering, Handles, Replies, has_reply, is_filled}
+use Rattle.ps_session.specs.Holds.{Replied, as_one}
+
+pub fits_kept : (raw line : List ℕ) → kept raw ≡ Some line → (nat_le (length raw) LINE_LIMIT ≡ true) × (raw ≡ line)
+fits_kept raw line is = go (nat_le (length raw) LINE_LIMIT) refl is
+  where
+    go : (b : Bool) → nat_le (length raw) LINE_LIMIT ≡ b → (if b then Some raw else None) ≡ Some line
+        → (nat_le (length raw) LINE_LIMIT ≡ true) × (raw ≡ line)
+    go true fits e = (fits, search (rules, e))
+    go false fits e = search (rules, e)
+
+pub long_kept : (raw : List ℕ) → kept raw ≡ None → nat_le (length raw) LINE_LIMIT ≡ false
+long_kept raw is = go (nat_le (length raw) LINE_LIMIT) refl is
+  where
+    go : (b : Bool) → nat_le (length raw) LINE_LIMIT ≡ b → (if b then Some raw else None) ≡ None
+        → nat_le (length raw) LINE_LIMIT ≡ false
+    go true fits e = search (rules, e)
+    go false long e = long
+
+module _ {State E : Type 0} (refused : List ℕ) (Answers : Answering State) (old new : State) (contents after : Option
+    (List ℕ)) (answered counted : ℕ)
+    (result : Result (Unit {0}) E) where
+  -- the reply where the test on the length answers b
+  abbrev Tested : List ℕ → Bool → Type 0
+  Tested raw b = Replied
+      (λ o t w. MatchBool b (Replies Answers o (without_return raw) t w) ((t ≡ refused) × (w ≡ o)))
+      old new (as_one (if b then is_filled (without_return raw) else true)) contents after answered counted result
+
+  pub handled_full : (raw line : List ℕ) → kept raw ≡ Some line
+      → Replied (λ o t w. Replies Answers o (without_return line) t w) old new (as_one (is_filled (without_return
+      line))) contents after answered counted result
+      → Replied (λ o t w. Handles refused Answers o raw t w) old new (as_one (has_reply raw)) contents after answered
+      counted result
+  handled_full raw line is given =
+      let fits = fits_kept raw line is in
+      subst (Tested raw) (sym fits.0)
+      (subst (λ l. Replied (λ o t w. Replies Answers o (without_return l) t w) old new (as_one (is_filled
+      (without_return l))) contents after answered counted result) (sym fits.1) given)
+
+  refused_line : (r : Result (Unit {0}) E) → old ≡ new → Sends contents after r refused
+      → OnOk r (counted ≡ min (answered + 1) (2 ^ 64 - 1))
+      → Replied (λ o t w. (t ≡ refused) × (w ≡ o)) old new 1 contents after answered counted r
+  refused_line (Ok x) stays sent counts = (refused, (refl, sym stays), sent, counts)
+  refused_line (Err e) stays sent counts = (refused, sent.0, (refl, sym stays), sent.1, sent.2)
+
+  pub handled_long : (raw : List ℕ) → kept raw ≡ None → old ≡ new → Sends contents after result refused
+      → OnOk result (counted ≡ min (answered + 1) (2 ^ 64 - 1))
+      → Replied (λ o t w. Handles refused Answers o raw t w) old new (as_one (has_reply raw)) contents after answered
+      counted result
+  handled_long raw is stays sent counts = subst (Tested raw) (sym (long_kept raw is)) (refused_line result stays sent
+      counts)

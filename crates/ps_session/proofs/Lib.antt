@@ -1,0 +1,7 @@
+mod FeedLemmas
+mod RunLemmas
+mod SendLemmas
+mod HoldsLemmas
+mod TurnLemmas
+mod EndLemmas
+mod ReadLemmas

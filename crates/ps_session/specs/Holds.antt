@@ -1,0 +1,26 @@
+-- How the line that a session holds stands for the bytes between two line feeds.
+use Rattle.std.specs.Prelude.{◌≡◌, ◌+◌, ◌-◌, ◌<◌, ◌^◌, ℕ, Bool, List, Option, Some, None, Result, MatchResult, length}
+use Rattle.std.specs.Prelude.{take, min, if◌then◌else◌}
+use Rattle.std.specs.Io.KnownBytes.{Appends}
+use Rattle.ps_session.specs.Kept.{kept}
+use Rattle.ps_session.specs.Feeding.{Reading}
+use Rattle.ps_session.specs.declared.session.Line.{Line}
+use Rattle.ps_session.specs.declared.session.Line.TheVariants as lines
+
+abbrev pub Holds : Line → Reading → List ℕ → Type 0
+Holds lines.None session raw = ⊥
+Holds lines.Full session raw = kept raw ≡ Some session.line
+Holds lines.TooLong session raw = kept raw ≡ None
+
+-- something was answered, or its reply was cut: the reply counts as `replies`
+abbrev pub Replied : {State E : Type 0} → (State → List ℕ → State → Type 0) → State → State → ℕ → Option (List ℕ)
+    → Option (List ℕ) → ℕ → ℕ
+    → Result (Unit {0}) E → Type 0
+Replied Answers old new replies contents after answered counted result = MatchResult result
+    (λ _. (reply : List ℕ) × Answers old reply new × Appends contents after reply
+    × (counted ≡ min (answered + replies) (2 ^ 64 - 1)))
+    (λ _. (reply : List ℕ) × (count : ℕ) × Answers old reply new × (count < length reply)
+    × Appends contents after (take count reply))
+
+abbrev pub as_one : Bool → ℕ
+as_one b = if b then 1 else 0

@@ -1,0 +1,6 @@
+pub mod Kept
+pub mod Feeding
+pub mod Transcript
+pub mod Stands
+pub mod Replies
+pub mod Holds

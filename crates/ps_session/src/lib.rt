@@ -1,0 +1,22 @@
+//! Lines in, replies out.
+//!
+//! A [`Session`] puts bytes together to lines, in whatever pieces they come. A [`Board`] answers a line; [`talk`] is
+//! the whole way from a source of bytes to a sink: it reads the source to its end and writes the reply to each line,
+//! in order. What it promises is told by a definition of its own, the transcript (`specs/Transcript.antt`), which knows
+//! nothing of pieces. Which lines there are and what they do isn't here yet: a board brings it.
+//!
+//! Reading takes no memory beyond the room of one line; a line costs its bytes and what its board takes.
+#![tactic(auto)]
+
+mod board;
+mod reply;
+mod session;
+mod transcript;
+
+pub use board::Board;
+pub use reply::{Reply, send};
+pub use session::{Fed, LINE_LIMIT, Line, Session};
+pub use transcript::{RunFault, talk};
+
+#[cfg(test)]
+mod tests;
