@@ -1,0 +1,27 @@
+use Rattle.std.proofs.Common.{rules, true, ◌≡◌, ◌≤◌, ℕ, Some, IfOk, IfSome, List, codes, map, false, string_bytes}
+use Rattle.std.proofs.Common.{refl, ap, ◌∙◌, sym, option_map}
+use Rattle.clap.specs.Words.{app_of, found_of, subcommand_of, is_simple, Text, Row, rows_of}
+use Rattle.clap.specs.Words.{subcommand_rows_of}
+use Rattle.sheet.specs.Words.{GivesOptions, number_option, run_app, sheet_app}
+use Rattle.clap.proofs.OnLiterals.{clap_on_literals}
+use Rattle.sheet.proofs.Subcommands.{subcommand_rows_is}
+use Rattle.sheet.proofs.words.read_words.Goals as goal
+
+simple : is_simple sheet_app ≡ true
+unfolding clap_on_literals
+simple = refl
+
+pub returns : goal.returns
+returns c =
+    let matched = c.in_ok-matches.ensures.matches (ap is_simple c.in_ok-sheet_command.ensures ∙ simple) in
+    let named : c.in-Some.name.now ≡ codes "run" = search rules in
+    let entered = subcommand_rows_is _ c.in-Some.name.now (rows_of (found_of c.in-Some.found.now))
+    c.in-Some.ensures.name c.in-Some.ensures.rows in
+    let command_is = ap (λ a. subcommand_of a (map string_bytes c.args.words.now)) c.in_ok-sheet_command.ensures in
+    let name_is = ap (λ (t : Text). Some (t, rows_of (found_of c.in-Some.found.now))) named in (
+      rows_of (found_of c.in-Some.found.now),
+      sym command_is ∙ sym matched.1 ∙ entered
+          ∙ name_is,
+      c.in-Some-number_of.ensures.number,
+      c.in-Some-number_of-2.ensures.number,
+    )

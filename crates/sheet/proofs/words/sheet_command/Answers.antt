@@ -1,0 +1,24 @@
+use Rattle.std.proofs.Common.{rules, ap, ap₂, ◌≡◌, ◌∙◌, ℕ, true}
+use Rattle.std.proofs.lemmas.Result.{IfOk-weaker}
+use Rattle.clap.specs.Words.{App, app_of, with_subcommand, new_app, Shape}
+use Rattle.clap.specs.Simple.{on_top, app_of_fields}
+use Rattle.clap.specs.declared.builder.command.Command.{Command}
+use Rattle.clap.specs.declared.builder.command.Command.TheOpen.{Command-F}
+use Rattle.sheet.specs.Words.{run_app, sheet_app}
+use Rattle.sheet.proofs.words.sheet_command.Goals as goal
+
+abbrev asks : Shape → Shape
+asks s = record s { subcommand_required = true }
+
+abbrev asks_fields : Command-F Command → Command-F Command
+asks_fields f = record f { subcommand_required = true }
+
+pub returns : goal.returns
+returns c =
+    let top_is : app_of c.subcommand_required.result ≡ on_top asks (app_of c.new.result) =
+    ap app_of_fields (c.subcommand_required.ensures ∙ ap asks_fields c.about.ensures) in
+    IfOk-weaker c.subcommand.result _ _
+    (λ command h. h.shape c.in_ok-run_command.ensures.local
+    ∙ ap₂ with_subcommand (top_is ∙ ap (on_top asks) c.new.ensures.app) (ap (λ (a : App). a.top)
+    c.in_ok-run_command.ensures.app))
+    c.subcommand.ensures

@@ -1,0 +1,40 @@
+-- The command line of the program, as `clap` sees it, and what its matches give.
+use Rattle.std.specs.Prelude.{◌≡◌, ◌≤◌, ℕ, true, List, [], ◌∷◌, Option, Some, None, Result, Ok, Err, codes, pos}
+use Rattle.std.specs.Prelude.{option_map}
+use Rattle.std.specs.Str.Parse.{digits_value, without_leading_plus}
+use Rattle.clap.specs.Words.{App, Row, Rule, Text, new_app, new_rule, one_of, subcommand_of, with_rule}
+use Rattle.clap.specs.Words.{with_subcommand, Shape}
+use Rattle.clap.specs.Simple.{on_top}
+use Rattle.clap.specs.declared.builder.action.ArgAction.TheVariants.{Set}
+use Rattle.clap.specs.declared.builder.value_parser.ValueParser.TheVariants as vp
+use Rattle.sheet.specs.declared.options.RunOptions.{RunOptions}
+use Rattle.sheet.specs.declared.options.Options.{Options}
+use Rattle.sheet.specs.declared.options.Options.TheVariants.{Run}
+
+-- an option with a number from 1 to most, 1 where it is not given
+abbrev pub number_option : Text → ℕ → Rule
+number_option id most = record (new_rule id) {
+  long = Some id;
+  action = Some Set;
+  parser = Some (vp.Signed (pos 1) (pos most));
+  defaults = codes "1" ∷ [];
+}
+
+abbrev pub run_app : App
+run_app = with_rule (with_rule (new_app (codes "run")) (number_option (codes "workers") 16)) (number_option (codes
+    "replica") 32)
+
+-- the program has one of the commands
+abbrev pub sheet_app : App
+sheet_app = with_subcommand (on_top (λ s. record s { subcommand_required = true }) (new_app (codes "sheet")))
+    run_app.top
+
+-- among a command's matches the option has this number
+abbrev pub GivesNumber : List Row → Text → ℕ → Type 0
+GivesNumber rows id n = (text : Text) × (one_of id rows ≡ Some text)
+    × (digits_value 10 (without_leading_plus text) ≡ n)
+
+-- the matches are those of the command with its numbers
+abbrev pub GivesOptions : Option (Text × List Row) → Options → Type 0
+GivesOptions matches (Run o) = (rows : List Row) × (matches ≡ Some (codes "run", rows))
+    × GivesNumber rows (codes "workers") o.workers × GivesNumber rows (codes "replica") o.replica

@@ -1,0 +1,24 @@
+//! How the program ends before its work is done.
+ghost use Rattle.std.specs.Prelude.{◌≡◌};
+ghost use Rattle.sheet.specs.Status.{exit_status};
+
+use ps_grid::Refusal;
+use thiserror::Error;
+
+/// What ended the program. Its text is the line that standard error gets: `err`, the refusal's number and its name.
+#[derive(Clone, Copy, Debug, PartialEq, Eq, Error)]
+pub enum ProgramFault {
+    /// A call was refused.
+    #[error("err {} {}", .0.number(), .0.name())]
+    Refused(Refusal),
+}
+
+/// The exit status: 1 where a device failed, else 3.
+pub fn status_of(fault: &ProgramFault) -> u8
+    ensures { result ≡ exit_status fault.now }
+{
+    match fault {
+        ProgramFault::Refused(Refusal::Device) => 1,
+        ProgramFault::Refused(_) => 3,
+    }
+}

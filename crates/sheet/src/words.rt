@@ -1,0 +1,76 @@
+//! The program's command line.
+ghost use Rattle.std.specs.Prelude.{◌≡◌, ◌≤◌, ℕ, Some, IfOk, IfSome, List, codes, map, false, string_bytes};
+ghost use Rattle.clap.specs.Words.{app_of, found_of, rows_of, rule_of, subcommand_of};
+ghost use Rattle.clap.specs.declared.builder.command.Command.TheViews.{out-Command as fields_of};
+ghost use Rattle.sheet.specs.Words.{GivesNumber, GivesOptions, number_option, run_app, sheet_app};
+
+use crate::options::{Options, RunOptions};
+use clap::builder::ValueParser;
+use clap::{Arg, ArgAction, ArgMatches, Command, Error};
+use std::alloc::{AllocError, Global};
+
+/// An option with a number from 1 to `most`, which is 1 where it isn't given.
+fn number_option<'a>(alloc: Global, id: &'a str, most: u8) -> Arg<'a>
+    ensures rule { rule_of result ≡ number_option id.now most }
+    ensures local { result.global ≡ false }
+{
+    Arg::new(alloc, id)
+        .long(id)
+        .action(ArgAction::Set)
+        .value_parser(ValueParser::Signed(1, i64::from(most)))
+        .default_value("1")
+}
+
+fn run_command<'a>(alloc: Global) -> Result<Command<'a>, AllocError>
+    ensures app { IfOk result (λ command. app_of command ≡ run_app) }
+    ensures local { IfOk result (λ command. (fields_of command).has_globals ≡ false) }
+{
+    let workers = number_option(alloc, "workers", 16).help(
+        "how many threads evaluate formulas, 1 to 16",
+    );
+    let replica = number_option(alloc, "replica", 32).help("the number of this replica, 1 to 32");
+    Command::new(alloc, "run")
+        .about("answers each line of standard input on standard output")
+        .arg(workers)?
+        .arg(replica)
+}
+
+fn sheet_command<'a>(alloc: Global) -> Result<Command<'a>, AllocError>
+    ensures { IfOk result (λ command. app_of command ≡ sheet_app) }
+{
+    Command::new(alloc, "sheet")
+        .about("a replicated spreadsheet")
+        .subcommand_required(true)
+        .subcommand(run_command(alloc)?)
+}
+
+/// The number of an option, if it lies in 1..=most.
+fn number_of(matches: &ArgMatches<'_>, id: &str, most: u8) -> Option<u8>
+    ensures number { IfSome result (GivesNumber (rows_of (found_of matches.now)) id.now) }
+    ensures range { IfSome result (λ n. (1 ≤ n) × (n ≤ most)) }
+{
+    match matches.get_one::<u8>(id) {
+        Some(number) if 1 <= number && number <= most => Some(number),
+        _ => None,
+    }
+}
+
+/// Reads the program's words, the first of which is its own name.
+pub fn read_words<'a>(alloc: Global, words: &'a [String]) -> Result<Options, Error>
+    ensures { IfOk result (GivesOptions (subcommand_of sheet_app (map string_bytes words.now))) }
+{
+    let matches = sheet_command(alloc)?.try_get_matches_from(words)?;
+    let Some((name, found)) = matches.subcommand() else {
+        return Err(AllocError.into());
+    };
+    if name != "run" {
+        return Err(AllocError.into());
+    }
+    let Some(workers) = number_of(found, "workers", 16) else {
+        return Err(AllocError.into());
+    };
+    let Some(replica) = number_of(found, "replica", 32) else {
+        return Err(AllocError.into());
+    };
+    Ok(Options::Run(RunOptions { workers, replica }))
+}
