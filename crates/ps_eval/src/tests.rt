@@ -1,5 +1,6 @@
 //! Formulas as a person writes them, and what they show. The expected values are worked by hand, and those of MOD and
-//! QUOTIENT with numbers of many digits come from another program (Python's `%`, and its `//` of the magnitudes).
+//! QUOTIENT with numbers of many digits come from another program (Python's `%`, and its `//` of the magnitudes); one
+//! table is what another spreadsheet shows.
 
 ghost use Rattle.std.specs.Prelude.{◌≡◌, ◌<◌};
 
@@ -83,13 +84,22 @@ fn check(
     Ok(())
 }
 
-fn check_numbers(rt: &impl Abort, alloc: Global, formulas: &[(&str, i64)]) -> Result<(), Fail> {
-    let empty = filled(alloc, &[])?;
+fn check_numbers_on(
+    rt: &impl Abort,
+    alloc: Global,
+    board: &Board,
+    formulas: &[(&str, i64)],
+) -> Result<(), Fail> {
     for (text, expected) in formulas {
-        let value = value_of(alloc, text, &empty)?;
+        let value = value_of(alloc, text, board)?;
         assert!(rt; value == Value::Num(*expected), "{text}");
     }
     Ok(())
+}
+
+fn check_numbers(rt: &impl Abort, alloc: Global, formulas: &[(&str, i64)]) -> Result<(), Fail> {
+    let empty = filled(alloc, &[])?;
+    check_numbers_on(rt, alloc, &empty, formulas)
 }
 
 /// The range is tested once, at the end of a sum; a text is no number.
@@ -165,6 +175,54 @@ fn divisions(rt: HostRuntime) -> Result<(), Fail> {
             ("=QUOTIENT(9223372036854775807;10)", 922337203685477580),
             ("=QUOTIENT(-1;9223372036854775807)", 0),
             ("=QUOTIENT(-12345678901234567;1000)", -12345678901234),
+        ],
+    )
+}
+
+/// What another spreadsheet (LibreOffice 7.4) shows for the same formulas over A1 3, A2 `x`, A3 -10 and B1 7.
+#[test]
+fn as_another_spreadsheet_shows(rt: HostRuntime) -> Result<(), Fail> {
+    let alloc = rt.alloc();
+    let board = filled(
+        alloc,
+        &[
+            ("A1", Value::Num(3)),
+            ("A2", label("x")?),
+            ("A3", Value::Num(-10)),
+            ("B1", Value::Num(7)),
+        ],
+    )?;
+    check_numbers_on(
+        &rt,
+        alloc,
+        &board,
+        &[
+            ("=MOD(-7;3)", 2),
+            ("=MOD(7;-3)", -2),
+            ("=MOD(-7;-3)", -1),
+            ("=MOD(6;-3)", 0),
+            ("=MOD(-12345;1000)", 655),
+            ("=MOD(12345;-1000)", -655),
+            ("=MOD(0;5)", 0),
+            ("=QUOTIENT(-7;2)", -3),
+            ("=QUOTIENT(7;-2)", -3),
+            ("=QUOTIENT(-7;-2)", 3),
+            ("=QUOTIENT(99;10)", 9),
+            ("=QUOTIENT(-12345;1000)", -12),
+            ("=SUM([.A1:.A3])", -7),
+            ("=SUM([.A1:.B3];5;[.A1])", 8),
+            ("=SUM([.A2])", 0),
+            ("=SUM([.B1:.A2];[.A3])", 0),
+            ("=IF(0;1;2)", 2),
+            ("=IF(-3;1;2)", 1),
+            ("=IF(1;5)", 5),
+            ("=IF([.B3];1;2)", 2),
+            ("=IF([.A1]>2;10;20)", 10),
+            ("=IF(0;[.C3];7)", 7),
+            ("=COUNT([.A1:.B3])", 3),
+            ("=MIN([.A1:.B3])", -10),
+            ("=MAX([.A1:.A3];2)", 3),
+            ("=MOD(-7;3)+QUOTIENT(-7;2)*10", -28),
         ],
     )
 }
