@@ -8,7 +8,8 @@ use Rattle.ps_delta.proofs.HistoryLemmas.{by_set, joined_history-append, joined_
 use Rattle.ps_sheet.specs.Sheet.{Takes, Accepts, AcceptedDeltasJoin, TookTheSame}
 
 -- an accepted delta is joined in, whether it was appended or was below
-taken_joins : (d : Entries) (h k : List Entries) → Takes d h k → joined_history k ≡ joined_state (joined_history h) (state_of d)
+taken_joins : (d : Entries) (h k : List Entries) → Takes d h k
+    → joined_history k ≡ joined_state (joined_history h) (state_of d)
 taken_joins d h k takes =
     ⊎_elim
     (λ below. ap joined_history below.1 ∙ sym below.0)
@@ -20,10 +21,10 @@ accepted_join [] h k accepts = ap joined_history accepts ∙ ap joined_history (
 accepted_join (d ∷ ds) h k accepts =
     accepted_join ds accepts.0 k accepts.2
     ∙ (joined_history-append accepts.0 ds
-      ∙ (ap (λ (s : State). joined_state s (joined_history ds)) (taken_joins d h accepts.0 accepts.1)
-        ∙ (joined_state-assoc (joined_history h) (state_of d) (joined_history ds)
-          ∙ (ap (joined_state (joined_history h)) (sym (joined_history-cons d ds))
-            ∙ sym (joined_history-append h (d ∷ ds))))))
+    ∙ (ap (λ (s : State). joined_state s (joined_history ds)) (taken_joins d h accepts.0 accepts.1)
+    ∙ (joined_state-assoc (joined_history h) (state_of d) (joined_history ds)
+    ∙ (ap (joined_state (joined_history h)) (sym (joined_history-cons d ds))
+    ∙ sym (joined_history-append h (d ∷ ds))))))
 
 -- histories of the same deltas have the same join
 pub same_taken : (h k : List Entries) → TookTheSame h k → joined_history h ≡ joined_history k

@@ -1,5 +1,6 @@
 -- The number of a set of small numbers.
-use Rattle.std.proofs.Common.{◌≡◌, ◌≢◌, ℕ, zero, suc, ◌+◌, ◌*◌, ◌/◌, ◌%◌, ◌^◌, ◌<◌, Bool, true, false, cond, ◌⊎◌, inl, inr, refl, sym, ap, ◌∙◌, arith, ⊎_elim, subst, IsTrue, ◌↔◌, bit_and}
+use Rattle.std.proofs.Common.{◌≡◌, ◌≢◌, ℕ, zero, suc, ◌+◌, ◌*◌, ◌/◌, ◌%◌, ◌^◌, ◌<◌, Bool, true, false, cond, ◌⊎◌}
+use Rattle.std.proofs.Common.{inl, inr, refl, sym, ap, ◌∙◌, arith, ⊎_elim, subst, IsTrue, ◌↔◌, bit_and}
 use Rattle.std.specs.Int.{bit_at, IsBitSet}
 use Rattle.std.proofs.Math.Nat.{pow-suc}
 use Rattle.std.proofs.Math.Numerals.{add-one}
@@ -45,32 +46,33 @@ bit_at-bits_of p zero i lt = absurd (omega arith)
 bit_at-bits_of p (suc n) zero lt =
     bit_at_lowest (bits_of p (suc n))
     ∙ (ap (λ x. x % 2) (bits_of-suc p n)
-      ∙ lowest_of (cond (p 0) 1 0) (bits_of (λ k. p (k + 1)) n) (as_number-lt (p 0)))
+    ∙ lowest_of (cond (p 0) 1 0) (bits_of (λ k. p (k + 1)) n) (as_number-lt (p 0)))
 bit_at-bits_of p (suc n) (suc i) lt =
     bit_at-suc (bits_of p (suc n)) i
     ∙ (ap (λ x. bit_at (x / 2) i) (bits_of-suc p n)
-      ∙ (ap (λ x. bit_at x i) (rest_of (cond (p 0) 1 0) (bits_of (λ k. p (k + 1)) n) (as_number-lt (p 0)))
-        ∙ (bit_at-bits_of (λ k. p (k + 1)) n i (omega arith)
-          ∙ ap (λ k. cond (p k) 1 0) (add-one i))))
+    ∙ (ap (λ x. bit_at x i) (rest_of (cond (p 0) 1 0) (bits_of (λ k. p (k + 1)) n) (as_number-lt (p 0)))
+    ∙ (bit_at-bits_of (λ k. p (k + 1)) n i (omega arith)
+    ∙ ap (λ k. cond (p k) 1 0) (add-one i))))
 
 -- a bit that is set is 1, and one that isn't is 0
 bit_is : (x k : ℕ) (b : Bool) → (IsBitSet x k ↔ IsTrue b) → bit_at x k ≡ cond b 1 0
 bit_is x k b each =
     ⊎_elim
     (λ (none : bit_at x k ≡ 0). ⊎_elim
-        (λ (yes_it : b ≡ true). absurd (each.1 yes_it (and_pow x k ∙ ap (λ n. n * 2 ^ k) none ∙ omega arith)))
-        (λ (not_it : b ≡ false). none ∙ sym (ap (λ (q : Bool). cond q 1 0) not_it))
-        (bool_cases b))
+    (λ (yes_it : b ≡ true). absurd (each.1 yes_it (and_pow x k ∙ ap (λ n. n * 2 ^ k) none ∙ omega arith)))
+    (λ (not_it : b ≡ false). none ∙ sym (ap (λ (q : Bool). cond q 1 0) not_it))
+    (bool_cases b))
     (λ (some : bit_at x k ≢ 0).
-        let one : bit_at x k ≡ 1 = let lt = bit_at-lt x k in omega (arith, lt, some) in
-        let is_set : IsBitSet x k = λ zero_bits.
-            let e : 1 * 2 ^ k ≡ 0 = sym (and_pow x k ∙ ap (λ n. n * 2 ^ k) one) ∙ zero_bits in
-            let positive = pow_pos k in omega (arith, e, positive) in
-        one ∙ sym (ap (λ (q : Bool). cond q 1 0) (each.0 is_set)))
+    let one : bit_at x k ≡ 1 = let lt = bit_at-lt x k in omega (arith, lt, some) in
+    let is_set : IsBitSet x k = λ zero_bits.
+    let e : 1 * 2 ^ k ≡ 0 = sym (and_pow x k ∙ ap (λ n. n * 2 ^ k) one) ∙ zero_bits in
+    let positive = pow_pos k in omega (arith, e, positive) in
+    one ∙ sym (ap (λ (q : Bool). cond q 1 0) (each.0 is_set)))
     (cases_eq (bit_at x k) 0)
 
 -- a number below 2 ^ n whose bits are those of the set is the number of the set
-pub is_bits_of : (p : ℕ → Bool) (n x : ℕ) → x < 2 ^ n → ((k : ℕ) → k < n → IsBitSet x k ↔ IsTrue (p k)) → x ≡ bits_of p n
+pub is_bits_of : (p : ℕ → Bool) (n x : ℕ) → x < 2 ^ n → ((k : ℕ) → k < n → IsBitSet x k ↔ IsTrue (p k))
+    → x ≡ bits_of p n
 is_bits_of p n x less each =
     same_from_bits_below n x (bits_of p n) less (bits_of-lt p n)
     (λ i lt. bit_is x i (p i) (each i lt) ∙ sym (bit_at-bits_of p n i lt))

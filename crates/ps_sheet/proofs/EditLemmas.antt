@@ -1,5 +1,6 @@
 -- The delta of an edit is new: it isn't below the state that it was made over.
-use Rattle.std.proofs.Common.{◌≡◌, ◌≢◌, ℕ, List, [], ◌∷◌, Result, Ok, Err, IfOk, Option, None, refl, sym, ap, ◌∙◌, subst}
+use Rattle.std.proofs.Common.{◌≡◌, ◌≢◌, ℕ, List, [], ◌∷◌, Result, Ok, Err, IfOk, Option, None, refl, sym, ap, ◌∙◌}
+use Rattle.std.proofs.Common.{subst}
 use Rattle.std.specs.FinMap as map
 use Rattle.ps_grid.specs.declared.refusal.Refusal.{Refusal}
 use Rattle.ps_lattice.specs.declared.register.Assignment.{Assignment}
@@ -11,7 +12,8 @@ use Rattle.ps_content.specs.Order.{content_cmp}
 use Rattle.ps_delta.specs.declared.cell_state.CellState.{CellState}
 use Rattle.ps_delta.specs.State.{State, IsBelow, empty_cell, joined_cell, joined_state}
 use Rattle.ps_delta.specs.Deltas.{Entries, state_of}
-use Rattle.ps_delta.specs.CellLaws.{joined_cell-empty_right, joined_cell-register, joined_cell-tally, joined_cell-choice}
+use Rattle.ps_delta.specs.CellLaws.{joined_cell-empty_right, joined_cell-register, joined_cell-tally}
+use Rattle.ps_delta.specs.CellLaws.{joined_cell-choice}
 use Rattle.ps_delta.proofs.StateLemmas.{joined_state-at}
 use Rattle.ps_delta.proofs.EntryLemmas.{state_of-here}
 use Rattle.ps_sheet.specs.Edits.{registered, counted, paired}
@@ -22,18 +24,22 @@ pub new_at : (s : State) (d : Entries) (c : ℕ) (x : CellState) → state_of d 
 new_at s d c x is new below =
     new (ap (joined_cell (s c)) (sym is) ∙ (sym (joined_state-at s (state_of d) c) ∙ ap (λ (t : State). t c) below))
 
-pub new_one : (s : State) (c : ℕ) (x : CellState) → ¬ (joined_cell (s c) x ≡ s c) → ¬ IsBelow (state_of ((c, x) ∷ [])) s
+pub new_one : (s : State) (c : ℕ) (x : CellState) → ¬ (joined_cell (s c) x ≡ s c)
+    → ¬ IsBelow (state_of ((c, x) ∷ [])) s
 new_one s c x new = new_at s ((c, x) ∷ []) c x (state_of-here (c, x) [] c refl) new
 
 -- a part that changes makes the cell change
-pub new_register : (y : CellState) (r : Option (Assignment Content)) → ¬ (joined_registers content_cmp y.register r ≡ y.register)
+pub new_register : (y : CellState) (r : Option (Assignment Content))
+    → ¬ (joined_registers content_cmp y.register r ≡ y.register)
     → ¬ (joined_cell y (registered r) ≡ y)
 new_register y r new e = new (sym (joined_cell-register y (registered r)) ∙ ap (λ (x : CellState). x.register) e)
 
-pub new_tally : (y : CellState) (t : Counts) → ¬ (joined_tallies y.tally t ≡ y.tally) → ¬ (joined_cell y (counted t) ≡ y)
+pub new_tally : (y : CellState) (t : Counts) → ¬ (joined_tallies y.tally t ≡ y.tally)
+    → ¬ (joined_cell y (counted t) ≡ y)
 new_tally y t new e = new (sym (joined_cell-tally y (counted t)) ∙ ap (λ (x : CellState). x.tally) e)
 
-pub new_choice : (y : CellState) (p : Pairs) → ¬ (joined_choices y.choice p ≡ y.choice) → ¬ (joined_cell y (paired p) ≡ y)
+pub new_choice : (y : CellState) (p : Pairs) → ¬ (joined_choices y.choice p ≡ y.choice)
+    → ¬ (joined_cell y (paired p) ≡ y)
 new_choice y p new e = new (sym (joined_cell-choice y (paired p)) ∙ ap (λ (x : CellState). x.choice) e)
 
 -- nothing changes no cell

@@ -1,5 +1,6 @@
 -- Members of a list that is edited at one place.
-use Rattle.std.proofs.Common.{◌≡◌, ◌≢◌, ℕ, ◌<◌, Bool, true, false, cond, List, ◌∷◌, length, get_or, nat_eq, nat_cmp, Equal, sym, ◌∙◌, subst, ⊎_elim}
+use Rattle.std.proofs.Common.{◌≡◌, ◌≢◌, ℕ, ◌<◌, Bool, true, false, cond, List, ◌∷◌, length, get_or, nat_eq, nat_cmp}
+use Rattle.std.proofs.Common.{Equal, sym, ◌∙◌, subst, ⊎_elim}
 use Rattle.std.specs.List.{insert, remove}
 use Rattle.std.specs.FinMap.{nat_cmp-IsAntisymmetric}
 use Rattle.std.proofs.lemmas.List.Sorted.{IsPermutation-insert, IsPermutation-remove, list_any-IsPermutation}
@@ -19,13 +20,15 @@ In-found xs i x lt found =
 pub In-remove : (xs : List ℕ) (i x c : ℕ) → i < length xs → ((d : ℕ) → nat_cmp (get_or xs i d) x ≡ Equal)
     → c ≢ x → In xs c → In (remove xs i) c
 In-remove xs i x c lt found ne h =
-    let perm = list_any-IsPermutation (nat_eq c) xs (x ∷ remove xs i) (IsPermutation-remove xs i x lt (found_is xs i x found)) in
+    let perm = list_any-IsPermutation (nat_eq c) xs (x ∷ remove xs i)
+    (IsPermutation-remove xs i x lt (found_is xs i x found)) in
     ⊎_elim (λ e. absurd (ne e)) (λ (h' : In (remove xs i) c). h') (In-cases c x (remove xs i) (sym perm ∙ h))
 
 -- and where one is put in
 pub In-insert : (xs : List ℕ) (i x c : ℕ) → In xs c → In (insert xs i x) c
 In-insert xs i x c h =
-    sym (list_any-IsPermutation (nat_eq c) (x ∷ xs) (insert xs i x) (IsPermutation-insert xs i x)) ∙ In-more c x xs h
+    sym (list_any-IsPermutation (nat_eq c) (x ∷ xs) (insert xs i x) (IsPermutation-insert xs i x))
+    ∙ In-more c x xs h
 
 -- whether it was put in or not
 pub In-insert_if : (b : Bool) (xs : List ℕ) (i x c : ℕ) → In xs c → In (cond b (insert xs i x) xs) c

@@ -1,5 +1,6 @@
 -- Settled values: rounds lead to them, and a state has exactly one assignment of them.
-use Rattle.std.proofs.Common.{◌≡◌, ◌≢◌, ℕ, ◌<◌, ◌≤◌, Bool, true, false, ◌⊎◌, inl, inr, refl, sym, ap, ◌∙◌, arith, ⊎_elim, subst}
+use Rattle.std.proofs.Common.{◌≡◌, ◌≢◌, ℕ, ◌<◌, ◌≤◌, Bool, true, false, ◌⊎◌, inl, inr, refl, sym, ap, ◌∙◌, arith}
+use Rattle.std.proofs.Common.{⊎_elim, subst}
 use Rattle.std.proofs.lemmas.Bool.{cases_eq, cases_lt}
 use Rattle.ps_value.specs.declared.value.Value.{Value}
 use Rattle.ps_value.specs.declared.value.Value.TheVariants.{Empty, Num, Err}
@@ -15,8 +16,10 @@ use Rattle.ps_content.specs.declared.content.Content.{Content}
 use Rattle.ps_content.specs.declared.content.Content.TheVariants.{Blank, Number, Text, Formula, Tally, Choice}
 use Rattle.ps_grid.specs.Chains.{OnlyBelow}
 use Rattle.ps_eval.specs.Items.{Assignment}
-use Rattle.ps_sheet.specs.Settled.{content_mentions, refers_to, Cyclic, value_by, value_of, IsSettled, SettledAtMostOnce}
-use Rattle.ps_sheet.specs.Rounds.{is_cycle, is_waiting, is_formula, first_by, first_value, Progress, IsReady, IsHeld, Evaluates}
+use Rattle.ps_sheet.specs.Settled.{content_mentions, refers_to, Cyclic, value_by, value_of, IsSettled}
+use Rattle.ps_sheet.specs.Settled.{SettledAtMostOnce}
+use Rattle.ps_sheet.specs.Rounds.{is_cycle, is_waiting, is_formula, first_by, first_value, Progress, IsReady}
+use Rattle.ps_sheet.specs.Rounds.{IsHeld, Evaluates}
 use Rattle.ps_grid.proofs.CycleLemmas.{acyclic_above, stuck_is_cyclic, acyclic_induction}
 use Rattle.ps_eval.proofs.Agreement.{ev-agrees}
 use Rattle.ps_eval.proofs.CycleFaults.{ev-cycle}
@@ -80,7 +83,9 @@ empty_no_formula = refl
 pub formula_below : (s : State) → IsInGrid s → (c : ℕ) → is_formula (content_of (s c)) ≡ true → c < CELLS
 formula_below s inside c h =
     ⊎_elim (λ lt. lt)
-    (λ out. absurd (true_not_false (is_formula (content_of (s c))) h (ap (λ x. is_formula (content_of x)) (inside c out) ∙ empty_no_formula)))
+    (λ out. absurd
+    (true_not_false (is_formula (content_of (s c))) h
+    (ap (λ x. is_formula (content_of x)) (inside c out) ∙ empty_no_formula)))
     (cases_lt c CELLS)
 
 -- so only cells of the grid refer to others
@@ -110,7 +115,8 @@ first_by-value (Formula t) x v h = absurd (true_not_false true refl h)
 first_by-value Tally x v h = refl
 first_by-value Choice x v h = refl
 
-first_by-none : (k : Content) (x : CellState) (d : ℕ) → is_waiting (first_by k x) ≡ false → content_mentions k d ≡ true → ⊥
+first_by-none : (k : Content) (x : CellState) (d : ℕ) → is_waiting (first_by k x) ≡ false
+    → content_mentions k d ≡ true → ⊥
 first_by-none Blank x d h m = true_not_false false m refl
 first_by-none (Number n) x d h m = true_not_false false m refl
 first_by-none (Text t) x d h m = true_not_false false m refl
@@ -121,22 +127,22 @@ first_by-none Choice x d h m = true_not_false false m refl
 pub progress_start : (s : State) (v : Assignment) → ((c : ℕ) → v c ≡ first_value (s c)) → Progress s v
 progress_start s v start =
     let first : (c : ℕ) → is_waiting (v c) ≡ false → is_waiting (first_value (s c)) ≡ false =
-        λ c h. sym (ap is_waiting (start c)) ∙ h in
+    λ c h. sym (ap is_waiting (start c)) ∙ h in
     record {
       waiting = λ c h. first_by-waits (content_of (s c)) (s c) (sym (ap is_waiting (start c)) ∙ h);
       value = λ c h. start c ∙ first_by-value (content_of (s c)) (s c) v (first c h);
       closed = λ c d h r. absurd (first_by-none (content_of (s c)) (s c) d (first c h) r);
       acyclic = λ c h. not_cyclic s c (λ d r. absurd (first_by-none (content_of (s c)) (s c) d (first c h) r));
-      }
+    }
 
 -- STEP
 
 module _ (s : State) (c : ℕ) (v w : Assignment) (p : Progress s v) (here_waits : is_waiting (v c) ≡ true)
     (ready : IsReady s v c) (e : Evaluates s c v w) where
-
   -- cells that did not wait kept their values
   kept : (d : ℕ) → is_waiting (v d) ≡ false → w d ≡ v d
-  kept d h = e.others d (λ is. true_not_false (is_waiting (v c)) here_waits (subst (λ q. is_waiting (v q) ≡ false) is h))
+  kept d h = e.others d
+      (λ is. true_not_false (is_waiting (v c)) here_waits (subst (λ q. is_waiting (v q) ≡ false) is h))
 
   kept_on : (d : ℕ) → is_waiting (v d) ≡ false → is_waiting (w d) ≡ false
   kept_on d h = ap is_waiting (kept d h) ∙ h
@@ -145,8 +151,8 @@ module _ (s : State) (c : ℕ) (v w : Assignment) (p : Progress s v) (here_waits
   here_done =
       ⊎_elim
       (λ (h : is_waiting (w c) ≡ true).
-          let m = value_by-waits (content_of (s c)) (s c) v (sym (ap is_waiting e.here) ∙ h) in
-          absurd (true_not_false (is_waiting (v m.0)) m.2 (ready m.0 m.1)))
+      let m = value_by-waits (content_of (s c)) (s c) v (sym (ap is_waiting e.here) ∙ h) in
+      absurd (true_not_false (is_waiting (v m.0)) m.2 (ready m.0 m.1)))
       (λ h. h)
       (bool_cases (is_waiting (w c)))
 
@@ -164,23 +170,23 @@ module _ (s : State) (c : ℕ) (v w : Assignment) (p : Progress s v) (here_waits
 
   pub progress_step : Progress s w
   progress_step = record {
-      waiting = λ d h. ⊎_elim
-          (λ is. absurd (true_not_false (is_waiting (w c)) (subst (λ q. is_waiting (w q) ≡ true) is h) here_done))
-          (λ same. p.waiting d (sym (ap is_waiting same) ∙ h))
-          (either d);
-      value = λ d h. ⊎_elim
-          (λ is. subst (λ q. w q ≡ value_of (s q) w) (sym is) here_value)
-          (λ same. value_done d (sym (ap is_waiting same) ∙ h))
-          (either d);
-      closed = λ d q h r. ⊎_elim
-          (λ is. kept_on q (ready q (subst (λ x. refers_to s x q ≡ true) is r)))
-          (λ same. kept_on q (p.closed d q (sym (ap is_waiting same) ∙ h) r))
-          (either d);
-      acyclic = λ d h. ⊎_elim
-          (λ is. subst (λ q. ¬ Cyclic s q) (sym is) (not_cyclic s c (λ q r. p.acyclic q (ready q r))))
-          (λ same. p.acyclic d (sym (ap is_waiting same) ∙ h))
-          (either d);
-      }
+    waiting = λ d h. ⊎_elim
+        (λ is. absurd (true_not_false (is_waiting (w c)) (subst (λ q. is_waiting (w q) ≡ true) is h) here_done))
+        (λ same. p.waiting d (sym (ap is_waiting same) ∙ h))
+        (either d);
+    value = λ d h. ⊎_elim
+        (λ is. subst (λ q. w q ≡ value_of (s q) w) (sym is) here_value)
+        (λ same. value_done d (sym (ap is_waiting same) ∙ h))
+        (either d);
+    closed = λ d q h r. ⊎_elim
+        (λ is. kept_on q (ready q (subst (λ x. refers_to s x q ≡ true) is r)))
+        (λ same. kept_on q (p.closed d q (sym (ap is_waiting same) ∙ h) r))
+        (either d);
+    acyclic = λ d h. ⊎_elim
+        (λ is. subst (λ q. ¬ Cyclic s q) (sym is) (not_cyclic s c (λ q r. p.acyclic q (ready q r))))
+        (λ same. p.acyclic d (sym (ap is_waiting same) ∙ h))
+        (either d);
+  }
 
   pub step_done : is_waiting (w c) ≡ false
   step_done = here_done
@@ -192,12 +198,16 @@ pub settled_at_end : (s : State) (v : Assignment) → IsInGrid s → Progress s 
 settled_at_end s v inside p held =
     let Waits : ℕ → Type 0 = λ c. is_waiting (v c) ≡ true in
     let cyclic : (c : ℕ) → is_waiting (v c) ≡ true → Cyclic s c =
-        stuck_is_cyclic (refers_to s) CELLS (refers_below s inside) Waits held in
+    stuck_is_cyclic (refers_to s) CELLS (refers_below s inside) Waits held in
     record {
-      cycle = λ c. ((λ is. cyclic c (ap is_waiting is)),
-          (λ cyc. ⊎_elim (λ h. waiting_is (v c) h) (λ h. absurd (p.acyclic c h cyc)) (bool_cases (is_waiting (v c)))));
-      value = λ c no_cycle. ⊎_elim (λ h. absurd (no_cycle (cyclic c h))) (λ h. p.value c h) (bool_cases (is_waiting (v c)));
-      }
+      cycle = λ c. (
+        (λ is. cyclic c (ap is_waiting is)),
+        (λ cyc. ⊎_elim (λ h. waiting_is (v c) h) (λ h. absurd (p.acyclic c h cyc))
+            (bool_cases (is_waiting (v c)))),
+      );
+      value = λ c no_cycle. ⊎_elim (λ h. absurd (no_cycle (cyclic c h))) (λ h. p.value c h)
+          (bool_cases (is_waiting (v c)));
+    }
 
 -- UNIQUE
 
@@ -214,9 +224,10 @@ settled_at_most_once s v w inside of_v of_w c =
     ⊎_elim
     (λ cyc. (of_v.cycle c).1 cyc ∙ sym ((of_w.cycle c).1 cyc))
     (λ no_cycle. acyclic_induction (refers_to s) CELLS
-        (refers_below s inside)
-        (λ a. v a ≡ w a)
-        -- a cell that refers to a cyclic one is cyclic, so the cells that it refers to are equal
-        (λ a out same. of_v.value a out ∙ (value_by-agrees (content_of (s a)) (s a) v w same ∙ sym (of_w.value a out)))
-        c no_cycle)
+    (refers_below s inside)
+    (λ a. v a ≡ w a)
+    -- a cell that refers to a cyclic one is cyclic, so the cells that it refers to are equal
+    (λ a out same. of_v.value a out ∙
+    (value_by-agrees (content_of (s a)) (s a) v w same ∙ sym (of_w.value a out)))
+    c no_cycle)
     (cyclic_or_not s v of_v c)

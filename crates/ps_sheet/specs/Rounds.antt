@@ -104,7 +104,8 @@ waiting_count values = sum_by (λ x. as_one (is_waiting x)) values
 
 -- a round so far, over the first i of the cells, from the values `first`: where nothing was evaluated yet, nothing
 -- changed, and each cell so far that waits is held
-pub record IsRound (s : State) (first values : List Value) (cells : List ℕ) (i : ℕ) (evaluated : Bool) : Type 0 where
+pub record IsRound (s : State) (first values : List Value) (cells : List ℕ) (i : ℕ)
+    (evaluated : Bool) : Type 0 where
   pub progress : Progress s (shown_at values)
   pub not_more : waiting_count values ≤ waiting_count first
   pub fewer : evaluated ≡ true → waiting_count values < waiting_count first

@@ -64,7 +64,8 @@ pub record IsSettled (s : State) (v : Assignment) : Type 0 where
 
 -- LAW: a state has at most one settled assignment
 abbrev pub SettledAtMostOnce : Type 0
-SettledAtMostOnce = (s : State) (v w : Assignment) → IsInGrid s → IsSettled s v → IsSettled s w → (c : ℕ) → v c ≡ w c
+SettledAtMostOnce = (s : State) (v w : Assignment) → IsInGrid s → IsSettled s v → IsSettled s w →
+    (c : ℕ) → v c ≡ w c
 
 -- LAW: a state has a settled assignment
 abbrev pub SettledAtLeastOnce : Type 0

@@ -1,5 +1,6 @@
 -- The sheet of one replica, as contracts see it.
-use Rattle.std.specs.Prelude.{◌≡◌, ℕ, ◌<◌, ◌≤◌, ◌⊎◌, List, [], ◌∷◌, ◌++◌, length, take, slice_index_or, ◌↔◌, Contains}
+use Rattle.std.specs.Prelude.{◌≡◌, ℕ, ◌<◌, ◌≤◌, ◌⊎◌, List, [], ◌∷◌, ◌++◌, length, take, slice_index_or, ◌↔◌}
+use Rattle.std.specs.Prelude.{Contains}
 use Rattle.ps_grid.specs.declared.size.TheConstants.{CELLS}
 use Rattle.ps_value.specs.declared.value.Value.{Value}
 use Rattle.ps_delta.specs.State.{IsInGrid, IsBelow}
@@ -16,7 +17,8 @@ pub record SheetView : Type 0 where
 -- no delta is below the join of those before it
 abbrev pub IsFresh : List Entries → Type 0
 IsFresh history =
-    (k : ℕ) → k < length history → ¬ IsBelow (state_of (slice_index_or history k [])) (joined_history (take k history))
+    (k : ℕ) → k < length history
+    → ¬ IsBelow (state_of (slice_index_or history k [])) (joined_history (take k history))
 
 -- what is true of each sheet: what it shows is settled for the joined history, and its history has no delta in vain
 pub record IsSheet (x : SheetView) : Type 0 where

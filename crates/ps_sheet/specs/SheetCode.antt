@@ -10,5 +10,7 @@ use Rattle.ps_sheet.specs.Sheet.{SheetView}
 -- a sheet is stored as the triple of its parts
 abbrev pub sheet_code : Coded SheetView
 sheet_code =
-    code_by (ℕ × (List Entries × List Value)) (coded× coded_ℕ (coded× (coded_list delta.the_row.coded) (coded_list value.the_row.coded)))
-    (λ s. (s.replica, (s.history, s.shown))) (λ p. record { replica = p.0; history = p.1.0; shown = p.1.1 }) (λ _. refl)
+    code_by (ℕ × (List Entries × List Value))
+    (coded× coded_ℕ (coded× (coded_list delta.the_row.coded) (coded_list value.the_row.coded)))
+    (λ s. (s.replica, (s.history, s.shown))) (λ p. record { replica = p.0; history = p.1.0; shown = p.1.1 })
+    (λ _. refl)

@@ -14,7 +14,7 @@ use crate::contents::{first_of, holds_formula};
 use crate::rounds::settle;
 use ps_delta::{CellState, Delta, Grid};
 use ps_eval::Meter;
-use ps_grid::{Cell, Refusal, CELLS};
+use ps_grid::{CELLS, Cell, Refusal};
 use ps_value::Value;
 use std::alloc::Global;
 use std::sync::ledger::Ledger;
@@ -83,7 +83,13 @@ fn restart_listed(grid: &Grid, cells: &[Cell], shown: &mut [Value])
 }
 
 /// Settles the values again after a change of the named cells.
-pub(crate) fn resettle<L: Ledger>(grid: &Grid, named: &[(Cell, CellState)], formulas: &[Cell], shown: &mut [Value], meter: &mut Meter<L>)
+pub(crate) fn resettle<L: Ledger>(
+    grid: &Grid,
+    named: &[(Cell, CellState)],
+    formulas: &[Cell],
+    shown: &mut [Value],
+    meter: &mut Meter<L>,
+)
     requires whole { CELLS ≤ length shown.old }
     requires in_grid { IsInGrid (state_at grid.now) }
     requires listed { ListsFormulas (state_at grid.now) formulas.now }
@@ -99,7 +105,14 @@ pub(crate) fn resettle<L: Ledger>(grid: &Grid, named: &[(Cell, CellState)], form
 /// Joins a delta to the grid, and brings the list of the formula cells and the values up to date.
 ///
 /// Each growth comes first: where one is refused, nothing is changed.
-pub(crate) fn take_in<L: Ledger>(alloc: Global, grid: &mut Grid, formulas: &mut Vec<Cell>, shown: &mut [Value], delta: &Delta, meter: &mut Meter<L>) -> Result<(), Refusal>
+pub(crate) fn take_in<L: Ledger>(
+    alloc: Global,
+    grid: &mut Grid,
+    formulas: &mut Vec<Cell>,
+    shown: &mut [Value],
+    delta: &Delta,
+    meter: &mut Meter<L>,
+) -> Result<(), Refusal>
     requires whole { CELLS ≤ length shown.old }
     requires in_grid { IsInGrid (state_at grid.old) }
     requires listed { ListsFormulas (state_at grid.old) formulas.old.items }

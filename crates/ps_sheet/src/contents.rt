@@ -5,8 +5,8 @@ ghost use Rattle.std.specs.Option.{option_copied};
 ghost use Rattle.ps_sheet.specs.Settled.{content_of, options_of};
 ghost use Rattle.ps_sheet.specs.Rounds.{first_by, first_value, is_formula};
 
-use ps_delta::CellState;
 use ps_content::Content;
+use ps_delta::CellState;
 use ps_formula::Formula;
 use ps_lattice::Choice;
 use ps_value::{Fault, Value};

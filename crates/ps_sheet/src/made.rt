@@ -18,7 +18,12 @@ use ps_lattice::{AMOUNT_LIMIT, Choice, OPTIONS, REPLICAS, Register, Tally};
 use std::alloc::Global;
 
 /// The delta of an edit at the replica over the grid, or the first refusal that holds.
-pub(crate) fn delta_of(alloc: Global, grid: &Grid, replica: u8, edit: Edit) -> Result<Delta, Refusal>
+pub(crate) fn delta_of(
+    alloc: Global,
+    grid: &Grid,
+    replica: u8,
+    edit: Edit,
+) -> Result<Delta, Refusal>
     requires { (1 ≤ replica) × (replica ≤ REPLICAS) }
     ensures made { IfOk result (λ d. delta_of_edit replica (state_at grid.now) edit ≡ Ok d) }
     ensures fresh { IfOk result (λ d. ¬ IsBelow (state_of d) (state_at grid.now)) }
@@ -39,7 +44,12 @@ pub(crate) fn delta_of(alloc: Global, grid: &Grid, replica: u8, edit: Edit) -> R
 }
 
 // The delta of giving cells their contents.
-fn assigned(alloc: Global, grid: &Grid, replica: u8, cells: Vec<(Cell, Content)>) -> Result<Delta, Refusal>
+fn assigned(
+    alloc: Global,
+    grid: &Grid,
+    replica: u8,
+    cells: Vec<(Cell, Content)>,
+) -> Result<Delta, Refusal>
     requires replica { (1 ≤ replica) × (replica ≤ REPLICAS) }
     requires batch { IsBatch cells.items }
     ensures made { IfOk result (λ d. delta_of_batch replica (state_at grid.now) cells.items ≡ Ok d) }
@@ -83,7 +93,13 @@ fn added(alloc: Global, grid: &Grid, replica: u8, cell: Cell, amount: u64) -> Re
 }
 
 // The delta of subtracting an amount.
-fn subtracted(alloc: Global, grid: &Grid, replica: u8, cell: Cell, amount: u64) -> Result<Delta, Refusal>
+fn subtracted(
+    alloc: Global,
+    grid: &Grid,
+    replica: u8,
+    cell: Cell,
+    amount: u64,
+) -> Result<Delta, Refusal>
     requires { (1 ≤ replica) × (replica ≤ REPLICAS) }
     ensures made { IfOk result (λ d. delta_of_edit replica (state_at grid.now) (Edit.Sub cell amount) ≡ Ok d) }
     ensures fresh { IfOk result (λ d. ¬ IsBelow (state_of d) (state_at grid.now)) }
@@ -97,7 +113,13 @@ fn subtracted(alloc: Global, grid: &Grid, replica: u8, cell: Cell, amount: u64) 
 }
 
 // The delta of choosing an option.
-fn chosen(alloc: Global, grid: &Grid, replica: u8, cell: Cell, option: u64) -> Result<Delta, Refusal>
+fn chosen(
+    alloc: Global,
+    grid: &Grid,
+    replica: u8,
+    cell: Cell,
+    option: u64,
+) -> Result<Delta, Refusal>
     requires { (1 ≤ replica) × (replica ≤ REPLICAS) }
     ensures made { IfOk result (λ d. delta_of_edit replica (state_at grid.now) (Edit.Choose cell option) ≡ Ok d) }
     ensures fresh { IfOk result (λ d. ¬ IsBelow (state_of d) (state_at grid.now)) }
@@ -111,7 +133,13 @@ fn chosen(alloc: Global, grid: &Grid, replica: u8, cell: Cell, option: u64) -> R
 }
 
 // The delta of taking an option out.
-fn unchosen(alloc: Global, grid: &Grid, replica: u8, cell: Cell, option: u64) -> Result<Delta, Refusal>
+fn unchosen(
+    alloc: Global,
+    grid: &Grid,
+    replica: u8,
+    cell: Cell,
+    option: u64,
+) -> Result<Delta, Refusal>
     requires { (1 ≤ replica) × (replica ≤ REPLICAS) }
     ensures made { IfOk result (λ d. delta_of_edit replica (state_at grid.now) (Edit.Unchoose cell option) ≡ Ok d) }
     ensures fresh { IfOk result (λ d. ¬ IsBelow (state_of d) (state_at grid.now)) }

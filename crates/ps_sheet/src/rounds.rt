@@ -10,9 +10,9 @@ ghost use Rattle.ps_sheet.specs.Rounds.{AllHeld, first_value, HasWaiting, is_for
 
 use crate::contents::formula_of;
 use ps_delta::Grid;
-use ps_eval::{eval, Look, Meter};
+use ps_eval::{Look, Meter, eval};
 use ps_formula::Formula;
-use ps_grid::{Cell, Rect, CELLS};
+use ps_grid::{CELLS, Cell, Rect};
 use ps_value::{Fault, Value};
 use std::sync::ledger::Ledger;
 
@@ -98,7 +98,12 @@ fn step<L: Ledger>(grid: &Grid, cell: Cell, shown: &mut [Value], meter: &mut Met
 }
 
 /// One round: a step at each cell of the list. Whether one of them evaluated.
-fn round<L: Ledger>(grid: &Grid, formulas: &[Cell], shown: &mut [Value], meter: &mut Meter<L>) -> bool
+fn round<L: Ledger>(
+    grid: &Grid,
+    formulas: &[Cell],
+    shown: &mut [Value],
+    meter: &mut Meter<L>,
+) -> bool
     requires whole { CELLS ≤ length shown.old }
     requires progress { Progress (state_at grid.now) (shown_at shown.old) }
     ensures progress { Progress (state_at grid.now) (shown_at shown.new) }
@@ -115,7 +120,12 @@ fn round<L: Ledger>(grid: &Grid, formulas: &[Cell], shown: &mut [Value], meter: 
 }
 
 /// Rounds over the list of the formula cells, until a round evaluates nothing.
-pub(crate) fn settle<L: Ledger>(grid: &Grid, formulas: &[Cell], shown: &mut [Value], meter: &mut Meter<L>)
+pub(crate) fn settle<L: Ledger>(
+    grid: &Grid,
+    formulas: &[Cell],
+    shown: &mut [Value],
+    meter: &mut Meter<L>,
+)
     requires whole { CELLS ≤ length shown.old }
     requires in_grid { IsInGrid (state_at grid.now) }
     requires listed { ListsFormulas (state_at grid.now) formulas.now }

@@ -12,7 +12,7 @@ use crate::made::delta_of;
 use crate::rounds::value_in;
 use ps_delta::{Delta, Grid};
 use ps_eval::{Look, Meter};
-use ps_grid::{Cell, Refusal, CELLS};
+use ps_grid::{CELLS, Cell, Refusal};
 use ps_lattice::REPLICAS;
 use ps_value::{Fault, Value};
 use std::alloc::Global;
@@ -107,7 +107,12 @@ impl Sheet {
     /// time. For lack of memory in place of any of them. Then nothing is changed.
     ///
     /// Cost: that of the delta, and of the rounds over all formulas.
-    pub fn edit<L: Ledger>(&mut self, alloc: Global, edit: Edit, meter: &mut Meter<L>) -> Result<Report, Refusal>
+    pub fn edit<L: Ledger>(
+        &mut self,
+        alloc: Global,
+        edit: Edit,
+        meter: &mut Meter<L>,
+    ) -> Result<Report, Refusal>
         ensures made { OnOk result (IsOkAnd (delta_of_edit self.old.replica (joined_history self.old.history) edit) (λ d. self.new.history ≡ self.old.history ++ d ∷ [])) }
         ensures refused { IfErr result (λ e. (e ≡ Refusal.Memory) ⊎ (delta_of_edit self.old.replica (joined_history self.old.history) edit ≡ Err e)) }
         ensures version { IfOk result (λ r. r.version ≡ length self.new.history) }
@@ -117,8 +122,8 @@ impl Sheet {
         ensures unmetered { OnErr result (meter.new ≡ meter.old) }
     {
         let delta = delta_of(alloc, &self.grid, self.replica, edit)?;
-        let delta = Arc::new(alloc, delta)?;
-        self.append(alloc, delta, meter)
+        let made = Arc::new(alloc, delta)?;
+        self.append(alloc, made, meter)
     }
 
     /// Accepts a delta made elsewhere: appends it to the history, unless it is below the state already.
@@ -165,7 +170,14 @@ impl Sheet {
         ensures unmetered { OnErr result (meter.new ≡ meter.old) }
     {
         self.history.reserve(1)?;
-        take_in(alloc, &mut self.grid, &mut self.formulas, &mut self.shown, &delta, meter)?;
+        take_in(
+            alloc,
+            &mut self.grid,
+            &mut self.formulas,
+            &mut self.shown,
+            &delta,
+            meter,
+        )?;
         put(&mut self.history, delta);
         Ok(Report {
             version: self.history.len() as u64,

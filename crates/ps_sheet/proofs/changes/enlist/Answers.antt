@@ -5,15 +5,17 @@ use Rattle.ps_sheet.proofs.changes.enlist.Goals as goal
 pub returns-then-not-holds-clause-others : goal.returns-then-not-holds-clause-others
 returns-then-not-holds-clause-others c d ne h =
     rw c.remove.ensures.items (In-remove c.args.formulas.now.items c.in-Ok.place c.args.cell d
-        (subst (λ xs. c.in-Ok.place < length xs) c.deref.ensures.value c.in-Ok.ensures.bound)
-        (subst (λ xs. (d : ℕ) → nat_cmp (get_or xs c.in-Ok.place d) c.args.cell ≡ Equal) c.deref.ensures.value c.in-Ok.ensures.ok)
-        ne h)
+    (subst (λ xs. c.in-Ok.place < length xs) c.deref.ensures.value c.in-Ok.ensures.bound)
+    (subst (λ xs. (d : ℕ) → nat_cmp
+    (get_or xs c.in-Ok.place d) c.args.cell ≡ Equal) c.deref.ensures.value c.in-Ok.ensures.ok)
+    ne h)
 
 pub returns-else-not-holds-clause-here : goal.returns-else-not-holds-clause-here
 returns-else-not-holds-clause-here c holds =
     In-found c.args.formulas.now.items c.in-Ok.place c.args.cell
-        (subst (λ xs. c.in-Ok.place < length xs) c.deref.ensures.value c.in-Ok.ensures.bound)
-        (subst (λ xs. (d : ℕ) → nat_cmp (get_or xs c.in-Ok.place d) c.args.cell ≡ Equal) c.deref.ensures.value c.in-Ok.ensures.ok)
+    (subst (λ xs. c.in-Ok.place < length xs) c.deref.ensures.value c.in-Ok.ensures.bound)
+    (subst (λ xs. (d : ℕ) → nat_cmp
+    (get_or xs c.in-Ok.place d) c.args.cell ≡ Equal) c.deref.ensures.value c.in-Ok.ensures.ok)
 
 pub returns-then-holds-clause-others : goal.returns-then-holds-clause-others
 returns-then-holds-clause-others c d ne h =

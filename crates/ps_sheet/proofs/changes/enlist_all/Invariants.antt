@@ -9,7 +9,7 @@ use Rattle.ps_sheet.proofs.changes.enlist_all.Given as goal
 -- each formula cell is in the list, or is named later on
 abbrev pub invariant-loop-cell : goal.invariant-loop-cell
 invariant-loop-cell l = record {
-    room : vec_len l.formulas + (length l.named - l.cell-index) ≤ vec_capacity l.formulas;
-    listed : (c : ℕ) → is_formula (content_of (state_at l.grid c)) ≡ true
-        → (names (drop l.cell-index l.named) c ≡ true) ⊎ In l.formulas.items c;
-    }
+  room : vec_len l.formulas + (length l.named - l.cell-index) ≤ vec_capacity l.formulas;
+  listed : (c : ℕ) → is_formula (content_of (state_at l.grid c)) ≡ true
+      → (names (drop l.cell-index l.named) c ≡ true) ⊎ In l.formulas.items c;
+}

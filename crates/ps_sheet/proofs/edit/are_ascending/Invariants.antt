@@ -4,4 +4,5 @@ use Rattle.ps_sheet.proofs.edit.are_ascending.Given as goal
 
 -- each cell so far is below the next
 abbrev pub invariant-loop-k : goal.invariant-loop-k
-invariant-loop-k l = (j : ℕ) → j + 1 < l.k → slice_index (map (λ e. e.0) l.cells) j < slice_index (map (λ e. e.0) l.cells) (j + 1)
+invariant-loop-k l = (j : ℕ) → j + 1 < l.k → slice_index (map (λ e. e.0) l.cells) j < slice_index
+    (map (λ e. e.0) l.cells) (j + 1)

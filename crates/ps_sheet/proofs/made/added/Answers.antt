@@ -8,5 +8,6 @@ of_tally-requires c = some_tally c.at-state.result.now c.in_ok-tally.tally c.in_
 
 pub returns-clause-fresh : goal.returns-clause-fresh
 returns-clause-fresh c =
-    answer_new c.of_tally.result (state_at c.args.grid.now) c.args.cell (counted c.in_ok-tally.tally) c.at-state.result.now c.of_tally.ensures.made
-        c.at-state.ensures.value (new_tally c.at-state.result.now c.in_ok-tally.tally c.in_ok-tally.ensures.fresh)
+    answer_new c.of_tally.result (state_at c.args.grid.now) c.args.cell
+    (counted c.in_ok-tally.tally) c.at-state.result.now c.of_tally.ensures.made
+    c.at-state.ensures.value (new_tally c.at-state.result.now c.in_ok-tally.tally c.in_ok-tally.ensures.fresh)

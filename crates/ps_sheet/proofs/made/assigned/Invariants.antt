@@ -7,6 +7,6 @@ use Rattle.ps_sheet.proofs.made.assigned.Given as goal
 -- the cells so far have their assignments, and none has the last time
 abbrev pub invariant-loop-cell : goal.invariant-loop-cell
 invariant-loop-cell l = record {
-    entries : l.entries.items ≡ map (λ e. (e.0, assigned l.replica (state_at l.grid e.0) e.1)) l.yielded;
-    none_full : list_any (λ e. is_clock_full (state_at l.grid e.0)) l.yielded ≡ false;
-    }
+  entries : l.entries.items ≡ map (λ e. (e.0, assigned l.replica (state_at l.grid e.0) e.1)) l.yielded;
+  none_full : list_any (λ e. is_clock_full (state_at l.grid e.0)) l.yielded ≡ false;
+}

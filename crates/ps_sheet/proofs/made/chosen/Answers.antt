@@ -8,5 +8,7 @@ of_choice-requires c = some_choice c.at-state.result.now c.in_ok-choice.choice c
 
 pub returns-clause-fresh : goal.returns-clause-fresh
 returns-clause-fresh c =
-    answer_new c.of_choice.result (state_at c.args.grid.now) c.args.cell (paired c.in_ok-choice.choice) c.at-state.result.now c.of_choice.ensures.made
-        c.at-state.ensures.value (new_choice c.at-state.result.now c.in_ok-choice.choice c.in_ok-choice.ensures.fresh)
+    answer_new c.of_choice.result (state_at c.args.grid.now) c.args.cell
+    (paired c.in_ok-choice.choice) c.at-state.result.now c.of_choice.ensures.made
+    c.at-state.ensures.value
+    (new_choice c.at-state.result.now c.in_ok-choice.choice c.in_ok-choice.ensures.fresh)

@@ -7,4 +7,5 @@ use Rattle.ps_sheet.proofs.rounds.is_ready.Given as goal
 
 -- no cell of the rectangles so far waits
 abbrev pub invariant-loop-rect : goal.invariant-loop-rect
-invariant-loop-rect l = (d : ℕ) → list_any (λ r. is_inside r d) (take l.rect-index l.rect-items) ≡ true → is_waiting (shown_at l.shown d) ≡ false
+invariant-loop-rect l = (d : ℕ) → list_any (λ r. is_inside r d)
+    (take l.rect-index l.rect-items) ≡ true → is_waiting (shown_at l.shown d) ≡ false

@@ -10,5 +10,7 @@ loop-init g c = progress_start (state_at c.args.grid.now) (shown_at c.args.shown
 pub returns : goal.returns
 returns g c =
     let p = c.loop-test.ensures.progress in
-    record { settled = settled_at_end (state_at c.args.grid.now) (shown_at c.round.new.shown) c.requires.in_grid p
-        (λ q waits. c.loop-test.ensures.held q (c.requires.listed q (p.waiting q waits)) waits) }
+    record {
+      settled = settled_at_end (state_at c.args.grid.now) (shown_at c.round.new.shown) c.requires.in_grid p
+          (λ q waits. c.loop-test.ensures.held q (c.requires.listed q (p.waiting q waits)) waits);
+    }
