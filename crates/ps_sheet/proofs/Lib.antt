@@ -1,0 +1,11 @@
+pub mod AcceptLemmas
+pub mod BatchLemmas
+pub mod BitLemmas
+pub mod EditLemmas
+pub mod ExistsLemmas
+pub mod ListedLemmas
+pub mod ReadyLemmas
+pub mod RoundLemmas
+pub mod SetLemmas
+pub mod SettledLemmas
+pub mod SheetLemmas

@@ -1,0 +1,5 @@
+use Rattle.ps_sheet.proofs.AcceptLemmas.{accepted_join}
+use Rattle.ps_sheet.proofs.laws.accepted_deltas_join.Goals as goal
+
+pub returns : goal.returns
+returns c = accepted_join

@@ -1,0 +1,18 @@
+use Rattle.std.proofs.Common.{◌≡◌, List, sym, ap, ◌∙◌, subst, rules}
+use Rattle.std.specs.Arc.{arc_value}
+use Rattle.ps_delta.specs.State.{State, IsBelow, joined_state, state_at}
+use Rattle.ps_delta.specs.Deltas.{Entries, joined_history, state_of}
+use Rattle.ps_sheet.specs.Sheet.{SheetView}
+use Rattle.ps_sheet.proofs.SheetLemmas.{below_joined}
+use Rattle.ps_sheet.proofs.sheet.Sheet.receive.Goals as goal
+
+pub returns-then-covers-clause-joined : goal.returns-then-covers-clause-joined
+returns-then-covers-clause-joined g c =
+    let state_is : state_at c.self.inside.grid ≡ joined_history c.args.self.now.history =
+    c.self.invariant.joined ∙ ap (λ (x : SheetView). joined_history x.history) c.self.view_is in
+    let below : IsBelow (state_of c.deref.result.now) (state_at c.self.inside.grid) = c.covers.ensures.0
+    (search rules) in
+    subst (λ (s : State). s ≡ joined_state s (state_of (arc_value c.args.delta))) state_is
+    (subst (λ (d : Entries). state_at c.self.inside.grid ≡ joined_state (state_at c.self.inside.grid)
+    (state_of d)) c.deref.ensures
+    (below_joined (state_at c.self.inside.grid) (state_of c.deref.result.now) below))

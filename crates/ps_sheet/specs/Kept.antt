@@ -1,0 +1,16 @@
+-- What a sheet keeps beside what contracts see: the join of its history, and the cells with a formula.
+use Rattle.std.specs.Prelude.{◌≡◌, map}
+use Rattle.std.specs.Arc.{arc_value}
+use Rattle.ps_delta.specs.State.{state_at}
+use Rattle.ps_delta.specs.Deltas.{joined_history}
+use Rattle.ps_sheet.specs.Rounds.{ListsFormulas}
+use Rattle.ps_sheet.specs.Sheet.{SheetView, IsSheet}
+use Rattle.ps_sheet.specs.declared.sheet.Sheet.TheInside.{Inside}
+
+abbrev pub view_of : Inside → SheetView
+view_of x = record { replica = x.replica; history = map arc_value x.history.items; shown = x.shown.items }
+
+pub record IsKept (x : Inside) : Type 0 where
+  pub sheet : IsSheet (view_of x)
+  pub joined : state_at x.grid ≡ joined_history (map arc_value x.history.items)
+  pub listed : ListsFormulas (state_at x.grid) x.formulas.items

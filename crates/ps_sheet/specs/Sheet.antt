@@ -1,0 +1,50 @@
+-- The sheet of one replica, as contracts see it.
+use Rattle.std.specs.Prelude.{◌≡◌, ℕ, ◌<◌, ◌≤◌, ◌⊎◌, List, [], ◌∷◌, ◌++◌, length, take, slice_index_or, ◌↔◌}
+use Rattle.std.specs.Prelude.{Contains}
+use Rattle.ps_grid.specs.declared.size.TheConstants.{CELLS}
+use Rattle.ps_value.specs.declared.value.Value.{Value}
+use Rattle.ps_delta.specs.State.{IsInGrid, IsBelow}
+use Rattle.ps_delta.specs.Deltas.{Entries, state_of, joined_history}
+use Rattle.ps_lattice.specs.declared.limits.TheConstants.{REPLICAS}
+use Rattle.ps_sheet.specs.Settled.{IsSettled, shown_at}
+
+-- the replica, the accepted deltas that changed the state, and what each cell shows
+pub record SheetView : Type 0 where
+  pub replica : ℕ
+  pub history : List Entries
+  pub shown : List Value
+
+-- no delta is below the join of those before it
+abbrev pub IsFresh : List Entries → Type 0
+IsFresh history =
+    (k : ℕ) → k < length history
+    → ¬ IsBelow (state_of (slice_index_or history k [])) (joined_history (take k history))
+
+-- what is true of each sheet: what it shows is settled for the joined history, and its history has no delta in vain
+pub record IsSheet (x : SheetView) : Type 0 where
+  pub settled : IsSettled (joined_history x.history) (shown_at x.shown)
+  pub fresh : IsFresh x.history
+  pub in_grid : IsInGrid (joined_history x.history)
+  pub whole : length x.shown ≡ CELLS
+  pub replica : (1 ≤ x.replica) × (x.replica ≤ REPLICAS)
+
+-- ACCEPTED: the delta d is appended to the history h, unless it is below the join of h
+abbrev pub Takes : Entries → List Entries → List Entries → Type 0
+Takes d h k =
+    (IsBelow (state_of d) (joined_history h) × (k ≡ h))
+    ⊎ ((¬ IsBelow (state_of d) (joined_history h)) × (k ≡ h ++ d ∷ []))
+
+-- a run of accepted deltas, one after the other, from the history h to the history k
+abbrev pub Accepts : List Entries → List Entries → List Entries → Type 0
+Accepts h [] k = k ≡ h
+Accepts h (d ∷ ds) k = (m : List Entries) × Takes d h m × Accepts m ds k
+
+-- LAW: a run of accepted deltas joins to the joined history, whether each was appended or was below the state
+abbrev pub AcceptedDeltasJoin : Type 0
+AcceptedDeltasJoin = (ds h k : List Entries) → Accepts h ds k → joined_history k ≡ joined_history (h ++ ds)
+
+-- two histories come from the empty one by accepting the same deltas, in whatever order and however often
+abbrev pub TookTheSame : List Entries → List Entries → Type 0
+TookTheSame h k =
+    (ds : List Entries) × (es : List Entries) × ((d : Entries) → Contains ds d ↔ Contains es d)
+    × Accepts [] ds h × Accepts [] es k

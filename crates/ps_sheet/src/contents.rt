@@ -1,0 +1,75 @@
+//! What a cell holds, as the sheet reads it.
+
+ghost use Rattle.std.specs.Prelude.{◌≡◌, false, IfSome, IfNone};
+ghost use Rattle.std.specs.Option.{option_copied};
+ghost use Rattle.ps_sheet.specs.Settled.{content_of, options_of};
+ghost use Rattle.ps_sheet.specs.Rounds.{first_by, first_value, is_formula};
+
+use ps_content::Content;
+use ps_delta::CellState;
+use ps_formula::Formula;
+use ps_lattice::Choice;
+use ps_value::{Fault, Value};
+
+/// The formula of a cell, if its content is one.
+pub(crate) fn formula_of(state: &CellState) -> Option<&Formula>
+    ensures some { IfSome (option_copied result) (λ tree. content_of state.now ≡ Content.Formula tree) }
+    ensures none { IfNone result (is_formula (content_of state.now) ≡ false) }
+{
+    let assigned = state.register.parts()?;
+    match &assigned.content {
+        Content::Formula(shared) => Some(shared.formula()),
+        _ => None,
+    }
+}
+
+/// Whether the content of a cell is a formula.
+pub(crate) fn holds_formula(state: &CellState) -> bool
+    ensures { result ≡ is_formula (content_of state.now) }
+{
+    match state.register.parts() {
+        None => false,
+        Some(assigned) => is_formula(&assigned.content),
+    }
+}
+
+// Whether the content is a formula.
+fn is_formula(content: &Content) -> bool
+    ensures { result ≡ is_formula content.now }
+{
+    match content {
+        Content::Formula(_) => true,
+        _ => false,
+    }
+}
+
+/// What a cell shows before the first round.
+pub(crate) fn first_of(state: &CellState) -> Value
+    ensures { result ≡ first_value state.now }
+{
+    match state.register.parts() {
+        None => Value::Empty,
+        Some(assigned) => first_by(&assigned.content, state),
+    }
+}
+
+// What a cell with this content shows before the first round.
+fn first_by(content: &Content, state: &CellState) -> Value
+    ensures { result ≡ first_by content.now state.now }
+{
+    match content {
+        Content::Blank => Value::Empty,
+        Content::Number(number) => Value::Num(*number),
+        Content::Text(text) => Value::Text(*text),
+        Content::Formula(_) => Value::Err(Fault::Cycle),
+        Content::Tally => Value::Num(state.tally.value()),
+        Content::Choice => Value::Choice(options_of(&state.choice)),
+    }
+}
+
+// The options that are in, as a number.
+fn options_of(choice: &Choice) -> u64
+    ensures { result ≡ options_of choice.now }
+{
+    choice.options()
+}

@@ -1,0 +1,90 @@
+//! What people ask of a sheet.
+
+ghost use Rattle.std.specs.Prelude.{◌≡◌, ◌↔◌, IsTrue, map};
+ghost use Rattle.std.specs.Option.{SomeIff};
+ghost use Rattle.std.specs.List.Sorted.{IsStrictlyIncreasing};
+
+use ps_content::Content;
+use ps_grid::Cell;
+use std::marker::Model;
+
+/// One change of a sheet.
+#[derive(Drop)]
+pub enum Edit {
+    /// Gives a cell a content.
+    Set(Cell, Content),
+    /// Gives several cells their contents.
+    SetAll(Batch),
+    /// Adds an amount of 1 to 1,000,000 to the counter of a cell that holds one.
+    Add(Cell, u64),
+    /// Takes such an amount from it.
+    Sub(Cell, u64),
+    /// Puts an option of 0 to 63 into the set of a cell that holds one.
+    Choose(Cell, u64),
+    /// Takes an option out of it.
+    Unchoose(Cell, u64),
+}
+
+/// Cells with contents, ascending and distinct, at least one. A contract sees it as the list of them.
+#[derive(Drop)]
+pub struct Batch {
+    cells: Vec<(Cell, Content)>,
+}
+
+impl Model for Batch {
+    ghost use Rattle.std.specs.Prelude.{List, ℕ};
+    ghost use Rattle.std.specs.Coded.{codes};
+    ghost use Rattle.ps_content.specs.declared.content.Content.{Content};
+    ghost use Rattle.ps_content.specs.contracts.content.Content as content;
+
+    ghost Value = { List (ℕ × Content) };
+
+    ghost coded = { Prim.hlevel (codes, content.the_row.coded) };
+
+    ghost use Rattle.ps_sheet.specs.Batches.{IsBatch};
+
+    ghost view = { λ b. b.cells.items };
+
+    ghost invariant = { λ b. IsBatch b.cells.items };
+}
+
+impl Batch {
+    ghost use Rattle.ps_sheet.specs.Batches.{IsBatch};
+
+    /// The batch of these cells; none where there is no cell, or where they aren't ascending and distinct.
+    ///
+    /// Cost: the number of cells.
+    pub fn new(cells: Vec<(Cell, Content)>) -> Option<Batch>
+        ensures { SomeIff result (IsBatch cells.items) cells.items }
+    {
+        if cells.is_empty() || !are_ascending(&cells) {
+            return None;
+        }
+        Some(Batch { cells })
+    }
+
+    /// The cells with their contents.
+    ///
+    /// Cost: constant.
+    pub fn into_cells(self) -> Vec<(Cell, Content)>
+        ensures cells { result.items ≡ self }
+        ensures batch { IsBatch self }
+    {
+        let Batch { cells } = self;
+        cells
+    }
+}
+
+// Whether the cells are ascending and distinct.
+fn are_ascending(cells: &[(Cell, Content)]) -> bool
+    ensures { IsTrue result ↔ IsStrictlyIncreasing (map (λ e. e.0) cells.now) }
+{
+    for k in 1..cells.len() {
+        let before = cells[k - 1].0.index();
+        let here = cells[k].0.index();
+        if before >= here {
+            return false;
+        }
+    }
+    true
+}

@@ -1,0 +1,44 @@
+//! Laws of settled values.
+
+ghost use Rattle.std.specs.Prelude.{◌≡◌};
+ghost use Rattle.ps_delta.specs.Deltas.{joined_history};
+ghost use Rattle.ps_sheet.specs.Sheet.{AcceptedDeltasJoin, TookTheSame};
+ghost use Rattle.ps_sheet.specs.Settled.{SettledAtLeastOnce, SettledAtMostOnce};
+
+use crate::sheet::Sheet;
+
+/// A state of the grid has at most one settled assignment of values to cells.
+pub fn settled_at_most_once()
+    ensures { SettledAtMostOnce }
+{}
+
+/// A state of the grid has a settled assignment of values to cells.
+pub fn settled_at_least_once()
+    ensures { SettledAtLeastOnce }
+{}
+
+/// A run of accepted deltas joins to the joined history, whether each was appended or was below the state.
+pub fn accepted_deltas_join()
+    ensures { AcceptedDeltasJoin }
+{}
+
+/// Two sheets that accepted the same deltas, in whatever order and however often, show the same values.
+///
+/// Cost: none.
+pub fn same_deltas_show_the_same(a: &Sheet, b: &Sheet)
+    requires { TookTheSame a.now.history b.now.history }
+    ensures { a.now.shown ≡ b.now.shown }
+{
+    same_join_shows_the_same(a, b)
+}
+
+/// Two sheets whose histories have the same join show the same values, whatever their replicas and histories.
+///
+/// Cost: none.
+pub fn same_join_shows_the_same(a: &Sheet, b: &Sheet)
+    requires { joined_history a.now.history ≡ joined_history b.now.history }
+    ensures { a.now.shown ≡ b.now.shown }
+{
+    let _ = a.version();
+    let _ = b.version();
+}

@@ -1,0 +1,254 @@
+//! The sheet of one replica.
+
+ghost use Rattle.std.specs.Prelude.{◌≡◌, ◌+◌, ◌<◌, ◌≤◌, ◌⊎◌, ◌↔◌, ℕ, List, [], ◌∷◌, ◌++◌, length, map, IfOk, IfErr, IsOkAnd, OnOk, OnErr, vec_len, vec_capacity};
+ghost use Rattle.std.specs.Arc.{arc_value};
+ghost use Rattle.ps_delta.specs.State.{IsBelow, joined_state};
+ghost use Rattle.ps_delta.specs.Deltas.{joined_history, state_of};
+ghost use Rattle.ps_sheet.specs.Settled.{Cyclic, shown_at};
+
+use crate::changes::take_in;
+use crate::edit::Edit;
+use crate::made::delta_of;
+use crate::rounds::value_in;
+use ps_delta::{Delta, Grid};
+use ps_eval::{Look, Meter};
+use ps_grid::{CELLS, Cell, Refusal};
+use ps_lattice::REPLICAS;
+use ps_value::{Fault, Value};
+use std::alloc::Global;
+use std::marker::Model;
+use std::sync::Arc;
+use std::sync::ledger::Ledger;
+
+/// What an accepted change did.
+#[derive(Clone, Copy, Debug, PartialEq, Eq)]
+pub struct Report {
+    /// The length of the history.
+    pub version: u64,
+}
+
+/// The sheet of one replica: the deltas that it accepted, and what each cell shows.
+///
+/// A contract sees it as its `SheetView`.
+#[derive(Drop)]
+pub struct Sheet {
+    replica: u8,
+    // the accepted deltas that changed the state
+    history: Vec<Arc<Delta>>,
+    // their join
+    grid: Grid,
+    // the cells that hold a formula
+    formulas: Vec<Cell>,
+    // what each cell shows
+    shown: Vec<Value>,
+}
+
+impl Model for Sheet {
+    ghost use Rattle.ps_sheet.specs.Sheet.{SheetView};
+
+    ghost Value = { SheetView };
+
+    ghost use Rattle.ps_sheet.specs.SheetCode.{sheet_code};
+
+    ghost coded = { sheet_code };
+
+    ghost use Rattle.ps_sheet.specs.Kept.{view_of, IsKept};
+
+    ghost view = { view_of };
+
+    ghost invariant = { IsKept };
+}
+
+impl Look for Sheet {
+    ghost use Rattle.ps_sheet.specs.Settled.{shown_at};
+
+    ghost value_at = { λ s. shown_at s.shown };
+
+    fn at(&self, cell: Cell) -> Value {
+        self.shown(cell)
+    }
+}
+
+impl Sheet {
+    ghost use Rattle.ps_sheet.specs.Edits.{delta_of_edit};
+    ghost use Rattle.ps_sheet.specs.Sheet.{IsSheet, Takes};
+
+    /// The empty sheet of a replica, 1 to 32. The workers, 1 to 16, are not used yet.
+    ///
+    /// Refused where the replica is out of range, and for lack of memory.
+    ///
+    /// Cost: linear in the cells of the grid.
+    pub fn open(alloc: Global, replica: u8, workers: usize) -> Result<Sheet, Refusal>
+        requires workers { (1 ≤ workers) × (workers ≤ 16) }
+        ensures opened { IfOk result (λ s. (s.history ≡ []) × (s.replica ≡ replica)) }
+        ensures sheet { IfOk result IsSheet }
+        ensures replica { (result ≡ Err Refusal.Replica) ↔ ((replica < 1) ⊎ (REPLICAS < replica)) }
+        ensures other { IfErr result (λ e. (e ≡ Refusal.Replica) ⊎ (e ≡ Refusal.Memory)) }
+    {
+        let _ = workers;
+        if replica < 1 || replica > REPLICAS {
+            return Err(Refusal::Replica);
+        }
+        let shown = all_empty(alloc, CELLS)?;
+        let grid = Grid::new(alloc)?;
+        Ok(Sheet {
+            replica,
+            history: Vec::new(alloc),
+            grid,
+            formulas: Vec::new(alloc),
+            shown,
+        })
+    }
+
+    /// Makes the delta of an edit at the sheet's replica, over its state, and appends it to the history.
+    ///
+    /// Refused by the first of these that holds: the amount or the option is out of range; the cell holds no counter or
+    /// no set; the count is full, the sequences are used up, the option isn't in the set, or a register has the last
+    /// time. For lack of memory in place of any of them. Then nothing is changed.
+    ///
+    /// Cost: that of the delta, and of the rounds over all formulas.
+    pub fn edit<L: Ledger>(
+        &mut self,
+        alloc: Global,
+        edit: Edit,
+        meter: &mut Meter<L>,
+    ) -> Result<Report, Refusal>
+        ensures made { OnOk result (IsOkAnd (delta_of_edit self.old.replica (joined_history self.old.history) edit) (λ d. self.new.history ≡ self.old.history ++ d ∷ [])) }
+        ensures refused { IfErr result (λ e. (e ≡ Refusal.Memory) ⊎ (delta_of_edit self.old.replica (joined_history self.old.history) edit ≡ Err e)) }
+        ensures version { IfOk result (λ r. r.version ≡ length self.new.history) }
+        ensures replica { self.new.replica ≡ self.old.replica }
+        ensures sheet { IsSheet self.new }
+        ensures kept { OnErr result (self.new ≡ self.old) }
+        ensures unmetered { OnErr result (meter.new ≡ meter.old) }
+    {
+        let delta = delta_of(alloc, &self.grid, self.replica, edit)?;
+        let made = Arc::new(alloc, delta)?;
+        self.append(alloc, made, meter)
+    }
+
+    /// Accepts a delta made elsewhere: appends it to the history, unless it is below the state already.
+    ///
+    /// Refused only for lack of memory, and then nothing is changed.
+    ///
+    /// Cost: that of joining the delta, and where it is appended, of the rounds over all formulas.
+    pub fn receive<L: Ledger>(
+        &mut self,
+        alloc: Global,
+        delta: Arc<Delta>,
+        meter: &mut Meter<L>,
+    ) -> Result<Report, Refusal>
+        ensures taken { OnOk result (Takes (arc_value delta) self.old.history self.new.history) }
+        ensures joined { OnOk result (joined_history self.new.history ≡ joined_state (joined_history self.old.history) (state_of (arc_value delta))) }
+        ensures version { IfOk result (λ r. r.version ≡ length self.new.history) }
+        ensures replica { self.new.replica ≡ self.old.replica }
+        ensures sheet { IsSheet self.new }
+        ensures memory { IfErr result (λ e. e ≡ Refusal.Memory) }
+        ensures kept { OnErr result (self.new ≡ self.old) }
+        ensures unmetered { OnErr result (meter.new ≡ meter.old) }
+    {
+        if self.grid.covers(&delta) {
+            return Ok(self.report());
+        }
+        self.append(alloc, delta, meter)
+    }
+
+    // Appends a delta that isn't below the state.
+    fn append<L: Ledger>(
+        &mut self,
+        alloc: Global,
+        delta: Arc<Delta>,
+        meter: &mut Meter<L>,
+    ) -> Result<Report, Refusal>
+        requires fresh { ¬ IsBelow (state_of (arc_value delta)) (joined_history self.old.history) }
+        ensures appended { OnOk result (self.new.history ≡ self.old.history ++ arc_value delta ∷ []) }
+        ensures joined { OnOk result (joined_history self.new.history ≡ joined_state (joined_history self.old.history) (state_of (arc_value delta))) }
+        ensures version { IfOk result (λ r. r.version ≡ length self.new.history) }
+        ensures replica { self.new.replica ≡ self.old.replica }
+        ensures sheet { IsSheet self.new }
+        ensures memory { IfErr result (λ e. e ≡ Refusal.Memory) }
+        ensures kept { OnErr result (self.new ≡ self.old) }
+        ensures unmetered { OnErr result (meter.new ≡ meter.old) }
+    {
+        self.history.reserve(1)?;
+        take_in(
+            alloc,
+            &mut self.grid,
+            &mut self.formulas,
+            &mut self.shown,
+            &delta,
+            meter,
+        )?;
+        put(&mut self.history, delta);
+        Ok(Report {
+            version: self.history.len() as u64,
+        })
+    }
+
+    // The report of a change that changed nothing.
+    fn report(&self) -> Report
+        ensures version { result.version ≡ length self.now.history }
+        ensures sheet { IsSheet self.now }
+    {
+        Report {
+            version: self.history.len() as u64,
+        }
+    }
+
+    /// What a cell shows.
+    ///
+    /// Cost: constant.
+    pub fn shown(&self, cell: Cell) -> Value
+        ensures value { result ≡ shown_at self.now.shown cell }
+        ensures cycle { (result ≡ Value.Err Fault.Cycle) ↔ Cyclic (joined_history self.now.history) cell }
+        ensures sheet { IsSheet self.now }
+    {
+        value_in(&self.shown, cell)
+    }
+
+    /// The accepted deltas that changed the state, in the order in which they came.
+    ///
+    /// Cost: constant.
+    pub fn history(&self) -> &[Arc<Delta>]
+        ensures history { map arc_value result.now ≡ self.now.history }
+        ensures sheet { IsSheet self.now }
+    {
+        &self.history
+    }
+
+    /// The length of the history.
+    ///
+    /// Cost: constant.
+    pub fn version(&self) -> u64
+        ensures version { result ≡ length self.now.history }
+        ensures sheet { IsSheet self.now }
+    {
+        self.history.len() as u64
+    }
+
+    /// The replica that the sheet was opened with.
+    ///
+    /// Cost: constant.
+    pub fn replica(&self) -> u8
+        ensures replica { result ≡ self.now.replica }
+        ensures sheet { IsSheet self.now }
+    {
+        self.replica
+    }
+}
+
+// A list of n empty values.
+fn all_empty(alloc: Global, n: usize) -> Result<Vec<Value>, Refusal>
+    ensures length { IfOk result (λ v. length v.items ≡ n) }
+    ensures empty { IfOk result (λ v. (c : ℕ) → shown_at v.items c ≡ Value.Empty) }
+    ensures memory { IfErr result (λ e. e ≡ Refusal.Memory) }
+{
+    Ok(vec![in alloc; Value::Empty; n]?)
+}
+
+// Appends a delta to a history that has room for it.
+fn put(history: &mut Vec<Arc<Delta>>, delta: Arc<Delta>)
+    requires { vec_len history.old < vec_capacity history.old }
+    ensures { map arc_value history.new.items ≡ map arc_value history.old.items ++ arc_value delta ∷ [] }
+{
+    let _ = history.push(delta);
+}
