@@ -4,3 +4,5 @@ pub mod Transcript
 pub mod Stands
 pub mod Replies
 pub mod Holds
+pub mod Words
+pub mod Commands

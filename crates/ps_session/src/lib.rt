@@ -9,11 +9,15 @@
 #![tactic(auto)]
 
 mod board;
+mod command;
 mod reply;
 mod session;
 mod transcript;
+mod verb;
+mod words;
 
 pub use board::Board;
+pub use command::Command;
 pub use reply::{Reply, send};
 pub use session::{Fed, LINE_LIMIT, Line, Session};
 pub use transcript::{RunFault, talk};

@@ -1,0 +1,101 @@
+-- What a line asks for. It is the line's own: no sheet is looked at.
+use Rattle.std.specs.Prelude.{◌≡◌, ◌<◌, ◌↔◌, ℕ, Bool, true, false, List, [], ◌∷◌, codes, bytes_eq, drop}
+use Rattle.std.specs.Prelude.{Option, Some, None, MatchOption, Result, Ok, Err, if◌then◌else◌}
+use Rattle.ps_grid.specs.Place.{cell_name}
+use Rattle.ps_grid.specs.declared.refusal.Refusal.{Refusal}
+use Rattle.ps_grid.specs.declared.refusal.Refusal.TheVariants as refusals
+use Rattle.ps_grid.specs.declared.size.TheConstants.{CELLS}
+use Rattle.ps_content.specs.Entry.{Reads, kind_of}
+use Rattle.ps_content.specs.declared.content.Content.{Content}
+use Rattle.ps_sheet.specs.declared.edit.Edit.{Edit}
+use Rattle.ps_sheet.specs.declared.edit.Edit.TheVariants as edits
+use Rattle.ps_session.specs.Words.{behind_word, first_word, whole_number, words}
+use Rattle.ps_session.specs.declared.command.Command.{Command}
+use Rattle.ps_session.specs.declared.command.Command.TheVariants as commands
+use Rattle.ps_session.specs.declared.verb.Verb.{Verb}
+use Rattle.ps_session.specs.declared.verb.Verb.TheVariants.{Add, Choose, Get, Set, Sub, Unchoose}
+
+-- the verb that a word is
+unfoldable pub verb_of : List ℕ → Option Verb
+verb_of word =
+    if bytes_eq word (codes "get") then Some Get
+    else if bytes_eq word (codes "set") then Some Set
+    else if bytes_eq word (codes "add") then Some Add
+    else if bytes_eq word (codes "sub") then Some Sub
+    else if bytes_eq word (codes "choose") then Some Choose
+    else if bytes_eq word (codes "unchoose") then Some Unchoose
+    else None
+
+-- what a line or a part of it is read as, or why it is refused
+abbrev pub Read : Type 0 → Type 0
+Read X = Result X Refusal
+
+-- a refusal of the part refuses the whole
+abbrev pub with_part : {X Y : Type 0} → (X → Y) → Read X → Read Y
+with_part whole (Ok part) = Ok (whole part)
+with_part whole (Err refusal) = Err refusal
+
+-- the cell that a text names, where it names one
+abbrev pub NamesCell : List ℕ → Option ℕ → Type 0
+NamesCell text found = (c : ℕ) → (found ≡ Some c) ↔ ((c < CELLS) × (text ≡ cell_name c))
+
+-- a word that names no cell is refused; else its cell decides
+abbrev pub AtCell : {X : Type 0} → List ℕ → Read X → (ℕ → Type 0) → Type 0
+AtCell word read Decides =
+    (found : Option ℕ) × NamesCell word found × MatchOption found (read ≡ Err refusals.Cell) Decides
+
+-- `get`: one word, a cell
+abbrev pub ReadsGet : List (List ℕ) → Read Command → Type 0
+ReadsGet (cell ∷ []) read = AtCell cell read (λ c. read ≡ Ok (commands.Get c))
+ReadsGet _ read = read ≡ Err refusals.Command
+
+-- the cell is given what the entry is read as
+abbrev pub Assigns : ℕ → List ℕ → Read Command → Type 0
+Assigns c entry read = (content : Read Content) × Reads (kind_of entry) entry content
+    × (read ≡ with_part (λ x. commands.Edit (edits.Set c x)) content)
+
+-- `set`: a cell, and behind its space the entry
+abbrev pub ReadsSet : List (List ℕ) → List ℕ → Read Command → Type 0
+ReadsSet [] entry read = read ≡ Err refusals.Command
+ReadsSet (cell ∷ others) entry read = AtCell cell read (λ c. Assigns c entry read)
+
+-- two words, a cell and a number; another word than a number has the refusal given
+abbrev pub ReadsPair : Refusal → List (List ℕ) → Read (ℕ × ℕ) → Type 0
+ReadsPair refusal (cell ∷ number ∷ []) read =
+    AtCell cell read (λ c. MatchOption (whole_number number) (read ≡ Err refusal) (λ n. read ≡ Ok (c, n)))
+ReadsPair refusal _ read = read ≡ Err refusals.Command
+
+-- a change of a cell by a number
+abbrev pub ReadsChange : (ℕ → ℕ → Edit) → Refusal → List (List ℕ) → Read Command → Type 0
+ReadsChange change refusal others read = (pair : Read (ℕ × ℕ)) × ReadsPair refusal others pair
+    × (read ≡ with_part (λ p. commands.Edit (change p.0 p.1)) pair)
+
+-- a verb, the words behind it, and all behind the second space
+abbrev pub ReadsVerb : Option Verb → List (List ℕ) → List ℕ → Read Command → Type 0
+ReadsVerb None others entry read = read ≡ Err refusals.Command
+ReadsVerb (Some Get) others entry read = ReadsGet others read
+ReadsVerb (Some Set) others entry read = ReadsSet others entry read
+ReadsVerb (Some Add) others entry read = ReadsChange (λ c n. edits.Add c n) refusals.Amount others read
+ReadsVerb (Some Sub) others entry read = ReadsChange (λ c n. edits.Sub c n) refusals.Amount others read
+ReadsVerb (Some Choose) others entry read = ReadsChange (λ c n. edits.Choose c n) refusals.OptionRange others read
+ReadsVerb (Some Unchoose) others entry read =
+    ReadsChange (λ c n. edits.Unchoose c n) refusals.OptionRange others read
+
+-- WHAT A LINE ASKS FOR
+abbrev pub ReadsLine : List ℕ → Read Command → Type 0
+ReadsLine line read =
+    ReadsVerb (verb_of (first_word line)) (drop 1 (words line)) (behind_word (behind_word line)) read
+
+-- every verb but `get` may find too little memory
+abbrev pub may_grow : Option Verb → Bool
+may_grow None = false
+may_grow (Some Get) = false
+may_grow (Some Set) = true
+may_grow (Some Add) = true
+may_grow (Some Sub) = true
+may_grow (Some Choose) = true
+may_grow (Some Unchoose) = true
+
+-- the line may be refused for lack of memory
+abbrev pub has_memory_reply : List ℕ → Bool
+has_memory_reply line = may_grow (verb_of (first_word line))

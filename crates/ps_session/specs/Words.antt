@@ -1,0 +1,26 @@
+-- The words of a line: one space stands between two, so that a word may be empty.
+use Rattle.std.specs.Prelude.{ℕ, ◌^◌, ◌==◌, Bool, ◌&&◌, nat_lt, List, length, Option, Some, None, if◌then◌else◌}
+use Rattle.std.specs.List.{after_first, before_first, slice_split}
+use Rattle.std.specs.Str.{all_ascii_digits}
+use Rattle.std.specs.Str.Parse.{digits_value}
+
+abbrev pub is_space : ℕ → Bool
+is_space b = b == 32
+
+abbrev pub words : List ℕ → List (List ℕ)
+words line = slice_split is_space line
+
+abbrev pub first_word : List ℕ → List ℕ
+first_word line = before_first is_space line
+
+-- all behind the first space, spaces too
+abbrev pub behind_word : List ℕ → List ℕ
+behind_word line = after_first is_space line
+
+-- one or more decimal digits, whose number has 64 bits
+unfoldable pub is_whole : List ℕ → Bool
+is_whole word = nat_lt 0 (length word) && all_ascii_digits word && nat_lt (digits_value 10 word) (2 ^ 64)
+
+-- the number that a word of digits writes
+unfoldable pub whole_number : List ℕ → Option ℕ
+whole_number word = if is_whole word then Some (digits_value 10 word) else None

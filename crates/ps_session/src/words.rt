@@ -1,0 +1,35 @@
+//! The words of a line.
+ghost use Rattle.std.specs.Prelude.{◌≡◌, ◌∷◌, [], position};
+ghost use Rattle.std.specs.Option.{option_map_or};
+ghost use Rattle.ps_session.specs.Words.{behind_word, first_word, is_space, whole_number, words};
+
+/// The bytes before the first space, and those behind it where there is one.
+pub(crate) fn split_word(text: &[u8]) -> (&[u8], Option<&[u8]>)
+    ensures word { result.0.now ≡ first_word text.now }
+    ensures words { words text.now ≡ result.0.now ∷ option_map_or (λ rest. words rest.now) result.1 [] }
+    ensures behind { behind_word text.now ≡ option_map_or (λ rest. rest.now) result.1 [] }
+{
+    match first_space(text) {
+        Some(place) => (&text[..place], Some(&text[place + 1..])),
+        None => (text, None),
+    }
+}
+
+fn first_space(text: &[u8]) -> Option<usize>
+    ensures { result ≡ position is_space text.now }
+{
+    text.iter().position(|b| *b == b' ')
+}
+
+/// The number that a word of decimal digits writes; none where it is no such word, or the number has more than 64 bits.
+pub(crate) fn read_whole(word: &[u8]) -> Option<u64>
+    ensures { result ≡ whole_number word.now }
+{
+    if word.starts_with(b"+") {
+        return None;
+    }
+    match str::from_utf8(word) {
+        Ok(text) => text.parse::<u64>().ok(),
+        Err(_) => None,
+    }
+}
