@@ -5,3 +5,6 @@ mod HoldsLemmas
 mod TurnLemmas
 mod EndLemmas
 mod ReadLemmas
+mod AnswerLemmas
+mod ReplicaLemmas
+mod MemoryLemmas

@@ -6,3 +6,4 @@ pub mod Replies
 pub mod Holds
 pub mod Words
 pub mod Commands
+pub mod Answers

@@ -3,15 +3,20 @@
 //! A [`Session`] puts bytes together to lines, in whatever pieces they come. A [`Board`] answers a line; [`talk`] is
 //! the whole way from a source of bytes to a sink: it reads the source to its end and writes the reply to each line,
 //! in order. What it promises is told by a definition of its own, the transcript (`specs/Transcript.antt`), which knows
-//! nothing of pieces. Which lines there are and what they do isn't here yet: a board brings it.
+//! nothing of pieces.
+//!
+//! A [`Command`] is what a line asks for. A sheet is a board, and [`run`] is the talk of a sheet: the line `set A1 5` is
+//! answered `ok 1`, and `get A1` then `val 5`.
 //!
 //! Reading takes no memory beyond the room of one line; a line costs its bytes and what its board takes.
 #![tactic(auto)]
 
+mod answers;
 mod board;
 mod command;
 mod reply;
 mod session;
+mod sheet_session;
 mod transcript;
 mod verb;
 mod words;
@@ -20,6 +25,7 @@ pub use board::Board;
 pub use command::Command;
 pub use reply::{Reply, send};
 pub use session::{Fed, LINE_LIMIT, Line, Session};
+pub use sheet_session::run;
 pub use transcript::{RunFault, talk};
 
 #[cfg(test)]

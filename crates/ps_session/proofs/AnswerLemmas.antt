@@ -1,0 +1,60 @@
+-- What a sheet does with a line is the answer to the line.
+use Rattle.std.proofs.Common.{◌≡◌, ◌≢◌, ◌⊎◌, inl, inr, refl, ap, subst, ℕ, Bool, true, false, List, Result, Ok, Err}
+use Rattle.ps_grid.specs.declared.refusal.Refusal.{Refusal}
+use Rattle.ps_grid.specs.declared.refusal.Refusal.TheVariants as refusals
+use Rattle.ps_sheet.specs.Sheet.{SheetView}
+use Rattle.ps_session.specs.Commands.{ReadsLine}
+use Rattle.ps_session.proofs.MemoryLemmas.{changes_may_lack, memory_refused}
+use Rattle.ps_session.specs.Answers.{Answers, LacksMemory, Obeys, Serves, is_get}
+use Rattle.ps_session.specs.Replies.{refusal_text, reply_text}
+use Rattle.ps_session.specs.declared.command.Command.{Command}
+use Rattle.ps_session.specs.declared.reply.Reply.{Reply}
+use Rattle.ps_session.specs.declared.reply.Reply.TheVariants.{Refused}
+
+-- a refusal is for want of memory, or it isn't
+memory_or_other : (refusal : Refusal) → (refusal ≡ refusals.Memory) ⊎ (refusal ≢ refusals.Memory)
+memory_or_other refusals.Memory = inl refl
+memory_or_other _ = inr (λ is. cc)
+
+-- a line that was read as a command, which was carried out or lacked memory
+pub answer_of_command : (old new : SheetView) (line : List ℕ) (command : Command) (reply : Reply)
+    → ReadsLine line (Ok command)
+    → Obeys old.replica old.history (Ok command) reply new.history
+    ⊎ ((is_get command ≡ false) × (reply ≡ Refused refusals.Memory) × (new.history ≡ old.history))
+    → new.replica ≡ old.replica → Answers old line (reply_text reply) new
+answer_of_command old new line command reply reads (inl obeys) replica = inl (record {
+  asked = Ok command;
+  reply = reply;
+  reads = reads;
+  ample = λ is. cc;
+  obeys = obeys;
+  told = refl;
+  replica = replica;
+})
+answer_of_command old new line command reply reads (inr lacks) replica = inr (record {
+  may = changes_may_lack line command reads lacks.0;
+  told = ap reply_text lacks.1;
+  history = lacks.2;
+  replica = replica;
+})
+
+-- a line that was read as a refusal
+pub answer_of_refusal : (sheet : SheetView) (line : List ℕ) (refusal : Refusal) → ReadsLine line (Err refusal)
+    → Answers sheet line (refusal_text refusal) sheet
+answer_of_refusal sheet line refusal reads = elim (memory_or_other refusal) [
+  | inl is ↦ inr (record {
+    may = memory_refused line (subst (λ r. ReadsLine line (Err r)) is reads);
+    told = ap refusal_text is;
+    history = refl;
+    replica = refl;
+  })
+  | inr other ↦ inl (record {
+    asked = Err refusal;
+    reply = Refused refusal;
+    reads = reads;
+    ample = λ is. other cc;
+    obeys = (refl, refl);
+    told = refl;
+    replica = refl;
+  })
+]

@@ -1,0 +1,64 @@
+-- What a sheet answers a line. It is told by the replica and by the history, the deltas that the replica has accepted;
+-- what the sheet shows follows from them.
+use Rattle.std.specs.Prelude.{◌≡◌, ◌≢◌, ◌⊎◌, ◌++◌, ◌∷◌, [], ℕ, Bool, true, false, List, length, Result, Ok, Err}
+use Rattle.ps_grid.specs.declared.refusal.Refusal.{Refusal}
+use Rattle.ps_grid.specs.declared.refusal.Refusal.TheVariants as refusals
+use Rattle.ps_eval.specs.Items.{Assignment}
+use Rattle.ps_delta.specs.Deltas.{Entries, joined_history}
+use Rattle.ps_sheet.specs.Settled.{IsSettled}
+use Rattle.ps_sheet.specs.Edits.{delta_of_edit}
+use Rattle.ps_sheet.specs.Sheet.{SheetView}
+use Rattle.ps_session.specs.Commands.{ReadsLine, has_memory_reply}
+use Rattle.ps_session.specs.Replies.{refusal_text, reply_text}
+use Rattle.ps_session.specs.Transcript.{Answering, Lines}
+use Rattle.ps_session.specs.declared.command.Command.{Command}
+use Rattle.ps_session.specs.declared.command.Command.TheVariants.{Edit, Get}
+use Rattle.ps_session.specs.declared.reply.Reply.{Reply}
+use Rattle.ps_session.specs.declared.reply.Reply.TheVariants.{Done, Refused, Shown}
+
+-- what was made of an edit: its delta ends the history, and the reply is the new version; or it is refused
+abbrev pub Edited : Result Entries Refusal → List Entries → Reply → List Entries → Type 0
+Edited (Ok delta) history reply next = (next ≡ history ++ delta ∷ []) × (reply ≡ Done (length next))
+Edited (Err refusal) history reply next = (next ≡ history) × (reply ≡ Refused refusal)
+
+-- the command only looks at one cell
+abbrev pub is_get : Command → Bool
+is_get (Edit edit) = false
+is_get (Get cell) = true
+
+-- what a replica with a history does where a line asks for this
+abbrev pub Obeys : ℕ → List Entries → Result Command Refusal → Reply → List Entries → Type 0
+Obeys replica history (Ok (Edit edit)) reply next =
+    Edited (delta_of_edit replica (joined_history history) edit) history reply next
+Obeys replica history (Ok (Get cell)) reply next =
+    (next ≡ history) × (v : Assignment) × IsSettled (joined_history history) v × (reply ≡ Shown (v cell))
+Obeys replica history (Err refusal) reply next = (next ≡ history) × (reply ≡ Refused refusal)
+
+-- a line does what it asks for
+pub record Serves (old : SheetView) (line text : List ℕ) (new : SheetView) : Type 0 where
+  pub asked : Result Command Refusal
+  pub reply : Reply
+  pub reads : ReadsLine line asked
+  pub ample : asked ≢ Err refusals.Memory
+  pub obeys : Obeys old.replica old.history asked reply new.history
+  pub told : text ≡ reply_text reply
+  pub replica : new.replica ≡ old.replica
+
+-- for want of memory a line does nothing; no `get` is answered so
+pub record LacksMemory (old : SheetView) (line text : List ℕ) (new : SheetView) : Type 0 where
+  pub may : has_memory_reply line ≡ true
+  pub told : text ≡ refusal_text refusals.Memory
+  pub history : new.history ≡ old.history
+  pub replica : new.replica ≡ old.replica
+
+-- ANSWER: what a sheet answers a line that isn't empty, and the sheet afterwards
+abbrev pub Answers : Answering SheetView
+Answers old line text new = Serves old line text new ⊎ LacksMemory old line text new
+
+-- .. and a line as it stands between line feeds
+abbrev pub SheetLines : Answering SheetView
+SheetLines = Lines Answers
+
+-- .. where no reply is for want of memory
+abbrev pub AmpleLines : Answering SheetView
+AmpleLines = Lines Serves

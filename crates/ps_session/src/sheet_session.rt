@@ -1,0 +1,52 @@
+//! A session of a sheet, from bytes to bytes.
+ghost use Rattle.std.specs.Prelude.{◌≡◌, ◌<◌, ℕ, List, Err, IfOk, OnOk};
+ghost use Rattle.std.specs.Io.KnownBytes.{Consumes, IsAtEnd};
+ghost use Rattle.ps_sheet.specs.Sheet.{IsSheet};
+ghost use Rattle.ps_session.specs.Transcript.{Answered, Cut, Transcribed};
+ghost use Rattle.ps_session.specs.Answers.{SheetLines};
+
+use crate::transcript::{RunFault, talk};
+use ps_eval::Meter;
+use ps_sheet::Sheet;
+use ps_value::{Sink, Source};
+use std::alloc::Global;
+use std::sync::ledger::Ledger;
+
+/// Answers each line of a source on a sink by a sheet, to the end of the input, and tells how many lines had a reply;
+/// 2^64 - 1 stands for more.
+///
+/// A line whose reply can't be written has been carried out all the same. After a fault the sheet is the one behind the
+/// last line that was carried out.
+///
+/// Cost: that of the lines, and the room of one line.
+pub fn run<S: Source, K: Sink, L: Ledger>(
+    alloc: Global,
+    source: &mut S,
+    sink: &mut K,
+    sheet: &mut Sheet,
+    meter: &mut Meter<L>,
+) -> Result<u64, RunFault>
+    ensures transcribed { IfOk result (λ answered. (read : List ℕ)
+        × Consumes (S.remaining source.old) (S.remaining source.new) read
+        × IsAtEnd (S.remaining source.new)
+        × Transcribed SheetLines sheet.old (K.contents sink.old) read sheet.new (K.contents sink.new) answered) }
+    ensures sink { result ≡ Err RunFault.Sink
+        → (read : List ℕ) × Consumes (S.remaining source.old) (S.remaining source.new) read
+        × Cut SheetLines (IsAtEnd (S.remaining source.new)) sheet.old (K.contents sink.old) read
+        sheet.new (K.contents sink.new) }
+    ensures source { result ≡ Err RunFault.Source
+        → (read : List ℕ) × Consumes (S.remaining source.old) (S.remaining source.new) read
+        × Answered SheetLines sheet.old (K.contents sink.old) read sheet.new (K.contents sink.new) }
+    ensures memory { result ≡ Err RunFault.Memory
+        → (source.new ≡ source.old) × (sink.new ≡ sink.old) × (sheet.new ≡ sheet.old) }
+    ensures replica { sheet.new.replica ≡ sheet.old.replica }
+    ensures sheet { IsSheet sheet.new }
+    ensures calm { OnOk result ((S.failures source.new ≡ S.failures source.old)
+        × (K.failures sink.new ≡ K.failures sink.old)) }
+    ensures sink_failed { result ≡ Err RunFault.Sink → K.failures sink.old < K.failures sink.new }
+    ensures source_failed { result ≡ Err RunFault.Source → S.failures source.old < S.failures source.new }
+{
+    let answered = talk(alloc, source, sink, sheet, meter);
+    let _ = sheet.version();
+    answered
+}
