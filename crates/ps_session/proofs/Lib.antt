@@ -8,3 +8,6 @@ mod ReadLemmas
 mod AnswerLemmas
 mod ReplicaLemmas
 mod MemoryLemmas
+mod WordLemmas
+mod CommandLemmas
+pub mod ReadingLaws

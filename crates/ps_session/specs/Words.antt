@@ -1,7 +1,7 @@
 -- The words of a line: one space stands between two, so that a word may be empty.
 use Rattle.std.specs.Prelude.{ℕ, ◌^◌, ◌==◌, Bool, ◌&&◌, nat_lt, List, length, Option, Some, None, if◌then◌else◌}
-use Rattle.std.specs.List.{after_first, before_first, slice_split}
-use Rattle.std.specs.Str.{all_ascii_digits}
+use Rattle.std.specs.Char.{is_ascii_digit}
+use Rattle.std.specs.List.{after_first, before_first, list_all, slice_split}
 use Rattle.std.specs.Str.Parse.{digits_value}
 
 abbrev pub is_space : ℕ → Bool
@@ -19,7 +19,7 @@ behind_word line = after_first is_space line
 
 -- one or more decimal digits, whose number has 64 bits
 unfoldable pub is_whole : List ℕ → Bool
-is_whole word = nat_lt 0 (length word) && all_ascii_digits word && nat_lt (digits_value 10 word) (2 ^ 64)
+is_whole word = list_all is_ascii_digit word && nat_lt 0 (length word) && nat_lt (digits_value 10 word) (2 ^ 64)
 
 -- the number that a word of digits writes
 unfoldable pub whole_number : List ℕ → Option ℕ

@@ -1,7 +1,7 @@
 //! What a line asks for.
-ghost use Rattle.std.specs.Prelude.{◌≡◌, ◌∷◌, Ok};
+ghost use Rattle.std.specs.Prelude.{◌≡◌, ◌∷◌, Ok, Some};
 ghost use Rattle.ps_session.specs.Words.{behind_word, words};
-ghost use Rattle.ps_session.specs.Commands.{AtCell, ReadsGet, ReadsLine, ReadsPair, ReadsSet};
+ghost use Rattle.ps_session.specs.Commands.{AtCell, ReadsGet, ReadsLine, ReadsPair, ReadsSet, ReadsVerb};
 
 use crate::verb::Verb;
 use crate::words::{read_whole, split_word};
@@ -27,10 +27,10 @@ impl Command {
     /// - `add <cell> <amount>` and `sub <cell> <amount>`, to change its counter;
     /// - `choose <cell> <option>` and `unchoose <cell> <option>`, to change its set.
     ///
-    /// Exactly one space stands between two words; an entry may hold more. Of several refusals the first is told: another
-    /// first word, a word too few or too many (`Command`), no cell (`Cell`), digits of no 64-bit number (`Amount` or
-    /// `OptionRange`), and then those of the entry. Whether the number is in range, and the cell has a counter or a set,
-    /// isn't asked here.
+    /// Exactly one space stands between two words; an entry may hold more. Of several refusals the first is told:
+    /// another first word, a word too few or too many (`Command`), no cell (`Cell`), no digits or a number of more
+    /// than 64 bits (`Amount` or `OptionRange`), and then those of the entry. Whether the number is in range, and the
+    /// cell has a counter or a set, isn't asked here.
     ///
     /// Cost: linear in the line; only an entry that is a formula takes memory.
     pub fn read(alloc: Global, line: &[u8]) -> Result<Command, Refusal>
@@ -40,28 +40,34 @@ impl Command {
         let Some(verb) = Verb::read(word) else {
             return Err(Refusal::Command);
         };
-        let Some(behind) = behind else {
-            return Err(Refusal::Command);
-        };
-        match verb {
-            Verb::Get => read_get(behind),
-            Verb::Set => read_set(alloc, behind),
-            Verb::Add => {
-                let (cell, amount) = read_change(behind, Refusal::Amount)?;
-                Ok(Command::Edit(Edit::Add(cell, amount)))
-            }
-            Verb::Sub => {
-                let (cell, amount) = read_change(behind, Refusal::Amount)?;
-                Ok(Command::Edit(Edit::Sub(cell, amount)))
-            }
-            Verb::Choose => {
-                let (cell, option) = read_change(behind, Refusal::OptionRange)?;
-                Ok(Command::Edit(Edit::Choose(cell, option)))
-            }
-            Verb::Unchoose => {
-                let (cell, option) = read_change(behind, Refusal::OptionRange)?;
-                Ok(Command::Edit(Edit::Unchoose(cell, option)))
-            }
+        match behind {
+            Some(behind) => read_behind(alloc, verb, behind),
+            None => Err(Refusal::Command),
+        }
+    }
+}
+
+fn read_behind(alloc: Global, verb: Verb, behind: &[u8]) -> Result<Command, Refusal>
+    ensures { ReadsVerb (Some verb) (words behind.now) (behind_word behind.now) result }
+{
+    match verb {
+        Verb::Get => read_get(behind),
+        Verb::Set => read_set(alloc, behind),
+        Verb::Add => {
+            let (cell, amount) = read_change(behind, Refusal::Amount)?;
+            Ok(Command::Edit(Edit::Add(cell, amount)))
+        }
+        Verb::Sub => {
+            let (cell, amount) = read_change(behind, Refusal::Amount)?;
+            Ok(Command::Edit(Edit::Sub(cell, amount)))
+        }
+        Verb::Choose => {
+            let (cell, option) = read_change(behind, Refusal::OptionRange)?;
+            Ok(Command::Edit(Edit::Choose(cell, option)))
+        }
+        Verb::Unchoose => {
+            let (cell, option) = read_change(behind, Refusal::OptionRange)?;
+            Ok(Command::Edit(Edit::Unchoose(cell, option)))
         }
     }
 }
@@ -84,7 +90,7 @@ fn read_get(behind: &[u8]) -> Result<Command, Refusal>
             let cell = read_cell(word)?;
             Ok(Command::Get(cell))
         }
-        _ => Err(Refusal::Command),
+        (_, Some(_)) => Err(Refusal::Command),
     }
 }
 
@@ -103,7 +109,7 @@ fn read_change(behind: &[u8], refusal: Refusal) -> Result<(Cell, u64), Refusal>
 {
     match split_word(behind) {
         (word, Some(number)) => read_pair(word, number, refusal),
-        _ => Err(Refusal::Command),
+        (_, None) => Err(Refusal::Command),
     }
 }
 
@@ -118,6 +124,6 @@ fn read_pair(word: &[u8], number: &[u8], refusal: Refusal) -> Result<(Cell, u64)
                 None => Err(refusal),
             }
         }
-        _ => Err(Refusal::Command),
+        (_, Some(_)) => Err(Refusal::Command),
     }
 }

@@ -15,6 +15,7 @@ pub(crate) enum Verb {
 
 impl Verb {
     /// The verb that a word is.
+    #[tactic(auto, unfolding(crate::specs::Commands::verb_of))]
     pub(crate) fn read(word: &[u8]) -> Option<Verb>
         ensures { result ≡ verb_of word.now }
     {

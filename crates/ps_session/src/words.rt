@@ -1,5 +1,7 @@
 //! The words of a line.
 ghost use Rattle.std.specs.Prelude.{◌≡◌, ◌∷◌, [], position};
+ghost use Rattle.std.specs.Char.{is_ascii_digit};
+ghost use Rattle.std.specs.List.{list_all};
 ghost use Rattle.std.specs.Option.{option_map_or};
 ghost use Rattle.ps_session.specs.Words.{behind_word, first_word, is_space, whole_number, words};
 
@@ -25,11 +27,17 @@ fn first_space(text: &[u8]) -> Option<usize>
 pub(crate) fn read_whole(word: &[u8]) -> Option<u64>
     ensures { result ≡ whole_number word.now }
 {
-    if word.starts_with(b"+") {
+    if !are_digits(word) {
         return None;
     }
     match str::from_utf8(word) {
         Ok(text) => text.parse::<u64>().ok(),
         Err(_) => None,
     }
+}
+
+fn are_digits(word: &[u8]) -> bool
+    ensures { result ≡ list_all is_ascii_digit word.now }
+{
+    word.iter().all(|b| b.is_ascii_digit())
 }

@@ -1,0 +1,110 @@
+-- How a line is divided into words, and what a word of digits writes.
+use Rattle.std.proofs.Common.{◌≡◌, ◌+◌, ◌-◌, ◌<◌, ◌≤◌, ◌^◌, ℕ, Bool, true, false, cond, ◌&&◌, List, [], ◌∷◌, length}
+use Rattle.std.proofs.Common.{take, drop, nat_lt, Some, None, Result, Ok, Err, refl, sym, ap, ◌∙◌, arith, rules}
+use Rattle.std.specs.Prelude.{IsUtf8, position}
+use Rattle.std.specs.Char.{is_ascii_digit}
+use Rattle.std.specs.List.{list_all, onto_first, position_or_len}
+use Rattle.std.specs.Result.{OkIff, result_ok}
+use Rattle.std.specs.Str.{IsAscii}
+use Rattle.std.specs.Str.Parse.{AllDigits, ParsesUnsigned, digits_value}
+use Rattle.std.proofs.lemmas.Bool.{ltb-true, ltb-false, lt-ltb}
+use Rattle.std.proofs.lemmas.List.{take_rest}
+use Rattle.std.proofs.lemmas.List.Splits.{slice_split_first, slice_split_none}
+use Rattle.std.proofs.lemmas.List.Sums.{fails_before_first}
+use Rattle.std.proofs.lemmas.Str.Ascii.{IsAscii-cons, IsAscii-nil}
+use Rattle.std.proofs.lemmas.Str.{IsUtf8-from_ascii}
+use Rattle.std.proofs.lemmas.Str.Parse.{digit_from_value, parse_digits, IsNumeralModel, numerals_by_value}
+use Rattle.ps_session.specs.Words.{is_space, is_whole, whole_number, words}
+
+position_cases : (b : Bool) (m n : ℕ) → cond b (Some m) None ≡ Some n → (b ≡ true) × (m ≡ n)
+position_cases true m n e = (refl, cc)
+position_cases false m n e = cc
+
+no_position : (b : Bool) (m : ℕ) → cond b (Some m) None ≡ None → b ≡ false
+no_position true m e = cc
+no_position false m e = refl
+
+-- a line with a space is its first word, and then the words behind the space
+pub words_at : (line : List ℕ) (place : ℕ) → position is_space line ≡ Some place
+    → words line ≡ take place line ∷ words (take (length line - (place + 1)) (drop (place + 1) line))
+words_at line place e =
+    let n = position_or_len is_space line in
+    let cases = position_cases (nat_lt n (length line)) n place e in
+    let split : words line ≡ take n line ∷ words (drop (n + 1) line)
+    = slice_split_first is_space line 0 (ltb-true n (length line) cases.0) in
+    let there : words line ≡ take place line ∷ words (drop (place + 1) line)
+    = rw cases.1 at split in
+    rw (take_rest line (place + 1)) there
+
+-- a line without a space is one word
+pub one_word : (line : List ℕ) → position is_space line ≡ None → words line ≡ line ∷ []
+one_word line e =
+    let n = position_or_len is_space line in
+    let behind : length line ≤ n = ltb-false n (length line) (no_position (nat_lt n (length line)) n e) in
+    slice_split_none is_space line (λ k d lt. fails_before_first is_space line k d (omega arith))
+
+-- there is a first word, which may be empty
+pub record AreSome (texts : List (List ℕ)) : Type 0 where
+  pub first : List ℕ
+  pub others : List (List ℕ)
+  pub are : texts ≡ first ∷ others
+
+onto_some : (b : ℕ) (texts : List (List ℕ)) → AreSome (onto_first b texts)
+onto_some b [] = record { first = b ∷ []; others = []; are = refl }
+onto_some b (text ∷ texts) = record { first = b ∷ text; others = texts; are = refl }
+
+some_by : (s : Bool) (b : ℕ) (texts : List (List ℕ)) → AreSome (cond s ([] ∷ texts) (onto_first b texts))
+some_by true b texts = record { first = []; others = texts; are = refl }
+some_by false b texts = onto_some b texts
+
+pub words_are_some : (line : List ℕ) → AreSome (words line)
+words_are_some [] = record { first = []; others = []; are = refl }
+words_are_some (b ∷ bs) = some_by (is_space b) b (words bs)
+
+-- the library's words for digits and ours
+digits : IsNumeralModel (λ ds. list_all is_ascii_digit ds ≡ true) (digits_value 10)
+digits = numerals_by_value (λ ds. list_all is_ascii_digit ds ≡ true) (search rules)
+
+ascii_digits : (ds : List ℕ) → AllDigits 10 ds → IsAscii ds
+ascii_digits [] all = IsAscii-nil
+ascii_digits (c ∷ cs) all = IsAscii-cons c cs (omega (arith, digit_from_value c all.0)) (ascii_digits cs all.1)
+
+-- digits are a text
+pub digits_are_text : (word : List ℕ) → list_all is_ascii_digit word ≡ true → IsUtf8 word
+digits_are_text word all = IsUtf8-from_ascii word (ascii_digits word (digits.to word all))
+
+-- no number is written by a word that isn't digits
+pub whole_number-other : (word : List ℕ) → list_all is_ascii_digit word ≡ false → None ≡ whole_number word
+unfolding whole_number is_whole
+whole_number-other word other = rw other refl
+
+whole_number-fits : (word : List ℕ) → list_all is_ascii_digit word ≡ true → 0 < length word
+    → digits_value 10 word < 2 ^ 64 → whole_number word ≡ Some (digits_value 10 word)
+unfolding whole_number is_whole
+whole_number-fits word all some fits =
+    rw (all, lt-ltb 0 (length word) some, lt-ltb (digits_value 10 word) (2 ^ 64) fits) refl
+
+no_number : (length value : ℕ) (b c : Bool) → nat_lt 0 length ≡ b → nat_lt value (2 ^ 64) ≡ c
+    → ¬ ((0 < length) × (value < 2 ^ 64)) → cond (true && b && c) (Some value) None ≡ None
+no_number length value true true some fits refuted =
+    absurd (refuted (ltb-true 0 length some, ltb-true value (2 ^ 64) fits))
+no_number length value true false some fits refuted = refl
+no_number length value false c some fits refuted = refl
+
+whole_number-none : (word : List ℕ) → list_all is_ascii_digit word ≡ true
+    → ¬ ((0 < length word) × (digits_value 10 word < 2 ^ 64)) → whole_number word ≡ None
+unfolding whole_number is_whole
+whole_number-none word all refuted =
+    rw all (no_number (length word) (digits_value 10 word) (nat_lt 0 (length word))
+    (nat_lt (digits_value 10 word) (2 ^ 64)) refl refl refuted)
+
+parsed : (E : Type 0) (word : List ℕ) (r : Result ℕ E) → list_all is_ascii_digit word ≡ true
+    → OkIff r ((0 < length word) × (digits_value 10 word < 2 ^ 64)) (digits_value 10 word)
+    → result_ok r ≡ whole_number word
+parsed E word (Ok n) all fits = ap Some fits.1 ∙ sym (whole_number-fits word all fits.0.0 fits.0.1)
+parsed E word (Err e) all refuted = sym (whole_number-none word all refuted)
+
+-- what `parse` answers is the number
+pub whole_number-parsed : (E : Type 0) (word : List ℕ) (r : Result ℕ E) → list_all is_ascii_digit word ≡ true
+    → ParsesUnsigned 64 10 word r → result_ok r ≡ whole_number word
+whole_number-parsed E word r all parses = parsed E word r all (parse_digits digits 64 word r parses all)
