@@ -4,9 +4,12 @@
 ghost use Rattle.std.specs.Prelude.{◌≡◌, ◌<◌};
 
 use crate::{Batch, Edit, Sheet};
+use Asked::{Add, Choose, Set, Sub, Unchoose};
+use Part::{Assigned, Counted, Paired};
+use Step::{Ask, Get, GetAll, Show, ShowText, Type};
 use ps_content::{Content, read_entry};
 use ps_delta::{CellState, Delta};
-use ps_eval::Meter;
+use ps_eval::{Look, Meter};
 use ps_grid::{Cell, Refusal};
 use ps_lattice::{Assignment, Choice, Count, Pair, Register, Tally};
 use ps_value::{Fault, Label, Value};
@@ -17,6 +20,49 @@ use std::sync::Arc;
 use std::sync::ledger::{Blank, Ledger};
 
 const CYCLE: Value = Value::Err(Fault::Cycle);
+
+// What is asked of a cell.
+#[derive(Clone, Copy)]
+enum Asked {
+    // To hold what this entry says.
+    Set(&'static str),
+    Add(u64),
+    Sub(u64),
+    Choose(u64),
+    Unchoose(u64),
+}
+
+// What a delta has for a cell.
+#[derive(Clone, Copy)]
+enum Part {
+    // What an entry says, with a time and a replica.
+    Assigned(u64, u8, &'static str),
+    // What a replica added and subtracted.
+    Counted(u8, u64, u64),
+    // A pair that is in: its option, replica and sequence.
+    Paired(u8, u8, u16),
+}
+
+// A step of a script.
+#[derive(Clone, Copy)]
+enum Step {
+    // Asks for a change of a cell, and has this answer: the version or a refusal.
+    Ask(&'static str, Asked, Result<u64, Refusal>),
+    // Types these entries into these cells as one batch.
+    Type(&'static [(&'static str, &'static str)], Result<u64, Refusal>),
+    // Receives a delta of one cell.
+    Get(&'static str, Part, Result<u64, Refusal>),
+    // Receives a delta of several cells.
+    GetAll(&'static [(&'static str, Part)], Result<u64, Refusal>),
+    // Looks at a cell.
+    Show(&'static str, Value),
+    // Looks at a cell that shows a text.
+    ShowText(&'static str, &'static str),
+}
+
+fn cell(rt: &impl Abort, name: &str) -> Cell {
+    Cell::read(name.as_bytes()).expect(rt, "a cell")
+}
 
 // The edit with a meter of its own; the version after it.
 fn edited<L: Ledger>(
@@ -56,305 +102,286 @@ fn take(alloc: Global, sheet: &mut Sheet, delta: Arc<Delta>) -> Result<u64, Refu
     received::<Brand>(Blank::new(1), alloc, sheet, delta)
 }
 
-fn cell(name: &str) -> Result<Cell, Refusal> {
-    Cell::read(name.as_bytes()).ok_or(Refusal::Cell)
+fn edit_of(alloc: Global, cell: Cell, asked: &Asked) -> Result<Edit, Refusal> {
+    match asked {
+        Set(entry) => Ok(Edit::Set(cell, read_entry(alloc, entry.as_bytes())?)),
+        Add(amount) => Ok(Edit::Add(cell, *amount)),
+        Sub(amount) => Ok(Edit::Sub(cell, *amount)),
+        Choose(option) => Ok(Edit::Choose(cell, *option)),
+        Unchoose(option) => Ok(Edit::Unchoose(cell, *option)),
+    }
 }
 
-// Types entries into cells, one after another.
-fn typed(alloc: Global, sheet: &mut Sheet, entries: &[(&str, &str)]) -> Result<(), Refusal> {
+fn batch_of(rt: &impl Abort, alloc: Global, entries: &[(&str, &str)]) -> Result<Batch, Refusal> {
+    let mut cells = Vec::new(alloc);
     for (name, entry) in entries {
-        let content = read_entry(alloc, entry.as_bytes())?;
-        apply(alloc, sheet, Edit::Set(cell(name)?, content))?;
+        cells.push((cell(rt, name), read_entry(alloc, entry.as_bytes())?))?;
     }
-    Ok(())
+    Ok(Batch::new(cells).expect(rt, "a batch"))
 }
 
-fn check(rt: &impl Abort, sheet: &Sheet, shown: &[(&str, Value)]) -> Result<(), Refusal> {
-    for (name, expected) in shown {
-        assert!(rt; sheet.shown(cell(name)?) == *expected, "{name}");
-    }
-    Ok(())
-}
-
-fn label(text: &str) -> Value {
-    match Label::new(text.as_bytes()) {
-        Some(label) => Value::Text(label),
-        None => Value::Empty,
-    }
-}
-
-// A cell with nothing but an assigned content.
-fn assigned(alloc: Global, time: u64, replica: u8, entry: &str) -> Result<CellState, Refusal> {
+fn register(
+    rt: &impl Abort,
+    alloc: Global,
+    time: u64,
+    replica: u8,
+    entry: &str,
+) -> Result<CellState, Refusal> {
     let content = read_entry(alloc, entry.as_bytes())?;
     let register = Register::from_parts(Assignment {
         time,
         replica,
         content,
     });
-    Ok(CellState {
-        register: register.ok_or(Refusal::Delta)?,
-        tally: Tally::empty(alloc),
-        choice: Choice::empty(alloc),
-    })
+    Ok(CellState::from_parts(
+        register.expect(rt, "a register"),
+        Tally::empty(alloc),
+        Choice::empty(alloc),
+    ))
 }
 
-// Takes the delta of these cells; the version after it.
-fn push(alloc: Global, sheet: &mut Sheet, cells: Vec<(Cell, CellState)>) -> Result<u64, Refusal> {
-    let delta = Delta::new(cells).ok_or(Refusal::Delta)?;
-    take(alloc, sheet, Arc::new(alloc, delta)?)
-}
-
-// Takes a delta of assignments, each of a cell, a time, a replica and an entry; the version after it.
-fn assign(
+fn tally(
+    rt: &impl Abort,
     alloc: Global,
-    sheet: &mut Sheet,
-    assignments: &[(&str, u64, u8, &str)],
-) -> Result<u64, Refusal> {
-    let mut cells = Vec::new(alloc);
-    for (name, time, replica, entry) in assignments {
-        cells.push((cell(name)?, assigned(alloc, *time, *replica, entry)?))?;
-    }
-    push(alloc, sheet, cells)
-}
-
-// Takes a delta of the counts of one replica; the version after it.
-fn count(
-    alloc: Global,
-    sheet: &mut Sheet,
-    name: &str,
     replica: u8,
-    count: Count,
-) -> Result<u64, Refusal> {
+    added: u64,
+    subtracted: u64,
+) -> Result<CellState, Refusal> {
     let mut counts = Vec::new(alloc);
-    counts.push((replica, count))?;
-    let state = CellState {
-        register: Register::empty(),
-        tally: Tally::from_parts(counts).ok_or(Refusal::Delta)?,
-        choice: Choice::empty(alloc),
-    };
-    let mut cells = Vec::new(alloc);
-    cells.push((cell(name)?, state))?;
-    push(alloc, sheet, cells)
+    counts.push((replica, Count { added, subtracted }))?;
+    Ok(CellState::from_parts(
+        Register::empty(),
+        Tally::from_parts(counts).expect(rt, "counts"),
+        Choice::empty(alloc),
+    ))
 }
 
-// Takes a delta of one added pair; the version after it.
-fn pair(alloc: Global, sheet: &mut Sheet, name: &str, pair: Pair) -> Result<u64, Refusal> {
+fn choice(rt: &impl Abort, alloc: Global, pair: Pair) -> Result<CellState, Refusal> {
     let mut pairs = Vec::new(alloc);
     pairs.push((pair, false))?;
-    let state = CellState {
-        register: Register::empty(),
-        tally: Tally::empty(alloc),
-        choice: Choice::from_parts(pairs).ok_or(Refusal::Delta)?,
-    };
+    Ok(CellState::from_parts(
+        Register::empty(),
+        Tally::empty(alloc),
+        Choice::from_parts(pairs).expect(rt, "pairs"),
+    ))
+}
+
+fn state_of(rt: &impl Abort, alloc: Global, part: &Part) -> Result<CellState, Refusal> {
+    match part {
+        Assigned(time, replica, entry) => register(rt, alloc, *time, *replica, entry),
+        Counted(replica, added, subtracted) => { tally(rt, alloc, *replica, *added, *subtracted) }
+        Paired(option, replica, sequence) => {
+            let pair = Pair {
+                option: *option,
+                replica: *replica,
+                sequence: *sequence,
+            };
+            choice(rt, alloc, pair)
+        }
+    }
+}
+
+fn delta_of(rt: &impl Abort, alloc: Global, parts: &[(&str, Part)]) -> Result<Arc<Delta>, Refusal> {
     let mut cells = Vec::new(alloc);
-    cells.push((cell(name)?, state))?;
-    push(alloc, sheet, cells)
-}
-
-fn added(added: u64, subtracted: u64) -> Count {
-    Count { added, subtracted }
-}
-
-fn of(option: u8, replica: u8, sequence: u16) -> Pair {
-    Pair {
-        option,
-        replica,
-        sequence,
+    for (name, part) in parts {
+        cells.push((cell(rt, name), state_of(rt, alloc, part)?))?;
     }
+    Ok(Arc::new(alloc, Delta::new(cells).expect(rt, "a delta"))?)
 }
 
-// One change of a cell, by its name.
-#[derive(Clone, Copy)]
-enum Asked {
-    Add(u64),
-    Sub(u64),
-    Choose(u64),
-    Unchoose(u64),
-    Number(i64),
+fn text(rt: &impl Abort, text: &str) -> Value {
+    Value::Text(Label::new(text.as_bytes()).expect(rt, "a text"))
 }
 
-fn edit_of(cell: Cell, asked: Asked) -> Edit {
-    match asked {
-        Asked::Add(amount) => Edit::Add(cell, amount),
-        Asked::Sub(amount) => Edit::Sub(cell, amount),
-        Asked::Choose(option) => Edit::Choose(cell, option),
-        Asked::Unchoose(option) => Edit::Unchoose(cell, option),
-        Asked::Number(number) => Edit::Set(cell, Content::Number(number)),
-    }
-}
-
-// Asks for changes, one after another, each with the answer that is expected.
-fn ask(
+fn take_step(
     rt: &impl Abort,
     alloc: Global,
     sheet: &mut Sheet,
-    changes: &[(&str, Asked, Result<u64, Refusal>)],
+    step: &Step,
 ) -> Result<(), Refusal> {
-    for (name, asked, expected) in changes {
-        let answer = apply(alloc, sheet, edit_of(cell(name)?, *asked));
-        assert_eq!(rt; answer, *expected, "{name}");
+    match step {
+        Ask(name, asked, answer) => {
+            let edit = edit_of(alloc, cell(rt, name), asked)?;
+            assert_eq!(rt; apply(alloc, sheet, edit), *answer, "{name}");
+        }
+        Type(entries, answer) => {
+            let batch = batch_of(rt, alloc, entries)?;
+            assert_eq!(rt; apply(alloc, sheet, Edit::SetAll(batch)), *answer);
+        }
+        Get(name, part, answer) => {
+            let delta = delta_of(rt, alloc, &[(*name, *part)])?;
+            assert_eq!(rt; take(alloc, sheet, delta), *answer, "{name}");
+        }
+        GetAll(parts, answer) => {
+            let delta = delta_of(rt, alloc, parts)?;
+            assert_eq!(rt; take(alloc, sheet, delta), *answer);
+        }
+        Show(name, value) => {
+            assert!(rt; sheet.shown(cell(rt, name)) == *value, "{name}");
+        }
+        ShowText(name, shown) => {
+            assert!(rt; sheet.shown(cell(rt, name)) == text(rt, shown), "{name}");
+        }
     }
     Ok(())
 }
 
-/// A formula shows the value of the cells that it refers to; each edit makes the history longer by one.
+// The steps, one after another.
+fn go_on(rt: &impl Abort, alloc: Global, sheet: &mut Sheet, steps: &[Step]) -> Result<(), Refusal> {
+    for step in steps {
+        take_step(rt, alloc, sheet, step)?;
+    }
+    Ok(())
+}
+
+// The steps, one after another, at the empty sheet of a replica.
+fn play(rt: &impl Abort, alloc: Global, replica: u8, steps: &[Step]) -> Result<(), Refusal> {
+    let mut sheet = Sheet::open(alloc, replica, 1)?;
+    go_on(rt, alloc, &mut sheet, steps)
+}
+
+/// A formula shows the value of the cells that it refers to.
 #[test]
 fn row_2(rt: HostRuntime) -> Result<(), Refusal> {
-    let mut sheet = Sheet::open(rt.alloc(), 1, 1)?;
-    typed(rt.alloc(), &mut sheet, &[("A1", "5"), ("B1", "=[.A1]*2")])?;
-    assert_eq!(rt; sheet.version(), 2);
-    assert_eq!(rt; sheet.history().len(), 2);
-    assert_eq!(rt; sheet.replica(), 1);
-    check(&rt, &sheet, &[("B1", Value::Num(10)), ("C1", Value::Empty)])
+    let steps = [
+        Ask("A1", Set("5"), Ok(1)),
+        Ask("B1", Set("=[.A1]*2"), Ok(2)),
+        Show("B1", Value::Num(10)),
+        Show("C1", Value::Empty),
+    ];
+    play(&rt, rt.alloc(), 32, &steps)
 }
 
 /// Two formulas that refer to each other are cyclic, and so is one that refers to them; a number there ends it.
 #[test]
 fn row_3(rt: HostRuntime) -> Result<(), Refusal> {
-    let mut sheet = Sheet::open(rt.alloc(), 1, 2)?;
-    typed(
-        rt.alloc(),
-        &mut sheet,
-        &[("A1", "=[.B1]"), ("B1", "=[.A1]"), ("C1", "=[.A1]+1")],
-    )?;
-    check(&rt, &sheet, &[("A1", CYCLE), ("B1", CYCLE), ("C1", CYCLE)])?;
-    typed(rt.alloc(), &mut sheet, &[("B1", "4")])?;
-    check(
-        &rt,
-        &sheet,
-        &[
-            ("A1", Value::Num(4)),
-            ("B1", Value::Num(4)),
-            ("C1", Value::Num(5)),
-        ],
-    )
+    let steps = [
+        Ask("A1", Set("=[.B1]"), Ok(1)),
+        Ask("B1", Set("=[.A1]"), Ok(2)),
+        Ask("C1", Set("=[.A1]+1"), Ok(3)),
+        Show("A1", CYCLE),
+        Show("B1", CYCLE),
+        Show("C1", CYCLE),
+        Ask("B1", Set("4"), Ok(4)),
+        Show("A1", Value::Num(4)),
+        Show("C1", Value::Num(5)),
+    ];
+    play(&rt, rt.alloc(), 1, &steps)
 }
 
 /// A range that holds its own cell is a cycle, in its middle too; an untaken branch and a count refer as well.
 #[test]
 fn rows_4_and_5(rt: HostRuntime) -> Result<(), Refusal> {
-    let mut sheet = Sheet::open(rt.alloc(), 1, 1)?;
-    for (name, entry, shown) in [
-        ("A2", "=SUM([.A1:.A3])", CYCLE),
-        ("A1", "=IF(1;2;[.A1])", CYCLE),
-        ("A1", "=COUNT([.A1])", CYCLE),
-        ("A1", "=IF(0;[.B1];7)", Value::Num(7)),
-    ] {
-        typed(rt.alloc(), &mut sheet, &[(name, entry)])?;
-        check(&rt, &sheet, &[(name, shown)])?;
-    }
-    Ok(())
+    let steps = [
+        Ask("A2", Set("=SUM([.A1:.A3])"), Ok(1)),
+        Show("A2", CYCLE),
+        Ask("A1", Set("=IF(1;2;[.A1])"), Ok(2)),
+        Show("A1", CYCLE),
+        Ask("A1", Set("=COUNT([.A1])"), Ok(3)),
+        Show("A1", CYCLE),
+        Ask("A1", Set("=IF(0;[.B1];7)"), Ok(4)),
+        Show("A1", Value::Num(7)),
+    ];
+    play(&rt, rt.alloc(), 1, &steps)
 }
 
-const CLOSED_LEFT: [(&str, Value); 6] = [
-    ("A1", CYCLE),
-    ("B1", CYCLE),
-    ("C1", Value::Num(7)),
-    ("D1", Value::Num(7)),
-    ("E1", CYCLE),
-    ("F1", Value::Num(8)),
+// A cycle of A1 and B1, with E1 above it, and C1 and D1 without one, with F1 above them.
+static CLOSED_LEFT: [(&str, &str); 6] = [
+    ("A1", "=[.B1]"),
+    ("B1", "=[.A1]"),
+    ("C1", "=[.D1]"),
+    ("D1", "7"),
+    ("E1", "=[.A1]+1"),
+    ("F1", "=[.C1]+1"),
 ];
 
-const CLOSED_RIGHT: [(&str, Value); 6] = [
-    ("A1", Value::Num(4)),
-    ("B1", Value::Num(4)),
-    ("C1", CYCLE),
-    ("D1", CYCLE),
-    ("E1", Value::Num(5)),
-    ("F1", CYCLE),
+// D1 closes a cycle and B1 opens one, and the other way round.
+static OVER: [(&str, Part); 2] = [
+    ("B1", Assigned(2, 2, "4")),
+    ("D1", Assigned(2, 2, "=[.C1]")),
+];
+
+static BACK: [(&str, Part); 2] = [
+    ("B1", Assigned(3, 2, "=[.A1]")),
+    ("D1", Assigned(3, 2, "7")),
 ];
 
 /// One delta ends a cycle and makes another, and the next one the other way round.
 #[test]
 fn row_6(rt: HostRuntime) -> Result<(), Refusal> {
-    let mut sheet = Sheet::open(rt.alloc(), 1, 1)?;
-    typed(
-        rt.alloc(),
-        &mut sheet,
-        &[
-            ("A1", "=[.B1]"),
-            ("B1", "=[.A1]"),
-            ("C1", "=[.D1]"),
-            ("D1", "7"),
-            ("E1", "=[.A1]+1"),
-            ("F1", "=[.C1]+1"),
-        ],
-    )?;
-    check(&rt, &sheet, &CLOSED_LEFT)?;
-    let over = assign(
-        rt.alloc(),
-        &mut sheet,
-        &[("B1", 2, 2, "4"), ("D1", 2, 2, "=[.C1]")],
-    )?;
-    assert_eq!(rt; over, 7);
-    check(&rt, &sheet, &CLOSED_RIGHT)?;
-    let back = assign(
-        rt.alloc(),
-        &mut sheet,
-        &[("B1", 3, 2, "=[.A1]"), ("D1", 3, 2, "7")],
-    )?;
-    assert_eq!(rt; back, 8);
-    check(&rt, &sheet, &CLOSED_LEFT)
+    let steps = [
+        Type(&CLOSED_LEFT, Ok(1)),
+        Show("B1", CYCLE),
+        Show("D1", Value::Num(7)),
+        Show("E1", CYCLE),
+        Show("F1", Value::Num(8)),
+        GetAll(&OVER, Ok(2)),
+        Show("A1", Value::Num(4)),
+        Show("C1", CYCLE),
+        Show("D1", CYCLE),
+        Show("E1", Value::Num(5)),
+        Show("F1", CYCLE),
+        GetAll(&BACK, Ok(3)),
+        Show("A1", CYCLE),
+        Show("E1", CYCLE),
+        Show("C1", Value::Num(7)),
+        Show("F1", Value::Num(8)),
+    ];
+    play(&rt, rt.alloc(), 1, &steps)
 }
 
+static ITEMS: [(&str, &str); 8] = [
+    ("A1", "=MOD(1;0)"),
+    ("B1", "=SUM([.A1:.A3])"),
+    ("A2", "x"),
+    ("B2", "=COUNT([.A1:.A3])"),
+    ("A3", "4"),
+    ("B3", "=[.A2]+1"),
+    ("B4", "=MAX([.A2])"),
+    ("B5", "=MIN([.A3:.A2];9)"),
+];
 /// Faults, texts and blanks as formulas take them from the sheet.
 #[test]
 fn row_9(rt: HostRuntime) -> Result<(), Refusal> {
-    let mut sheet = Sheet::open(rt.alloc(), 1, 1)?;
-    typed(
-        rt.alloc(),
-        &mut sheet,
-        &[
-            ("A1", "=MOD(1;0)"),
-            ("A2", "x"),
-            ("A3", "4"),
-            ("B1", "=SUM([.A1:.A3])"),
-            ("B2", "=COUNT([.A1:.A3])"),
-            ("B3", "=[.A2]+1"),
-            ("B4", "=MAX([.A2])"),
-            ("B5", "=MIN([.A3:.A2];9)"),
-        ],
-    )?;
-    check(
-        &rt,
-        &sheet,
-        &[
-            ("A2", label("x")),
-            ("B1", Value::Err(Fault::DivZero)),
-            ("B2", Value::Num(1)),
-            ("B3", Value::Err(Fault::Value)),
-            ("B4", Value::Num(0)),
-            ("B5", Value::Num(4)),
-        ],
-    )
+    let steps = [
+        Type(&ITEMS, Ok(1)),
+        ShowText("A2", "x"),
+        Show("B1", Value::Err(Fault::DivZero)),
+        Show("B2", Value::Num(1)),
+        Show("B3", Value::Err(Fault::Value)),
+        Show("B4", Value::Num(0)),
+        Show("B5", Value::Num(4)),
+    ];
+    play(&rt, rt.alloc(), 1, &steps)
 }
 
 /// Of two assignments at one time the greater replica's is shown at both sheets; the other one is below the state.
 #[test]
 fn row_11(rt: HostRuntime) -> Result<(), Refusal> {
-    for (replica, own, other, text, version) in [(1, "x", 2, "y", 2), (2, "y", 1, "x", 1)] {
-        let mut sheet = Sheet::open(rt.alloc(), replica, 1)?;
-        typed(rt.alloc(), &mut sheet, &[("A1", own)])?;
-        assert_eq!(rt;
-            assign(rt.alloc(), &mut sheet, &[("A1", 1, other, text)])?,
-            version
-        );
-        check(&rt, &sheet, &[("A1", label("y"))])?;
-    }
-    Ok(())
+    let at_one = [
+        Ask("A1", Set("x"), Ok(1)),
+        Get("A1", Assigned(1, 2, "y"), Ok(2)),
+        ShowText("A1", "y"),
+    ];
+    play(&rt, rt.alloc(), 1, &at_one)?;
+    let at_two = [
+        Ask("A1", Set("y"), Ok(1)),
+        Get("A1", Assigned(1, 1, "x"), Ok(1)),
+        ShowText("A1", "y"),
+    ];
+    play(&rt, rt.alloc(), 2, &at_two)
 }
 
 /// Of two contents at one stamp the greater one is shown, in whichever order they come.
 #[test]
 fn row_12(rt: HostRuntime) -> Result<(), Refusal> {
     for (first, second, version) in [("3", "4", 2), ("4", "3", 1)] {
-        let mut sheet = Sheet::open(rt.alloc(), 1, 1)?;
-        assert_eq!(rt; assign(rt.alloc(), &mut sheet, &[("A1", 1, 1, first)])?, 1);
-        assert_eq!(rt;
-            assign(rt.alloc(), &mut sheet, &[("A1", 1, 1, second)])?,
-            version
-        );
-        check(&rt, &sheet, &[("A1", Value::Num(4))])?;
+        let steps = [
+            Get("A1", Assigned(1, 1, first), Ok(1)),
+            Get("A1", Assigned(1, 1, second), Ok(version)),
+            Show("A1", Value::Num(4)),
+        ];
+        play(&rt, rt.alloc(), 1, &steps)?;
     }
     Ok(())
 }
@@ -362,121 +389,109 @@ fn row_12(rt: HostRuntime) -> Result<(), Refusal> {
 /// A counter counts what two replicas did, once each; what is below the state isn't appended.
 #[test]
 fn row_13(rt: HostRuntime) -> Result<(), Refusal> {
-    let mut sheet = Sheet::open(rt.alloc(), 2, 1)?;
-    assign(rt.alloc(), &mut sheet, &[("A1", 1, 1, "@tally")])?;
-    assert_eq!(rt; count(rt.alloc(), &mut sheet, "A1", 1, added(5, 0))?, 2);
-    ask(&rt, rt.alloc(), &mut sheet, &[("A1", Asked::Sub(2), Ok(3))])?;
-    for _ in 0..2 {
-        assert_eq!(rt; count(rt.alloc(), &mut sheet, "A1", 1, added(5, 0))?, 3);
-    }
-    check(&rt, &sheet, &[("A1", Value::Num(3))])?;
-    // The delta of the subtraction is below the state too, and one that says more isn't.
-    assert_eq!(rt; count(rt.alloc(), &mut sheet, "A1", 2, added(0, 2))?, 3);
-    assert_eq!(rt; count(rt.alloc(), &mut sheet, "A1", 2, added(0, 3))?, 4);
-    check(&rt, &sheet, &[("A1", Value::Num(2))])
+    let steps = [
+        Get("A1", Assigned(1, 1, "@tally"), Ok(1)),
+        Get("A1", Counted(1, 5, 0), Ok(2)),
+        Ask("A1", Sub(2), Ok(3)),
+        Get("A1", Counted(1, 5, 0), Ok(3)),
+        Get("A1", Counted(1, 5, 0), Ok(3)),
+        Show("A1", Value::Num(3)),
+        // The delta of the subtraction is below the state too, and one that says more isn't.
+        Get("A1", Counted(2, 0, 2), Ok(3)),
+        Get("A1", Counted(2, 0, 3), Ok(4)),
+        Show("A1", Value::Num(2)),
+        Ask("A1", Add(4), Ok(5)),
+        Show("A1", Value::Num(6)),
+    ];
+    play(&rt, rt.alloc(), 2, &steps)
 }
 
 /// An option that a replica took out comes back by a pair that it hadn't seen; what isn't in can't be taken out.
 #[test]
 fn row_14(rt: HostRuntime) -> Result<(), Refusal> {
-    let mut sheet = Sheet::open(rt.alloc(), 1, 1)?;
-    typed(rt.alloc(), &mut sheet, &[("A1", "@choice")])?;
-    ask(
-        &rt,
-        rt.alloc(),
-        &mut sheet,
-        &[
-            ("A1", Asked::Choose(7), Ok(2)),
-            ("A1", Asked::Unchoose(7), Ok(3)),
-        ],
-    )?;
-    check(&rt, &sheet, &[("A1", Value::Choice(0))])?;
-    // The pair that was taken out is below the state, and another one of the option isn't.
-    assert_eq!(rt; pair(rt.alloc(), &mut sheet, "A1", of(7, 1, 1))?, 3);
-    assert_eq!(rt; pair(rt.alloc(), &mut sheet, "A1", of(7, 2, 1))?, 4);
-    check(&rt, &sheet, &[("A1", Value::Choice(128))])?;
-    ask(
-        &rt,
-        rt.alloc(),
-        &mut sheet,
-        &[("A1", Asked::Unchoose(9), Err(Refusal::NotChosen))],
-    )
+    let steps = [
+        Ask("A1", Set("@choice"), Ok(1)),
+        Ask("A1", Choose(7), Ok(2)),
+        Ask("A1", Unchoose(7), Ok(3)),
+        Show("A1", Value::Choice(0)),
+        // The pair that was taken out is below the state, and another one of the option isn't.
+        Get("A1", Paired(7, 1, 1), Ok(3)),
+        Get("A1", Paired(7, 2, 1), Ok(4)),
+        Show("A1", Value::Choice(128)),
+        Ask("A1", Unchoose(9), Err(Refusal::NotChosen)),
+    ];
+    play(&rt, rt.alloc(), 1, &steps)
 }
 
-// The formula that adds 1 to a cell.
-fn one_more(alloc: Global, of: Cell) -> Result<Content, Refusal> {
-    let mut name = [0; 6];
-    let length = of.write(&mut name);
-    let mut entry = Vec::new(alloc);
-    entry.extend_from_slice(b"=[.")?;
-    entry.extend_from_slice(&name[..length])?;
-    entry.extend_from_slice(b"]+1")?;
-    read_entry(alloc, &entry)
-}
+// A full counter, a set without a sequence left, and a register without a time left.
+static FULL: [(&str, Part); 3] = [
+    ("A1", Counted(1, 1_099_511_627_776, 7)),
+    ("B1", Paired(5, 1, 256)),
+    ("C1", Assigned(9_007_199_254_740_991, 2, "1")),
+];
 
-// The n-th cell.
-fn nth(n: usize) -> Result<Cell, Refusal> {
-    Cell::from_index(n).ok_or(Refusal::Cell)
-}
+static KINDS: [(&str, &str); 2] = [("A1", "@tally"), ("B1", "@choice")];
 
-// The first n cells, each one more than the cell after it.
-fn chain(alloc: Global, n: usize) -> Result<Batch, Refusal> {
-    let mut cells = Vec::new(alloc);
-    for k in 0..n {
-        cells.push((nth(k)?, one_more(alloc, nth(k + 1)?)?))?;
-    }
-    Batch::new(cells).ok_or(Refusal::Delta)
-}
+static TWOS: [(&str, &str); 2] = [("A1", "2"), ("C1", "2")];
 
-/// A chain of 300 formulas, closed to a cycle of 301 cells and opened again.
+/// Each refusal of an edit, the first that holds, with everything as before.
 #[test]
-fn a_long_cycle_closes_and_opens(rt: HostRuntime) -> Result<(), Refusal> {
-    let alloc = rt.alloc();
-    let mut sheet = Sheet::open(alloc, 1, 1)?;
-    apply(alloc, &mut sheet, Edit::SetAll(chain(alloc, 300)?))?;
-    assert!(rt; sheet.shown(nth(0)?) == Value::Num(300));
-    apply(
-        alloc,
-        &mut sheet,
-        Edit::Set(nth(300)?, one_more(alloc, nth(0)?)?),
-    )?;
-    for k in 0..301 {
-        assert!(rt; sheet.shown(nth(k)?) == CYCLE);
-    }
-    apply(alloc, &mut sheet, Edit::Set(nth(150)?, Content::Number(7)))?;
-    assert!(rt; sheet.shown(nth(0)?) == Value::Num(157));
-    assert!(rt; sheet.shown(nth(300)?) == Value::Num(158));
-    Ok(())
+fn refusals(rt: HostRuntime) -> Result<(), Refusal> {
+    let steps = [
+        Type(&KINDS, Ok(1)),
+        GetAll(&FULL, Ok(2)),
+        Ask("B1", Add(0), Err(Refusal::Amount)),
+        Ask("A1", Sub(1_000_001), Err(Refusal::Amount)),
+        Ask("B1", Add(1), Err(Refusal::NotTally)),
+        Ask("C1", Sub(1), Err(Refusal::NotTally)),
+        Ask("A1", Choose(64), Err(Refusal::OptionRange)),
+        Ask("B1", Unchoose(64), Err(Refusal::OptionRange)),
+        Ask("A1", Choose(63), Err(Refusal::NotChoice)),
+        Ask("C1", Unchoose(1), Err(Refusal::NotChoice)),
+        Ask("A1", Add(1), Err(Refusal::TallyFull)),
+        Ask("B1", Choose(1), Err(Refusal::ChoiceFull)),
+        Ask("B1", Unchoose(4), Err(Refusal::NotChosen)),
+        Ask("C1", Set("2"), Err(Refusal::ClockFull)),
+        Type(&TWOS, Err(Refusal::ClockFull)),
+        Show("A1", Value::Num(1_099_511_627_769)),
+        Show("B1", Value::Choice(32)),
+        Show("C1", Value::Num(1)),
+        Ask("A1", Sub(1_000_000), Ok(3)),
+    ];
+    play(&rt, rt.alloc(), 1, &steps)
 }
 
-// Takes the k-th of six deltas of three replicas, honest and not.
-fn take_nth(alloc: Global, sheet: &mut Sheet, k: usize) -> Result<u64, Refusal> {
-    match k {
-        0 => assign(
-            alloc,
-            sheet,
-            &[("A1", 1, 1, "=[.B1]"), ("C1", 1, 1, "=[.A1]+1")],
-        ),
-        1 => assign(alloc, sheet, &[("B1", 1, 2, "=[.A1]")]),
-        2 => assign(alloc, sheet, &[("B1", 1, 2, "@tally")]),
-        3 => count(alloc, sheet, "B1", 3, added(5, 2)),
-        4 => count(alloc, sheet, "B1", 3, added(4, 3)),
-        _ => assign(alloc, sheet, &[("D1", 9, 3, "=SUM([.A1:.C1])")]),
-    }
-}
+// Six deltas of three replicas, honest and not.
+static SIX: [&[(&str, Part)]; 6] = [
+    &[
+        ("A1", Assigned(1, 1, "=[.B1]")),
+        ("C1", Assigned(1, 1, "=[.A1]+1")),
+    ],
+    &[("B1", Assigned(1, 2, "=[.A1]"))],
+    &[("B1", Assigned(1, 2, "@tally"))],
+    &[("B1", Counted(3, 5, 2))],
+    &[("B1", Counted(3, 4, 3))],
+    &[("D1", Assigned(9, 3, "=SUM([.A1:.C1])"))],
+];
 
 // Takes the six deltas in the n-th of the 720 orders, and the first of them again.
-fn take_in_order(alloc: Global, sheet: &mut Sheet, n: usize) -> Result<(), Refusal> {
-    let mut order = [0, 1, 2, 3, 4, 5];
+fn take_in_order(
+    rt: &impl Abort,
+    alloc: Global,
+    sheet: &mut Sheet,
+    n: usize,
+) -> Result<(), Refusal> {
+    let mut order = [0, 1, 2, 3, 4, 5, 0];
     let mut rest = n;
     for k in 0..6 {
         order.swap(k, k + rest % (6 - k));
         rest /= 6 - k;
     }
+    order[6] = order[0];
     for k in order {
-        take_nth(alloc, sheet, k)?;
+        let parts = SIX.get(k).expect(rt, "one of six");
+        take(alloc, sheet, delta_of(rt, alloc, parts)?)?;
     }
-    take_nth(alloc, sheet, order[0])?;
     Ok(())
 }
 
@@ -485,114 +500,64 @@ fn take_in_order(alloc: Global, sheet: &mut Sheet, n: usize) -> Result<(), Refus
 #[test]
 fn orders_show_the_same(rt: HostRuntime) -> Result<(), Refusal> {
     for n in 0..24usize {
-        let mut sheet = Sheet::open(rt.alloc(), 1, 1)?;
-        take_in_order(rt.alloc(), &mut sheet, n * 31)?;
-        check(
-            &rt,
-            &sheet,
-            &[
-                ("A1", Value::Num(2)),
-                ("B1", Value::Num(2)),
-                ("C1", Value::Num(3)),
-                ("D1", Value::Num(7)),
-            ],
-        )?;
+        let mut sheet = Sheet::open(rt.alloc(), 1, 16)?;
+        take_in_order(&rt, rt.alloc(), &mut sheet, n * 31)?;
+        for (name, number) in [("A1", 2), ("B1", 2), ("C1", 3), ("D1", 7)] {
+            assert!(rt; sheet.at(cell(&rt, name)) == Value::Num(number), "{name}");
+        }
     }
     Ok(())
 }
 
-// A full counter in A1, a set without a sequence left in B1, and a register without a time left in C1.
-fn full(alloc: Global) -> Result<Sheet, Refusal> {
-    let mut sheet = Sheet::open(alloc, 1, 16)?;
-    typed(alloc, &mut sheet, &[("A1", "@tally"), ("B1", "@choice")])?;
-    count(alloc, &mut sheet, "A1", 1, added(1_099_511_627_776, 7))?;
-    pair(alloc, &mut sheet, "B1", of(5, 1, 256))?;
-    assign(alloc, &mut sheet, &[("C1", 9_007_199_254_740_991, 2, "1")])?;
-    Ok(sheet)
+// The formula that adds 1 to the cell of column A in a row.
+fn one_more(alloc: Global, row: u16) -> Result<Content, Refusal> {
+    let entry = format!(in alloc; "=[.A{row}]+1")?;
+    read_entry(alloc, entry.as_bytes())
 }
 
-/// Each refusal of an edit, the first that holds, with everything as before.
-#[test]
-fn refusals(rt: HostRuntime) -> Result<(), Refusal> {
-    let mut sheet = full(rt.alloc())?;
-    ask(
-        &rt,
-        rt.alloc(),
-        &mut sheet,
-        &[
-            ("B1", Asked::Add(0), Err(Refusal::Amount)),
-            ("A1", Asked::Sub(1_000_001), Err(Refusal::Amount)),
-            ("B1", Asked::Add(1), Err(Refusal::NotTally)),
-            ("C1", Asked::Sub(1), Err(Refusal::NotTally)),
-            ("A1", Asked::Choose(64), Err(Refusal::OptionRange)),
-            ("B1", Asked::Unchoose(64), Err(Refusal::OptionRange)),
-            ("A1", Asked::Choose(63), Err(Refusal::NotChoice)),
-            ("C1", Asked::Unchoose(1), Err(Refusal::NotChoice)),
-            ("A1", Asked::Add(1), Err(Refusal::TallyFull)),
-            ("B1", Asked::Choose(1), Err(Refusal::ChoiceFull)),
-            ("B1", Asked::Unchoose(4), Err(Refusal::NotChosen)),
-            ("C1", Asked::Number(2), Err(Refusal::ClockFull)),
-        ],
-    )?;
-    assert_eq!(rt; sheet.version(), 5);
-    check(
-        &rt,
-        &sheet,
-        &[
-            ("A1", Value::Num(1_099_511_627_769)),
-            ("B1", Value::Choice(32)),
-            ("C1", Value::Num(1)),
-        ],
-    )?;
-    ask(
-        &rt,
-        rt.alloc(),
-        &mut sheet,
-        &[("A1", Asked::Sub(1_000_000), Ok(6))],
-    )
-}
-
-// The batch that blanks these cells, if it is one.
-fn blanking(alloc: Global, names: &[&str]) -> Result<Option<Batch>, Refusal> {
+// The first n cells of column A, each one more than the cell below it.
+fn chain(rt: &impl Abort, alloc: Global, n: u16) -> Result<Batch, Refusal>
+    requires { n < 1024 }
+{
     let mut cells = Vec::new(alloc);
-    for name in names {
-        cells.push((cell(name)?, Content::Blank))?;
+    for row in 1..n + 1 {
+        let cell = Cell::new(0, row).expect(rt, "a cell");
+        cells.push((cell, one_more(alloc, row + 1)?))?;
     }
-    Ok(Batch::new(cells))
+    Ok(Batch::new(cells).expect(rt, "a batch"))
 }
 
-/// A batch with one register that has no time left keeps none of its cells.
+/// A chain of 300 formulas, closed to a cycle of 301 cells and opened again.
 #[test]
-fn a_refused_batch_keeps_nothing(rt: HostRuntime) -> Result<(), Refusal> {
-    let mut sheet = full(rt.alloc())?;
-    let batch = blanking(rt.alloc(), &["A1", "C1"])?.ok_or(Refusal::Delta)?;
-    let answer = apply(rt.alloc(), &mut sheet, Edit::SetAll(batch));
-    assert_eq!(rt; answer, Err(Refusal::ClockFull));
-    check(
-        &rt,
-        &sheet,
-        &[("A1", Value::Num(1_099_511_627_769)), ("C1", Value::Num(1))],
-    )
+fn a_long_cycle_closes_and_opens(rt: HostRuntime) -> Result<(), Refusal> {
+    let alloc = rt.alloc();
+    let mut sheet = Sheet::open(alloc, 1, 1)?;
+    apply(alloc, &mut sheet, Edit::SetAll(chain(&rt, alloc, 300)?))?;
+    let steps = [
+        Show("A1", Value::Num(300)),
+        Ask("A301", Set("=[.A1]+1"), Ok(2)),
+        Show("A1", CYCLE),
+        Show("A150", CYCLE),
+        Show("A301", CYCLE),
+        Ask("A151", Set("7"), Ok(3)),
+        Show("A1", Value::Num(157)),
+        Show("A301", Value::Num(158)),
+    ];
+    go_on(&rt, alloc, &mut sheet, &steps)
 }
 
-/// Batches are of cells that ascend, and of at least one.
+/// After a refused growth the sheet is as it was, and the refusal says so; a sheet tells its replica and its history.
 #[test]
-fn batches(rt: HostRuntime) -> Result<(), Refusal> {
-    assert!(rt; blanking(rt.alloc(), &["A1", "B1"])?.is_some());
-    assert!(rt; blanking(rt.alloc(), &["B1", "A1"])?.is_none());
-    assert!(rt; blanking(rt.alloc(), &["A1", "A1"])?.is_none());
-    assert!(rt; blanking(rt.alloc(), &[])?.is_none());
+fn a_refused_growth_changes_nothing(rt: HostRuntime) -> Result<(), Refusal> {
+    let alloc = rt.alloc();
+    let mut sheet = Sheet::open(alloc, 3, 1)?;
+    go_on(&rt, alloc, &mut sheet, &[Ask("A1", Set("5"), Ok(1))])?;
+    let answer = apply(alloc, &mut sheet, Edit::SetAll(chain(&rt, alloc, 2)?));
+    let (version, shown) = if answer.is_ok() { (2, 2) } else { (1, 5) };
+    assert!(rt; answer == Ok(2) || answer == Err(Refusal::Memory));
+    assert_eq!(rt; sheet.version(), version);
+    assert_eq!(rt; sheet.history().len() as u64, version);
+    assert!(rt; sheet.at(cell(&rt, "A1")) == Value::Num(shown));
+    assert_eq!(rt; sheet.replica(), 3);
     Ok(())
-}
-
-/// A replica is 1 to 32.
-#[test]
-fn replicas(rt: HostRuntime) {
-    for replica in [0, 33, 255] {
-        assert_eq!(rt;
-            Sheet::open(rt.alloc(), replica, 1).err(),
-            Some(Refusal::Replica)
-        );
-    }
-    assert!(rt; Sheet::open(rt.alloc(), 32, 16).is_ok());
 }
