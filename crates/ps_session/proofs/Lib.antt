@@ -11,3 +11,5 @@ mod MemoryLemmas
 mod WordLemmas
 mod CommandLemmas
 pub mod ReadingLaws
+mod SplitLemmas
+mod ReplayLemmas

@@ -7,3 +7,4 @@ pub mod Holds
 pub mod Words
 pub mod Commands
 pub mod Answers
+pub mod Laws

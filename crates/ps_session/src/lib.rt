@@ -14,6 +14,7 @@
 mod answers;
 mod board;
 mod command;
+mod laws;
 mod reply;
 mod session;
 mod sheet_session;
@@ -23,6 +24,7 @@ mod words;
 
 pub use board::Board;
 pub use command::Command;
+pub use laws::{bytes_divide_one_way, transcript_is_decided};
 pub use reply::{Reply, send};
 pub use session::{Fed, LINE_LIMIT, Line, Session};
 pub use sheet_session::run;

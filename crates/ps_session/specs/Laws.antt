@@ -1,0 +1,26 @@
+-- Laws of sessions.
+use Rattle.std.specs.Prelude.{◌≡◌, ℕ, List, Option}
+use Rattle.ps_sheet.specs.Sheet.{IsSheet, SheetView}
+use Rattle.ps_session.specs.Answers.{AmpleLines}
+use Rattle.ps_session.specs.Transcript.{Splits, Transcribed}
+
+-- LAW: bytes are divided into lines in one way
+abbrev pub DividesOneWay : Type 0
+DividesOneWay =
+    (bytes : List ℕ) (lines others : List (List ℕ)) (rest remainder : List ℕ)
+    → Splits bytes lines rest → Splits bytes others remainder → (lines ≡ others) × (rest ≡ remainder)
+
+-- two sheets have one replica and one history
+pub record IsSameSheet (a b : SheetView) : Type 0 where
+  pub replica : a.replica ≡ b.replica
+  pub history : a.history ≡ b.history
+
+-- LAW: where no reply is for want of memory, the replica, the history and the bytes decide the replies and the history
+-- afterwards
+abbrev pub TranscriptIsDecided : Type 0
+TranscriptIsDecided =
+    (a b last end : SheetView) (read : List ℕ) (before after written contents : Option (List ℕ)) (n m : ℕ)
+    → IsSheet a → IsSameSheet a b
+    → (t : Transcribed AmpleLines a before read last after n)
+    → (u : Transcribed AmpleLines b written read end contents m)
+    → (t.text ≡ u.text) × IsSameSheet last end × (n ≡ m)
