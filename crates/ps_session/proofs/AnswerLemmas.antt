@@ -1,11 +1,11 @@
 -- What a sheet does with a line is the answer to the line.
-use Rattle.std.proofs.Common.{◌≡◌, ◌≢◌, ◌⊎◌, inl, inr, refl, ap, subst, ℕ, Bool, true, false, List, Result, Ok, Err}
+use Rattle.std.proofs.Common.{◌≡◌, ◌≢◌, ◌⊎◌, inl, inr, refl, ap, subst, ℕ, false, List, Ok, Err}
 use Rattle.ps_grid.specs.declared.refusal.Refusal.{Refusal}
 use Rattle.ps_grid.specs.declared.refusal.Refusal.TheVariants as refusals
 use Rattle.ps_sheet.specs.Sheet.{SheetView}
 use Rattle.ps_session.specs.Commands.{ReadsLine}
 use Rattle.ps_session.proofs.MemoryLemmas.{changes_may_lack, memory_refused}
-use Rattle.ps_session.specs.Answers.{Answers, LacksMemory, Obeys, Serves, is_get}
+use Rattle.ps_session.specs.Answers.{Answers, Obeys, is_get}
 use Rattle.ps_session.specs.Replies.{refusal_text, reply_text}
 use Rattle.ps_session.specs.declared.command.Command.{Command}
 use Rattle.ps_session.specs.declared.reply.Reply.{Reply}

@@ -1,13 +1,13 @@
 -- A session whose input is read on piece by piece, and its end.
-use Rattle.std.proofs.Common.{◌≡◌, ◌≢◌, ◌^◌, ◌+◌, ◌-◌, ◌<◌, ◌≤◌, ℕ, min, Bool, true, false, List, [], ◌∷◌, ◌++◌}
+use Rattle.std.proofs.Common.{◌≡◌, ◌≢◌, ◌^◌, ◌+◌, ◌-◌, ◌<◌, ◌≤◌, ℕ, min, List, [], ◌∷◌, ◌++◌}
 use Rattle.std.proofs.Common.{length, take, drop, refl, sym, ap, ◌∙◌, rules, arith, Option, Some, None, subst}
-use Rattle.std.proofs.Common.{append_assoc, append-nil, length-drop, nat_le}
-use Rattle.std.specs.Prelude.{⊤, if◌then◌else◌}
+use Rattle.std.proofs.Common.{append_assoc, append-nil, length-drop}
+use Rattle.std.specs.Prelude.{⊤}
 use Rattle.std.specs.Io.KnownBytes.{Appends}
 use Rattle.std.proofs.Math.Seq.{take-add}
 use Rattle.std.proofs.lemmas.List.{take-append-drop}
 use Rattle.ps_value.proofs.DeviceLemmas.{Appends-append, Appends-nil, rest-range}
-use Rattle.ps_session.specs.Kept.{kept, kept_after}
+use Rattle.ps_session.specs.Kept.{kept}
 use Rattle.ps_session.specs.Feeding.{Ends, Reading}
 use Rattle.ps_session.specs.Transcript.{Answered, Answering, Cut, IsBehindLine, Run, Transcribed, answered_count}
 use Rattle.ps_session.specs.Transcript.{has_reply, stream_of, with_last}

@@ -1,6 +1,6 @@
 -- What the search for a line feed says of a piece.
-use Rattle.std.proofs.Common.{◌≡◌, ◌≢◌, ◌+◌, ◌<◌, ◌≤◌, ℕ, suc, Bool, true, false, List, [], ◌∷◌, ◌++◌, length, take}
-use Rattle.std.proofs.Common.{refl, sym, ap, ◌∙◌, arith, rules, Option, Some, None, nat_eq, slice_index, subst, ◌==◌}
+use Rattle.std.proofs.Common.{◌≡◌, ◌+◌, ◌<◌, ◌≤◌, ℕ, suc, Bool, true, false, List, [], ◌∷◌, ◌++◌, length, take}
+use Rattle.std.proofs.Common.{sym, ap, ◌∙◌, arith, Some, subst, ◌==◌}
 use Rattle.std.specs.Prelude.{if◌then◌else◌}
 use Rattle.std.proofs.lemmas.List.{get_or-take, get_or_default, length-take-le}
 use Rattle.std.proofs.lemmas.Map.Views.{exact_unsigned_eq}
@@ -9,7 +9,6 @@ use Rattle.std.proofs.Math.ListN.{get_or}
 use Rattle.memchr.specs.Find.{is_byte, Nowhere, Passes}
 use Rattle.ps_session.specs.Kept.{held, kept_after}
 use Rattle.ps_session.specs.Feeding.{Feeds, HasNoFeed, Reading}
-use Rattle.ps_session.specs.declared.session.Line.{Line}
 use Rattle.ps_session.specs.declared.session.Line.TheVariants as lines
 
 pub no_feed : (piece : List ℕ) (n : ℕ) → n ≤ length piece → Nowhere (Passes (is_byte 10) piece) 0 n

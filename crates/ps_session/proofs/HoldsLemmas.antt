@@ -1,5 +1,5 @@
 -- What the line that a session holds says of the bytes between two line feeds.
-use Rattle.std.proofs.Common.{◌≡◌, ◌^◌, ◌+◌, ◌-◌, ℕ, min, Bool, true, false, List, length, refl, sym, ap, ◌∙◌, rules}
+use Rattle.std.proofs.Common.{◌≡◌, ◌^◌, ◌+◌, ◌-◌, ℕ, min, Bool, true, false, List, length, refl, sym, rules}
 use Rattle.std.proofs.Common.{Option, Some, None, Result, Ok, Err, subst, nat_le}
 use Rattle.std.specs.Prelude.{if◌then◌else◌, MatchBool, OnOk}
 use Rattle.ps_value.specs.Device.{Sends}

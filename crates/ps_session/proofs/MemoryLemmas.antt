@@ -1,7 +1,6 @@
 -- Which lines may be refused for want of memory.
-use Rattle.std.proofs.Common.{◌≡◌, ℕ, Bool, true, false, List, [], ◌∷◌, Option, Some, None, Result, Ok, Err, refl, sym}
-use Rattle.std.proofs.Common.{◌∙◌, ap, subst, drop, MatchOption}
-use Rattle.ps_grid.specs.declared.refusal.Refusal.{Refusal}
+use Rattle.std.proofs.Common.{◌≡◌, ℕ, true, false, List, [], ◌∷◌, Option, Some, None, Ok, Err, refl, sym}
+use Rattle.std.proofs.Common.{subst, drop, MatchOption}
 use Rattle.ps_grid.specs.declared.refusal.Refusal.TheVariants as refusals
 use Rattle.ps_session.specs.Answers.{is_get}
 use Rattle.ps_session.specs.Commands.{Read, ReadsGet, ReadsLine, ReadsVerb, has_memory_reply, may_grow, verb_of}

@@ -1,6 +1,6 @@
 -- What reads, one after another, take from a source.
 use Rattle.std.proofs.Common.{◌≡◌, ◌++◌, List, [], Option, Some, None, refl, sym, ap, ◌∙◌, append_assoc, rules}
-use Rattle.std.proofs.Common.{Result, Ok, Err, ℕ}
+use Rattle.std.proofs.Common.{Result, Err, ℕ}
 use Rattle.std.specs.Io.KnownBytes.{Consumes, Keeps}
 
 pub Consumes-nil : (old : Option (List ℕ)) → Consumes old old []

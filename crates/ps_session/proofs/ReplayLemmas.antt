@@ -23,8 +23,8 @@ use Rattle.ps_sheet.specs.Sheet.{SheetView}
 use Rattle.ps_sheet.proofs.SettledLemmas.{settled_at_most_once}
 use Rattle.ps_sheet.proofs.SheetLemmas.{in_grid_after}
 use Rattle.ps_session.specs.Answers.{AmpleLines, Edited, Obeys, Serves}
-use Rattle.ps_session.specs.Commands.{AtCell, Read, ReadsChange, ReadsLine, ReadsPair, ReadsSet, ReadsVerb, verb_of}
-use Rattle.ps_session.specs.Commands.{with_part, ReadsGet}
+use Rattle.ps_session.specs.Commands.{Read, ReadsChange, ReadsLine, ReadsPair, ReadsSet, ReadsVerb, verb_of}
+use Rattle.ps_session.specs.Commands.{ReadsGet}
 use Rattle.ps_session.specs.Feeding.{without_return}
 use Rattle.ps_session.specs.Laws.{IsSameSheet, TranscriptIsDecided}
 use Rattle.ps_session.specs.Replies.{reply_text}

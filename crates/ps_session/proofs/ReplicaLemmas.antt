@@ -1,5 +1,5 @@
 -- No line changes the replica of a sheet.
-use Rattle.std.proofs.Common.{◌≡◌, ◌∙◌, ◌⊎◌, inl, inr, refl, ap, ℕ, Bool, true, false, List, [], ◌∷◌, Option}
+use Rattle.std.proofs.Common.{◌≡◌, ◌∙◌, inl, inr, refl, ap, ℕ, Bool, true, false, List, [], ◌∷◌, Option}
 use Rattle.std.proofs.Common.{length, nat_le, Result, Ok, Err}
 use Rattle.std.specs.Prelude.{IfOk, MatchBool}
 use Rattle.ps_sheet.specs.Sheet.{SheetView}

@@ -1,20 +1,19 @@
 -- A session that reads on: one line more, a part of a line, the end.
-use Rattle.std.proofs.Common.{◌≡◌, ◌≢◌, ◌+◌, ◌-◌, ◌^◌, ◌<◌, ◌≤◌, ℕ, zero, suc, Bool, true, false, not, List, [], ◌∷◌}
-use Rattle.std.proofs.Common.{◌++◌, length, take, min, refl, sym, ap, ap₂, ◌∙◌, arith, rules, Option, Some, None}
+use Rattle.std.proofs.Common.{◌≡◌, ◌≢◌, ◌+◌, ◌-◌, ◌^◌, ◌<◌, ℕ, Bool, true, false, List, [], ◌∷◌}
+use Rattle.std.proofs.Common.{◌++◌, length, take, min, refl, sym, ap, ◌∙◌, arith, Option, Some, None}
 use Rattle.std.proofs.Common.{subst, append_assoc, append-nil, length-append, flat_map, nat_le, count_by, cond}
 use Rattle.std.specs.Prelude.{if◌then◌else◌}
-use Rattle.std.specs.List.{All}
 use Rattle.std.specs.Io.KnownBytes.{Appends}
 use Rattle.std.proofs.lemmas.Grind.{flat_map-append}
 use Rattle.std.proofs.lemmas.List.Elements.{All-append, All-push}
 use Rattle.std.proofs.lemmas.List.Sums.{fold-append}
 use Rattle.std.proofs.lemmas.Bool.Decides.{nat_tests}
-use Rattle.ps_value.proofs.DeviceLemmas.{Appends-append, Appends-nil}
+use Rattle.ps_value.proofs.DeviceLemmas.{Appends-append}
 use Rattle.ps_session.specs.declared.session.TheConstants.{LINE_LIMIT}
 use Rattle.ps_session.specs.Kept.{kept, kept_after}
 use Rattle.ps_session.specs.Feeding.{HasNoFeed}
-use Rattle.ps_session.specs.Transcript.{Answering, Run, Splits, stream_of, with_last, has_reply, answered_count}
-use Rattle.ps_session.specs.Transcript.{Transcribed, Answered, Cut, IsBehindLine}
+use Rattle.ps_session.specs.Transcript.{Answering, Run, stream_of, has_reply, answered_count}
+use Rattle.ps_session.specs.Transcript.{Cut}
 use Rattle.ps_session.specs.Stands.{Stands}
 
 -- a run with one more line

@@ -1,12 +1,11 @@
 -- A piece that was fed, and the line that it may have ended.
-use Rattle.std.proofs.Common.{◌≡◌, ◌≢◌, ◌^◌, ◌+◌, ◌-◌, ◌<◌, ◌≤◌, ℕ, min, Bool, true, false, List, [], ◌∷◌, ◌++◌}
-use Rattle.std.proofs.Common.{length, take, drop, refl, sym, ap, ◌∙◌, rules, Option, Some, None, Result, Ok, Err}
+use Rattle.std.proofs.Common.{◌≡◌, ◌≢◌, ◌^◌, ◌+◌, ◌-◌, ◌<◌, ℕ, min, List, [], ◌∷◌, ◌++◌}
+use Rattle.std.proofs.Common.{length, take, drop, refl, sym, ap, ◌∙◌, Option, Some}
 use Rattle.std.proofs.Common.{subst, append_assoc}
-use Rattle.std.specs.Prelude.{cond}
 use Rattle.std.specs.Io.KnownBytes.{Appends}
 use Rattle.std.proofs.lemmas.List.{take-append-drop}
-use Rattle.ps_session.specs.Kept.{kept, kept_after}
-use Rattle.ps_session.specs.Feeding.{EndsLine, Feeds, HasNoFeed, Reading}
+use Rattle.ps_session.specs.Kept.{kept_after}
+use Rattle.ps_session.specs.Feeding.{Feeds, HasNoFeed, Reading}
 use Rattle.ps_session.specs.Transcript.{Answering, Cut, has_reply}
 use Rattle.ps_session.specs.Stands.{Stands}
 use Rattle.ps_session.specs.Holds.{Holds, as_one}

@@ -1,8 +1,8 @@
 -- The transcript of a session: which lines the bytes hold, what each is answered, and what the answers leave. It
 -- knows
 -- nothing of the pieces in which the bytes came.
-use Rattle.std.specs.Prelude.{◌≡◌, ◌≢◌, ◌<◌, ◌^◌, ◌-◌, ℕ, Bool, true, false, List, [], ◌∷◌, ◌++◌, length, take, min}
-use Rattle.std.specs.Prelude.{Option, Some, None, if◌then◌else◌, nat_le, MatchBool, count_by, flat_map}
+use Rattle.std.specs.Prelude.{◌≡◌, ◌<◌, ◌^◌, ◌-◌, ℕ, Bool, true, false, List, [], ◌∷◌, ◌++◌, length, take, min}
+use Rattle.std.specs.Prelude.{Option, if◌then◌else◌, nat_le, MatchBool, count_by, flat_map}
 use Rattle.std.specs.List.{All}
 use Rattle.std.specs.Io.KnownBytes.{Appends}
 use Rattle.ps_session.specs.declared.session.TheConstants.{LINE_LIMIT}

@@ -1,4 +1,3 @@
-use Rattle.std.proofs.Common.{rules, ◌≡◌}
 use Rattle.std.proofs.lemmas.Result.{err_from_is_err_and}
 use Rattle.ps_session.proofs.EndLemmas.{end_cut, end_line}
 use Rattle.ps_session.proofs.transcript.finish.Goals as goal

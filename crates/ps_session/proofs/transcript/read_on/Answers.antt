@@ -1,4 +1,4 @@
-use Rattle.std.proofs.Common.{◌≡◌, ◌∙◌, ◌++◌, arith, take}
+use Rattle.std.proofs.Common.{◌∙◌, ◌++◌, arith, take}
 use Rattle.ps_session.proofs.EndLemmas.{stands_answered}
 use Rattle.ps_session.proofs.ReadLemmas.{Consumes-append, Consumes-keeps}
 use Rattle.ps_session.proofs.transcript.read_on.Goals as goal

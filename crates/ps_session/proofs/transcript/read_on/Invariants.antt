@@ -1,4 +1,4 @@
-use Rattle.std.proofs.Common.{◌≡◌, ◌++◌, ℕ, [], List, Option}
+use Rattle.std.proofs.Common.{◌≡◌, ℕ, [], List, Option}
 use Rattle.std.specs.Io.KnownBytes.{Consumes}
 use Rattle.ps_session.specs.Stands.{Stands}
 use Rattle.ps_session.specs.Transcript.{Lines}

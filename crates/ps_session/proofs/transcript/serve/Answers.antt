@@ -1,4 +1,4 @@
-use Rattle.std.proofs.Common.{◌≡◌, ◌∙◌}
+use Rattle.std.proofs.Common.{◌∙◌}
 use Rattle.std.proofs.lemmas.Result.{err_from_is_err_and}
 use Rattle.ps_session.proofs.EndLemmas.{cut_rest, stands_more, turn_within}
 use Rattle.ps_session.proofs.transcript.serve.Goals as goal

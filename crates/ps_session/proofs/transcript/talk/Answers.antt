@@ -1,4 +1,3 @@
-use Rattle.std.proofs.Common.{◌≡◌, ◌∙◌}
 use Rattle.std.proofs.lemmas.Result.{err_from_is_err_and}
 use Rattle.ps_session.proofs.EndLemmas.{cut_behind_end, stands_first}
 use Rattle.ps_session.proofs.ReadLemmas.{same_fault}

@@ -1,5 +1,3 @@
-use Rattle.std.proofs.Common.{subst, sym, Result, Err, Ok, ◌≡◌}
-use Rattle.ps_session.specs.Commands.{ReadsLine}
 use Rattle.ps_session.proofs.AnswerLemmas.{answer_of_command, answer_of_refusal}
 use Rattle.ps_session.proofs.answers.SheetBoardMeter.answer.Goals as goal
 
