@@ -4,6 +4,7 @@ ghost use Rattle.clap.specs.Words.{app_of, found_of, rows_of, rule_of, subcomman
 ghost use Rattle.clap.specs.declared.builder.command.Command.TheViews.{out-Command as fields_of};
 ghost use Rattle.sheet.specs.Words.{GivesNumber, GivesOptions, number_option, run_app, sheet_app};
 
+use crate::help::RUN_HELP;
 use crate::options::{Options, RunOptions};
 use clap::builder::ValueParser;
 use clap::{Arg, ArgAction, ArgMatches, Command, Error};
@@ -31,6 +32,7 @@ fn run_command<'a>(alloc: Global) -> Result<Command<'a>, AllocError>
     let replica = number_option(alloc, "replica", 32).help("the number of this replica, 1 to 32");
     Command::new(alloc, "run")
         .about("answers each line of standard input on standard output")
+        .after_help(RUN_HELP)
         .arg(workers)?
         .arg(replica)
 }

@@ -1,0 +1,22 @@
+//! What `--help` tells.
+
+/// What stands below the options of `sheet run --help`.
+pub const RUN_HELP: &str = "\
+Each line of standard input is a command, and has one line of reply on standard output:
+
+  set A1 5              A1 holds a number            ok 1
+  set B1 =[.A1]*2       .. or a formula              ok 2
+  get B1                what a cell shows            val 10
+  set C1 @tally         C1 is a counter              ok 3
+  add C1 4  sub C1 1    .. raised, lowered           ok 4, ok 5
+  set D1 @choice        D1 is a set of options       ok 6
+  choose D1 7           .. with option 7 in it       ok 7
+  unchoose D1 7         .. and taken out again       ok 8
+
+`ok` comes with the version, the number of changes so far; `err` with the number
+and the name of what was refused. Cells are A1 to CZ1024. A formula is written
+=SUM([.A1:.A3])*2, and anything that is no number and no formula is a text.
+
+Example:
+
+  printf 'set A1 5\\nset B1 =[.A1]*2\\nget B1\\n' | sheet run";
