@@ -5,7 +5,7 @@ use crate::fault::ProgramFault;
 use crate::options::RunOptions;
 use ps_eval::Meter;
 use ps_grid::Refusal;
-use ps_session::RunFault;
+use ps_session::{RunFault, run};
 use ps_sheet::Sheet;
 use ps_value::{Console, ConsoleInput, ConsoleOutput};
 use std::alloc::Global;
@@ -48,14 +48,4 @@ pub fn answer_lines<R: Read + Drop, W: Write + Drop, I: Ledger, O: Ledger, M: Le
         (Err(RunFault::Memory), _) => Err(Refusal::Memory.into()),
         _ => Err(Refusal::Device.into()),
     }
-}
-
-fn run<S, K, B, M>(
-    _alloc: Global,
-    _source: &mut S,
-    _sink: &mut K,
-    _sheet: &mut B,
-    _meter: &mut M,
-) -> Result<u64, RunFault> {
-    Ok(0)
 }

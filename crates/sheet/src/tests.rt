@@ -1,0 +1,5 @@
+mod devices;
+mod limits;
+mod scripts;
+mod session;
+mod words;

@@ -1,0 +1,159 @@
+//! Devices that fail in the middle of a session.
+ghost use Rattle.std.specs.Prelude.{◌≡◌, ◌<◌};
+
+use ps_eval::Meter;
+use ps_grid::Refusal;
+use ps_session::{RunFault, run};
+use ps_sheet::Sheet;
+use ps_value::{Reading, Writing};
+use std::alloc::Global;
+use std::cell::RefCell;
+use std::io;
+use std::io::{ErrorKind, Read, Write};
+use std::marker::Brand;
+use std::sync::ledger::{Blank, Ledger};
+use std::test::Fail;
+
+/// A reader that gives its bytes, and then fails or ends.
+#[derive(Drop)]
+struct Given<'a> {
+    bytes: &'a [u8],
+    fails: bool,
+}
+
+impl Read for Given<'_> {
+    fn read(&mut self, buf: &mut [u8]) -> io::Result<usize> {
+        if self.bytes.is_empty() && self.fails {
+            return Err(io::Error::from(ErrorKind::Other));
+        }
+        let count = self.bytes.len().min(buf.len());
+        buf[..count].copy_from_slice(&self.bytes[..count]);
+        self.bytes = &self.bytes[count..];
+        Ok(count)
+    }
+}
+
+/// A writer that keeps what it is given, for so many calls, and then fails.
+#[derive(Drop)]
+struct Keeper<'a> {
+    kept: &'a RefCell<Vec<u8>>,
+    calls: usize,
+}
+
+impl Write for Keeper<'_> {
+    fn write(&mut self, buf: &[u8]) -> io::Result<usize> {
+        if buf.is_empty() {
+            return Ok(0);
+        }
+        if self.calls == 0 {
+            return Err(io::Error::from(ErrorKind::Other));
+        }
+        self.calls -= 1;
+        match self.kept.try_borrow_mut() {
+            Ok(mut kept) => kept.extend_from_slice(buf)?,
+            Err(_) => return Err(io::Error::from(ErrorKind::Other)),
+        }
+        Ok(buf.len())
+    }
+
+    fn flush(&mut self) -> io::Result<()> {
+        Ok(())
+    }
+}
+
+/// What a session answered, and the version of its sheet.
+#[derive(Clone, Copy, PartialEq, Eq)]
+struct SessionEnd {
+    ran: Result<u64, RunFault>,
+    version: u64,
+}
+
+fn ended<I: Ledger, O: Ledger, M: Ledger>(
+    alloc: Global,
+    given: Given,
+    keeper: Keeper,
+    input: Blank,
+    output: Blank,
+    count: Blank,
+) -> Result<SessionEnd, Refusal>
+    requires input_name { input.name ≡ I.name }
+    requires input_parts { input.parts ≡ I.parts }
+    requires input_some { 0 < I.parts }
+    requires output_name { output.name ≡ O.name }
+    requires output_parts { output.parts ≡ O.parts }
+    requires output_some { 0 < O.parts }
+    requires count_name { count.name ≡ M.name }
+    requires count_parts { count.parts ≡ M.parts }
+    requires count_some { 0 < M.parts }
+{
+    let mut source = Reading::<Given, I>::new(given, input);
+    let mut sink = Writing::<Keeper, O>::new(keeper, output);
+    let mut meter = Meter::<M>::new(count);
+    let mut sheet = Sheet::open(alloc, 1, 1)?;
+    let ran = run(alloc, &mut source, &mut sink, &mut sheet, &mut meter);
+    Ok(SessionEnd {
+        ran,
+        version: sheet.version(),
+    })
+}
+
+/// The session of a reader, whose replies a cell keeps.
+fn session(alloc: Global, given: Given, keeper: Keeper) -> Result<SessionEnd, Refusal> {
+    ended::<Brand, Brand, Brand>(
+        alloc,
+        given,
+        keeper,
+        Blank::new(1),
+        Blank::new(1),
+        Blank::new(1),
+    )
+}
+
+/// The sessions of three edits on writers that fail at their first, second .. call: each ends with the sink's failure,
+/// what was written is a beginning of the replies, and the sheet is that of the lines up to the one whose reply was cut.
+fn ends_at_each_call(alloc: Global) -> Result<bool, Refusal> {
+    let due = b"ok 1\nok 2\nok 3\n";
+    for calls in 0..9 {
+        let kept = RefCell::new(Vec::new(alloc));
+        let given = Given {
+            bytes: b"set A1 1\nset A1 2\nset A1 3\n",
+            fails: false,
+        };
+        let keeper = Keeper { kept: &kept, calls };
+        let found = session(alloc, given, keeper)?;
+        let bytes = kept.into_inner();
+        let lines = bytes.iter().filter(|byte| **byte == b'\n').count() as u64;
+        let is_right = due.starts_with(bytes.as_slice())
+            && found.ran == Err(RunFault::Sink)
+            && found.version == lines + 1;
+        if !is_right {
+            return Ok(false);
+        }
+    }
+    Ok(true)
+}
+
+/// A sink that fails at its k-th call, for each k.
+#[test]
+fn a_failing_sink(rt: HostRuntime) -> Result<(), Fail> {
+    assert!(rt; ends_at_each_call(rt.alloc())?);
+    Ok(())
+}
+
+/// A source that fails in the middle of a line: the complete lines are answered, and the rest isn't carried out.
+#[test]
+fn a_failing_source(rt: HostRuntime) -> Result<(), Fail> {
+    let kept = RefCell::new(Vec::new(rt.alloc()));
+    let given = Given {
+        bytes: b"set A1 5\nset B1",
+        fails: true,
+    };
+    let keeper = Keeper {
+        kept: &kept,
+        calls: 100,
+    };
+    let found = session(rt.alloc(), given, keeper)?;
+    assert!(rt; found.ran == Err(RunFault::Source) && found.version == 1);
+    assert!(rt; kept.into_inner().as_slice() == b"ok 1\n".as_slice());
+    Ok(())
+}

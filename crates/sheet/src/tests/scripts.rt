@@ -1,0 +1,418 @@
+//! Scripts and their replies, each whole, byte by byte and in each cut into two pieces.
+
+use crate::tests::session::has_replies;
+use std::test::Fail;
+
+/// No input: no output.
+#[test]
+fn row_1(rt: HostRuntime) -> Result<(), Fail> {
+    let script = b"";
+    let expected = b"";
+    assert!(rt; has_replies(rt.alloc(), script, expected)?);
+    Ok(())
+}
+
+/// A formula refers to a number.
+#[test]
+fn row_2(rt: HostRuntime) -> Result<(), Fail> {
+    let script = b"set A1 5\n\
+        set B1 =[.A1]*2\n\
+        get B1\n";
+    let expected = b"ok 1\n\
+        ok 2\n\
+        val 10\n";
+    assert!(rt; has_replies(rt.alloc(), script, expected)?);
+    Ok(())
+}
+
+/// A cycle of two cells, a cell that refers to it, and a number that ends the cycle.
+#[test]
+fn row_3(rt: HostRuntime) -> Result<(), Fail> {
+    let script = b"set A1 =[.B1]\n\
+        set B1 =[.A1]\n\
+        set C1 =[.A1]+1\n\
+        get A1\n\
+        get B1\n\
+        get C1\n\
+        set B1 4\n\
+        get A1\n\
+        get C1\n";
+    let expected = b"ok 1\n\
+        ok 2\n\
+        ok 3\n\
+        val #CYCLE!\n\
+        val #CYCLE!\n\
+        val #CYCLE!\n\
+        ok 4\n\
+        val 4\n\
+        val 5\n";
+    assert!(rt; has_replies(rt.alloc(), script, expected)?);
+    Ok(())
+}
+
+/// A range that holds its own cell.
+#[test]
+fn row_4(rt: HostRuntime) -> Result<(), Fail> {
+    let script = b"set A2 =SUM([.A1:.A3])\n\
+        get A2\n";
+    let expected = b"ok 1\n\
+        val #CYCLE!\n";
+    assert!(rt; has_replies(rt.alloc(), script, expected)?);
+    Ok(())
+}
+
+/// A reference in an untaken branch is a reference.
+#[test]
+fn row_5(rt: HostRuntime) -> Result<(), Fail> {
+    let script = b"set A1 =IF(1;2;[.A1])\n\
+        get A1\n\
+        set A1 =COUNT([.A1])\n\
+        get A1\n\
+        set A1 =IF(0;[.B1];7)\n\
+        get A1\n";
+    let expected = b"ok 1\n\
+        val #CYCLE!\n\
+        ok 2\n\
+        val #CYCLE!\n\
+        ok 3\n\
+        val 7\n";
+    assert!(rt; has_replies(rt.alloc(), script, expected)?);
+    Ok(())
+}
+
+/// The ends of the 64-bit numbers.
+#[test]
+fn row_7(rt: HostRuntime) -> Result<(), Fail> {
+    let script = b"set A1 =9223372036854775807+1\n\
+        get A1\n\
+        set A1 =SUM(9223372036854775807;1;-1)\n\
+        get A1\n\
+        set A1 =9223372036854775808\n\
+        set A1 9223372036854775808\n\
+        set B1 =[.A1]\n\
+        get B1\n";
+    let expected = b"ok 1\n\
+        val #NUM!\n\
+        ok 2\n\
+        val 9223372036854775807\n\
+        err 3 formula\n\
+        ok 3\n\
+        ok 4\n\
+        val #VALUE!\n";
+    assert!(rt; has_replies(rt.alloc(), script, expected)?);
+    Ok(())
+}
+
+/// Division: the sign of a remainder, cutting towards zero, and its faults.
+#[test]
+fn row_8(rt: HostRuntime) -> Result<(), Fail> {
+    let script = b"set B1 =MOD(-7;3)\n\
+        get B1\n\
+        set B1 =MOD(7;-3)\n\
+        get B1\n\
+        set B1 =QUOTIENT(-7;2)\n\
+        get B1\n\
+        set B1 =QUOTIENT(-9223372036854775807-1;-1)\n\
+        get B1\n\
+        set B1 =MOD(-9223372036854775807-1;-1)\n\
+        get B1\n\
+        set B1 =MOD(1;0)\n\
+        get B1\n\
+        set B1 =QUOTIENT(1;0)\n\
+        get B1\n";
+    let expected = b"ok 1\n\
+        val 2\n\
+        ok 2\n\
+        val -2\n\
+        ok 3\n\
+        val -3\n\
+        ok 4\n\
+        val #NUM!\n\
+        ok 5\n\
+        val 0\n\
+        ok 6\n\
+        val #DIV/0!\n\
+        ok 7\n\
+        val #DIV/0!\n";
+    assert!(rt; has_replies(rt.alloc(), script, expected)?);
+    Ok(())
+}
+
+/// A fault, a text and a number as items of a range.
+#[test]
+fn row_9(rt: HostRuntime) -> Result<(), Fail> {
+    let script = b"set A1 =MOD(1;0)\n\
+        set A2 x\n\
+        set A3 4\n\
+        set B1 =SUM([.A1:.A3])\n\
+        get B1\n\
+        set B1 =COUNT([.A1:.A3])\n\
+        get B1\n\
+        set B1 =[.A2]+1\n\
+        get B1\n\
+        set B1 =MAX([.A2])\n\
+        get B1\n\
+        set B1 =MIN([.A3:.A2];9)\n\
+        get B1\n";
+    let expected = b"ok 1\n\
+        ok 2\n\
+        ok 3\n\
+        ok 4\n\
+        val #DIV/0!\n\
+        ok 5\n\
+        val 1\n\
+        ok 6\n\
+        val #VALUE!\n\
+        ok 7\n\
+        val 0\n\
+        ok 8\n\
+        val 4\n";
+    assert!(rt; has_replies(rt.alloc(), script, expected)?);
+    Ok(())
+}
+
+/// A formula in a loose spelling; comparisons group from the left.
+#[test]
+fn row_10(rt: HostRuntime) -> Result<(), Fail> {
+    let script = b"set A1 of:= - 2 * sum ( [.$C$2:.B1] ; 007 )\n\
+        get A1\n\
+        set A1 =1<2<3\n\
+        get A1\n\
+        set A1 =3>2>1\n\
+        get A1\n";
+    let expected = b"ok 1\n\
+        val -14\n\
+        ok 2\n\
+        val 1\n\
+        ok 3\n\
+        val 0\n";
+    assert!(rt; has_replies(rt.alloc(), script, expected)?);
+    Ok(())
+}
+
+/// A set: an option goes in and out, and one that isn't in can't be taken out.
+#[test]
+fn row_14(rt: HostRuntime) -> Result<(), Fail> {
+    let script = b"set A1 @choice\n\
+        choose A1 7\n\
+        get A1\n\
+        unchoose A1 7\n\
+        get A1\n\
+        unchoose A1 9\n";
+    let expected = b"ok 1\n\
+        ok 2\n\
+        val {7}\n\
+        ok 3\n\
+        val {}\n\
+        err 12 not-chosen\n";
+    assert!(rt; has_replies(rt.alloc(), script, expected)?);
+    Ok(())
+}
+
+/// The last cell and cells past the edges; each refusal in its turn; an empty cell shows nothing.
+#[test]
+fn row_15(rt: HostRuntime) -> Result<(), Fail> {
+    let script = b"set CZ1024 1\n\
+        set A1025 1\n\
+        set DA1 1\n\
+        get A1\n\
+        add A1 1\n\
+        add A1 0\n\
+        hello\n";
+    let expected = b"ok 1\n\
+        err 1 cell\n\
+        err 1 cell\n\
+        val \n\
+        err 5 not-tally\n\
+        err 7 amount\n\
+        err 16 command\n";
+    assert!(rt; has_replies(rt.alloc(), script, expected)?);
+    Ok(())
+}
+
+/// A formula counts the options of a set.
+#[test]
+fn row_18(rt: HostRuntime) -> Result<(), Fail> {
+    let script = b"set A1 5\n\
+        set B1 @choice\n\
+        choose B1 4\n\
+        choose B1 1\n\
+        set C1 =[.B1]*10\n\
+        get C1\n\
+        get B1\n";
+    let expected = b"ok 1\n\
+        ok 2\n\
+        ok 3\n\
+        ok 4\n\
+        ok 5\n\
+        val 20\n\
+        val {1,4}\n";
+    assert!(rt; has_replies(rt.alloc(), script, expected)?);
+    Ok(())
+}
+
+/// Entries that are refused, and a text of a digit.
+#[test]
+fn row_20(rt: HostRuntime) -> Result<(), Fail> {
+    let script = b"set A1 '\n\
+        set A1 =\n\
+        set A1 =SUM()\n\
+        set A1 =[.A1:.A2]\n\
+        set A1 '5\n\
+        get A1\n\
+        set B1 =COUNT([.A1])\n\
+        get B1\n";
+    let expected = b"err 2 text\n\
+        err 3 formula\n\
+        err 3 formula\n\
+        err 3 formula\n\
+        ok 1\n\
+        val 5\n\
+        ok 2\n\
+        val 0\n";
+    assert!(rt; has_replies(rt.alloc(), script, expected)?);
+    Ok(())
+}
+
+/// Prefixes, parentheses, a missing branch, and a text in SUM.
+#[test]
+fn the_whole_formula_language(rt: HostRuntime) -> Result<(), Fail> {
+    let script = b"set A1 x\n\
+        set B1 =IF(0;1)\n\
+        get B1\n\
+        set B1 =IF(MOD(1;0);1;2)\n\
+        get B1\n\
+        set B1 =--3*-2\n\
+        get B1\n\
+        set B1 =2-3-4\n\
+        get B1\n\
+        set B1 =(1<2)*5\n\
+        get B1\n\
+        set B1 =COUNT(1;MOD(1;0);[.Z9])\n\
+        get B1\n\
+        set B1 =SUM([.A1])\n\
+        get B1\n\
+        set B1 =SUM(([.A1]))\n\
+        get B1\n";
+    let expected = b"ok 1\n\
+        ok 2\n\
+        val 0\n\
+        ok 3\n\
+        val #DIV/0!\n\
+        ok 4\n\
+        val -6\n\
+        ok 5\n\
+        val -5\n\
+        ok 6\n\
+        val 5\n\
+        ok 7\n\
+        val 1\n\
+        ok 8\n\
+        val 0\n\
+        ok 9\n\
+        val #VALUE!\n";
+    assert!(rt; has_replies(rt.alloc(), script, expected)?);
+    Ok(())
+}
+
+/// A counter is raised and lowered, is kept while another content is shown, and comes back.
+#[test]
+fn a_counter(rt: HostRuntime) -> Result<(), Fail> {
+    let script = b"set A1 @tally\n\
+        add A1 5\n\
+        sub A1 7\n\
+        get A1\n\
+        set A1 3\n\
+        add A1 1\n\
+        set A1 @tally\n\
+        get A1\n\
+        choose A1 64\n\
+        choose A1 3\n";
+    let expected = b"ok 1\n\
+        ok 2\n\
+        ok 3\n\
+        val -2\n\
+        ok 4\n\
+        err 5 not-tally\n\
+        ok 5\n\
+        val -2\n\
+        err 8 option\n\
+        err 6 not-choice\n";
+    assert!(rt; has_replies(rt.alloc(), script, expected)?);
+    Ok(())
+}
+
+/// A range up to the last cell.
+#[test]
+fn the_whole_grid(rt: HostRuntime) -> Result<(), Fail> {
+    let script = b"set CZ1024 1\n\
+        set DA1 1\n\
+        set A1025 1\n\
+        set B1 =COUNT([.A2:.CZ1024])\n\
+        get B1\n";
+    let expected = b"ok 1\n\
+        err 1 cell\n\
+        err 1 cell\n\
+        ok 2\n\
+        val 1\n";
+    assert!(rt; has_replies(rt.alloc(), script, expected)?);
+    Ok(())
+}
+
+/// ABS, AND, OR, NOT and TRUE; a name alone, no arguments and a range are refused.
+#[test]
+fn logic(rt: HostRuntime) -> Result<(), Fail> {
+    let script = b"set B1 =ABS(-5)\n\
+        get B1\n\
+        set B1 =ABS(-9223372036854775807-1)\n\
+        get B1\n\
+        set B1 =AND(1;2;0)\n\
+        get B1\n\
+        set B1 =OR(0;MOD(1;0);1)\n\
+        get B1\n\
+        set B1 =NOT(7)\n\
+        get B1\n\
+        set B1 = true ( )\n\
+        get B1\n\
+        set B1 =TRUE\n\
+        set B1 =AND()\n\
+        set B1 =AND([.A1:.A2])\n";
+    let expected = b"ok 1\n\
+        val 5\n\
+        ok 2\n\
+        val #NUM!\n\
+        ok 3\n\
+        val 0\n\
+        ok 4\n\
+        val #DIV/0!\n\
+        ok 5\n\
+        val 0\n\
+        ok 6\n\
+        val 1\n\
+        err 3 formula\n\
+        err 3 formula\n\
+        err 3 formula\n";
+    assert!(rt; has_replies(rt.alloc(), script, expected)?);
+    Ok(())
+}
+
+/// A carriage return at the end of a line is dropped, an empty line has no reply, and the last line needs no line feed.
+#[test]
+fn ends_of_lines(rt: HostRuntime) -> Result<(), Fail> {
+    let script = b"set A1 5\r\n\n\r\nget A1\r\nget A1\r";
+    assert!(rt; has_replies(rt.alloc(), script, b"ok 1\nval 5\nval 5\n")?);
+    Ok(())
+}
+
+/// Words are divided by one space: one more makes an empty word.
+#[test]
+fn words_of_a_line(rt: HostRuntime) -> Result<(), Fail> {
+    let script =
+        b"get  A1\nget \nget\n get A1\nget A1 \nset A1  5\nset B1 =COUNT([.A1])\nget B1\nset A1\nget A1\n\
+        add A1 1 1\nadd A1\nset A1 \xff\nGET A1\n";
+    let expected =
+        b"err 16 command\nerr 1 cell\nerr 16 command\nerr 16 command\nerr 16 command\nok 1\nok 2\nval 0\n\
+        ok 3\nval \nerr 16 command\nerr 16 command\nerr 2 text\nerr 16 command\n";
+    assert!(rt; has_replies(rt.alloc(), script, expected)?);
+    Ok(())
+}

@@ -1,0 +1,91 @@
+//! Scripts from bytes to bytes: what a session on an empty sheet writes.
+ghost use Rattle.std.specs.Prelude.{◌≡◌, ◌<◌};
+
+use ps_eval::Meter;
+use ps_grid::Refusal;
+use ps_session::run;
+use ps_sheet::Sheet;
+use ps_value::{MemorySink, Reading};
+use std::alloc::Global;
+use std::io;
+use std::io::Read;
+use std::marker::Brand;
+use std::sync::ledger::{Blank, Ledger};
+
+/// A reader whose bytes come in two parts, and each part in pieces of at most so many bytes.
+#[derive(Drop)]
+pub(super) struct Parts<'a> {
+    pub first: &'a [u8],
+    pub second: &'a [u8],
+    pub most: usize,
+}
+
+impl Read for Parts<'_> {
+    fn read(&mut self, buf: &mut [u8]) -> io::Result<usize> {
+        if self.first.is_empty() {
+            self.first = self.second;
+            self.second = b"";
+        }
+        let count = self.first.len().min(buf.len()).min(self.most);
+        buf[..count].copy_from_slice(&self.first[..count]);
+        self.first = &self.first[count..];
+        Ok(count)
+    }
+}
+
+fn written<I: Ledger, O: Ledger, M: Ledger>(
+    alloc: Global,
+    parts: Parts,
+    input: Blank,
+    output: Blank,
+    count: Blank,
+) -> Result<Vec<u8>, Refusal>
+    requires input_name { input.name ≡ I.name }
+    requires input_parts { input.parts ≡ I.parts }
+    requires input_some { 0 < I.parts }
+    requires output_name { output.name ≡ O.name }
+    requires output_parts { output.parts ≡ O.parts }
+    requires output_some { 0 < O.parts }
+    requires count_name { count.name ≡ M.name }
+    requires count_parts { count.parts ≡ M.parts }
+    requires count_some { 0 < M.parts }
+{
+    let mut source = Reading::<Parts, I>::new(parts, input);
+    let mut sink = MemorySink::<O>::new(alloc, output);
+    let mut meter = Meter::<M>::new(count);
+    let mut sheet = Sheet::open(alloc, 1, 1)?;
+    if run(alloc, &mut source, &mut sink, &mut sheet, &mut meter).is_err() {
+        return Err(Refusal::Device);
+    }
+    let MemorySink { bytes, failed } = sink;
+    drop(failed);
+    Ok(bytes)
+}
+
+/// What a session on the empty sheet of replica 1 writes, where its input comes in these parts.
+pub(super) fn replies(alloc: Global, parts: Parts) -> Result<Vec<u8>, Refusal> {
+    written::<Brand, Brand, Brand>(alloc, parts, Blank::new(1), Blank::new(1), Blank::new(1))
+}
+
+/// Whether the script has these replies: whole, byte by byte, and in each cut into two pieces.
+pub(super) fn has_replies(alloc: Global, script: &[u8], expected: &[u8]) -> Result<bool, Refusal> {
+    let bytewise = Parts {
+        first: script,
+        second: b"",
+        most: 1,
+    };
+    if replies(alloc, bytewise)?.as_slice() != expected {
+        return Ok(false);
+    }
+    for cut in 0..=script.len() {
+        let parts = Parts {
+            first: &script[..cut],
+            second: &script[cut..],
+            most: usize::MAX,
+        };
+        if replies(alloc, parts)?.as_slice() != expected {
+            return Ok(false);
+        }
+    }
+    Ok(true)
+}
