@@ -1,4 +1,4 @@
-use Rattle.std.proofs.Common.{rules, ◌≡◌, ◌≤◌, ℕ, Some, sym, ◌∙◌}
+use Rattle.std.proofs.Common.{rules, sym, ◌∙◌}
 use Rattle.clap.specs.Words.{found_of}
 use Rattle.sheet.proofs.Subcommands.{gives_number}
 use Rattle.sheet.proofs.words.number_of.Goals as goal

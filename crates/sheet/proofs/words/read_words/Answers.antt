@@ -1,8 +1,7 @@
-use Rattle.std.proofs.Common.{rules, true, ◌≡◌, ◌≤◌, ℕ, Some, IfOk, IfSome, List, codes, map, false, string_bytes}
-use Rattle.std.proofs.Common.{refl, ap, ◌∙◌, sym, option_map}
-use Rattle.clap.specs.Words.{app_of, found_of, subcommand_of, is_simple, Text, Row, rows_of}
-use Rattle.clap.specs.Words.{subcommand_rows_of}
-use Rattle.sheet.specs.Words.{GivesOptions, number_option, run_app, sheet_app}
+use Rattle.std.proofs.Common.{rules, true, ◌≡◌, Some, codes, map, string_bytes}
+use Rattle.std.proofs.Common.{refl, ap, ◌∙◌, sym}
+use Rattle.clap.specs.Words.{found_of, subcommand_of, is_simple, Text, rows_of}
+use Rattle.sheet.specs.Words.{sheet_app}
 use Rattle.clap.proofs.OnLiterals.{clap_on_literals}
 use Rattle.sheet.proofs.Subcommands.{subcommand_rows_is}
 use Rattle.sheet.proofs.words.read_words.Goals as goal

@@ -1,10 +1,9 @@
-use Rattle.std.proofs.Common.{rules, ap, ap₂, ◌≡◌, ◌∙◌, ℕ, true}
+use Rattle.std.proofs.Common.{ap, ap₂, ◌≡◌, ◌∙◌, true}
 use Rattle.std.proofs.lemmas.Result.{IfOk-weaker}
-use Rattle.clap.specs.Words.{App, app_of, with_subcommand, new_app, Shape}
+use Rattle.clap.specs.Words.{App, app_of, with_subcommand, Shape}
 use Rattle.clap.specs.Simple.{on_top, app_of_fields}
 use Rattle.clap.specs.declared.builder.command.Command.{Command}
 use Rattle.clap.specs.declared.builder.command.Command.TheOpen.{Command-F}
-use Rattle.sheet.specs.Words.{run_app, sheet_app}
 use Rattle.sheet.proofs.words.sheet_command.Goals as goal
 
 abbrev asks : Shape → Shape
