@@ -31,4 +31,6 @@ pub use sheet_session::run;
 pub use transcript::{RunFault, talk};
 
 #[cfg(test)]
+mod run_tests;
+#[cfg(test)]
 mod tests;

@@ -1,0 +1,80 @@
+//! Sessions of a sheet, from bytes to bytes. The expected replies are worked by hand.
+ghost use Rattle.std.specs.Prelude.{◌≡◌, ◌<◌};
+
+use crate::run;
+use ps_eval::Meter;
+use ps_grid::Refusal;
+use ps_sheet::Sheet;
+use ps_value::{MemorySink, MemorySource, Reading, Source};
+use std::alloc::Global;
+use std::io;
+use std::io::Read;
+use std::marker::Brand;
+use std::sync::ledger::{Blank, Ledger};
+use std::test::Fail;
+
+// What a new sheet of replica 1 answers.
+fn answered<S: Source, K: Ledger, L: Ledger>(
+    alloc: Global,
+    source: &mut S,
+    output: Blank,
+    count: Blank,
+) -> Result<Vec<u8>, Refusal>
+    requires output_name { output.name ≡ K.name }
+    requires output_parts { output.parts ≡ K.parts }
+    requires output_some { 0 < K.parts }
+    requires count_name { count.name ≡ L.name }
+    requires count_parts { count.parts ≡ L.parts }
+    requires count_some { 0 < L.parts }
+{
+    let mut sheet = Sheet::open(alloc, 1, 1)?;
+    let mut meter = Meter::<L>::new(count);
+    let mut sink = MemorySink::<K>::new(alloc, output);
+    run(alloc, source, &mut sink, &mut sheet, &mut meter).map_err(|_| Refusal::Device)?;
+    let MemorySink { bytes, failed } = sink;
+    drop(failed);
+    Ok(bytes)
+}
+
+// A reader that gives a byte at a time.
+#[derive(Drop)]
+struct Trickle<'a>(&'a [u8]);
+
+impl Read for Trickle<'_> {
+    fn read(&mut self, buf: &mut [u8]) -> io::Result<usize> {
+        if buf.is_empty() || self.0.is_empty() {
+            return Ok(0);
+        }
+        buf[0] = self.0[0];
+        self.0 = &self.0[1..];
+        Ok(1)
+    }
+}
+
+fn answered_slowly<J: Ledger>(alloc: Global, input: Blank, text: &[u8]) -> Result<Vec<u8>, Refusal>
+    requires name { input.name ≡ J.name }
+    requires parts { input.parts ≡ J.parts }
+    requires some { 0 < J.parts }
+{
+    let mut source = Reading::<Trickle, J>::new(Trickle(text), input);
+    answered::<Reading<Trickle, J>, Brand, Brand>(alloc, &mut source, Blank::new(1), Blank::new(1))
+}
+
+/// Lines are carried out one after another and each is answered, in whatever pieces they come; an empty line isn't.
+#[test]
+fn lines_are_answered(rt: HostRuntime) -> Result<(), Fail> {
+    let alloc = rt.alloc();
+    let text = b"set A1 5\nset B1 =[.A1]*2\r\n\nget B1\nadd A1 1\nhello\nget A1";
+    let replies = b"ok 1\nok 2\nval 10\nerr 5 not-tally\nerr 16 command\nval 5\n".as_slice();
+    let mut source = MemorySource::new(text);
+    let found = answered::<MemorySource, Brand, Brand>(
+        alloc,
+        &mut source,
+        Blank::new(1),
+        Blank::new(1),
+    );
+    assert!(rt; found.ok().ok_or("no fault")?.as_slice() == replies);
+    let found = answered_slowly::<Brand>(alloc, Blank::new(1), text);
+    assert!(rt; found.ok().ok_or("no fault")?.as_slice() == replies);
+    Ok(())
+}
