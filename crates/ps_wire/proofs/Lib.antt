@@ -1,0 +1,5 @@
+pub mod CellLemmas
+pub mod ContentLemmas
+pub mod LineLemmas
+pub mod PartLemmas
+pub mod ValueLemmas

@@ -1,0 +1,59 @@
+//! Lines of deltas.
+
+ghost use Rattle.std.specs.Prelude.{◌≡◌, ◌⊎◌, Some, None, IsUtf8, IfOk, IfErr, MatchResult};
+ghost use Rattle.serde_json.specs.Read.{read as read_text};
+ghost use Rattle.serde_json.specs.View.{view};
+ghost use Rattle.ps_grid.specs.declared.refusal.Refusal.TheVariants.{Memory};
+ghost use Rattle.ps_delta.specs.Deltas.{Entries};
+ghost use Rattle.ps_wire.specs.Line.{IsLine};
+ghost use Rattle.ps_wire.specs.Value.{StandsFor};
+ghost use Rattle.ps_wire.specs.Refused.{RefusedAs};
+
+use crate::DELTA_LINE_LIMIT;
+use crate::cells::read_cells;
+use crate::parts::items;
+use ps_delta::Delta;
+use ps_grid::Refusal;
+use serde_json::Value;
+use std::alloc::Global;
+
+/// The delta that a line stands for: any JSON text of its value, blanks and escapes as they may be, of at most
+/// `DELTA_LINE_LIMIT` bytes of UTF-8. Any other bytes are refused as `Delta`; and a line may be refused for lack of
+/// memory.
+///
+/// Cost: linear in the bytes; memory for the cells, counts and pairs.
+pub fn decode(alloc: Global, bytes: &[u8]) -> Result<Delta, Refusal>
+    ensures line { IfOk result (λ d. IsLine bytes.now d) }
+    ensures read { (d : Entries) → IsLine bytes.now d → MatchResult result (λ found. found ≡ d) (λ e. e ≡ Memory) }
+    ensures refused { IfErr result (λ e. (e ≡ Refusal.Delta) ⊎ (e ≡ Memory)) }
+{
+    if bytes.len() > DELTA_LINE_LIMIT {
+        return Err(Refusal::Delta);
+    }
+    let value = read_value(alloc, bytes)?;
+    read_delta(alloc, &value)
+}
+
+fn read_delta(alloc: Global, value: &Value) -> Result<Delta, Refusal>
+    ensures found { IfOk result (λ d. StandsFor (view value.now) d) }
+    ensures refused { IfErr result (λ r. RefusedAs r ((d : Entries) → StandsFor (view value.now) d → ⊥)) }
+{
+    let cells = read_cells(alloc, items(value)?)?;
+    Delta::new(cells).ok_or(Refusal::Delta)
+}
+
+fn read_value(alloc: Global, bytes: &[u8]) -> Result<Value, Refusal>
+    ensures found { IfOk result (λ v. IsUtf8 bytes.now × (read_text bytes.now ≡ Some (view v))) }
+    ensures refused { IfErr result (λ r. RefusedAs r (IsUtf8 bytes.now → read_text bytes.now ≡ None)) }
+{
+    match Value::from_slice(alloc, bytes) {
+        Ok(value) => Ok(value),
+        Err(fault) => {
+            if fault.is_memory() {
+                Err(Refusal::Memory)
+            } else {
+                Err(Refusal::Delta)
+            }
+        }
+    }
+}
