@@ -6,10 +6,8 @@ use Rattle.ps_sheet.specs.Sheet.{SheetView}
 use Rattle.ps_session.specs.Commands.{ReadsLine}
 use Rattle.ps_session.proofs.MemoryLemmas.{changes_may_lack, memory_refused}
 use Rattle.ps_session.specs.Answers.{Answers, Obeys, is_get}
-use Rattle.ps_session.specs.Replies.{refusal_text, reply_text}
+use Rattle.ps_session.specs.Replies.{refusal_text}
 use Rattle.ps_session.specs.declared.command.Command.{Command}
-use Rattle.ps_session.specs.declared.reply.Reply.{Reply}
-use Rattle.ps_session.specs.declared.reply.Reply.TheVariants.{Refused}
 
 -- a refusal is for want of memory, or it isn't
 memory_or_other : (refusal : Refusal) → (refusal ≡ refusals.Memory) ⊎ (refusal ≢ refusals.Memory)
@@ -17,23 +15,20 @@ memory_or_other refusals.Memory = inl refl
 memory_or_other _ = inr (λ is. cc)
 
 -- a line that was read as a command, which was carried out or lacked memory
-pub answer_of_command : (old new : SheetView) (line : List ℕ) (command : Command) (reply : Reply)
-    → ReadsLine line (Ok command)
-    → Obeys old.replica old.history (Ok command) reply new.history
-    ⊎ ((is_get command ≡ false) × (reply ≡ Refused refusals.Memory) × (new.history ≡ old.history))
-    → new.replica ≡ old.replica → Answers old line (reply_text reply) new
-answer_of_command old new line command reply reads (inl obeys) replica = inl (record {
+pub answer_of_command : (old new : SheetView) (line text : List ℕ) (command : Command) → ReadsLine line (Ok command)
+    → Obeys old.replica old.history (Ok command) text new.history
+    ⊎ ((is_get command ≡ false) × (text ≡ refusal_text refusals.Memory) × (new.history ≡ old.history))
+    → new.replica ≡ old.replica → Answers old line text new
+answer_of_command old new line text command reads (inl obeys) replica = inl (record {
   asked = Ok command;
-  reply = reply;
   reads = reads;
   ample = λ is. cc;
   obeys = obeys;
-  told = refl;
   replica = replica;
 })
-answer_of_command old new line command reply reads (inr lacks) replica = inr (record {
+answer_of_command old new line text command reads (inr lacks) replica = inr (record {
   may = changes_may_lack line command reads lacks.0;
-  told = ap reply_text lacks.1;
+  told = lacks.1;
   history = lacks.2;
   replica = replica;
 })
@@ -50,11 +45,9 @@ answer_of_refusal sheet line refusal reads = elim (memory_or_other refusal) [
   })
   | inr other ↦ inl (record {
     asked = Err refusal;
-    reply = Refused refusal;
     reads = reads;
     ample = λ is. other cc;
     obeys = (refl, refl);
-    told = refl;
     replica = refl;
   })
 ]

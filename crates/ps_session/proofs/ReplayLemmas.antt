@@ -27,14 +27,12 @@ use Rattle.ps_session.specs.Commands.{Read, ReadsChange, ReadsLine, ReadsPair, R
 use Rattle.ps_session.specs.Commands.{ReadsGet}
 use Rattle.ps_session.specs.Feeding.{without_return}
 use Rattle.ps_session.specs.Laws.{IsSameSheet, TranscriptIsDecided}
-use Rattle.ps_session.specs.Replies.{reply_text}
+use Rattle.ps_session.specs.Replies.{done_text, value_text}
 use Rattle.ps_session.proofs.ReadingLaws.{reads_once}
 use Rattle.ps_session.specs.Transcript.{Replies, Run, answered_count, with_last}
 use Rattle.ps_session.specs.Words.{behind_word, first_word, words, whole_number}
 use Rattle.ps_session.specs.declared.command.Command.{Command}
 use Rattle.ps_session.specs.declared.command.Command.TheVariants as commands
-use Rattle.ps_session.specs.declared.reply.Reply.{Reply}
-use Rattle.ps_session.specs.declared.reply.Reply.TheVariants.{Done, Shown}
 use Rattle.ps_session.specs.declared.session.TheConstants.{LINE_LIMIT}
 use Rattle.ps_session.specs.declared.verb.Verb.{Verb}
 use Rattle.ps_session.specs.declared.verb.Verb.TheVariants.{Add, Choose, Get, Set, Sub, Unchoose}
@@ -146,39 +144,39 @@ made_in_grid r s (edits.Unchoose c n) d inside is =
     (not (is_chosen (s c).choice n)) _ _ _ _ d is)
 
 -- what an edit comes to, given what was made of it
-edited_once : (made : Result Entries Refusal) (history next after : List Entries) (reply told : Reply)
-    → Edited made history reply next → Edited made history told after → (reply ≡ told) × (next ≡ after)
-edited_once (Ok d) history next after reply told a b =
+edited_once : (made : Result Entries Refusal) (history next after : List Entries) (text told : List ℕ)
+    → Edited made history text next → Edited made history told after → (text ≡ told) × (next ≡ after)
+edited_once (Ok d) history next after text told a b =
     let same : next ≡ after = a.0 ∙ sym b.0 in
-    (a.1 ∙ ap (λ (h : List Entries). Done (length h)) same ∙ sym b.1, same)
-edited_once (Err e) history next after reply told a b = (a.1 ∙ sym b.1, a.0 ∙ sym b.0)
+    (a.1 ∙ ap (λ (h : List Entries). done_text (length h)) same ∙ sym b.1, same)
+edited_once (Err e) history next after text told a b = (a.1 ∙ sym b.1, a.0 ∙ sym b.0)
 
-obeyed_once : (r : ℕ) (history next after : List Entries) (asked : Read Command) (reply told : Reply)
-    → IsInGrid (joined_history history) → Obeys r history asked reply next → Obeys r history asked told after
-    → (reply ≡ told) × (next ≡ after)
-obeyed_once r history next after (Ok (commands.Edit edit)) reply told inside a b =
-    edited_once (delta_of_edit r (joined_history history) edit) history next after reply told a b
-obeyed_once r history next after (Ok (commands.Get c)) reply told inside a b =
-    (a.3 ∙ ap Shown (settled_at_most_once (joined_history history) a.1 b.1 inside a.2 b.2 c) ∙ sym b.3, a.0 ∙ sym b.0)
-obeyed_once r history next after (Err e) reply told inside a b = (a.1 ∙ sym b.1, a.0 ∙ sym b.0)
+obeyed_once : (r : ℕ) (history next after : List Entries) (asked : Read Command) (text told : List ℕ)
+    → IsInGrid (joined_history history) → Obeys r history asked text next → Obeys r history asked told after
+    → (text ≡ told) × (next ≡ after)
+obeyed_once r history next after (Ok (commands.Edit edit)) text told inside a b =
+    edited_once (delta_of_edit r (joined_history history) edit) history next after text told a b
+obeyed_once r history next after (Ok (commands.Get c)) text told inside a b =
+    (a.3 ∙ ap value_text (settled_at_most_once (joined_history history) a.1 b.1 inside a.2 b.2 c) ∙ sym b.3, a.0 ∙ sym b.0)
+obeyed_once r history next after (Err e) text told inside a b = (a.1 ∙ sym b.1, a.0 ∙ sym b.0)
 
-edited_in_grid : (made : Result Entries Refusal) (history next : List Entries) (reply : Reply)
+edited_in_grid : (made : Result Entries Refusal) (history next : List Entries) (text : List ℕ)
     → IsInGrid (joined_history history) → ((d : Entries) → made ≡ Ok d → All (λ e. e.0 < CELLS) d)
-    → Edited made history reply next → IsInGrid (joined_history next)
-edited_in_grid (Ok d) history next reply inside all edited =
+    → Edited made history text next → IsInGrid (joined_history next)
+edited_in_grid (Ok d) history next text inside all edited =
     subst (λ (h : List Entries). IsInGrid (joined_history h)) (sym edited.0)
     (subst IsInGrid (sym (joined_history-push history d)) (in_grid_after (joined_history history) d inside (all d refl)))
-edited_in_grid (Err e) history next reply inside all edited =
+edited_in_grid (Err e) history next text inside all edited =
     subst (λ (h : List Entries). IsInGrid (joined_history h)) (sym edited.0) inside
 
-obeyed_in_grid : (r : ℕ) (history next : List Entries) (asked : Read Command) (reply : Reply) → AsksInGrid asked
-    → IsInGrid (joined_history history) → Obeys r history asked reply next → IsInGrid (joined_history next)
-obeyed_in_grid r history next (Ok (commands.Edit edit)) reply asks inside obeys =
-    edited_in_grid (delta_of_edit r (joined_history history) edit) history next reply inside
+obeyed_in_grid : (r : ℕ) (history next : List Entries) (asked : Read Command) (text : List ℕ) → AsksInGrid asked
+    → IsInGrid (joined_history history) → Obeys r history asked text next → IsInGrid (joined_history next)
+obeyed_in_grid r history next (Ok (commands.Edit edit)) text asks inside obeys =
+    edited_in_grid (delta_of_edit r (joined_history history) edit) history next text inside
     (λ d is. made_in_grid r (joined_history history) edit d asks is) obeys
-obeyed_in_grid r history next (Ok (commands.Get c)) reply asks inside obeys =
+obeyed_in_grid r history next (Ok (commands.Get c)) text asks inside obeys =
     subst (λ (h : List Entries). IsInGrid (joined_history h)) (sym obeys.0) inside
-obeyed_in_grid r history next (Err e) reply asks inside obeys =
+obeyed_in_grid r history next (Err e) text asks inside obeys =
     subst (λ (h : List Entries). IsInGrid (joined_history h)) (sym obeys.0) inside
 
 -- two steps from the same sheet with the same reply to the same sheet
@@ -192,15 +190,15 @@ module _ (a b last end : SheetView) (text told : List ℕ) (same : IsSameSheet a
   served_once : (line : List ℕ) → Serves a line text last → Serves b line told end → IsSameStep last end text told
   served_once line s t =
       let asked : s.asked ≡ t.asked = reads_once line s.asked t.asked s.reads t.reads s.ample t.ample in
-      let other : Obeys a.replica a.history s.asked t.reply end.history =
-      subst (λ r. Obeys r a.history s.asked t.reply end.history) (sym same.replica)
-      (subst (λ (h : List Entries). Obeys b.replica h s.asked t.reply end.history) (sym same.history)
-      (subst (λ (q : Read Command). Obeys b.replica b.history q t.reply end.history) (sym asked) t.obeys)) in
-      let once = obeyed_once a.replica a.history last.history end.history s.asked s.reply t.reply inside s.obeys other in
+      let other : Obeys a.replica a.history s.asked told end.history =
+      subst (λ r. Obeys r a.history s.asked told end.history) (sym same.replica)
+      (subst (λ (h : List Entries). Obeys b.replica h s.asked told end.history) (sym same.history)
+      (subst (λ (q : Read Command). Obeys b.replica b.history q told end.history) (sym asked) t.obeys)) in
+      let once = obeyed_once a.replica a.history last.history end.history s.asked text told inside s.obeys other in
       record {
-        text_same = s.told ∙ ap reply_text once.0 ∙ sym t.told;
+        text_same = once.0;
         sheet_same = record { replica = s.replica ∙ same.replica ∙ sym t.replica; history = once.1 };
-        inside = obeyed_in_grid a.replica a.history last.history s.asked s.reply (line_in_grid line s.asked s.reads)
+        inside = obeyed_in_grid a.replica a.history last.history s.asked text (line_in_grid line s.asked s.reads)
             inside s.obeys;
       }
 

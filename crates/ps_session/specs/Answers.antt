@@ -8,40 +8,36 @@ use Rattle.ps_delta.specs.Deltas.{Entries, joined_history}
 use Rattle.ps_sheet.specs.Settled.{IsSettled}
 use Rattle.ps_sheet.specs.Edits.{delta_of_edit}
 use Rattle.ps_sheet.specs.Sheet.{SheetView}
-use Rattle.ps_session.specs.Commands.{ReadsLine, has_memory_reply}
-use Rattle.ps_session.specs.Replies.{refusal_text, reply_text}
+use Rattle.ps_session.specs.Commands.{Read, ReadsLine, has_memory_reply}
+use Rattle.ps_session.specs.Replies.{done_text, refusal_text, value_text}
 use Rattle.ps_session.specs.Transcript.{Answering, Lines}
 use Rattle.ps_session.specs.declared.command.Command.{Command}
 use Rattle.ps_session.specs.declared.command.Command.TheVariants.{Edit, Get}
-use Rattle.ps_session.specs.declared.reply.Reply.{Reply}
-use Rattle.ps_session.specs.declared.reply.Reply.TheVariants.{Done, Refused, Shown}
 
 -- what was made of an edit: its delta ends the history, and the reply is the new version; or it is refused
-abbrev pub Edited : Result Entries Refusal → List Entries → Reply → List Entries → Type 0
-Edited (Ok delta) history reply next = (next ≡ history ++ delta ∷ []) × (reply ≡ Done (length next))
-Edited (Err refusal) history reply next = (next ≡ history) × (reply ≡ Refused refusal)
+abbrev pub Edited : Result Entries Refusal → List Entries → List ℕ → List Entries → Type 0
+Edited (Ok delta) history text next = (next ≡ history ++ delta ∷ []) × (text ≡ done_text (length next))
+Edited (Err refusal) history text next = (next ≡ history) × (text ≡ refusal_text refusal)
 
 -- the command only looks at one cell
 abbrev pub is_get : Command → Bool
 is_get (Edit edit) = false
 is_get (Get cell) = true
 
--- what a replica with a history does where a line asks for this
-abbrev pub Obeys : ℕ → List Entries → Result Command Refusal → Reply → List Entries → Type 0
-Obeys replica history (Ok (Edit edit)) reply next =
-    Edited (delta_of_edit replica (joined_history history) edit) history reply next
-Obeys replica history (Ok (Get cell)) reply next =
-    (next ≡ history) × (v : Assignment) × IsSettled (joined_history history) v × (reply ≡ Shown (v cell))
-Obeys replica history (Err refusal) reply next = (next ≡ history) × (reply ≡ Refused refusal)
+-- what a replica with a history does where a line asks for this: the reply, and the history afterwards
+abbrev pub Obeys : ℕ → List Entries → Read Command → List ℕ → List Entries → Type 0
+Obeys replica history (Ok (Edit edit)) text next =
+    Edited (delta_of_edit replica (joined_history history) edit) history text next
+Obeys replica history (Ok (Get cell)) text next =
+    (next ≡ history) × (v : Assignment) × IsSettled (joined_history history) v × (text ≡ value_text (v cell))
+Obeys replica history (Err refusal) text next = (next ≡ history) × (text ≡ refusal_text refusal)
 
 -- a line does what it asks for
 pub record Serves (old : SheetView) (line text : List ℕ) (new : SheetView) : Type 0 where
-  pub asked : Result Command Refusal
-  pub reply : Reply
+  pub asked : Read Command
   pub reads : ReadsLine line asked
   pub ample : asked ≢ Err refusals.Memory
-  pub obeys : Obeys old.replica old.history asked reply new.history
-  pub told : text ≡ reply_text reply
+  pub obeys : Obeys old.replica old.history asked text new.history
   pub replica : new.replica ≡ old.replica
 
 -- for want of memory a line does nothing; no `get` is answered so

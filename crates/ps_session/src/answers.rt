@@ -3,6 +3,7 @@ ghost use Rattle.std.specs.Prelude.{◌≡◌, ◌⊎◌, Ok, false};
 ghost use Rattle.ps_delta.specs.Deltas.{joined_history};
 ghost use Rattle.ps_sheet.specs.Edits.{delta_of_edit};
 ghost use Rattle.ps_session.specs.Answers.{Edited, Obeys, is_get};
+ghost use Rattle.ps_session.specs.Replies.{refusal_text, reply_text};
 
 use crate::board::Board;
 use crate::command::Command;
@@ -33,8 +34,8 @@ fn obey<L: Ledger>(
     sheet: &mut Sheet,
     meter: &mut Meter<L>,
 ) -> Reply
-    ensures obeyed { Obeys sheet.old.replica sheet.old.history (Ok command) result sheet.new.history
-        ⊎ ((is_get command ≡ false) × (result ≡ Reply.Refused Refusal.Memory)
+    ensures obeyed { Obeys sheet.old.replica sheet.old.history (Ok command) (reply_text result) sheet.new.history
+        ⊎ ((is_get command ≡ false) × (reply_text result ≡ refusal_text Refusal.Memory)
         × (sheet.new.history ≡ sheet.old.history)) }
     ensures replica { sheet.new.replica ≡ sheet.old.replica }
 {
@@ -47,8 +48,8 @@ fn obey<L: Ledger>(
 /// Carries out an edit, and tells the version or the refusal.
 fn carry_out<L: Ledger>(alloc: Global, edit: Edit, sheet: &mut Sheet, meter: &mut Meter<L>) -> Reply
     ensures edited { Edited (delta_of_edit sheet.old.replica (joined_history sheet.old.history) edit) sheet.old.history
-        result sheet.new.history
-        ⊎ ((result ≡ Reply.Refused Refusal.Memory) × (sheet.new.history ≡ sheet.old.history)) }
+        (reply_text result) sheet.new.history
+        ⊎ ((reply_text result ≡ refusal_text Refusal.Memory) × (sheet.new.history ≡ sheet.old.history)) }
     ensures replica { sheet.new.replica ≡ sheet.old.replica }
 {
     match sheet.edit(alloc, edit, meter) {

@@ -1,20 +1,26 @@
 //! What a line is answered.
-ghost use Rattle.std.specs.Prelude.{◌≡◌, ◌<◌, ◌++◌, ◌∷◌, [], OnErr, OnOk, codes, flat_map};
+ghost use Rattle.std.specs.Prelude.{◌≡◌, ◌<◌, ◌++◌, ◌∷◌, [], OnErr, OnOk, codes, decimal, flat_map};
 ghost use Rattle.ps_value.specs.Device.{Sends};
 ghost use Rattle.ps_value.specs.Shown.{shown_text};
-ghost use Rattle.ps_session.specs.Replies.{reply_text};
+ghost use Rattle.ps_session.specs.Replies.{reply_text, rows_text};
 
 use itoa::Buffer;
 use ps_grid::Refusal;
 use ps_value::{Failed, Sink, Value, put_all, write_shown};
 
 /// The reply to a line.
-#[derive(Clone, Copy)]
+#[derive(Drop)]
 pub enum Reply {
     /// `ok` and the version.
     Done(u64),
     /// `val` and what the cell shows.
     Shown(Value),
+    /// `rows` and how many lines a table has, and then the lines, each with its line feed.
+    Rows(u64, Vec<u8>),
+    /// `delta`, the version behind it and its line.
+    Delta(u64, Vec<u8>),
+    /// `end` and the version.
+    End(u64),
     /// `err`, the refusal's number and its name.
     Refused(Refusal),
 }
@@ -57,22 +63,57 @@ fn send_shown<K: Sink>(value: Value, sink: &mut K) -> Result<(), Failed>
 }
 
 /// Writes a reply and its line feed. The number of writes is constant.
-pub fn send<K: Sink>(reply: Reply, sink: &mut K) -> Result<(), Failed>
-    ensures sent { Sends (K.contents sink.old) (K.contents sink.new) result (reply_text reply) }
+pub fn send<K: Sink>(reply: &Reply, sink: &mut K) -> Result<(), Failed>
+    ensures sent { Sends (K.contents sink.old) (K.contents sink.new) result (reply_text reply.now) }
+    ensures calm { OnOk result (K.failures sink.new ≡ K.failures sink.old) }
+    ensures failed { OnErr result (K.failures sink.old < K.failures sink.new) }
+{
+    match reply {
+        Reply::Done(version) => send_number(b"ok ", *version, sink),
+        Reply::Shown(value) => send_shown(*value, sink),
+        Reply::Rows(count, table) => send_rows(*count, table, sink),
+        Reply::Delta(last, line) => send_words(b"delta ", *last, line, sink),
+        Reply::End(version) => send_number(b"end ", *version, sink),
+        Reply::Refused(refusal) => send_words(
+            b"err ",
+            u64::from(refusal.number()),
+            refusal.name().as_bytes(),
+            sink,
+        ),
+    }
+}
+
+/// Writes a word with its space, a number and a line feed.
+fn send_number<K: Sink>(word: &[u8], number: u64, sink: &mut K) -> Result<(), Failed>
+    ensures sent { Sends (K.contents sink.old) (K.contents sink.new) result
+        (word.now ++ decimal number ++ 10 ∷ []) }
     ensures calm { OnOk result (K.failures sink.new ≡ K.failures sink.old) }
     ensures failed { OnErr result (K.failures sink.old < K.failures sink.new) }
 {
     let mut buffer = Buffer::new();
-    match reply {
-        Reply::Done(version) => {
-            let pieces: [&[u8]; 3] = [b"ok ", buffer.format(version).as_bytes(), b"\n"];
-            send_pieces(pieces.as_slice(), sink)
-        }
-        Reply::Shown(value) => send_shown(value, sink),
-        Reply::Refused(refusal) => {
-            let number = buffer.format(refusal.number()).as_bytes();
-            let pieces: [&[u8]; 5] = [b"err ", number, b" ", refusal.name().as_bytes(), b"\n"];
-            send_pieces(pieces.as_slice(), sink)
-        }
-    }
+    let pieces: [&[u8]; 3] = [word, buffer.format(number).as_bytes(), b"\n"];
+    send_pieces(pieces.as_slice(), sink)
+}
+
+/// Writes a word with its space, a number, a text behind a space, and a line feed.
+fn send_words<K: Sink>(word: &[u8], number: u64, text: &[u8], sink: &mut K) -> Result<(), Failed>
+    ensures sent { Sends (K.contents sink.old) (K.contents sink.new) result
+        (word.now ++ decimal number ++ (codes " " ++ text.now) ++ 10 ∷ []) }
+    ensures calm { OnOk result (K.failures sink.new ≡ K.failures sink.old) }
+    ensures failed { OnErr result (K.failures sink.old < K.failures sink.new) }
+{
+    let mut buffer = Buffer::new();
+    let pieces: [&[u8]; 5] = [word, buffer.format(number).as_bytes(), b" ", text, b"\n"];
+    send_pieces(pieces.as_slice(), sink)
+}
+
+/// Writes how many lines a table has, and the table.
+fn send_rows<K: Sink>(count: u64, table: &[u8], sink: &mut K) -> Result<(), Failed>
+    ensures sent { Sends (K.contents sink.old) (K.contents sink.new) result (rows_text count table.now) }
+    ensures calm { OnOk result (K.failures sink.new ≡ K.failures sink.old) }
+    ensures failed { OnErr result (K.failures sink.old < K.failures sink.new) }
+{
+    let mut buffer = Buffer::new();
+    let pieces: [&[u8]; 4] = [b"rows ", buffer.format(count).as_bytes(), b"\n", table];
+    send_pieces(pieces.as_slice(), sink)
 }

@@ -36,7 +36,7 @@ fn answer<B: Board<M>, M, K: Sink>(
         return Ok(());
     }
     let reply = board.answer(alloc, line, lent);
-    send(reply, sink)?;
+    send(&reply, sink)?;
     *answered = count.saturating_add(1);
     Ok(())
 }
@@ -49,7 +49,7 @@ fn refuse<K: Sink>(sink: &mut K, answered: &mut u64) -> Result<(), Failed>
     ensures failed { OnErr result (K.failures sink.old < K.failures sink.new) }
 {
     let count = *answered;
-    send(Reply::Refused(Refusal::Line), sink)?;
+    send(&Reply::Refused(Refusal::Line), sink)?;
     *answered = count.saturating_add(1);
     Ok(())
 }
