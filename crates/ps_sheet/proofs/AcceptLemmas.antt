@@ -1,11 +1,11 @@
 -- Runs of accepted deltas.
-use Rattle.std.proofs.Common.{◌≡◌, List, [], ◌∷◌, ◌++◌, ◌⊎◌, ⊎_elim, sym, ap, ◌∙◌, Contains, ◌↔◌}
+use Rattle.std.proofs.Common.{◌≡◌, List, [], ◌∷◌, ⊎_elim, sym, ap, ◌∙◌}
 use Rattle.std.proofs.lemmas.List.{append-nil}
-use Rattle.ps_delta.specs.State.{State, IsBelow, joined_state}
+use Rattle.ps_delta.specs.State.{State, joined_state}
 use Rattle.ps_delta.specs.Deltas.{Entries, state_of, joined_history}
 use Rattle.ps_delta.proofs.StateLemmas.{joined_state-assoc}
 use Rattle.ps_delta.proofs.HistoryLemmas.{by_set, joined_history-append, joined_history-cons, joined_history-push}
-use Rattle.ps_sheet.specs.Sheet.{Takes, Accepts, AcceptedDeltasJoin, TookTheSame}
+use Rattle.ps_sheet.specs.Sheet.{Takes, AcceptedDeltasJoin, TookTheSame}
 
 -- an accepted delta is joined in, whether it was appended or was below
 taken_joins : (d : Entries) (h k : List Entries) → Takes d h k

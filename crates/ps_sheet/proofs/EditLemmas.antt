@@ -1,5 +1,5 @@
 -- The delta of an edit is new: it isn't below the state that it was made over.
-use Rattle.std.proofs.Common.{◌≡◌, ◌≢◌, ℕ, List, [], ◌∷◌, Result, Ok, Err, IfOk, Option, None, refl, sym, ap, ◌∙◌}
+use Rattle.std.proofs.Common.{◌≡◌, ◌≢◌, ℕ, [], ◌∷◌, Result, Ok, Err, IfOk, Option, refl, sym, ap, ◌∙◌}
 use Rattle.std.proofs.Common.{subst}
 use Rattle.std.specs.FinMap as map
 use Rattle.ps_grid.specs.declared.refusal.Refusal.{Refusal}
@@ -10,7 +10,7 @@ use Rattle.ps_lattice.specs.Choice.{Pairs, joined_choices}
 use Rattle.ps_content.specs.declared.content.Content.{Content}
 use Rattle.ps_content.specs.Order.{content_cmp}
 use Rattle.ps_delta.specs.declared.cell_state.CellState.{CellState}
-use Rattle.ps_delta.specs.State.{State, IsBelow, empty_cell, joined_cell, joined_state}
+use Rattle.ps_delta.specs.State.{State, IsBelow, empty_cell, joined_cell}
 use Rattle.ps_delta.specs.Deltas.{Entries, state_of}
 use Rattle.ps_delta.specs.CellLaws.{joined_cell-empty_right, joined_cell-register, joined_cell-tally}
 use Rattle.ps_delta.specs.CellLaws.{joined_cell-choice}

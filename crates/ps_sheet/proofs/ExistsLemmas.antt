@@ -1,22 +1,13 @@
 -- A state has a settled assignment: a search for a cell that is ready goes on until none is.
-use Rattle.std.proofs.Common.{◌≡◌, ◌≢◌, ℕ, zero, suc, ◌+◌, ◌<◌, ◌≤◌, Bool, true, false, cond, ◌⊎◌, inl, inr, refl}
-use Rattle.std.proofs.Common.{sym, ap, ◌∙◌, arith, ⊎_elim, subst, nat_eq}
+use Rattle.std.proofs.Common.{◌≡◌, ◌≢◌, ℕ, zero, suc, ◌+◌, ◌<◌, Bool, true, false, cond, ◌⊎◌, inl, inr, refl}
+use Rattle.std.proofs.Common.{sym, ap, arith, ⊎_elim, subst, nat_eq}
 use Rattle.std.proofs.lemmas.Grind.{common_steps}
-use Rattle.std.proofs.lemmas.Bool.{cases_eq, cases_lt}
-use Rattle.ps_value.specs.declared.value.Value.{Value}
-use Rattle.ps_value.specs.declared.value.Value.TheVariants.{Empty, Num, Err}
-use Rattle.ps_value.specs.declared.value.Fault.{Fault}
+use Rattle.std.proofs.lemmas.Bool.{cases_eq}
 use Rattle.ps_grid.specs.declared.size.TheConstants.{CELLS}
-use Rattle.ps_formula.specs.Tree.{Tree}
-use Rattle.ps_formula.specs.References.{mentions}
-use Rattle.ps_eval.specs.Value.{ev}
-use Rattle.ps_delta.specs.State.{IsInGrid, State}
+use Rattle.ps_delta.specs.State.{State}
 use Rattle.ps_sheet.specs.Settled.{content_of}
-use Rattle.ps_delta.specs.declared.cell_state.CellState.{CellState}
-use Rattle.ps_content.specs.declared.content.Content.{Content}
-use Rattle.ps_content.specs.declared.content.Content.TheVariants.{Blank, Number, Text, Formula, Tally, Choice}
 use Rattle.ps_eval.specs.Items.{Assignment}
-use Rattle.ps_sheet.specs.Settled.{refers_to, value_of, IsSettled, SettledAtLeastOnce}
+use Rattle.ps_sheet.specs.Settled.{refers_to, value_of, SettledAtLeastOnce}
 use Rattle.ps_sheet.specs.Rounds.{is_waiting, is_formula, first_value, Progress, IsReady, IsHeld, Evaluates}
 use Rattle.ps_sheet.proofs.SettledLemmas.{bool_cases, true_not_false, formula_below, progress_start, progress_step}
 use Rattle.ps_sheet.proofs.SettledLemmas.{step_done, settled_at_end}

@@ -1,6 +1,6 @@
 -- Members of a list that is edited at one place.
 use Rattle.std.proofs.Common.{◌≡◌, ◌≢◌, ℕ, ◌<◌, Bool, true, false, cond, List, ◌∷◌, length, get_or, nat_eq, nat_cmp}
-use Rattle.std.proofs.Common.{Equal, sym, ◌∙◌, subst, ⊎_elim}
+use Rattle.std.proofs.Common.{Equal, sym, ◌∙◌, ⊎_elim}
 use Rattle.std.specs.List.{insert, remove}
 use Rattle.std.specs.FinMap.{nat_cmp-IsAntisymmetric}
 use Rattle.std.proofs.lemmas.List.Sorted.{IsPermutation-insert, IsPermutation-remove, list_any-IsPermutation}

@@ -1,6 +1,6 @@
 -- The walk over the cells that a formula refers to.
-use Rattle.std.proofs.Common.{◌≡◌, ℕ, ◌<◌, Bool, true, false, List, ◌⊎◌, inl, inr, sym, ap, ◌∙◌, subst}
-use Rattle.ps_grid.specs.Rectangle.{Area, IsInGrid, area, nth_cell, place_of, is_inside}
+use Rattle.std.proofs.Common.{◌≡◌, ℕ, ◌<◌, true, false, subst}
+use Rattle.ps_grid.specs.Rectangle.{Area, IsInGrid, area, nth_cell, place_of}
 use Rattle.ps_grid.proofs.AreaLemmas.{is_inside-nth_cell, place_of-below, nth_cell-place_of}
 use Rattle.ps_eval.specs.Items.{Assignment}
 use Rattle.ps_sheet.specs.Rounds.{is_waiting, IsFree, HasWaiting}

@@ -1,6 +1,6 @@
 -- The delta of a batch: cells with contents.
-use Rattle.std.proofs.Common.{◌≡◌, ◌≢◌, ℕ, zero, suc, ◌+◌, ◌<◌, ◌≤◌, Bool, true, false, List, [], ◌∷◌, length, map}
-use Rattle.std.proofs.Common.{get_or, Option, Some, None, is_some, Result, Ok, Err, nat_cmp, refl, sym, ap, ◌∙◌}
+use Rattle.std.proofs.Common.{◌≡◌, ◌≢◌, ℕ, ◌+◌, ◌<◌, Bool, true, false, List, [], ◌∷◌, length, map}
+use Rattle.std.proofs.Common.{get_or, Option, Some, None, is_some, Ok, Err, nat_cmp, refl, sym, ap, ◌∙◌}
 use Rattle.std.proofs.Common.{arith, subst}
 use Rattle.std.specs.List.{All, list_any, remove}
 use Rattle.std.specs.List.Sorted.{IsStrictlyIncreasing}
@@ -12,19 +12,18 @@ use Rattle.std.proofs.lemmas.Simd.{map-map}
 use Rattle.std.proofs.lemmas.List.{length-map}
 use Rattle.std.proofs.lemmas.List.Elements.{All-map, All-cons, All-nil}
 use Rattle.std.proofs.lemmas.List.Sorted.{IsPermutation-remove, list_any-IsPermutation}
-use Rattle.std.proofs.lemmas.Grind.{common_steps}
 use Rattle.ps_grid.specs.declared.refusal.Refusal.TheVariants.{ClockFull}
 use Rattle.ps_lattice.specs.declared.register.Assignment.{Assignment}
-use Rattle.ps_lattice.specs.Register.{joined_registers, assignment_cmp, time_of, later}
+use Rattle.ps_lattice.specs.Register.{joined_registers, assignment_cmp, time_of}
 use Rattle.ps_lattice.specs.Orders.{larger_lt}
 use Rattle.ps_content.specs.declared.content.Content.{Content}
 use Rattle.ps_content.specs.Order.{content_cmp}
 use Rattle.ps_delta.specs.declared.cell_state.CellState.{CellState}
-use Rattle.ps_delta.specs.State.{State, IsBelow, empty_cell, joined_cell}
-use Rattle.ps_delta.specs.Deltas.{Entries, IsDelta, cells_of, state_of}
+use Rattle.ps_delta.specs.State.{State, IsBelow, empty_cell}
+use Rattle.ps_delta.specs.Deltas.{IsDelta, state_of}
 use Rattle.ps_delta.proofs.EntryLemmas.{state_of-here}
 use Rattle.ps_sheet.specs.Batches.{IsBatch}
-use Rattle.ps_sheet.specs.Edits.{assigned, registered, is_clock_full, delta_of_batch, refused_if}
+use Rattle.ps_sheet.specs.Edits.{assigned, is_clock_full, delta_of_batch, refused_if}
 use Rattle.ps_sheet.proofs.EditLemmas.{new_at, new_register}
 
 -- a full clock among the cells refuses the batch

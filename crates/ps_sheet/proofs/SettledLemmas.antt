@@ -1,13 +1,11 @@
 -- Settled values: rounds lead to them, and a state has exactly one assignment of them.
-use Rattle.std.proofs.Common.{◌≡◌, ◌≢◌, ℕ, ◌<◌, ◌≤◌, Bool, true, false, ◌⊎◌, inl, inr, refl, sym, ap, ◌∙◌, arith}
+use Rattle.std.proofs.Common.{◌≡◌, ℕ, ◌<◌, Bool, true, false, ◌⊎◌, inl, inr, refl, sym, ap, ◌∙◌}
 use Rattle.std.proofs.Common.{⊎_elim, subst}
 use Rattle.std.proofs.lemmas.Bool.{cases_eq, cases_lt}
 use Rattle.ps_value.specs.declared.value.Value.{Value}
 use Rattle.ps_value.specs.declared.value.Value.TheVariants.{Empty, Num, Err}
 use Rattle.ps_value.specs.declared.value.Fault.{Fault}
 use Rattle.ps_grid.specs.declared.size.TheConstants.{CELLS}
-use Rattle.ps_formula.specs.Tree.{Tree}
-use Rattle.ps_formula.specs.References.{mentions}
 use Rattle.ps_eval.specs.Value.{ev}
 use Rattle.ps_delta.specs.State.{State, IsInGrid, empty_cell}
 use Rattle.ps_sheet.specs.Settled.{content_of}

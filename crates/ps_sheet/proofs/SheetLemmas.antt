@@ -1,19 +1,19 @@
 -- What an appended delta does to a sheet.
-use Rattle.std.proofs.Common.{◌≡◌, ◌≢◌, ℕ, ◌+◌, ◌<◌, ◌≤◌, Bool, true, false, ◌||◌, ◌⊎◌, inl, inr, List, [], ◌∷◌}
+use Rattle.std.proofs.Common.{◌≡◌, ◌≢◌, ℕ, ◌<◌, ◌≤◌, true, false, ◌⊎◌, inl, inr, List, [], ◌∷◌}
 use Rattle.std.proofs.Common.{◌++◌, length, take, get_or, length-append, nat_eq, refl, sym, ap, ◌∙◌, arith, ⊎_elim}
 use Rattle.std.proofs.Common.{subst}
-use Rattle.std.specs.List.{All, list_any}
+use Rattle.std.specs.List.{All}
 use Rattle.std.proofs.Math.ListN.{get_or-append}
 use Rattle.std.proofs.Math.Seq.{get_or-append_seam, take-append_seam}
 use Rattle.std.proofs.lemmas.List.{take-append-le, same_lists, get_or_default}
 use Rattle.std.proofs.lemmas.List.Folds.{list_any_none}
 use Rattle.std.proofs.lemmas.List.Elements.{All-weaker}
 use Rattle.std.proofs.lemmas.Grind.{common_steps}
-use Rattle.std.proofs.lemmas.Bool.{cases_eq, cases_lt}
+use Rattle.std.proofs.lemmas.Bool.{cases_lt}
 use Rattle.ps_grid.specs.declared.size.TheConstants.{CELLS}
 use Rattle.ps_grid.specs.Chains.{In}
 use Rattle.ps_value.specs.declared.value.Value.{Value}
-use Rattle.ps_value.specs.declared.value.Value.TheVariants.{Empty, Num, Err}
+use Rattle.ps_value.specs.declared.value.Value.TheVariants.{Empty}
 use Rattle.ps_delta.specs.declared.cell_state.CellState.{CellState}
 use Rattle.ps_content.specs.declared.content.Content.{Content}
 use Rattle.ps_content.specs.declared.content.Content.TheVariants.{Blank, Number, Text, Formula, Tally, Choice}
@@ -22,13 +22,13 @@ use Rattle.ps_delta.specs.Deltas.{Entries, state_of, joined_history}
 use Rattle.ps_sheet.specs.Settled.{content_of}
 use Rattle.ps_lattice.specs.declared.limits.TheConstants.{REPLICAS}
 use Rattle.ps_eval.specs.Items.{Assignment}
-use Rattle.ps_sheet.specs.Settled.{value_by, Cyclic, IsSettled, shown_at}
+use Rattle.ps_sheet.specs.Settled.{value_by, IsSettled, shown_at}
 use Rattle.ps_sheet.specs.Rounds.{is_waiting, is_formula, first_by, first_value, ListsFormulas}
 use Rattle.ps_sheet.specs.Changes.{names}
 use Rattle.ps_sheet.specs.Sheet.{SheetView, IsFresh, IsSheet}
 use Rattle.ps_delta.specs.CellLaws.{joined_cell-empty_right}
 use Rattle.ps_delta.proofs.StateLemmas.{joined_state-at}
-use Rattle.ps_delta.proofs.EntryLemmas.{state_of-nil, state_of-there}
+use Rattle.ps_delta.proofs.EntryLemmas.{state_of-there}
 use Rattle.ps_delta.proofs.HistoryLemmas.{joined_history-nil, joined_history-push}
 use Rattle.ps_sheet.proofs.SettledLemmas.{bool_cases, true_not_false, not_cyclic, refers_formula, progress_start}
 use Rattle.ps_sheet.proofs.SettledLemmas.{settled_at_end, settled_at_most_once}

@@ -1,7 +1,6 @@
 -- A change of some cells.
-use Rattle.std.specs.Prelude.{ℕ, Bool, cond, List, nat_eq}
+use Rattle.std.specs.Prelude.{ℕ, Bool, cond, nat_eq}
 use Rattle.std.specs.List.{list_any}
-use Rattle.ps_delta.specs.declared.cell_state.CellState.{CellState}
 use Rattle.ps_delta.specs.State.{State}
 use Rattle.ps_delta.specs.Deltas.{Entries}
 use Rattle.ps_eval.specs.Items.{Assignment}

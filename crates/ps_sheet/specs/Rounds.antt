@@ -3,7 +3,6 @@ use Rattle.std.specs.Prelude.{◌≡◌, ◌≢◌, ℕ, Bool, true, false, cond
 use Rattle.ps_value.specs.declared.value.Value.{Value}
 use Rattle.ps_value.specs.declared.value.Value.TheVariants.{Empty, Num, Err}
 use Rattle.ps_value.specs.declared.value.Fault.{Fault}
-use Rattle.ps_grid.specs.declared.size.TheConstants.{CELLS}
 use Rattle.ps_grid.specs.Chains.{In}
 use Rattle.ps_grid.specs.Rectangle.{Area, is_inside}
 use Rattle.ps_formula.specs.Tree.{Tree}

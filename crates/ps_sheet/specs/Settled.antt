@@ -1,11 +1,9 @@
 -- What a sheet shows: references of a cell, the value of a cell, and settled values.
-use Rattle.std.specs.Prelude.{◌≡◌, ℕ, ◌≤◌, ◌↔◌, Bool, true, false, List, slice_index_or}
+use Rattle.std.specs.Prelude.{◌≡◌, ℕ, ◌↔◌, Bool, false, List, slice_index_or}
 use Rattle.ps_grid.specs.Chains.{References, IsCyclic}
 use Rattle.ps_value.specs.declared.value.Value.{Value}
 use Rattle.ps_value.specs.declared.value.Value.TheVariants.{Empty, Num, Err}
 use Rattle.ps_value.specs.declared.value.Fault.{Fault}
-use Rattle.ps_grid.specs.declared.size.TheConstants.{CELLS}
-use Rattle.ps_formula.specs.Tree.{Tree}
 use Rattle.ps_formula.specs.References.{mentions}
 use Rattle.ps_eval.specs.Items.{Assignment}
 use Rattle.ps_eval.specs.Value.{ev}

@@ -1,6 +1,6 @@
 -- A code of what contracts see of a sheet. Nothing but the view of `Sheet` uses it.
 use Rattle.std.specs.Prelude.{ℕ, List, refl}
-use Rattle.std.specs.Coded.{Coded, code_by, codes, coded×, coded_ℕ, coded_list}
+use Rattle.std.specs.Coded.{Coded, code_by, coded×, coded_ℕ, coded_list}
 use Rattle.ps_value.specs.declared.value.Value.{Value}
 use Rattle.ps_value.specs.contracts.value.Value as value
 use Rattle.ps_delta.specs.Deltas.{Entries}

@@ -1,12 +1,12 @@
 //! What a change of some cells does to the list of the formula cells, and to the values that are shown.
 
-ghost use Rattle.std.specs.Prelude.{◌≡◌, ◌≢◌, ◌+◌, ◌<◌, ◌≤◌, ◌⊎◌, ℕ, true, false, length, nat_eq, slice_set, vec_len, vec_capacity, All, OnOk, OnErr, IfErr};
+ghost use Rattle.std.specs.Prelude.{◌≡◌, ◌≢◌, ◌+◌, ◌<◌, ◌≤◌, ◌⊎◌, ℕ, true, false, length, nat_eq, slice_set};
+ghost use Rattle.std.specs.Prelude.{vec_len, vec_capacity, All, OnOk, OnErr, IfErr};
 ghost use Rattle.std.specs.List.{list_any};
 ghost use Rattle.ps_grid.specs.Chains.{In};
 ghost use Rattle.ps_delta.specs.State.{IsInGrid, joined_state, state_at};
 ghost use Rattle.ps_delta.specs.Deltas.{state_of};
-ghost use Rattle.ps_sheet.specs.Settled.{content_of};
-ghost use Rattle.ps_sheet.specs.Settled.{IsSettled, shown_at};
+ghost use Rattle.ps_sheet.specs.Settled.{content_of, IsSettled, shown_at};
 ghost use Rattle.ps_sheet.specs.Rounds.{first_value, is_formula, ListsFormulas};
 ghost use Rattle.ps_sheet.specs.Changes.{names, restarted};
 
@@ -45,7 +45,8 @@ fn enlist(grid: &Grid, cell: Cell, formulas: &mut Vec<Cell>)
 /// Brings the list of the formula cells up to date after a change of the named cells.
 pub(crate) fn enlist_all(grid: &Grid, named: &[(Cell, CellState)], formulas: &mut Vec<Cell>)
     requires room { vec_len formulas.old + length named.now ≤ vec_capacity formulas.old }
-    requires before { (c : ℕ) → is_formula (content_of (state_at grid.now c)) ≡ true → (names named.now c ≡ true) ⊎ In formulas.old.items c }
+    requires before { (c : ℕ) → is_formula (content_of (state_at grid.now c)) ≡ true
+        → (names named.now c ≡ true) ⊎ In formulas.old.items c }
     ensures listed { ListsFormulas (state_at grid.now) formulas.new.items }
 {
     for (cell, _) in named {
@@ -65,7 +66,8 @@ fn restart(grid: &Grid, cell: Cell, shown: &mut [Value])
 /// Lets the named cells show their first values.
 fn restart_named(grid: &Grid, named: &[(Cell, CellState)], shown: &mut [Value])
     requires whole { CELLS ≤ length shown.old }
-    ensures restarted { (c : ℕ) → shown_at shown.new c ≡ restarted (state_at grid.now) (names named.now c) (shown_at shown.old) c }
+    ensures restarted { (c : ℕ) → shown_at shown.new c
+        ≡ restarted (state_at grid.now) (names named.now c) (shown_at shown.old) c }
 {
     for (cell, _) in named {
         restart(grid, *cell, shown);
@@ -75,7 +77,8 @@ fn restart_named(grid: &Grid, named: &[(Cell, CellState)], shown: &mut [Value])
 /// Lets the cells of a list show their first values.
 fn restart_listed(grid: &Grid, cells: &[Cell], shown: &mut [Value])
     requires whole { CELLS ≤ length shown.old }
-    ensures restarted { (c : ℕ) → shown_at shown.new c ≡ restarted (state_at grid.now) (list_any (nat_eq c) cells.now) (shown_at shown.old) c }
+    ensures restarted { (c : ℕ) → shown_at shown.new c
+        ≡ restarted (state_at grid.now) (list_any (nat_eq c) cells.now) (shown_at shown.old) c }
 {
     for cell in cells {
         restart(grid, *cell, shown);
@@ -94,7 +97,8 @@ pub(crate) fn resettle<L: Ledger>(
     requires in_grid { IsInGrid (state_at grid.now) }
     requires listed { ListsFormulas (state_at grid.now) formulas.now }
     // a cell that isn't named and has no formula shows its value already
-    requires kept { (c : ℕ) → names named.now c ≡ false → is_formula (content_of (state_at grid.now c)) ≡ false → shown_at shown.old c ≡ first_value (state_at grid.now c) }
+    requires kept { (c : ℕ) → names named.now c ≡ false → is_formula (content_of (state_at grid.now c)) ≡ false
+        → shown_at shown.old c ≡ first_value (state_at grid.now c) }
     ensures settled { IsSettled (state_at grid.now) (shown_at shown.new) }
 {
     restart_named(grid, named, shown);
@@ -122,7 +126,8 @@ pub(crate) fn take_in<L: Ledger>(
     ensures listed { OnOk result (ListsFormulas (state_at grid.new) formulas.new.items) }
     ensures settled { OnOk result (IsSettled (state_at grid.new) (shown_at shown.new)) }
     ensures memory { IfErr result (λ e. e ≡ Refusal.Memory) }
-    ensures kept { OnErr result ((grid.new ≡ grid.old) × (formulas.new.items ≡ formulas.old.items) × (shown.new ≡ shown.old)) }
+    ensures kept { OnErr result
+        ((grid.new ≡ grid.old) × (formulas.new.items ≡ formulas.old.items) × (shown.new ≡ shown.old)) }
     ensures unmetered { OnErr result (meter.new ≡ meter.old) }
 {
     let named = delta.parts();

@@ -8,7 +8,8 @@ ghost use Rattle.ps_delta.specs.Deltas.{state_of};
 ghost use Rattle.ps_lattice.specs.Tally.{is_amount};
 ghost use Rattle.ps_sheet.specs.Settled.{content_of};
 ghost use Rattle.ps_sheet.specs.Batches.{IsBatch};
-ghost use Rattle.ps_sheet.specs.Edits.{counted, delta_of_batch, delta_of_edit, holds_choice, holds_tally, paired, registered};
+ghost use Rattle.ps_sheet.specs.Edits.{counted, paired, registered, delta_of_batch, delta_of_edit};
+ghost use Rattle.ps_sheet.specs.Edits.{holds_choice, holds_tally};
 
 use crate::edit::Edit;
 use ps_content::Content;
@@ -27,7 +28,8 @@ pub(crate) fn delta_of(
     requires { (1 ≤ replica) × (replica ≤ REPLICAS) }
     ensures made { IfOk result (λ d. delta_of_edit replica (state_at grid.now) edit ≡ Ok d) }
     ensures fresh { IfOk result (λ d. ¬ IsBelow (state_of d) (state_at grid.now)) }
-    ensures refused { IfErr result (λ e. (e ≡ Refusal.Memory) ⊎ (delta_of_edit replica (state_at grid.now) edit ≡ Err e)) }
+    ensures refused { IfErr result (λ e. (e ≡ Refusal.Memory)
+        ⊎ (delta_of_edit replica (state_at grid.now) edit ≡ Err e)) }
 {
     match edit {
         Edit::Set(cell, content) => {
@@ -54,7 +56,8 @@ fn assigned(
     requires batch { IsBatch cells.items }
     ensures made { IfOk result (λ d. delta_of_batch replica (state_at grid.now) cells.items ≡ Ok d) }
     ensures fresh { IfOk result (λ d. ¬ IsBelow (state_of d) (state_at grid.now)) }
-    ensures refused { IfErr result (λ e. (e ≡ Refusal.Memory) ⊎ (delta_of_batch replica (state_at grid.now) cells.items ≡ Err e)) }
+    ensures refused { IfErr result (λ e. (e ≡ Refusal.Memory)
+        ⊎ (delta_of_batch replica (state_at grid.now) cells.items ≡ Err e)) }
 {
     let mut entries = Vec::new(alloc);
     for (cell, content) in cells {
@@ -83,7 +86,8 @@ fn added(alloc: Global, grid: &Grid, replica: u8, cell: Cell, amount: u64) -> Re
     requires { (1 ≤ replica) × (replica ≤ REPLICAS) }
     ensures made { IfOk result (λ d. delta_of_edit replica (state_at grid.now) (Edit.Add cell amount) ≡ Ok d) }
     ensures fresh { IfOk result (λ d. ¬ IsBelow (state_of d) (state_at grid.now)) }
-    ensures refused { IfErr result (λ e. (e ≡ Refusal.Memory) ⊎ (delta_of_edit replica (state_at grid.now) (Edit.Add cell amount) ≡ Err e)) }
+    ensures refused { IfErr result (λ e. (e ≡ Refusal.Memory)
+        ⊎ (delta_of_edit replica (state_at grid.now) (Edit.Add cell amount) ≡ Err e)) }
 {
     let state = grid.at(cell);
     check_amount(amount)?;
@@ -103,7 +107,8 @@ fn subtracted(
     requires { (1 ≤ replica) × (replica ≤ REPLICAS) }
     ensures made { IfOk result (λ d. delta_of_edit replica (state_at grid.now) (Edit.Sub cell amount) ≡ Ok d) }
     ensures fresh { IfOk result (λ d. ¬ IsBelow (state_of d) (state_at grid.now)) }
-    ensures refused { IfErr result (λ e. (e ≡ Refusal.Memory) ⊎ (delta_of_edit replica (state_at grid.now) (Edit.Sub cell amount) ≡ Err e)) }
+    ensures refused { IfErr result (λ e. (e ≡ Refusal.Memory)
+        ⊎ (delta_of_edit replica (state_at grid.now) (Edit.Sub cell amount) ≡ Err e)) }
 {
     let state = grid.at(cell);
     check_amount(amount)?;
@@ -123,7 +128,8 @@ fn chosen(
     requires { (1 ≤ replica) × (replica ≤ REPLICAS) }
     ensures made { IfOk result (λ d. delta_of_edit replica (state_at grid.now) (Edit.Choose cell option) ≡ Ok d) }
     ensures fresh { IfOk result (λ d. ¬ IsBelow (state_of d) (state_at grid.now)) }
-    ensures refused { IfErr result (λ e. (e ≡ Refusal.Memory) ⊎ (delta_of_edit replica (state_at grid.now) (Edit.Choose cell option) ≡ Err e)) }
+    ensures refused { IfErr result (λ e. (e ≡ Refusal.Memory)
+        ⊎ (delta_of_edit replica (state_at grid.now) (Edit.Choose cell option) ≡ Err e)) }
 {
     let state = grid.at(cell);
     check_option(option)?;
@@ -143,7 +149,8 @@ fn unchosen(
     requires { (1 ≤ replica) × (replica ≤ REPLICAS) }
     ensures made { IfOk result (λ d. delta_of_edit replica (state_at grid.now) (Edit.Unchoose cell option) ≡ Ok d) }
     ensures fresh { IfOk result (λ d. ¬ IsBelow (state_of d) (state_at grid.now)) }
-    ensures refused { IfErr result (λ e. (e ≡ Refusal.Memory) ⊎ (delta_of_edit replica (state_at grid.now) (Edit.Unchoose cell option) ≡ Err e)) }
+    ensures refused { IfErr result (λ e. (e ≡ Refusal.Memory)
+        ⊎ (delta_of_edit replica (state_at grid.now) (Edit.Unchoose cell option) ≡ Err e)) }
 {
     let state = grid.at(cell);
     check_option(option)?;

@@ -1,12 +1,13 @@
 //! Rounds: from the first values to the settled ones.
 
-ghost use Rattle.std.specs.Prelude.{◌≡◌, ◌<◌, ◌≤◌, ℕ, Bool, true, false, length, slice_index_or, slice_set, MatchBool, IfSome, IfNone, Option, List};
+ghost use Rattle.std.specs.Prelude.{◌≡◌, ◌<◌, ◌≤◌, ℕ, Bool, true, false, length, slice_index_or, slice_set};
+ghost use Rattle.std.specs.Prelude.{MatchBool, IfSome, IfNone, Option, List};
 ghost use Rattle.std.specs.Bool.{OnTrue, OnFalse};
 ghost use Rattle.std.specs.Option.{option_copied};
 ghost use Rattle.ps_delta.specs.State.{IsInGrid, state_at};
-ghost use Rattle.ps_sheet.specs.Settled.{content_of};
-ghost use Rattle.ps_sheet.specs.Settled.{shown_at, IsSettled};
-ghost use Rattle.ps_sheet.specs.Rounds.{AllHeld, first_value, HasWaiting, is_formula, is_waiting, IsFree, IsHeld, ListsFormulas, Progress, TreeHasWaiting, TreeIsFree, waiting_count};
+ghost use Rattle.ps_sheet.specs.Settled.{content_of, shown_at, IsSettled};
+ghost use Rattle.ps_sheet.specs.Rounds.{first_value, is_formula, is_waiting, waiting_count, ListsFormulas, Progress};
+ghost use Rattle.ps_sheet.specs.Rounds.{AllHeld, HasWaiting, IsFree, IsHeld, TreeHasWaiting, TreeIsFree};
 
 use crate::contents::formula_of;
 use ps_delta::Grid;
@@ -66,7 +67,8 @@ fn is_free(rect: Rect, shown: &[Value]) -> bool
 
 /// Whether no cell that the formula refers to waits.
 fn is_ready(formula: &Formula, shown: &[Value]) -> bool
-    ensures { MatchBool result (TreeIsFree formula.now (shown_at shown.now)) (TreeHasWaiting formula.now (shown_at shown.now)) }
+    ensures { MatchBool result (TreeIsFree formula.now (shown_at shown.now))
+        (TreeHasWaiting formula.now (shown_at shown.now)) }
 {
     for rect in formula.rects() {
         if !is_free(*rect, shown) {
@@ -83,7 +85,8 @@ fn step<L: Ledger>(grid: &Grid, cell: Cell, shown: &mut [Value], meter: &mut Met
     ensures progress { Progress (state_at grid.now) (shown_at shown.new) }
     ensures fewer { OnTrue result (waiting_count shown.new < waiting_count shown.old) }
     ensures same { OnFalse result (shown.new ≡ shown.old) }
-    ensures held { OnFalse result (is_waiting (shown_at shown.old cell) ≡ true → IsHeld (state_at grid.now) (shown_at shown.old) cell) }
+    ensures held { OnFalse result (is_waiting (shown_at shown.old cell) ≡ true
+        → IsHeld (state_at grid.now) (shown_at shown.old) cell) }
 {
     let Some(formula) = formula_of(grid.at(cell)) else {
         return false;

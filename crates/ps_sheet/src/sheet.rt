@@ -1,6 +1,7 @@
 //! The sheet of one replica.
 
-ghost use Rattle.std.specs.Prelude.{◌≡◌, ◌+◌, ◌<◌, ◌≤◌, ◌⊎◌, ◌↔◌, ℕ, List, [], ◌∷◌, ◌++◌, length, map, IfOk, IfErr, IsOkAnd, OnOk, OnErr, vec_len, vec_capacity};
+ghost use Rattle.std.specs.Prelude.{◌≡◌, ◌+◌, ◌<◌, ◌≤◌, ◌⊎◌, ◌↔◌, ℕ, List, [], ◌∷◌, ◌++◌, length, map};
+ghost use Rattle.std.specs.Prelude.{IfOk, IfErr, IsOkAnd, OnOk, OnErr, vec_len, vec_capacity};
 ghost use Rattle.std.specs.Arc.{arc_value};
 ghost use Rattle.ps_delta.specs.State.{IsBelow, joined_state};
 ghost use Rattle.ps_delta.specs.Deltas.{joined_history, state_of};
@@ -113,8 +114,10 @@ impl Sheet {
         edit: Edit,
         meter: &mut Meter<L>,
     ) -> Result<Report, Refusal>
-        ensures made { OnOk result (IsOkAnd (delta_of_edit self.old.replica (joined_history self.old.history) edit) (λ d. self.new.history ≡ self.old.history ++ d ∷ [])) }
-        ensures refused { IfErr result (λ e. (e ≡ Refusal.Memory) ⊎ (delta_of_edit self.old.replica (joined_history self.old.history) edit ≡ Err e)) }
+        ensures made { OnOk result (IsOkAnd (delta_of_edit self.old.replica (joined_history self.old.history) edit)
+            (λ d. self.new.history ≡ self.old.history ++ d ∷ [])) }
+        ensures refused { IfErr result (λ e. (e ≡ Refusal.Memory)
+            ⊎ (delta_of_edit self.old.replica (joined_history self.old.history) edit ≡ Err e)) }
         ensures version { IfOk result (λ r. r.version ≡ length self.new.history) }
         ensures replica { self.new.replica ≡ self.old.replica }
         ensures sheet { IsSheet self.new }
@@ -138,7 +141,8 @@ impl Sheet {
         meter: &mut Meter<L>,
     ) -> Result<Report, Refusal>
         ensures taken { OnOk result (Takes (arc_value delta) self.old.history self.new.history) }
-        ensures joined { OnOk result (joined_history self.new.history ≡ joined_state (joined_history self.old.history) (state_of (arc_value delta))) }
+        ensures joined { OnOk result (joined_history self.new.history
+            ≡ joined_state (joined_history self.old.history) (state_of (arc_value delta))) }
         ensures version { IfOk result (λ r. r.version ≡ length self.new.history) }
         ensures replica { self.new.replica ≡ self.old.replica }
         ensures sheet { IsSheet self.new }
@@ -161,7 +165,8 @@ impl Sheet {
     ) -> Result<Report, Refusal>
         requires fresh { ¬ IsBelow (state_of (arc_value delta)) (joined_history self.old.history) }
         ensures appended { OnOk result (self.new.history ≡ self.old.history ++ arc_value delta ∷ []) }
-        ensures joined { OnOk result (joined_history self.new.history ≡ joined_state (joined_history self.old.history) (state_of (arc_value delta))) }
+        ensures joined { OnOk result (joined_history self.new.history
+            ≡ joined_state (joined_history self.old.history) (state_of (arc_value delta))) }
         ensures version { IfOk result (λ r. r.version ≡ length self.new.history) }
         ensures replica { self.new.replica ≡ self.old.replica }
         ensures sheet { IsSheet self.new }

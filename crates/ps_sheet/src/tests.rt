@@ -285,7 +285,7 @@ fn rows_4_and_5(rt: HostRuntime) -> Result<(), Refusal> {
     play(&rt, rt.alloc(), 1, &steps)
 }
 
-// A cycle of A1 and B1, with E1 above it, and C1 and D1 without one, with F1 above them.
+// A cycle of `A1` and `B1`, with `E1` above it, and `C1` and `D1` without one, with `F1` above them.
 static CLOSED_LEFT: [(&str, &str); 6] = [
     ("A1", "=[.B1]"),
     ("B1", "=[.A1]"),
@@ -295,7 +295,7 @@ static CLOSED_LEFT: [(&str, &str); 6] = [
     ("F1", "=[.C1]+1"),
 ];
 
-// D1 closes a cycle and B1 opens one, and the other way round.
+// `D1` closes a cycle and `B1` opens one, and the other way round.
 static OVER: [(&str, Part); 2] = [
     ("B1", Assigned(2, 2, "4")),
     ("D1", Assigned(2, 2, "=[.C1]")),

@@ -1,4 +1,4 @@
-use Rattle.std.proofs.Common.{◌≡◌, ℕ, List, sym, ap, ◌∙◌, subst}
+use Rattle.std.proofs.Common.{ℕ, List, sym, ap, ◌∙◌, subst}
 use Rattle.ps_delta.specs.State.{joined_state, state_at}
 use Rattle.ps_delta.specs.Deltas.{Entries, state_of}
 use Rattle.ps_sheet.specs.Settled.{shown_at}

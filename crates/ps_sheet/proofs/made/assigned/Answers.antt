@@ -1,4 +1,4 @@
-use Rattle.std.proofs.Common.{◌≡◌, ℕ, ◌<◌, true, false, List, length, map, get_or, Ok, Err, inl, inr, sym, ap, ◌∙◌}
+use Rattle.std.proofs.Common.{◌≡◌, ℕ, true, length, map, Err, inr, sym, ap, ◌∙◌}
 use Rattle.std.proofs.Common.{subst, eq-eqb}
 use Rattle.std.proofs.lemmas.List.{map-id}
 use Rattle.std.proofs.lemmas.Result.{err_from_is_err_and}
@@ -8,9 +8,9 @@ use Rattle.ps_lattice.specs.Register.{time_of}
 use Rattle.ps_lattice.specs.declared.limits.TheConstants.{LAST_TIME}
 use Rattle.ps_content.specs.declared.content.Content.{Content}
 use Rattle.ps_delta.specs.declared.cell_state.CellState.{CellState}
-use Rattle.ps_delta.specs.State.{State, IsBelow, state_at}
+use Rattle.ps_delta.specs.State.{IsBelow, state_at}
 use Rattle.ps_delta.specs.Deltas.{Entries, IsDelta, state_of}
-use Rattle.ps_sheet.specs.Edits.{assigned, is_clock_full, delta_of_batch}
+use Rattle.ps_sheet.specs.Edits.{assigned, is_clock_full}
 use Rattle.ps_sheet.proofs.SetLemmas.{full_refuses, batch_is_delta, batch_new}
 use Rattle.ps_sheet.proofs.made.assigned.Goals as goal
 

@@ -1,4 +1,4 @@
-use Rattle.std.proofs.Common.{◌≡◌, ℕ, ◌<◌, true, false, take}
+use Rattle.std.proofs.Common.{◌≡◌, ℕ, true, false, take}
 use Rattle.std.specs.List.{list_any}
 use Rattle.ps_grid.specs.Rectangle.{is_inside}
 use Rattle.ps_sheet.specs.Settled.{shown_at}

@@ -1,4 +1,3 @@
-use Rattle.std.proofs.Common.{◌≡◌}
 use Rattle.ps_delta.specs.State.{state_at}
 use Rattle.ps_sheet.specs.Settled.{shown_at}
 use Rattle.ps_sheet.proofs.SettledLemmas.{progress_start, settled_at_end}

@@ -1,5 +1,3 @@
-use Rattle.std.proofs.Common.{◌≡◌, ◌≤◌, ℕ, length}
-use Rattle.ps_grid.specs.declared.size.TheConstants.{CELLS}
 use Rattle.ps_delta.specs.State.{state_at}
 use Rattle.ps_sheet.specs.Settled.{shown_at}
 use Rattle.ps_sheet.specs.Rounds.{Progress, waiting_count}

@@ -1,4 +1,4 @@
-use Rattle.std.proofs.Common.{◌≡◌, ◌<◌, length, sym, ap, ◌∙◌, subst, arith}
+use Rattle.std.proofs.Common.{◌<◌, sym, ap, ◌∙◌, subst, arith}
 use Rattle.std.proofs.Common.{set}
 use Rattle.ps_delta.specs.State.{state_at}
 use Rattle.ps_sheet.specs.Settled.{content_of}

@@ -2,7 +2,7 @@ use Rattle.std.proofs.Common.{◌≡◌, ◌++◌, [], ◌∷◌, List, length, 
 use Rattle.std.proofs.lemmas.List.{with_items_is}
 use Rattle.std.specs.Arc.{arc_value}
 use Rattle.ps_value.specs.declared.value.Value.{Value}
-use Rattle.ps_delta.specs.State.{IsInGrid, State, IsBelow, joined_state, state_at}
+use Rattle.ps_delta.specs.State.{IsInGrid, IsBelow, state_at}
 use Rattle.ps_delta.specs.Deltas.{Entries, joined_history, state_of}
 use Rattle.ps_sheet.specs.Kept.{view_of}
 use Rattle.ps_sheet.specs.Sheet.{SheetView, IsSheet}

@@ -1,10 +1,8 @@
-use Rattle.std.proofs.Common.{◌≡◌, ℕ, List, [], ◌∷◌, map, refl, sym, ap, ◌∙◌, subst, arith}
+use Rattle.std.proofs.Common.{◌≡◌, [], map, sym, ap, ◌∙◌, subst, arith}
 use Rattle.std.specs.Arc.{arc_value}
-use Rattle.ps_delta.specs.State.{IsInGrid, State, state_at, empty_state}
-use Rattle.ps_delta.specs.Deltas.{Entries, joined_history}
-use Rattle.ps_sheet.specs.Settled.{shown_at, IsSettled}
+use Rattle.ps_delta.specs.State.{State}
+use Rattle.ps_delta.specs.Deltas.{joined_history}
 use Rattle.ps_sheet.specs.Rounds.{ListsFormulas}
-use Rattle.ps_sheet.specs.Sheet.{SheetView, IsSheet}
 use Rattle.ps_delta.proofs.HistoryLemmas.{joined_history-nil}
 use Rattle.ps_sheet.proofs.SheetLemmas.{sheet_open, lists_none}
 use Rattle.ps_sheet.proofs.sheet.Sheet.open.Goals as goal

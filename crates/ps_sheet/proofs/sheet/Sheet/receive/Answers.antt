@@ -1,4 +1,4 @@
-use Rattle.std.proofs.Common.{◌≡◌, List, sym, ap, ◌∙◌, subst, rules}
+use Rattle.std.proofs.Common.{◌≡◌, ap, ◌∙◌, subst, rules}
 use Rattle.std.specs.Arc.{arc_value}
 use Rattle.ps_delta.specs.State.{State, IsBelow, joined_state, state_at}
 use Rattle.ps_delta.specs.Deltas.{Entries, joined_history, state_of}
