@@ -1,0 +1,8 @@
+use Rattle.ps_world.proofs.WorldLemmas.{shows_settled, same_taken_shows_the_same}
+use Rattle.ps_world.proofs.world.play.Goals as goal
+
+pub returns-clause-settled : goal.returns-clause-settled
+returns-clause-settled g c = shows_settled c.loop-event.world c.loop-event.invariant.2
+
+pub returns-clause-same : goal.returns-clause-same
+returns-clause-same g c = same_taken_shows_the_same c.loop-event.world c.loop-event.invariant.2

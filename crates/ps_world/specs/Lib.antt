@@ -1,0 +1,3 @@
+pub mod Replicas
+pub mod World
+pub mod WorldCode

@@ -1,0 +1,138 @@
+//! One replica of a world.
+
+ghost use Rattle.std.specs.Prelude.{◌≡◌, ◌-◌, ◌<◌, ◌≤◌, length, slice_get, true};
+ghost use Rattle.std.specs.Prelude.{IfOk, IfErr, OnOk, IfSome, IfNone, IsErr, Ok, Some};
+ghost use Rattle.std.specs.Ordering.{nat_cmp};
+ghost use Rattle.std.specs.BTreeSet.{Updates};
+ghost use Rattle.std.specs.Arc.{arc_value};
+ghost use Rattle.ps_grid.specs.declared.refusal.Refusal.{Refusal};
+ghost use Rattle.ps_delta.specs.State.{joined_state};
+ghost use Rattle.ps_delta.specs.Deltas.{joined_history, state_of};
+
+use ps_delta::Delta;
+use ps_eval::Meter;
+use ps_grid::Refusal;
+use ps_lattice::REPLICAS;
+use ps_sheet::{Edit, Sheet};
+use std::alloc::Global;
+use std::collections::BTreeSet;
+use std::marker::Model;
+use std::sync::Arc;
+use std::sync::ledger::Ledger;
+
+/// The sheet of one replica, and the numbers of the deltas that it took.
+///
+/// A contract sees it as its `ReplicaView`.
+#[derive(Drop)]
+pub(crate) struct Replica {
+    sheet: Sheet,
+    taken: BTreeSet<usize>,
+}
+
+impl Model for Replica {
+    ghost use Rattle.ps_world.specs.Replicas.{ReplicaView};
+
+    ghost Value = { ReplicaView };
+
+    ghost use Rattle.ps_world.specs.WorldCode.{replica_code};
+
+    ghost coded = { replica_code };
+
+    ghost view = { λ x. record { sheet = x.sheet; taken = x.taken } };
+}
+
+impl Replica {
+    ghost use Rattle.ps_sheet.specs.Edits.{delta_of_edit};
+    ghost use Rattle.ps_sheet.specs.Sheet.{IsSheet};
+    ghost use Rattle.ps_world.specs.Replicas.{IsNew};
+
+    /// A replica, 1 to 32, that took nothing yet.
+    pub(crate) fn open(alloc: Global, replica: u8) -> Result<Replica, Refusal>
+        requires { (1 ≤ replica) × (replica ≤ REPLICAS) }
+        ensures new { IfOk result (IsNew replica) }
+        ensures memory { IfErr result (λ e. e ≡ Refusal.Memory) }
+    {
+        let sheet = Sheet::open(alloc, replica, 1)?;
+        Ok(Replica {
+            sheet,
+            taken: BTreeSet::new(alloc),
+        })
+    }
+
+    /// Makes an edit here and takes its delta with this number. Hands the delta on; none where the edit is refused, and
+    /// then nothing is changed. Refused only for lack of memory.
+    pub(crate) fn make<L: Ledger>(
+        &mut self,
+        alloc: Global,
+        number: usize,
+        edit: Edit,
+        meter: &mut Meter<L>,
+    ) -> Result<Option<Arc<Delta>>, Refusal>
+        ensures made { IfOk result (λ o. IfSome o (λ d.
+            delta_of_edit self.old.sheet.replica (joined_history self.old.sheet.history) edit ≡ Ok (arc_value d))) }
+        ensures joined { IfOk result (λ o. IfSome o (λ d.
+            joined_history self.new.sheet.history
+            ≡ joined_state (joined_history self.old.sheet.history) (state_of (arc_value d)))) }
+        ensures taken { IfOk result (λ o. IfSome o (λ _. Updates nat_cmp self.old.taken self.new.taken number true)) }
+        ensures refused { IfOk result (λ o. IfNone o
+            (IsErr (delta_of_edit self.old.sheet.replica (joined_history self.old.sheet.history) edit))) }
+        ensures kept { IfOk result (λ o. IfNone o (self.new ≡ self.old)) }
+        ensures replica { self.new.sheet.replica ≡ self.old.sheet.replica }
+        ensures sheet { IsSheet self.new.sheet }
+        ensures memory { IfErr result (λ e. e ≡ Refusal.Memory) }
+    {
+        match self.sheet.edit(alloc, edit, meter) {
+            Ok(_) => {}
+            Err(Refusal::Memory) => return Err(Refusal::Memory),
+            Err(_) => return Ok(None),
+        }
+        self.taken.insert(number)?;
+        Ok(Some(newest(&self.sheet)?))
+    }
+
+    /// Receives a delta and takes it with its number. Refused only for lack of memory.
+    pub(crate) fn take<L: Ledger>(
+        &mut self,
+        alloc: Global,
+        number: usize,
+        delta: Arc<Delta>,
+        meter: &mut Meter<L>,
+    ) -> Result<(), Refusal>
+        ensures joined { OnOk result (joined_history self.new.sheet.history
+            ≡ joined_state (joined_history self.old.sheet.history) (state_of (arc_value delta))) }
+        ensures taken { OnOk result (Updates nat_cmp self.old.taken self.new.taken number true) }
+        ensures replica { self.new.sheet.replica ≡ self.old.sheet.replica }
+        ensures sheet { OnOk result (IsSheet self.new.sheet) }
+        ensures memory { IfErr result (λ e. e ≡ Refusal.Memory) }
+    {
+        self.taken.insert(number)?;
+        self.sheet.receive(alloc, delta, meter)?;
+        Ok(())
+    }
+
+    /// The sheet.
+    pub(crate) fn sheet(&self) -> &Sheet
+        ensures { result.now ≡ self.now.sheet }
+    {
+        &self.sheet
+    }
+
+    /// The numbers of the deltas that were taken.
+    pub(crate) fn taken(&self) -> &BTreeSet<usize>
+        ensures { result.now ≡ self.now.taken }
+    {
+        &self.taken
+    }
+}
+
+// The last delta of a history that has one.
+fn newest(sheet: &Sheet) -> Result<Arc<Delta>, Refusal>
+    requires { 0 < length sheet.now.history }
+    ensures newest { let h = sheet.now.history in IfOk result (λ d. slice_get h (length h - 1) ≡ Some (arc_value d)) }
+    ensures memory { IfErr result (λ e. e ≡ Refusal.Memory) }
+{
+    match sheet.history().last() {
+        Some(delta) => Ok(delta.clone()?),
+        None => unreachable!(),
+    }
+}

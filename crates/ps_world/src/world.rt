@@ -1,0 +1,213 @@
+//! Worlds: several replicas, and the deltas that travel between them.
+
+ghost use Rattle.std.specs.Prelude.{◌≡◌, ◌⊎◌, ◌↔◌, ◌<◌, ◌≤◌, IfOk, IfErr, OnOk, length};
+ghost use Rattle.std.specs.Option.{option_map, option_copied};
+ghost use Rattle.ps_grid.specs.declared.refusal.Refusal.{Refusal};
+ghost use Rattle.ps_world.specs.Replicas.{AreNew, IsWorld, SameTakenShowTheSame, ShowsSettled, world_of};
+ghost use Rattle.ps_world.specs.World.{played};
+
+use crate::event::Event;
+use crate::replica::Replica;
+use ps_delta::Delta;
+use ps_eval::Meter;
+use ps_grid::Refusal;
+use ps_lattice::REPLICAS;
+use ps_sheet::{Edit, Sheet};
+use std::alloc::Global;
+use std::collections::BTreeSet;
+use std::marker::Model;
+use std::sync::Arc;
+use std::sync::ledger::Ledger;
+
+/// Replicas of one sheet, and the deltas that they made or were sent by strangers.
+///
+/// A contract sees it as its `WorldView`, and the world that a list of events makes as a `WorldState`.
+#[derive(Drop)]
+pub struct World {
+    // in the order of their numbers
+    deltas: Vec<Arc<Delta>>,
+    replicas: Vec<Replica>,
+}
+
+impl Model for World {
+    ghost use Rattle.std.specs.Prelude.{map};
+    ghost use Rattle.std.specs.Arc.{arc_value};
+    ghost use Rattle.ps_world.specs.Replicas.{WorldView};
+
+    ghost Value = { WorldView };
+
+    ghost use Rattle.ps_world.specs.WorldCode.{world_code};
+
+    ghost coded = { world_code };
+
+    ghost view = { λ w. record { deltas = map arc_value w.deltas.items; replicas = w.replicas.items } };
+}
+
+impl World {
+    ghost use Rattle.ps_world.specs.World.{empty_world};
+    ghost use Rattle.ps_world.specs.Replicas.{Follows, replica_at};
+
+    // Empty sheets of as many replicas, and no deltas.
+    fn open(alloc: Global, replicas: u8) -> Result<World, Refusal>
+        ensures replicas { IfOk result (λ w. length w.replicas ≡ replicas) }
+        ensures empty { IfOk result (λ w. world_of w ≡ empty_world) }
+        ensures world { IfOk result IsWorld }
+        ensures refused { (result ≡ Err Refusal.Replica) ↔ ((replicas < 1) ⊎ (REPLICAS < replicas)) }
+        ensures other { IfErr result (λ e. (e ≡ Refusal.Replica) ⊎ (e ≡ Refusal.Memory)) }
+    {
+        if replicas < 1 || replicas > REPLICAS {
+            return Err(Refusal::Replica);
+        }
+        let opened = opened(alloc, replicas)?;
+        Ok(World {
+            deltas: Vec::new(alloc),
+            replicas: opened,
+        })
+    }
+
+    // One event further. Refused only for lack of memory.
+    fn apply<L: Ledger>(
+        &mut self,
+        alloc: Global,
+        event: Event,
+        meter: &mut Meter<L>,
+    ) -> Result<(), Refusal>
+        requires { IsWorld self.old }
+        ensures follows { OnOk result (Follows event self.old self.new) }
+        ensures memory { IfErr result (λ e. e ≡ Refusal.Memory) }
+    {
+        match event {
+            Event::Edit(replica, edit) => self.edit(alloc, replica, edit, meter),
+            Event::Foreign(delta) => self.add(delta),
+            Event::Deliver(replica, number) => self.deliver(alloc, replica, number, meter),
+        }
+    }
+
+    // Makes an edit at a replica.
+    fn edit<L: Ledger>(
+        &mut self,
+        alloc: Global,
+        replica: u8,
+        edit: Edit,
+        meter: &mut Meter<L>,
+    ) -> Result<(), Refusal>
+        requires { IsWorld self.old }
+        ensures follows { OnOk result (Follows (Event.Edit replica edit) self.old self.new) }
+        ensures memory { IfErr result (λ e. e ≡ Refusal.Memory) }
+    {
+        if replica < 1 || usize::from(replica) > self.replicas.len() {
+            return Ok(());
+        }
+        let number = self.deltas.len() + 1;
+        let maker = &mut self.replicas[usize::from(replica) - 1];
+        if let Some(made) = maker.make(alloc, number, edit, meter)? {
+            self.deltas.push(made)?;
+        }
+        Ok(())
+    }
+
+    // Adds a stranger's delta.
+    fn add(&mut self, delta: Arc<Delta>) -> Result<(), Refusal>
+        requires { IsWorld self.old }
+        ensures follows { OnOk result (Follows (Event.Foreign delta) self.old self.new) }
+        ensures memory { IfErr result (λ e. e ≡ Refusal.Memory) }
+    {
+        self.deltas.push(delta)?;
+        Ok(())
+    }
+
+    // Delivers a delta to a replica.
+    fn deliver<L: Ledger>(
+        &mut self,
+        alloc: Global,
+        replica: u8,
+        number: usize,
+        meter: &mut Meter<L>,
+    ) -> Result<(), Refusal>
+        requires { IsWorld self.old }
+        ensures follows { OnOk result (Follows (Event.Deliver replica number) self.old self.new) }
+        ensures memory { IfErr result (λ e. e ≡ Refusal.Memory) }
+    {
+        if replica < 1 || usize::from(replica) > self.replicas.len() {
+            return Ok(());
+        }
+        if number < 1 || number > self.deltas.len() {
+            return Ok(());
+        }
+        let delta = self.deltas[number - 1].clone()?;
+        let taker = &mut self.replicas[usize::from(replica) - 1];
+        taker.take(alloc, number, delta, meter)?;
+        Ok(())
+    }
+
+    /// The sheet of a replica, counted from 1.
+    ///
+    /// Cost: constant.
+    pub fn sheet(&self, replica: u8) -> Option<&Sheet>
+        ensures { option_copied result ≡ option_map (λ x. x.sheet) (replica_at self.now.replicas replica) }
+    {
+        Some(self.replica(replica)?.sheet())
+    }
+
+    /// The numbers of the deltas that a replica took, counted from 1.
+    ///
+    /// Cost: constant.
+    pub fn taken(&self, replica: u8) -> Option<&BTreeSet<usize>>
+        ensures { option_copied result ≡ option_map (λ x. x.taken) (replica_at self.now.replicas replica) }
+    {
+        Some(self.replica(replica)?.taken())
+    }
+
+    // The replica with a number.
+    fn replica(&self, replica: u8) -> Option<&Replica>
+        ensures { option_copied result ≡ replica_at self.now.replicas replica }
+    {
+        if replica < 1 {
+            return None;
+        }
+        self.replicas.get(usize::from(replica) - 1)
+    }
+}
+
+/// Plays the events, one after another, on as many empty sheets, 1 to 32, which are replicas 1, 2 and so on.
+///
+/// An event that names an unknown replica or an unknown delta changes nothing, and neither does an edit that is refused
+/// for another cause than lack of memory.
+///
+/// Refused where the number of replicas is out of range, and for lack of memory.
+///
+/// Cost: that of the edits and of the received deltas.
+pub fn play<L: Ledger>(
+    alloc: Global,
+    replicas: u8,
+    events: Vec<Event>,
+    meter: &mut Meter<L>,
+) -> Result<World, Refusal>
+    ensures replicas { IfOk result (λ w. length w.replicas ≡ replicas) }
+    ensures played { IfOk result (λ w. world_of w ≡ played replicas events.items) }
+    ensures world { IfOk result IsWorld }
+    ensures settled { IfOk result ShowsSettled }
+    ensures same { IfOk result SameTakenShowTheSame }
+    ensures refused { (result ≡ Err Refusal.Replica) ↔ ((replicas < 1) ⊎ (REPLICAS < replicas)) }
+    ensures other { IfErr result (λ e. (e ≡ Refusal.Replica) ⊎ (e ≡ Refusal.Memory)) }
+{
+    let mut world = World::open(alloc, replicas)?;
+    for event in events {
+        world.apply(alloc, event, meter)?;
+    }
+    Ok(world)
+}
+
+// New replicas, 1 to n.
+fn opened(alloc: Global, n: u8) -> Result<Vec<Replica>, Refusal>
+    requires { n ≤ REPLICAS }
+    ensures length { IfOk result (λ v. length v.items ≡ n) }
+    ensures new { IfOk result (λ v. AreNew v.items) }
+    ensures memory { IfErr result (λ e. e ≡ Refusal.Memory) }
+{
+    let mut opened = Vec::new(alloc);
+    for place in 0..n {
+        opened.push(Replica::open(alloc, place + 1)?)?;
+    }
+    Ok(opened)
+}
