@@ -1,10 +1,8 @@
 -- No two deltas have one value.
-use Rattle.std.proofs.Common.{◌≡◌, ℕ, ◌<◌, List, map, Option, Some, None, refl, sym, ap, ◌∙◌}
+use Rattle.std.proofs.Common.{◌≡◌, ℕ, ◌<◌, map, Option, Some, None, refl, sym, ap, ◌∙◌}
 use Rattle.std.specs.List.{All}
-use Rattle.std.proofs.lemmas.List.Elements.{All-head, All-tail}
 use Rattle.std.specs.FinMap as maps
 use Rattle.std.specs.FinMap.{same_entries_map}
-use Rattle.serde_json.specs.Data.{Data}
 use Rattle.ps_grid.specs.Place.{cell_name}
 use Rattle.ps_grid.specs.declared.size.TheConstants.{CELLS}
 use Rattle.ps_grid.proofs.NameLemmas.{cell_name-injective}
@@ -14,7 +12,7 @@ use Rattle.ps_content.specs.declared.content.Content.{Content}
 use Rattle.ps_delta.specs.declared.cell_state.CellState.{CellState}
 use Rattle.ps_delta.specs.Deltas.{Entries}
 use Rattle.ps_wire.specs.Value.{cell_value, count_value, pair_value, register_value, delta_value, array_of}
-use Rattle.ps_wire.specs.Value.{IsRegister, IsState, IsLawful, StandsFor, OneValue, OneDelta}
+use Rattle.ps_wire.specs.Value.{IsRegister, IsState, IsLawful, OneValue, OneDelta}
 use Rattle.ps_wire.proofs.ContentLemmas.{canonical_text-injective}
 use Rattle.ps_wire.proofs.PartLemmas.{counts-injective, pairs-injective}
 use Rattle.ps_wire.proofs.ValueLemmas.{array_of-injective, map-injective}
@@ -40,8 +38,10 @@ unfolding cell_value
 cell_value-injective d e h k same =
     let name : cell_name d.0 ≡ cell_name e.0 = cc in
     let held : register_value d.1.register ≡ register_value e.1.register = cc in
-    let counters : array_of (map count_value (maps.entries d.1.tally)) ≡ array_of (map count_value (maps.entries e.1.tally)) = cc in
-    let pairs : array_of (map pair_value (maps.entries d.1.choice)) ≡ array_of (map pair_value (maps.entries e.1.choice)) = cc in
+    let counters :
+    array_of (map count_value (maps.entries d.1.tally)) ≡ array_of (map count_value (maps.entries e.1.tally)) = cc in
+    let pairs :
+    array_of (map pair_value (maps.entries d.1.choice)) ≡ array_of (map pair_value (maps.entries e.1.choice)) = cc in
     let cell = cell_name-injective d.0 e.0 h.0 k.0 name in
     let register = register_value-injective d.1.register e.1.register h.1.register k.1.register held in
     let tally = same_entries_map d.1.tally e.1.tally (counts-injective _ _ (array_of-injective _ _ counters)) in

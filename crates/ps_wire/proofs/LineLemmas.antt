@@ -10,7 +10,7 @@ use Rattle.ps_delta.specs.Deltas.{Entries, IsDelta, AreInGrid}
 use Rattle.ps_wire.specs.declared.TheConstants.{DELTA_LINE_LIMIT}
 use Rattle.ps_wire.specs.Line.{IsLine}
 use Rattle.ps_wire.specs.Refused.{RefusedAs}
-use Rattle.ps_wire.specs.Value.{array_of, cell_value, delta_value, IsState, IsLawful, StandsFor}
+use Rattle.ps_wire.specs.Value.{array_of, cell_value, delta_value, IsState, StandsFor}
 use Rattle.ps_wire.proofs.ValueLemmas.{array_of-injective}
 use Rattle.ps_wire.proofs.CellLemmas.{Good, all_good, cells-injective, one_delta}
 

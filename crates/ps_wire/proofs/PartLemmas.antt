@@ -1,7 +1,7 @@
 -- Counters and sets as arrays.
 use Rattle.std.proofs.Common.{◌≡◌, ℕ, Bool, true, false, List, map, IsTrue, refl, sym, ap, ◌∙◌}
 use Rattle.std.specs.Ordering.{nat_cmp}
-use Rattle.std.specs.List.{All, list_all}
+use Rattle.std.specs.List.{list_all}
 use Rattle.std.proofs.lemmas.Bool.{and_parts}
 use Rattle.std.specs.FinMap as maps
 use Rattle.serde_json.specs.Data.{Data}

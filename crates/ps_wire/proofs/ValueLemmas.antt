@@ -34,7 +34,8 @@ length-each f [] = refl
 length-each f (x ∷ xs) = omega (arith, length-each f xs)
 
 -- an array has one number of items
-pub array_length : (values : List Value) (v : List Data) → array_of (each view values) ≡ array_of v → length values ≡ length v
+pub array_length : (values : List Value) (v : List Data) → array_of (each view values) ≡ array_of v
+    → length values ≡ length v
 array_length values v e = sym (length-each view values) ∙ ap length (array_of-injective (each view values) v e)
 
 -- one more item is read
@@ -46,8 +47,8 @@ read_more f g xs i d ys y within so_far here =
     ∙ ap₂ (λ a b. a ++ b ∷ []) so_far here ∙ sym (map-append g ys (y ∷ []))
 
 -- where values stand for good items, each value stands for a good item
-pub read_at : {X Y : Type 0} (f : X → Data) (g : Y → Data) (Good : Y → Type 0) (xs : List X) (ys : List Y) (i : ℕ) (d : X)
-    → i < length xs → each f xs ≡ each g ys → All Good ys → (y : Y) × Good y × (f (get_or xs i d) ≡ g y)
+pub read_at : {X Y : Type 0} (f : X → Data) (g : Y → Data) (Good : Y → Type 0) (xs : List X) (ys : List Y) (i : ℕ)
+    → (d : X) → i < length xs → each f xs ≡ each g ys → All Good ys → (y : Y) × Good y × (f (get_or xs i d) ≡ g y)
 read_at f g Good [] ys i d within e good = absurd (omega arith)
 read_at f g Good (x ∷ xs) [] i d within e good = absurd cc
 read_at f g Good (x ∷ xs) (y ∷ ys) zero d within e good = (y, good 0 y (omega arith), cc)

@@ -17,9 +17,10 @@ mod laws;
 mod line;
 mod parts;
 mod states;
+mod values;
 
 pub use laws::values_and_deltas_agree;
-pub use line::decode;
+pub use line::{decode, encode};
 
 /// The most bytes of a delta's line.
 pub const DELTA_LINE_LIMIT: usize = 262_144;

@@ -1,21 +1,52 @@
 //! Lines of deltas.
 
-ghost use Rattle.std.specs.Prelude.{◌≡◌, ◌⊎◌, Some, None, IsUtf8, IfOk, IfErr, MatchResult};
+ghost use Rattle.std.specs.Prelude.{◌≡◌, ◌⊎◌, ◌<◌, ◌++◌, Some, None, IsUtf8, length, OnOk, OnErr, IfOk, IfErr};
+ghost use Rattle.std.specs.Prelude.{MatchResult};
 ghost use Rattle.serde_json.specs.Read.{read as read_text};
 ghost use Rattle.serde_json.specs.View.{view};
 ghost use Rattle.ps_grid.specs.declared.refusal.Refusal.TheVariants.{Memory};
 ghost use Rattle.ps_delta.specs.Deltas.{Entries};
-ghost use Rattle.ps_wire.specs.Line.{IsLine};
+ghost use Rattle.ps_wire.specs.Line.{IsLine, ReadsAs, delta_text};
 ghost use Rattle.ps_wire.specs.Value.{StandsFor};
 ghost use Rattle.ps_wire.specs.Refused.{RefusedAs};
 
 use crate::DELTA_LINE_LIMIT;
 use crate::cells::read_cells;
 use crate::parts::items;
+use crate::values::delta_value;
 use ps_delta::Delta;
 use ps_grid::Refusal;
 use serde_json::Value;
 use std::alloc::Global;
+
+/// Appends the compact text of the delta: JSON of its value without blanks. Refused as `TooLong` only where that text
+/// has more than `DELTA_LINE_LIMIT` bytes, and for lack of memory; then the line is as before.
+///
+/// Cost: linear in the text; memory for the cells, counts and pairs, and for the text.
+pub fn encode(alloc: Global, delta: &Delta, line: &mut Vec<u8>) -> Result<(), Refusal>
+    ensures appended { OnOk result (line.new.items ≡ line.old.items ++ delta_text delta.now) }
+    ensures is_line { OnOk result (IsLine (delta_text delta.now) delta.now) }
+    ensures kept { OnErr result (line.new.items ≡ line.old.items) }
+    ensures too_long { result ≡ Err Refusal.TooLong → DELTA_LINE_LIMIT < length (delta_text delta.now) }
+    ensures refused { IfErr result (λ e. (e ≡ Refusal.TooLong) ⊎ (e ≡ Memory)) }
+{
+    let text = compact_text(alloc, delta)?;
+    if text.len() > DELTA_LINE_LIMIT {
+        return Err(Refusal::TooLong);
+    }
+    line.extend_from_slice(&text)?;
+    Ok(())
+}
+
+// The text that serde_json writes for the value of the delta.
+fn compact_text(alloc: Global, delta: &Delta) -> Result<Vec<u8>, Refusal>
+    ensures text { IfOk result (λ text. text.items ≡ delta_text delta.now) }
+    ensures reads { IfOk result (λ text. ReadsAs text.items delta.now) }
+    ensures memory { IfErr result (λ e. e ≡ Memory) }
+{
+    let value = delta_value(alloc, delta)?;
+    Ok(value.to_vec(alloc)?)
+}
 
 /// The delta that a line stands for: any JSON text of its value, blanks and escapes as they may be, of at most
 /// `DELTA_LINE_LIMIT` bytes of UTF-8. Any other bytes are refused as `Delta`; and a line may be refused for lack of

@@ -12,7 +12,8 @@ ghost use Rattle.ps_lattice.specs.declared.tally.Count.{Count as Counted};
 ghost use Rattle.ps_lattice.specs.declared.choice.Pair.{Pair as Tagged};
 ghost use Rattle.ps_content.specs.Content.{canonical_text, IsContent};
 ghost use Rattle.ps_content.specs.declared.content.Content.{Content as Contents};
-ghost use Rattle.ps_wire.specs.Value.{array_of, count_value, pair_value, register_value, whole, gone_number, IsRegister};
+ghost use Rattle.ps_wire.specs.Value.{array_of, whole, register_value, count_value, pair_value, gone_number};
+ghost use Rattle.ps_wire.specs.Value.{IsRegister};
 ghost use Rattle.ps_wire.specs.Refused.{RefusedAs, RefusedSince};
 
 use crate::parts::{items, middling, quadruple, short, text, triple, whole};

@@ -5,7 +5,8 @@ use Rattle.ps_wire.proofs.states.read_choice.Goals as goal
 
 pub returns-in_err-pairs-clause-refused : goal.returns-in_err-pairs-clause-refused
 returns-in_err-pairs-clause-refused c =
-    let none = choice_refused (view c.args.value.now) (map view c.in_ok-items.field-0.now) c.in_ok-items.ensures.found in
+    let none = choice_refused (view c.args.value.now) (map view c.in_ok-items.field-0.now)
+    c.in_ok-items.ensures.found in
     search (rules, none)
 
 pub returns-clause-found : goal.returns-clause-found

@@ -5,7 +5,8 @@ use Rattle.ps_wire.proofs.states.read_tally.Goals as goal
 
 pub returns-in_err-counts-clause-refused : goal.returns-in_err-counts-clause-refused
 returns-in_err-counts-clause-refused c =
-    let none = tally_refused (view c.args.value.now) (map view c.in_ok-items.field-0.now) c.in_ok-items.ensures.found in
+    let none = tally_refused (view c.args.value.now) (map view c.in_ok-items.field-0.now)
+    c.in_ok-items.ensures.found in
     search (rules, none)
 
 pub returns-clause-found : goal.returns-clause-found
