@@ -1,47 +1,57 @@
 //! Worked examples of deltas, joins and the grid.
 
 use crate::{CellState, Delta, Grid, Touched};
+use Part::{Added, Assigned, Chosen, Nothing};
 use ps_content::Content;
-use ps_grid::{CELLS, Cell, Refusal, Twin};
+use ps_grid::{CELLS, Cell, Refusal};
 use ps_lattice::{Assignment, Choice, Count, Join, Pair, Register, Tally};
 use std::alloc::Global;
 use std::process::Abort;
 use std::sync::Arc;
-use std::test::Fail;
 
-// The state of a cell that holds a number, with this stamp.
-fn number(alloc: Global, time: u64, replica: u8, number: i64) -> CellState {
+// What a delta has for a cell.
+#[derive(Clone, Copy)]
+enum Part {
+    // An empty state.
+    Nothing,
+    // A number, with a time and a replica.
+    Assigned(u64, u8, i64),
+    // What a replica added.
+    Added(u8, u64),
+    // A replica's first pair of the option 7, removed or not.
+    Chosen(u8, bool),
+}
+
+fn assigned(rt: &impl Abort, alloc: Global, time: u64, replica: u8, number: i64) -> CellState {
     let register = Register::from_parts(Assignment {
         time,
         replica,
         content: Content::Number(number),
     });
-    CellState {
-        register: register.unwrap_or(Register::empty()),
-        tally: Tally::empty(alloc),
-        choice: Choice::empty(alloc),
-    }
+    CellState::from_parts(
+        register.expect(rt, "a register"),
+        Tally::empty(alloc),
+        Choice::empty(alloc),
+    )
 }
 
-// The state of a cell to whose counter a replica added.
-fn counted(alloc: Global, replica: u8, added: u64) -> Result<CellState, Refusal> {
+fn added(rt: &impl Abort, alloc: Global, replica: u8, added: u64) -> Result<CellState, Refusal> {
     let mut counts = Vec::new(alloc);
-    counts.push((
-        replica,
-        Count {
-            added,
-            subtracted: 0,
-        },
-    ))?;
-    Ok(CellState {
-        register: Register::empty(),
-        tally: Tally::from_parts(counts).unwrap_or(Tally::empty(alloc)),
-        choice: Choice::empty(alloc),
-    })
+    let subtracted = 0;
+    counts.push((replica, Count { added, subtracted }))?;
+    Ok(CellState::from_parts(
+        Register::empty(),
+        Tally::from_parts(counts).expect(rt, "counts"),
+        Choice::empty(alloc),
+    ))
 }
 
-// The state of a cell with one pair of the option 7, removed or not.
-fn chosen(alloc: Global, replica: u8, removed: bool) -> Result<CellState, Refusal> {
+fn chosen(
+    rt: &impl Abort,
+    alloc: Global,
+    replica: u8,
+    removed: bool,
+) -> Result<CellState, Refusal> {
     let mut pairs = Vec::new(alloc);
     let pair = Pair {
         option: 7,
@@ -49,11 +59,20 @@ fn chosen(alloc: Global, replica: u8, removed: bool) -> Result<CellState, Refusa
         sequence: 1,
     };
     pairs.push((pair, removed))?;
-    Ok(CellState {
-        register: Register::empty(),
-        tally: Tally::empty(alloc),
-        choice: Choice::from_parts(pairs).unwrap_or(Choice::empty(alloc)),
-    })
+    Ok(CellState::from_parts(
+        Register::empty(),
+        Tally::empty(alloc),
+        Choice::from_parts(pairs).expect(rt, "pairs"),
+    ))
+}
+
+fn state_of(rt: &impl Abort, alloc: Global, part: &Part) -> Result<CellState, Refusal> {
+    match part {
+        Nothing => Ok(CellState::empty(alloc)),
+        Assigned(time, replica, number) => Ok(assigned(rt, alloc, *time, *replica, *number)),
+        Added(replica, count) => added(rt, alloc, *replica, *count),
+        Chosen(replica, removed) => chosen(rt, alloc, *replica, *removed),
+    }
 }
 
 // The cell at an index.
@@ -61,29 +80,29 @@ fn cell(rt: &impl Abort, index: usize) -> Cell {
     Cell::from_index(index).expect(rt, "a cell of the grid")
 }
 
-// The delta of one cell.
-fn of_one(
-    rt: &impl Abort,
-    alloc: Global,
-    index: usize,
-    state: CellState,
-) -> Result<Delta, Refusal> {
+// The delta of these cells, if they make one.
+fn made(rt: &impl Abort, alloc: Global, parts: &[(usize, Part)]) -> Result<Option<Delta>, Refusal> {
     let mut cells = Vec::new(alloc);
-    cells.push((cell(rt, index), state))?;
-    Ok(Delta::new(cells).expect(rt, "a delta"))
+    for (index, part) in parts {
+        cells.push((cell(rt, *index), state_of(rt, alloc, part)?))?;
+    }
+    Ok(Delta::new(cells))
 }
 
-// The delta of two cells.
-fn of_two(
+// The delta of these cells.
+fn delta_of(rt: &impl Abort, alloc: Global, parts: &[(usize, Part)]) -> Result<Delta, Refusal> {
+    Ok(made(rt, alloc, parts)?.expect(rt, "a delta"))
+}
+
+// Joins the delta of these cells into the grid.
+fn join(
     rt: &impl Abort,
     alloc: Global,
-    first: (usize, CellState),
-    second: (usize, CellState),
-) -> Result<Option<Delta>, Refusal> {
-    let mut cells = Vec::new(alloc);
-    cells.push((cell(rt, first.0), first.1))?;
-    cells.push((cell(rt, second.0), second.1))?;
-    Ok(Delta::new(cells))
+    grid: &mut Grid,
+    parts: &[(usize, Part)],
+) -> Result<(), Refusal> {
+    let delta = delta_of(rt, alloc, parts)?;
+    grid.join(alloc, &delta)
 }
 
 // The number that a cell holds.
@@ -98,38 +117,39 @@ fn number_at(grid: &Grid, cell: Cell) -> Option<i64> {
 }
 
 // Six deltas that touch one another: registers, one stamp twice, a counter and a set.
+static SIX: [&[(usize, Part)]; 6] = [
+    &[(0, Assigned(1, 1, 3))],
+    &[(0, Assigned(1, 1, 4))],
+    &[(0, Added(1, 5))],
+    &[(0, Added(1, 2))],
+    &[(1, Chosen(2, false))],
+    &[(0, Added(2, 9)), (1, Chosen(2, true))],
+];
+
 fn six(rt: &impl Abort, alloc: Global) -> Result<Vec<Arc<Delta>>, Refusal> {
     let mut deltas = Vec::new(alloc);
-    deltas.push(Arc::new(alloc, of_one(rt, alloc, 0, number(alloc, 1, 1, 3))?)?)?;
-    deltas.push(Arc::new(alloc, of_one(rt, alloc, 0, number(alloc, 1, 1, 4))?)?)?;
-    deltas.push(Arc::new(alloc, of_one(rt, alloc, 0, counted(alloc, 1, 5)?)?)?)?;
-    deltas.push(Arc::new(alloc, of_one(rt, alloc, 0, counted(alloc, 1, 2)?)?)?)?;
-    deltas.push(Arc::new(alloc, of_one(rt, alloc, 1, chosen(alloc, 2, false)?)?)?)?;
-    let both = of_two(
-        rt,
-        alloc,
-        (0, counted(alloc, 2, 9)?),
-        (1, chosen(alloc, 2, true)?),
-    )?;
-    deltas.push(Arc::new(alloc, both.expect(rt, "a delta"))?)?;
+    for parts in SIX {
+        deltas.push(Arc::new(alloc, delta_of(rt, alloc, parts)?)?)?;
+    }
     Ok(deltas)
 }
 
-// Joins six deltas in the k-th of their 720 orders, and the last one twice.
+// Joins six deltas in the n-th of their 720 orders, each twice.
 fn join_in_order(
     rt: &impl Abort,
     alloc: Global,
     grid: &mut Grid,
     deltas: &[Arc<Delta>],
-    order: usize,
+    n: usize,
 ) -> Result<(), Refusal> {
-    let mut left = vec![in alloc; 0, 1, 2, 3, 4, 5]?;
-    let mut code = order;
-    for _ in 0..6 {
-        assert!(rt; !left.is_empty());
-        let place = code % left.len();
-        code /= left.len();
-        let delta = deltas.get(left.remove(place)).expect(rt, "one of six");
+    let mut order = [0, 1, 2, 3, 4, 5];
+    let mut rest = n;
+    for k in 0..6 {
+        order.swap(k, k + rest % (6 - k));
+        rest /= 6 - k;
+    }
+    for k in order {
+        let delta = deltas.get(k).expect(rt, "one of six");
         grid.join(alloc, delta)?;
         grid.join(alloc, delta)?;
         assert!(rt; grid.covers(delta));
@@ -137,173 +157,151 @@ fn join_in_order(
     Ok(())
 }
 
+// Takes what a cell holds out of the grid.
+fn taken(rt: &impl Abort, alloc: Global, grid: &mut Grid, index: usize) -> CellState {
+    let mut state = CellState::empty(alloc);
+    grid.swap(cell(rt, index), &mut state);
+    state
+}
+
+// What the six deltas leave, which is taken out of the grid.
+fn take_six(rt: &impl Abort, alloc: Global, grid: &mut Grid) {
+    assert_eq!(rt; number_at(grid, cell(rt, 0)), Some(4));
+    let first = taken(rt, alloc, grid, 0);
+    assert_eq!(rt; first.tally.value(), 14);
+    assert!(rt; first.choice.is_empty());
+    let second = taken(rt, alloc, grid, 1);
+    let (register, _, choice) = second.parts();
+    assert!(rt; register.is_empty());
+    assert_eq!(rt; choice.options(), 0);
+    assert_eq!(rt; choice.parts().len(), 1);
+    assert!(rt; grid.at(cell(rt, 2)).is_empty());
+}
+
 /// Six deltas joined in every order, each twice, leave one state: of two contents with one stamp the greater one, of
 /// counts the greater ones, and of a pair that it was removed.
 #[test]
-fn deltas_join_in_any_order_and_again(rt: HostRuntime) -> Result<(), Fail> {
-    let alloc = rt.alloc();
-    let deltas = six(&rt, alloc)?;
-    let mut grid = Grid::new(alloc)?;
-    for order in 0..720 {
-        join_in_order(&rt, alloc, &mut grid, &deltas, order)?;
-        let mut first = CellState::empty(alloc);
-        let mut second = CellState::empty(alloc);
-        assert_eq!(rt; number_at(&grid, cell(&rt, 0)), Some(4));
-        grid.swap(cell(&rt, 0), &mut first);
-        grid.swap(cell(&rt, 1), &mut second);
-        assert_eq!(rt; first.tally.value(), 14);
-        assert!(rt; first.choice.is_empty());
-        assert_eq!(rt; second.choice.options(), 0);
-        assert_eq!(rt; second.choice.parts().len(), 1);
-        assert!(rt; second.register.is_empty());
-        assert!(rt; grid.at(cell(&rt, 2)).is_empty());
+fn deltas_join_in_any_order_and_again(rt: HostRuntime) -> Result<(), Refusal> {
+    let deltas = six(&rt, rt.alloc())?;
+    let mut grid = Grid::new(rt.alloc())?;
+    for n in 0..720usize {
+        join_in_order(&rt, rt.alloc(), &mut grid, &deltas, n)?;
+        take_six(&rt, rt.alloc(), &mut grid);
     }
     Ok(())
 }
 
+// The join of the deltas as one delta.
+fn joined(rt: &impl Abort, alloc: Global, deltas: &[Arc<Delta>]) -> Result<Delta, Refusal> {
+    assert!(rt; deltas.len() > 0);
+    Delta::joined(alloc, deltas)
+}
+
 /// The join of the six deltas as one delta does what they do one after another, and names two cells.
 #[test]
-fn a_group_joins_as_its_deltas(rt: HostRuntime) -> Result<(), Fail> {
-    let alloc = rt.alloc();
-    let deltas = six(&rt, alloc)?;
-    assert!(rt; deltas.len() > 0);
-    let joined = Delta::joined(alloc, deltas.as_slice())?;
+fn a_group_joins_as_its_deltas(rt: HostRuntime) -> Result<(), Refusal> {
+    let deltas = six(&rt, rt.alloc())?;
+    let joined = joined(&rt, rt.alloc(), &deltas)?;
     assert_eq!(rt; joined.parts().len(), 2);
-    let mut grid = Grid::new(alloc)?;
-    let mut twin = Grid::new(alloc)?;
-    for delta in &deltas {
-        grid.join(alloc, delta)?;
-    }
-    twin.join(alloc, &joined)?;
-    for index in 0..3 {
-        let cell = cell(&rt, index);
-        assert!(rt; grid.at(cell).below(twin.at(cell)));
-        assert!(rt; twin.at(cell).below(grid.at(cell)));
-    }
+    let mut grid = Grid::new(rt.alloc())?;
+    grid.join(rt.alloc(), &joined)?;
+    take_six(&rt, rt.alloc(), &mut grid);
     Ok(())
 }
 
 /// With one stamp at a cell the greater content stays, whichever comes first; the smaller one is then covered.
 #[test]
-fn row_12(rt: HostRuntime) -> Result<(), Fail> {
-    let alloc = rt.alloc();
-    let three = of_one(&rt, alloc, 0, number(alloc, 1, 1, 3))?;
-    let four = of_one(&rt, alloc, 0, number(alloc, 1, 1, 4))?;
-    let mut grid = Grid::new(alloc)?;
-    grid.join(alloc, &three)?;
-    assert!(rt; !grid.covers(&four));
-    grid.join(alloc, &four)?;
-    assert_eq!(rt; number_at(&grid, cell(&rt, 0)), Some(4));
-    let mut other = Grid::new(alloc)?;
-    other.join(alloc, &four)?;
-    assert!(rt; other.covers(&three));
-    assert_eq!(rt; number_at(&other, cell(&rt, 0)), Some(4));
+fn row_12(rt: HostRuntime) -> Result<(), Refusal> {
+    let three = delta_of(&rt, rt.alloc(), &[(0, Assigned(1, 1, 3))])?;
+    for (first, second) in [(3, 4), (4, 3)] {
+        let mut grid = Grid::new(rt.alloc())?;
+        join(&rt, rt.alloc(), &mut grid, &[(0, Assigned(1, 1, first))])?;
+        join(&rt, rt.alloc(), &mut grid, &[(0, Assigned(1, 1, second))])?;
+        assert_eq!(rt; number_at(&grid, cell(&rt, 0)), Some(4));
+        assert!(rt; grid.covers(&three));
+    }
     Ok(())
 }
 
 /// No delta has no cell, cells out of order, a cell twice or an empty state.
 #[test]
-fn deltas_are_ascending_and_not_empty(rt: HostRuntime) -> Result<(), Fail> {
-    let alloc = rt.alloc();
-    assert!(rt; Delta::new(Vec::new(alloc)).is_none());
-    let of = |time: u64| number(alloc, time, 1, 5);
-    assert!(rt; of_two(&rt, alloc, (1, of(1)), (0, of(1)))?.is_none());
-    assert!(rt; of_two(&rt, alloc, (1, of(1)), (1, of(2)))?.is_none());
-    assert!(rt; of_two(&rt, alloc, (1, of(1)), (2, CellState::empty(alloc)))?.is_none());
-    let last = of_two(&rt, alloc, (0, of(1)), (CELLS - 1, counted(alloc, 1, 1)?))?;
-    let delta = last.expect(&rt, "a delta");
-    let indices: Vec<usize> = delta
-        .parts()
-        .iter()
-        .map(|entry| entry.0.index())
-        .collect(alloc)?;
-    assert_eq!(rt; indices.as_slice(), [0, 106_495].as_slice());
+fn deltas_are_ascending_and_not_empty(rt: HostRuntime) -> Result<(), Refusal> {
+    let five = Assigned(1, 1, 5);
+    let out_of_order = [(1, five), (0, five)];
+    let twice = [(1, five), (1, Assigned(2, 1, 5))];
+    let empty = [(1, five), (2, Nothing)];
+    assert!(rt; made(&rt, rt.alloc(), &[])?.is_none());
+    for parts in [out_of_order, twice, empty] {
+        assert!(rt; made(&rt, rt.alloc(), &parts)?.is_none());
+    }
+    let last = delta_of(&rt, rt.alloc(), &[(0, five), (CELLS - 1, Added(1, 1))])?;
+    assert_eq!(rt; last.parts().len(), 2);
+    Ok(())
+}
+
+// Finds the cells that a join of these cells would touch, which are the expected ones.
+fn touch(
+    rt: &impl Abort,
+    alloc: Global,
+    grid: &Grid,
+    touched: &mut Touched,
+    parts: &[(usize, Part)],
+    expected: &[usize],
+) -> Result<(), Refusal> {
+    let delta = delta_of(rt, alloc, parts)?;
+    grid.touched(&delta, touched);
+    assert_eq!(rt; touched.cells().len(), expected.len());
+    for (cell, index) in touched.cells().iter().zip(expected) {
+        assert_eq!(rt; cell.index(), *index);
+    }
     Ok(())
 }
 
 /// Touched are the cells that a join would change: a counter that isn't shown counts, and what is covered doesn't.
 #[test]
-fn hidden_parts_are_touched(rt: HostRuntime) -> Result<(), Fail> {
-    let alloc = rt.alloc();
-    let mut grid = Grid::new(alloc)?;
-    let mut touched = Touched::new(alloc)?;
-    grid.join(alloc, &of_one(&rt, alloc, 3, number(alloc, 2, 1, 8))?)?;
-    let late = of_two(
-        &rt,
-        alloc,
-        (3, counted(alloc, 1, 5)?),
-        (4, chosen(alloc, 1, true)?),
-    )?;
-    let late = late.expect(&rt, "a delta");
-    grid.touched(&late, &mut touched);
-    let indices: Vec<usize> = touched
-        .cells()
-        .iter()
-        .map(|cell| cell.index())
-        .collect(alloc)?;
-    assert_eq!(rt; indices.as_slice(), [3, 4].as_slice());
-    let early = of_two(
-        &rt,
-        alloc,
-        (3, number(alloc, 1, 9, 7)),
-        (5, number(alloc, 1, 9, 7)),
-    )?;
-    grid.touched(&early.expect(&rt, "a delta"), &mut touched);
-    let indices: Vec<usize> = touched
-        .cells()
-        .iter()
-        .map(|cell| cell.index())
-        .collect(alloc)?;
-    assert_eq!(rt; indices.as_slice(), [5].as_slice());
-    grid.join(alloc, &late)?;
-    grid.touched(&late, &mut touched);
-    assert_eq!(rt; touched.cells().len(), 0);
+fn hidden_parts_are_touched(rt: HostRuntime) -> Result<(), Refusal> {
+    let late = [(3, Added(1, 5)), (4, Chosen(1, true))];
+    let early = [(3, Assigned(1, 9, 7)), (5, Assigned(1, 9, 7))];
+    let mut touched = Touched::new(rt.alloc())?;
+    let mut grid = Grid::new(rt.alloc())?;
+    join(&rt, rt.alloc(), &mut grid, &[(3, Assigned(2, 1, 8))])?;
+    touch(&rt, rt.alloc(), &grid, &mut touched, &late, &[3, 4])?;
+    touch(&rt, rt.alloc(), &grid, &mut touched, &early, &[5])?;
+    join(&rt, rt.alloc(), &mut grid, &late)?;
+    touch(&rt, rt.alloc(), &grid, &mut touched, &late, &[])?;
     assert_eq!(rt; number_at(&grid, cell(&rt, 3)), Some(8));
     Ok(())
 }
 
 /// A swap gives one cell another state and takes its old one; its neighbours stay.
 #[test]
-fn one_cell_is_swapped(rt: HostRuntime) -> Result<(), Fail> {
-    let alloc = rt.alloc();
-    let mut grid = Grid::new(alloc)?;
-    let mut state = number(alloc, 1, 1, 6);
+fn one_cell_is_swapped(rt: HostRuntime) -> Result<(), Refusal> {
+    let mut grid = Grid::new(rt.alloc())?;
+    let mut state = assigned(&rt, rt.alloc(), 1, 1, 6);
     grid.swap(cell(&rt, 104), &mut state);
     assert!(rt; state.is_empty());
-    assert_eq!(rt; number_at(&grid, cell(&rt, 103)), None);
-    assert_eq!(rt; number_at(&grid, cell(&rt, 104)), Some(6));
-    assert_eq!(rt; number_at(&grid, cell(&rt, 105)), None);
-    let twin = grid.at(cell(&rt, 104)).twin(alloc)?;
-    let (register, tally, choice) = twin.parts();
-    assert!(rt; !register.is_empty());
-    assert!(rt; tally.is_empty());
-    assert!(rt; choice.is_empty());
+    for (index, number) in [(103, None), (104, Some(6)), (105, None)] {
+        assert_eq!(rt; number_at(&grid, cell(&rt, index)), number);
+    }
     Ok(())
 }
 
 /// After a join all of the delta is in the grid, and after a refused one none of it.
 #[test]
-fn a_refused_join_changes_nothing(rt: HostRuntime) -> Result<(), Fail> {
-    let alloc = rt.alloc();
-    let mut grid = Grid::new(alloc)?;
-    let first = of_two(
+fn a_refused_join_changes_nothing(rt: HostRuntime) -> Result<(), Refusal> {
+    let mut grid = Grid::new(rt.alloc())?;
+    join(
         &rt,
-        alloc,
-        (0, counted(alloc, 1, 1)?),
-        (1, counted(alloc, 1, 1)?),
+        rt.alloc(),
+        &mut grid,
+        &[(0, Added(1, 1)), (1, Added(1, 1))],
     )?;
-    grid.join(alloc, &first.expect(&rt, "a delta"))?;
-    let second = of_two(
-        &rt,
-        alloc,
-        (0, counted(alloc, 2, 1)?),
-        (1, counted(alloc, 2, 1)?),
-    )?;
-    let second = second.expect(&rt, "a delta");
-    let joined = grid.join(alloc, &second).is_ok();
+    let second = delta_of(&rt, rt.alloc(), &[(0, Added(2, 1)), (1, Added(2, 1))])?;
+    let joined = grid.join(rt.alloc(), &second).is_ok();
     assert_eq!(rt; grid.covers(&second), joined);
     let value = if joined { 2 } else { 1 };
-    assert_eq!(rt; grid.at(cell(&rt, 0)).tally.value(), value);
-    assert_eq!(rt; grid.at(cell(&rt, 1)).tally.value(), value);
+    for index in 0..2 {
+        assert_eq!(rt; grid.at(cell(&rt, index)).tally.value(), value);
+    }
     Ok(())
 }
