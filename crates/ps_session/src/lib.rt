@@ -31,6 +31,8 @@ pub use sheet_session::run;
 pub use transcript::{RunFault, talk};
 
 #[cfg(test)]
+mod command_tests;
+#[cfg(test)]
 mod run_tests;
 #[cfg(test)]
 mod tests;

@@ -1,0 +1,88 @@
+use crate::command::Command;
+use ps_grid::Refusal;
+use ps_sheet::Edit;
+use std::alloc::Global;
+use std::test::Fail;
+
+fn refusal_of(alloc: Global, line: &[u8]) -> Option<Refusal> {
+    Command::read(alloc, line).err()
+}
+
+/// Lines that ask for nothing, and why. The words are counted before the cell is looked at, the cell before the number.
+#[test]
+fn refused_lines(rt: HostRuntime) {
+    for (line, want) in [
+        (b"hello".as_slice(), Refusal::Command),
+        (b"set", Refusal::Command),
+        (b"get A1 ", Refusal::Command),
+        (b"add a1", Refusal::Command),
+        (b"add a1 1 2", Refusal::Command),
+        (b"add  A1 1", Refusal::Command),
+        (b"get ", Refusal::Cell),
+        (b"set A1025 1", Refusal::Cell),
+        (b"set DA1 =", Refusal::Cell),
+        (b"choose a1 x", Refusal::Cell),
+        (b"add A1 +1", Refusal::Amount),
+        (b"sub A1 ", Refusal::Amount),
+        (b"add A1 18446744073709551616", Refusal::Amount),
+        (b"unchoose A1 -1", Refusal::OptionRange),
+        (b"set A1 '", Refusal::Text),
+        (b"set A1 =SUM()", Refusal::Formula),
+    ] {
+        assert_eq!(rt; refusal_of(rt.alloc(), line), Some(want));
+    }
+}
+
+/// The cell's index and the number of an edit that changes a counter or a set.
+fn parts_of(edit: Edit) -> Option<(usize, u64)> {
+    match edit {
+        Edit::Add(cell, amount) => Some((cell.index(), amount)),
+        Edit::Choose(cell, option) => Some((cell.index(), option)),
+        _ => None,
+    }
+}
+
+fn change_of(alloc: Global, line: &[u8]) -> Option<(usize, u64)> {
+    match Command::read(alloc, line) {
+        Ok(Command::Edit(edit)) => parts_of(edit),
+        _ => None,
+    }
+}
+
+/// Numbers may begin with zeros, and needn't be in range.
+#[test]
+fn changes(rt: HostRuntime) {
+    let alloc = rt.alloc();
+    assert_eq!(rt; change_of(alloc, b"add A1 0"), Some((0, 0)));
+    assert_eq!(rt;
+        change_of(alloc, b"add CZ1024 18446744073709551615"),
+        Some((106_495, u64::MAX))
+    );
+    assert_eq!(rt; change_of(alloc, b"choose A2 007"), Some((104, 7)));
+}
+
+/// The text of what a line puts into A1.
+fn text_of(alloc: Global, line: &[u8]) -> Result<Vec<u8>, Refusal> {
+    let mut text = Vec::new(alloc);
+    match Command::read(alloc, line)? {
+        Command::Edit(Edit::Set(_, content)) => content.canonical(&mut text)?,
+        _ => return Err(Refusal::Command),
+    }
+    Ok(text)
+}
+
+/// The entry is all behind the second space, and nothing where there is none.
+#[test]
+fn entries(rt: HostRuntime) -> Result<(), Fail> {
+    for (line, want) in [
+        (b"set A1".as_slice(), b"".as_slice()),
+        (b"set A1 ", b""),
+        (b"set A1 a b", b"'a b"),
+        (b"set A1  5", b"' 5"),
+        (b"set A1 of:= - 2 * 3", b"=-2*3"),
+    ] {
+        let text = text_of(rt.alloc(), line).ok().ok_or("an entry")?;
+        assert_eq!(rt; text.as_slice(), want);
+    }
+    Ok(())
+}
