@@ -2,18 +2,33 @@
 use Rattle.std.proofs.Common.{◌≡◌, ℕ, List, [], ◌∷◌, Some, Err, refl}
 use Rattle.ps_grid.specs.declared.refusal.Refusal.{Refusal}
 use Rattle.ps_grid.specs.declared.refusal.Refusal.TheVariants as refusals
-use Rattle.ps_session.specs.Commands.{verb_of, ReadsGet, ReadsLine, ReadsPair, ReadsVerb}
-use Rattle.ps_session.specs.Words.{behind_word, first_word, words}
+use Rattle.ps_session.specs.Commands.{verb_of, ReadsCorners, ReadsGet, ReadsLine, ReadsPair, ReadsPull, ReadsRows}
+use Rattle.ps_session.specs.Commands.{Read, ReadsPush, ReadsVerb, TakesIn}
+use Rattle.ps_session.specs.declared.command.Command.{Command}
+use Rattle.ps_session.specs.Words.{behind_word, first_word, parts, words}
 use Rattle.ps_session.specs.declared.verb.Verb.{Verb}
-use Rattle.ps_session.specs.declared.verb.Verb.TheVariants.{Add, Choose, Get, Set, Sub, Unchoose}
-use Rattle.ps_session.proofs.WordLemmas.{words_are_some}
+use Rattle.ps_session.specs.declared.verb.Verb.TheVariants.{Add, Choose, Get, Pull, Push, Rows, Set, Sub, Unchoose}
+use Rattle.ps_session.proofs.WordLemmas.{parts_are_some}
 
 pub get_more : (word rest : List ℕ) → ReadsGet (word ∷ words rest) (Err refusals.Command)
-get_more word rest = rw (words_are_some rest).are refl
+get_more word rest = rw (parts_are_some 32 rest).are refl
 
 pub pair_more : (refusal : Refusal) (word digits rest : List ℕ)
     → ReadsPair refusal (word ∷ digits ∷ words rest) (Err refusals.Command)
-pair_more refusal word digits rest = rw (words_are_some rest).are refl
+pair_more refusal word digits rest = rw (parts_are_some 32 rest).are refl
+
+pub rows_more : (word rest : List ℕ) → ReadsRows (word ∷ words rest) (Err refusals.Command)
+rows_more word rest = rw (parts_are_some 32 rest).are refl
+
+-- two colons
+pub corners_more : (first last rest : List ℕ) → ReadsCorners (first ∷ last ∷ parts 58 rest) (Err refusals.Cell)
+corners_more first last rest = rw (parts_are_some 58 rest).are refl
+
+pub pull_more : (from most rest : List ℕ) → ReadsPull (from ∷ most ∷ words rest) (Err refusals.Command)
+pull_more from most rest = rw (parts_are_some 32 rest).are refl
+
+pub push_reads : (line : List ℕ) (read : Read Command) → TakesIn line read → ReadsPush (words line) line read
+push_reads line read reads = rw (parts_are_some 32 line).are reads
 
 pub verb_alone : (verb : Verb) (entry : List ℕ) → ReadsVerb (Some verb) [] entry (Err refusals.Command)
 verb_alone Get entry = refl
@@ -22,9 +37,12 @@ verb_alone Add entry = (Err refusals.Command, refl, refl)
 verb_alone Sub entry = (Err refusals.Command, refl, refl)
 verb_alone Choose entry = (Err refusals.Command, refl, refl)
 verb_alone Unchoose entry = (Err refusals.Command, refl, refl)
+verb_alone Rows entry = refl
+verb_alone Push entry = refl
+verb_alone Pull entry = refl
 
 -- a verb and no space
 pub line_alone : (line word : List ℕ) (verb : Verb) → word ≡ first_word line → Some verb ≡ verb_of word
     → words line ≡ word ∷ [] → ReadsLine line (Err refusals.Command)
 line_alone line word verb first is alone =
-    rw (← first, ← is, alone) (verb_alone verb (behind_word (behind_word line)))
+    rw (← first, ← is, alone) (verb_alone verb (behind_word line))

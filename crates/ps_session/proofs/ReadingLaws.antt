@@ -10,12 +10,14 @@ use Rattle.ps_content.specs.Entry.Kind.{too_long, empty, formula, tally, choice,
 use Rattle.ps_content.specs.declared.content.Content.{Content}
 use Rattle.ps_content.specs.declared.content.Content.TheVariants as contents
 use Rattle.ps_sheet.specs.declared.edit.Edit.{Edit}
-use Rattle.ps_session.specs.Commands.{AtCell, Assigns, NamesCell, Read, ReadsChange, ReadsGet, ReadsLine, ReadsPair}
-use Rattle.ps_session.specs.Commands.{ReadsSet, ReadsVerb, verb_of, with_part}
-use Rattle.ps_session.specs.Words.{behind_word, first_word, whole_number, words}
+use Rattle.ps_session.specs.Commands.{group_size, AtCell, AtNumber, Assigns, NamesCell, Read, ReadsChange, ReadsCorners}
+use Rattle.ps_session.specs.Commands.{ReadsGet, ReadsLine, ReadsPair, ReadsPull, ReadsRows, ReadsSet, ReadsVerb}
+use Rattle.ps_session.specs.Commands.{verb_of, with_part, ReadsDelta, ReadsPush}
+use Rattle.ps_delta.specs.Deltas.{Entries}
+use Rattle.ps_session.specs.Words.{behind_word, first_word, parts, whole_number, words}
 use Rattle.ps_session.specs.declared.command.Command.{Command}
 use Rattle.ps_session.specs.declared.verb.Verb.{Verb}
-use Rattle.ps_session.specs.declared.verb.Verb.TheVariants.{Add, Choose, Get, Set, Sub, Unchoose}
+use Rattle.ps_session.specs.declared.verb.Verb.TheVariants.{Add, Choose, Get, Pull, Push, Rows, Set, Sub, Unchoose}
 
 -- memory was ample
 abbrev IsAmple : {X : Type 0} → Read X → Type 0
@@ -113,19 +115,69 @@ set_once [] entry a b x y ample_a ample_b = x ∙ sym y
 set_once (cell ∷ more) entry a b x y ample_a ample_b =
     at_cell_once cell a b _ _ x y (λ c p q. assigned_once c entry a b p q ample_a ample_b)
 
-verb_once : (verb : Option Verb) (others : List (List ℕ)) (entry : List ℕ) (a b : Read Command)
-    → ReadsVerb verb others entry a → ReadsVerb verb others entry b → IsAmple a → IsAmple b → a ≡ b
-verb_once None others entry a b x y ample_a ample_b = x ∙ sym y
-verb_once (Some Get) others entry a b x y ample_a ample_b = get_once others a b x y
-verb_once (Some Set) others entry a b x y ample_a ample_b = set_once others entry a b x y ample_a ample_b
-verb_once (Some Add) others entry a b x y ample_a ample_b = change_once _ refusals.Amount others a b x y
-verb_once (Some Sub) others entry a b x y ample_a ample_b = change_once _ refusals.Amount others a b x y
-verb_once (Some Choose) others entry a b x y ample_a ample_b = change_once _ refusals.OptionRange others a b x y
-verb_once (Some Unchoose) others entry a b x y ample_a ample_b = change_once _ refusals.OptionRange others a b x y
+corners_once : (corners : List (List ℕ)) (a b : Read Command) → ReadsCorners corners a → ReadsCorners corners b
+    → a ≡ b
+corners_once [] a b x y = x ∙ sym y
+corners_once (first ∷ []) a b x y = x ∙ sym y
+corners_once (first ∷ last ∷ []) a b x y =
+    at_cell_once first a b _ _ x y (λ c p q. at_cell_once last a b _ _ p q (λ d r s. r ∙ sym s))
+corners_once (first ∷ last ∷ third ∷ more) a b x y = x ∙ sym y
+
+rows_once : (others : List (List ℕ)) (a b : Read Command) → ReadsRows others a → ReadsRows others b → a ≡ b
+rows_once [] a b x y = x ∙ sym y
+rows_once (corners ∷ []) a b x y = corners_once (parts 58 corners) a b x y
+rows_once (corners ∷ second ∷ more) a b x y = x ∙ sym y
+
+delta_refused : (e f : Refusal) → (e ≡ refusals.Delta) ⊎ (e ≡ refusals.Memory)
+    → (f ≡ refusals.Delta) ⊎ (f ≡ refusals.Memory) → IsAmple {X = Entries} (Err e) → IsAmple {X = Entries} (Err f)
+    → e ≡ f
+delta_refused e f (inl p) (inl q) ample_e ample_f = p ∙ sym q
+delta_refused e f (inr p) q ample_e ample_f = absurd (ample_e (ap Err p))
+delta_refused e f (inl p) (inr q) ample_e ample_f = absurd (ample_f (ap Err q))
+
+delta_once : (bytes : List ℕ) (a b : Read Entries) → ReadsDelta bytes a → ReadsDelta bytes b → IsAmple a → IsAmple b
+    → a ≡ b
+delta_once bytes (Ok d) (Ok e) x y ample_a ample_b = ap Ok (x.only e y.line)
+delta_once bytes (Ok d) (Err e) x y ample_a ample_b = absurd (ample_b (ap Err (y.only d x.line)))
+delta_once bytes (Err e) (Ok d) x y ample_a ample_b = absurd (ample_a (ap Err (x.only d y.line)))
+delta_once bytes (Err e) (Err f) x y ample_a ample_b =
+    ap Err (delta_refused e f x.refused y.refused ample_a ample_b)
+
+push_once : (others : List (List ℕ)) (line : List ℕ) (a b : Read Command) → ReadsPush others line a
+    → ReadsPush others line b → IsAmple a → IsAmple b → a ≡ b
+push_once [] line a b x y ample_a ample_b = x ∙ sym y
+push_once (word ∷ others) line a b x y ample_a ample_b =
+    x.2 ∙ ap (with_part _) (delta_once line x.0 y.0 x.1 y.1 (λ e. ample_a (x.2 ∙ ap (with_part _) e))
+    (λ e. ample_b (y.2 ∙ ap (with_part _) e))) ∙ sym y.2
+
+at_number_once : (n : Option ℕ) (a b : Read Command) (P Q : ℕ → Type 0) → AtNumber n a P → AtNumber n b Q
+    → ((m : ℕ) → P m → Q m → a ≡ b) → a ≡ b
+at_number_once None a b P Q x y same = x ∙ sym y
+at_number_once (Some m) a b P Q x y same = same m x y
+
+pull_once : (others : List (List ℕ)) (a b : Read Command) → ReadsPull others a → ReadsPull others b → a ≡ b
+pull_once [] a b x y = x ∙ sym y
+pull_once (from ∷ []) a b x y = at_number_once (whole_number from) a b _ _ x y (λ n p q. p ∙ sym q)
+pull_once (from ∷ most ∷ []) a b x y = at_number_once (whole_number from) a b _ _ x y
+    (λ n p q. at_number_once (group_size (whole_number most)) a b _ _ p q (λ m r s. r ∙ sym s))
+pull_once (from ∷ most ∷ third ∷ more) a b x y = x ∙ sym y
+
+verb_once : (verb : Option Verb) (others : List (List ℕ)) (behind : List ℕ) (a b : Read Command)
+    → ReadsVerb verb others behind a → ReadsVerb verb others behind b → IsAmple a → IsAmple b → a ≡ b
+verb_once None others behind a b x y ample_a ample_b = x ∙ sym y
+verb_once (Some Get) others behind a b x y ample_a ample_b = get_once others a b x y
+verb_once (Some Set) others behind a b x y ample_a ample_b = set_once others (behind_word behind) a b x y ample_a ample_b
+verb_once (Some Add) others behind a b x y ample_a ample_b = change_once _ refusals.Amount others a b x y
+verb_once (Some Sub) others behind a b x y ample_a ample_b = change_once _ refusals.Amount others a b x y
+verb_once (Some Choose) others behind a b x y ample_a ample_b = change_once _ refusals.OptionRange others a b x y
+verb_once (Some Unchoose) others behind a b x y ample_a ample_b = change_once _ refusals.OptionRange others a b x y
+verb_once (Some Rows) others behind a b x y ample_a ample_b = rows_once others a b x y
+verb_once (Some Push) others behind a b x y ample_a ample_b = push_once others behind a b x y ample_a ample_b
+verb_once (Some Pull) others behind a b x y ample_a ample_b = pull_once others a b x y
 
 -- two readings of one line are the same, where neither lacked memory
 pub reads_once : (line : List ℕ) (a b : Read Command) → ReadsLine line a → ReadsLine line b
     → a ≢ Err refusals.Memory → b ≢ Err refusals.Memory → a ≡ b
 reads_once line a b x y ample_a ample_b =
-    verb_once (verb_of (first_word line)) (drop 1 (words line)) (behind_word (behind_word line)) a b x y ample_a
+    verb_once (verb_of (first_word line)) (drop 1 (words line)) (behind_word line) a b x y ample_a
     ample_b

@@ -1,5 +1,6 @@
 -- How a line is divided into words, and what a word of digits writes.
-use Rattle.std.proofs.Common.{◌≡◌, ◌+◌, ◌-◌, ◌<◌, ◌≤◌, ◌^◌, ℕ, Bool, true, false, cond, ◌&&◌, List, [], ◌∷◌, length}
+use Rattle.std.proofs.Common.{◌≡◌, ◌+◌, ◌-◌, ◌<◌, ◌≤◌, ◌^◌, ◌==◌, ℕ, Bool, true, false, cond, ◌&&◌}
+use Rattle.std.proofs.Common.{List, [], ◌∷◌, length}
 use Rattle.std.proofs.Common.{take, drop, nat_lt, Some, None, Result, Ok, Err, refl, sym, ap, ◌∙◌, arith, rules}
 use Rattle.std.specs.Prelude.{IsUtf8, position}
 use Rattle.std.specs.Char.{is_ascii_digit}
@@ -14,7 +15,7 @@ use Rattle.std.proofs.lemmas.List.Sums.{fails_before_first}
 use Rattle.std.proofs.lemmas.Str.Ascii.{IsAscii-cons, IsAscii-nil}
 use Rattle.std.proofs.lemmas.Str.{IsUtf8-from_ascii}
 use Rattle.std.proofs.lemmas.Str.Parse.{digit_from_value, parse_digits, IsNumeralModel, numerals_by_value}
-use Rattle.ps_session.specs.Words.{is_space, is_whole, whole_number, words}
+use Rattle.ps_session.specs.Words.{is_whole, parts, whole_number}
 
 position_cases : (b : Bool) (m n : ℕ) → cond b (Some m) None ≡ Some n → (b ≡ true) × (m ≡ n)
 position_cases true m n e = (refl, cc)
@@ -24,26 +25,30 @@ no_position : (b : Bool) (m : ℕ) → cond b (Some m) None ≡ None → b ≡ f
 no_position true m e = cc
 no_position false m e = refl
 
--- a line with a space is its first word, and then the words behind the space
-pub words_at : (line : List ℕ) (place : ℕ) → position is_space line ≡ Some place
-    → words line ≡ take place line ∷ words (take (length line - (place + 1)) (drop (place + 1) line))
-words_at line place e =
-    let n = position_or_len is_space line in
-    let cases = position_cases (nat_lt n (length line)) n place e in
-    let split : words line ≡ take n line ∷ words (drop (n + 1) line)
-    = slice_split_first is_space line 0 (ltb-true n (length line) cases.0) in
-    let there : words line ≡ take place line ∷ words (drop (place + 1) line)
+-- a text with a separator is its first part, and then the parts behind the separator
+pub parts_at : (separator : ℕ) (text : List ℕ) (place : ℕ) → position (λ b. b == separator) text ≡ Some place
+    → parts separator text
+    ≡ take place text ∷ parts separator (take (length text - (place + 1)) (drop (place + 1) text))
+parts_at separator text place e =
+    let is_separator : ℕ → Bool = λ b. b == separator in
+    let n = position_or_len is_separator text in
+    let cases = position_cases (nat_lt n (length text)) n place e in
+    let split : parts separator text ≡ take n text ∷ parts separator (drop (n + 1) text)
+    = slice_split_first is_separator text 0 (ltb-true n (length text) cases.0) in
+    let there : parts separator text ≡ take place text ∷ parts separator (drop (place + 1) text)
     = rw cases.1 at split in
-    rw (take_rest line (place + 1)) there
+    rw (take_rest text (place + 1)) there
 
--- a line without a space is one word
-pub one_word : (line : List ℕ) → position is_space line ≡ None → words line ≡ line ∷ []
-one_word line e =
-    let n = position_or_len is_space line in
-    let behind : length line ≤ n = ltb-false n (length line) (no_position (nat_lt n (length line)) n e) in
-    slice_split_none is_space line (λ k d lt. fails_before_first is_space line k d (omega arith))
+-- a text without a separator is one part
+pub one_part : (separator : ℕ) (text : List ℕ) → position (λ b. b == separator) text ≡ None
+    → parts separator text ≡ text ∷ []
+one_part separator text e =
+    let is_separator : ℕ → Bool = λ b. b == separator in
+    let n = position_or_len is_separator text in
+    let behind : length text ≤ n = ltb-false n (length text) (no_position (nat_lt n (length text)) n e) in
+    slice_split_none is_separator text (λ k d lt. fails_before_first is_separator text k d (omega arith))
 
--- there is a first word, which may be empty
+-- there is a first part, which may be empty
 pub record AreSome (texts : List (List ℕ)) : Type 0 where
   pub first : List ℕ
   pub others : List (List ℕ)
@@ -57,9 +62,9 @@ some_by : (s : Bool) (b : ℕ) (texts : List (List ℕ)) → AreSome (cond s ([]
 some_by true b texts = record { first = []; others = texts; are = refl }
 some_by false b texts = onto_some b texts
 
-pub words_are_some : (line : List ℕ) → AreSome (words line)
-words_are_some [] = record { first = []; others = []; are = refl }
-words_are_some (b ∷ bs) = some_by (is_space b) b (words bs)
+pub parts_are_some : (separator : ℕ) (text : List ℕ) → AreSome (parts separator text)
+parts_are_some separator [] = record { first = []; others = []; are = refl }
+parts_are_some separator (b ∷ bs) = some_by (b == separator) b (parts separator bs)
 
 -- the library's words for digits and ours
 digits : IsNumeralModel (λ ds. list_all is_ascii_digit ds ≡ true) (digits_value 10)

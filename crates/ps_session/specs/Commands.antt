@@ -1,19 +1,23 @@
 -- What a line asks for. It is the line's own: no sheet is looked at.
-use Rattle.std.specs.Prelude.{◌≡◌, ◌<◌, ◌↔◌, ℕ, Bool, true, false, List, [], ◌∷◌, codes, bytes_eq, drop}
-use Rattle.std.specs.Prelude.{Option, Some, None, MatchOption, Result, Ok, Err, if◌then◌else◌}
+use Rattle.std.specs.Prelude.{◌≡◌, ◌<◌, ◌↔◌, ℕ, Bool, true, false, ◌&&◌, nat_le, List, [], ◌∷◌, codes, bytes_eq, drop}
+use Rattle.std.specs.Prelude.{Option, Some, None, MatchOption, Result, Ok, Err, IfOk, IfErr, MatchResult, ◌⊎◌}
+use Rattle.std.specs.Prelude.{if◌then◌else◌}
 use Rattle.ps_grid.specs.Place.{cell_name}
 use Rattle.ps_grid.specs.declared.refusal.Refusal.{Refusal}
 use Rattle.ps_grid.specs.declared.refusal.Refusal.TheVariants as refusals
 use Rattle.ps_grid.specs.declared.size.TheConstants.{CELLS}
 use Rattle.ps_content.specs.Entry.{Reads, kind_of}
 use Rattle.ps_content.specs.declared.content.Content.{Content}
+use Rattle.ps_delta.specs.Deltas.{Entries}
+use Rattle.ps_wire.specs.Line.{IsLine}
 use Rattle.ps_sheet.specs.declared.edit.Edit.{Edit}
 use Rattle.ps_sheet.specs.declared.edit.Edit.TheVariants as edits
-use Rattle.ps_session.specs.Words.{behind_word, first_word, whole_number, words}
+use Rattle.ps_session.specs.Words.{behind_word, first_word, parts, whole_number, words}
 use Rattle.ps_session.specs.declared.command.Command.{Command}
+use Rattle.ps_session.specs.declared.command.TheConstants.{LARGEST_GROUP}
 use Rattle.ps_session.specs.declared.command.Command.TheVariants as commands
 use Rattle.ps_session.specs.declared.verb.Verb.{Verb}
-use Rattle.ps_session.specs.declared.verb.Verb.TheVariants.{Add, Choose, Get, Set, Sub, Unchoose}
+use Rattle.ps_session.specs.declared.verb.Verb.TheVariants.{Add, Choose, Get, Pull, Push, Rows, Set, Sub, Unchoose}
 
 -- the verb that a word is
 unfoldable pub verb_of : List ℕ → Option Verb
@@ -24,6 +28,9 @@ verb_of word =
     else if bytes_eq word (codes "sub") then Some Sub
     else if bytes_eq word (codes "choose") then Some Choose
     else if bytes_eq word (codes "unchoose") then Some Unchoose
+    else if bytes_eq word (codes "rows") then Some Rows
+    else if bytes_eq word (codes "push") then Some Push
+    else if bytes_eq word (codes "pull") then Some Pull
     else None
 
 -- what a line or a part of it is read as, or why it is refused
@@ -70,21 +77,68 @@ abbrev pub ReadsChange : (ℕ → ℕ → Edit) → Refusal → List (List ℕ) 
 ReadsChange change refusal others read = (pair : Read (ℕ × ℕ)) × ReadsPair refusal others pair
     × (read ≡ with_part (λ p. commands.Edit (change p.0 p.1)) pair)
 
--- a verb, the words behind it, and all behind the second space
+-- two cells with a colon between
+abbrev pub ReadsCorners : List (List ℕ) → Read Command → Type 0
+ReadsCorners (first ∷ last ∷ []) read =
+    AtCell first read (λ c. AtCell last read (λ d. read ≡ Ok (commands.Rows c d)))
+ReadsCorners _ read = read ≡ Err refusals.Cell
+
+-- `rows`: one word, two corners of a rectangle
+abbrev pub ReadsRows : List (List ℕ) → Read Command → Type 0
+ReadsRows (corners ∷ []) read = ReadsCorners (parts 58 corners) read
+ReadsRows _ read = read ≡ Err refusals.Command
+
+-- the delta that bytes are a line of; bytes that are no line are refused
+pub record ReadsDelta (bytes : List ℕ) (read : Read Entries) : Type 0 where
+  pub line : IfOk read (λ d. IsLine bytes d)
+  pub only : (d : Entries) → IsLine bytes d → MatchResult read (λ found. found ≡ d) (λ e. e ≡ refusals.Memory)
+  pub refused : IfErr read (λ e. (e ≡ refusals.Delta) ⊎ (e ≡ refusals.Memory))
+
+-- the delta of a line is taken in
+abbrev pub TakesIn : List ℕ → Read Command → Type 0
+TakesIn bytes read =
+    (delta : Read Entries) × ReadsDelta bytes delta × (read ≡ with_part (λ d. commands.Push d) delta)
+
+-- `push`: all behind its space is the line
+abbrev pub ReadsPush : List (List ℕ) → List ℕ → Read Command → Type 0
+ReadsPush [] line read = read ≡ Err refusals.Command
+ReadsPush (word ∷ others) line read = TakesIn line read
+
+-- a word that writes no number is refused as a version; else its number decides
+abbrev pub AtNumber : Option ℕ → Read Command → (ℕ → Type 0) → Type 0
+AtNumber number read Decides = MatchOption number (read ≡ Err refusals.Version) Decides
+
+-- the number, where it is the size of a group of deltas
+abbrev pub group_size : Option ℕ → Option ℕ
+group_size None = None
+group_size (Some n) = if nat_le 1 n && nat_le n LARGEST_GROUP then Some n else None
+
+-- `pull`: a version, and perhaps the most deltas of a group
+abbrev pub ReadsPull : List (List ℕ) → Read Command → Type 0
+ReadsPull (from ∷ []) read = AtNumber (whole_number from) read (λ n. read ≡ Ok (commands.Pull n None))
+ReadsPull (from ∷ most ∷ []) read =
+    AtNumber (whole_number from) read (λ n.
+    AtNumber (group_size (whole_number most)) read (λ m. read ≡ Ok (commands.Pull n (Some m))))
+ReadsPull _ read = read ≡ Err refusals.Command
+
+-- a verb, the words behind it, and all that stands there
 abbrev pub ReadsVerb : Option Verb → List (List ℕ) → List ℕ → Read Command → Type 0
-ReadsVerb None others entry read = read ≡ Err refusals.Command
-ReadsVerb (Some Get) others entry read = ReadsGet others read
-ReadsVerb (Some Set) others entry read = ReadsSet others entry read
-ReadsVerb (Some Add) others entry read = ReadsChange (λ c n. edits.Add c n) refusals.Amount others read
-ReadsVerb (Some Sub) others entry read = ReadsChange (λ c n. edits.Sub c n) refusals.Amount others read
-ReadsVerb (Some Choose) others entry read = ReadsChange (λ c n. edits.Choose c n) refusals.OptionRange others read
-ReadsVerb (Some Unchoose) others entry read =
+ReadsVerb None others behind read = read ≡ Err refusals.Command
+ReadsVerb (Some Get) others behind read = ReadsGet others read
+ReadsVerb (Some Set) others behind read = ReadsSet others (behind_word behind) read
+ReadsVerb (Some Add) others behind read = ReadsChange (λ c n. edits.Add c n) refusals.Amount others read
+ReadsVerb (Some Sub) others behind read = ReadsChange (λ c n. edits.Sub c n) refusals.Amount others read
+ReadsVerb (Some Choose) others behind read = ReadsChange (λ c n. edits.Choose c n) refusals.OptionRange others read
+ReadsVerb (Some Unchoose) others behind read =
     ReadsChange (λ c n. edits.Unchoose c n) refusals.OptionRange others read
+ReadsVerb (Some Rows) others behind read = ReadsRows others read
+ReadsVerb (Some Push) others behind read = ReadsPush others behind read
+ReadsVerb (Some Pull) others behind read = ReadsPull others read
 
 -- WHAT A LINE ASKS FOR
 abbrev pub ReadsLine : List ℕ → Read Command → Type 0
 ReadsLine line read =
-    ReadsVerb (verb_of (first_word line)) (drop 1 (words line)) (behind_word (behind_word line)) read
+    ReadsVerb (verb_of (first_word line)) (drop 1 (words line)) (behind_word line) read
 
 -- every verb but `get` may find too little memory
 abbrev pub may_grow : Option Verb → Bool
@@ -95,6 +149,9 @@ may_grow (Some Add) = true
 may_grow (Some Sub) = true
 may_grow (Some Choose) = true
 may_grow (Some Unchoose) = true
+may_grow (Some Rows) = true
+may_grow (Some Push) = true
+may_grow (Some Pull) = true
 
 -- the line may be refused for lack of memory
 abbrev pub has_memory_reply : List ℕ → Bool

@@ -4,18 +4,26 @@ use Rattle.std.specs.Char.{is_ascii_digit}
 use Rattle.std.specs.List.{after_first, before_first, list_all, slice_split}
 use Rattle.std.specs.Str.Parse.{digits_value}
 
-abbrev pub is_space : ℕ → Bool
-is_space b = b == 32
+-- a text divided at each such byte
+abbrev pub parts : ℕ → List ℕ → List (List ℕ)
+parts separator text = slice_split (λ b. b == separator) text
 
+abbrev pub first_part : ℕ → List ℕ → List ℕ
+first_part separator text = before_first (λ b. b == separator) text
+
+-- all behind the first such byte, others of them too
+abbrev pub behind_part : ℕ → List ℕ → List ℕ
+behind_part separator text = after_first (λ b. b == separator) text
+
+-- .. at each space
 abbrev pub words : List ℕ → List (List ℕ)
-words line = slice_split is_space line
+words line = parts 32 line
 
 abbrev pub first_word : List ℕ → List ℕ
-first_word line = before_first is_space line
+first_word line = first_part 32 line
 
--- all behind the first space, spaces too
 abbrev pub behind_word : List ℕ → List ℕ
-behind_word line = after_first is_space line
+behind_word line = behind_part 32 line
 
 -- one or more decimal digits, whose number has 64 bits
 unfoldable pub is_whole : List ℕ → Bool

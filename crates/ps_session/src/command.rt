@@ -1,13 +1,17 @@
 //! What a line asks for.
 ghost use Rattle.std.specs.Prelude.{◌≡◌, ◌∷◌, Ok, Some};
-ghost use Rattle.ps_session.specs.Words.{behind_word, words};
-ghost use Rattle.ps_session.specs.Commands.{AtCell, ReadsGet, ReadsLine, ReadsPair, ReadsSet, ReadsVerb};
+ghost use Rattle.std.specs.Option.{ok_or};
+ghost use Rattle.ps_session.specs.Words.{behind_word, parts, whole_number, words};
+ghost use Rattle.ps_session.specs.Commands.{AtCell, ReadsCorners, ReadsGet, ReadsLine, ReadsPair, ReadsPull};
+ghost use Rattle.ps_session.specs.Commands.{ReadsRows, ReadsSet, ReadsVerb, TakesIn, group_size};
 
 use crate::verb::Verb;
-use crate::words::{read_whole, split_word};
+use crate::words::{read_whole, split_part, split_word};
 use ps_content::read_entry;
+use ps_delta::Delta;
 use ps_grid::{Cell, Refusal};
 use ps_sheet::Edit;
+use ps_wire::decode;
 use std::alloc::Global;
 
 /// What a line asks for.
@@ -17,7 +21,21 @@ pub enum Command {
     Edit(Edit),
     /// To show a cell.
     Get(Cell),
+    /// To show a rectangle, by two opposite corners.
+    Rows(Cell, Cell),
+    /// To hand out what was accepted after a version: one delta, or at most so many as one.
+    Pull {
+        /// The version.
+        from: u64,
+        /// How many deltas at most, 1 to 16.
+        most: Option<u8>,
+    },
+    /// To take in a delta made elsewhere.
+    Push(Delta),
 }
+
+/// The most deltas that are handed out as one.
+pub const LARGEST_GROUP: u64 = 16;
 
 impl Command {
     /// What a line asks for, or why it is refused:
@@ -25,7 +43,10 @@ impl Command {
     /// - `get <cell>`, to show a cell;
     /// - `set <cell> <entry>`, to give it what the entry stands for, and `set <cell>`, to make it blank;
     /// - `add <cell> <amount>` and `sub <cell> <amount>`, to change its counter;
-    /// - `choose <cell> <option>` and `unchoose <cell> <option>`, to change its set.
+    /// - `choose <cell> <option>` and `unchoose <cell> <option>`, to change its set;
+    /// - `rows <cell>:<cell>`, to show a rectangle;
+    /// - `pull <from>` and `pull <from> <most>`, to hand out deltas;
+    /// - `push <line>`, to take in the delta that all behind the space is a line of.
     ///
     /// Exactly one space stands between two words; an entry may hold more. Of several refusals the first is told:
     /// another first word, a word too few or too many (`Command`), no cell (`Cell`), no digits or a number of more
@@ -48,7 +69,7 @@ impl Command {
 }
 
 fn read_behind(alloc: Global, verb: Verb, behind: &[u8]) -> Result<Command, Refusal>
-    ensures { ReadsVerb (Some verb) (words behind.now) (behind_word behind.now) result }
+    ensures { ReadsVerb (Some verb) (words behind.now) behind.now result }
 {
     match verb {
         Verb::Get => read_get(behind),
@@ -69,6 +90,9 @@ fn read_behind(alloc: Global, verb: Verb, behind: &[u8]) -> Result<Command, Refu
             let (cell, option) = read_change(behind, Refusal::OptionRange)?;
             Ok(Command::Edit(Edit::Unchoose(cell, option)))
         }
+        Verb::Rows => read_rows(behind),
+        Verb::Push => read_push(alloc, behind),
+        Verb::Pull => read_pull(behind),
     }
 }
 
@@ -125,5 +149,73 @@ fn read_pair(word: &[u8], number: &[u8], refusal: Refusal) -> Result<(Cell, u64)
             }
         }
         (_, Some(_)) => Err(Refusal::Command),
+    }
+}
+
+fn read_rows(behind: &[u8]) -> Result<Command, Refusal>
+    ensures { ReadsRows (words behind.now) result }
+{
+    match split_word(behind) {
+        (corners, None) => read_corners(corners),
+        (_, Some(_)) => Err(Refusal::Command),
+    }
+}
+
+fn read_corners(corners: &[u8]) -> Result<Command, Refusal>
+    ensures { ReadsCorners (parts 58 corners.now) result }
+{
+    let (first, behind) = split_part(corners, b':');
+    let Some(behind) = behind else {
+        return Err(Refusal::Cell);
+    };
+    match split_part(behind, b':') {
+        (last, None) => Ok(Command::Rows(read_cell(first)?, read_cell(last)?)),
+        (_, Some(_)) => Err(Refusal::Cell),
+    }
+}
+
+fn read_push(alloc: Global, line: &[u8]) -> Result<Command, Refusal>
+    ensures { TakesIn line.now result }
+{
+    let delta = decode(alloc, line)?;
+    Ok(Command::Push(delta))
+}
+
+fn read_pull(behind: &[u8]) -> Result<Command, Refusal>
+    ensures { ReadsPull (words behind.now) result }
+{
+    match split_word(behind) {
+        (from, None) => Ok(Command::Pull {
+            from: read_version(from)?,
+            most: None,
+        }),
+        (from, Some(behind)) => read_group(from, behind),
+    }
+}
+
+fn read_group(from: &[u8], behind: &[u8]) -> Result<Command, Refusal>
+    ensures { ReadsPull (from.now ∷ words behind.now) result }
+{
+    match split_word(behind) {
+        (most, None) => Ok(Command::Pull {
+            from: read_version(from)?,
+            most: Some(read_most(most)?),
+        }),
+        (_, Some(_)) => Err(Refusal::Command),
+    }
+}
+
+fn read_version(word: &[u8]) -> Result<u64, Refusal>
+    ensures { result ≡ ok_or (whole_number word.now) Refusal.Version }
+{
+    read_whole(word).ok_or(Refusal::Version)
+}
+
+fn read_most(word: &[u8]) -> Result<u8, Refusal>
+    ensures { result ≡ ok_or (group_size (whole_number word.now)) Refusal.Version }
+{
+    match read_whole(word) {
+        Some(number) if 1 <= number && number <= LARGEST_GROUP => Ok(number as u8),
+        _ => Err(Refusal::Version),
     }
 }

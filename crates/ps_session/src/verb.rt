@@ -11,6 +11,9 @@ pub(crate) enum Verb {
     Sub,
     Choose,
     Unchoose,
+    Rows,
+    Push,
+    Pull,
 }
 
 impl Verb {
@@ -31,6 +34,12 @@ impl Verb {
             Some(Verb::Choose)
         } else if word == b"unchoose".as_slice() {
             Some(Verb::Unchoose)
+        } else if word == b"rows".as_slice() {
+            Some(Verb::Rows)
+        } else if word == b"push".as_slice() {
+            Some(Verb::Push)
+        } else if word == b"pull".as_slice() {
+            Some(Verb::Pull)
         } else {
             None
         }

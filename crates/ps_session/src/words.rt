@@ -1,9 +1,10 @@
 //! The words of a line.
-ghost use Rattle.std.specs.Prelude.{◌≡◌, ◌∷◌, [], position};
+ghost use Rattle.std.specs.Prelude.{◌≡◌, ◌==◌, ◌∷◌, [], position};
 ghost use Rattle.std.specs.Char.{is_ascii_digit};
 ghost use Rattle.std.specs.List.{list_all};
 ghost use Rattle.std.specs.Option.{option_map_or};
-ghost use Rattle.ps_session.specs.Words.{behind_word, first_word, is_space, whole_number, words};
+ghost use Rattle.ps_session.specs.Words.{behind_part, behind_word, first_part, first_word, parts, whole_number};
+ghost use Rattle.ps_session.specs.Words.{words};
 
 /// The bytes before the first space, and those behind it where there is one.
 pub(crate) fn split_word(text: &[u8]) -> (&[u8], Option<&[u8]>)
@@ -11,16 +12,26 @@ pub(crate) fn split_word(text: &[u8]) -> (&[u8], Option<&[u8]>)
     ensures words { words text.now ≡ result.0.now ∷ option_map_or (λ rest. words rest.now) result.1 [] }
     ensures behind { behind_word text.now ≡ option_map_or (λ rest. rest.now) result.1 [] }
 {
-    match first_space(text) {
+    split_part(text, b' ')
+}
+
+/// The bytes before the first separator, and those behind it where there is one.
+pub(crate) fn split_part(text: &[u8], separator: u8) -> (&[u8], Option<&[u8]>)
+    ensures part { result.0.now ≡ first_part separator text.now }
+    ensures parts { parts separator text.now
+        ≡ result.0.now ∷ option_map_or (λ rest. parts separator rest.now) result.1 [] }
+    ensures behind { behind_part separator text.now ≡ option_map_or (λ rest. rest.now) result.1 [] }
+{
+    match first_place(text, separator) {
         Some(place) => (&text[..place], Some(&text[place + 1..])),
         None => (text, None),
     }
 }
 
-fn first_space(text: &[u8]) -> Option<usize>
-    ensures { result ≡ position is_space text.now }
+fn first_place(text: &[u8], separator: u8) -> Option<usize>
+    ensures { result ≡ position (λ b. b == separator) text.now }
 {
-    text.iter().position(|b| *b == b' ')
+    text.iter().position(|b| *b == separator)
 }
 
 /// The number that a word of decimal digits writes; none where it is no such word, or the number has more than 64 bits.
