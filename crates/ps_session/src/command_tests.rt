@@ -28,6 +28,15 @@ fn refused_lines(rt: HostRuntime) {
         (b"unchoose A1 -1", Refusal::OptionRange),
         (b"set A1 '", Refusal::Text),
         (b"set A1 =SUM()", Refusal::Formula),
+        (b"rows A1", Refusal::Cell),
+        (b"rows A1:B2:C3", Refusal::Cell),
+        (b"rows A1 B2", Refusal::Command),
+        (b"pull ", Refusal::Version),
+        (b"pull 0 17", Refusal::Version),
+        (b"pull 0 16 1", Refusal::Command),
+        (b"push", Refusal::Command),
+        (b"push ", Refusal::Delta),
+        (b"push [[\"A1\",[1,2,\"5\"],[],[]]", Refusal::Delta),
     ] {
         assert_eq!(rt; refusal_of(rt.alloc(), line), Some(want));
     }
@@ -85,4 +94,23 @@ fn entries(rt: HostRuntime) -> Result<(), Fail> {
         assert_eq!(rt; text.as_slice(), want);
     }
     Ok(())
+}
+
+/// What a line that only looks asks for: two cells' indices, or a version and the size of a group.
+fn asked(alloc: Global, line: &[u8]) -> Option<(usize, u64)> {
+    match Command::read(alloc, line) {
+        Ok(Command::Rows(first, last)) => Some((first.index(), last.index() as u64)),
+        Ok(Command::Pull { from, most }) => Some((most.map_or(0, usize::from), from)),
+        _ => None,
+    }
+}
+
+/// Corners in either order; a version beyond any history, and a group of the greatest size.
+#[test]
+fn looks(rt: HostRuntime) {
+    let alloc = rt.alloc();
+    assert_eq!(rt; asked(alloc, b"rows C1:A2"), Some((2, 104)));
+    assert_eq!(rt; asked(alloc, b"pull 99"), Some((0, 99)));
+    assert_eq!(rt; asked(alloc, b"pull 00 16"), Some((16, 0)));
+    assert_eq!(rt; asked(alloc, b"push [[\"A1\",[1,2,\"5\"],[],[]]]"), None);
 }
