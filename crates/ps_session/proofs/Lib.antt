@@ -13,3 +13,4 @@ mod CommandLemmas
 pub mod ReadingLaws
 mod SplitLemmas
 mod ReplayLemmas
+mod HandingLemmas

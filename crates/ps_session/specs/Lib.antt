@@ -6,5 +6,6 @@ pub mod Replies
 pub mod Holds
 pub mod Words
 pub mod Commands
+pub mod Handing
 pub mod Answers
 pub mod Laws

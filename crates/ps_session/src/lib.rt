@@ -14,6 +14,7 @@
 mod answers;
 mod board;
 mod command;
+mod handing;
 mod laws;
 mod reply;
 mod session;

@@ -1,0 +1,143 @@
+-- Deltas joined, and the line of the greatest number of them that isn't too long.
+use Rattle.std.proofs.Common.{◌≡◌, ◌≢◌, ◌⊎◌, ◌∙◌, ◌+◌, ◌-◌, ◌<◌, ◌≤◌, inl, inr, refl, sym, ap, ap₂, subst, arith, ℕ, List}
+use Rattle.std.proofs.Common.{[], ◌∷◌, length, take, map, min, drop}
+use Rattle.std.proofs.lemmas.List.{length-map, take_rest}
+use Rattle.std.specs.List.{All, drop-map, take-map}
+use Rattle.std.proofs.lemmas.Bool.{cases_lt, cases_order}
+use Rattle.std.proofs.lemmas.List.Elements.{All-head, All-tail}
+use Rattle.ps_delta.specs.declared.cell_state.CellState.{CellState}
+use Rattle.ps_delta.specs.State.{State, empty_cell}
+use Rattle.ps_delta.specs.Deltas.{Entries, cells_of, state_of}
+use Rattle.ps_delta.specs.Order.{Rising}
+use Rattle.ps_delta.proofs.EntryLemmas.{state_of-here, state_of-rising, state_of-there}
+use Rattle.ps_delta.proofs.WalkLemmas.{rising_of}
+use Rattle.ps_wire.specs.Line.{delta_text}
+use Rattle.ps_wire.specs.declared.TheConstants.{DELTA_LINE_LIMIT}
+use Rattle.ps_session.specs.Handing.{HandsGroup, HandsOut, HasNone, IsGreatest, IsGroupLine, IsJoint}
+use Rattle.ps_session.specs.Replies.{handed_text, refusal_text}
+use Rattle.ps_grid.specs.declared.refusal.Refusal.{Refusal}
+use Rattle.ps_grid.specs.declared.refusal.Refusal.TheVariants as refusals
+
+abbrev IsFilled : ℕ × CellState → Type 0
+IsFilled e = e.1 ≢ empty_cell
+
+-- a first cell isn't in entries that begin behind it
+lower_first : (a : ℕ × CellState) (rest others : Entries) → IsFilled a → Rising (a.0 + 1) (cells_of others)
+    → state_of (a ∷ rest) a.0 ≡ state_of others a.0 → ⊥
+lower_first a rest others filled rising same =
+    filled (sym (state_of-here a rest a.0 refl) ∙ same ∙ state_of-rising (a.0 + 1) others a.0 rising (omega arith))
+
+-- entries in order are those of their state alone
+same_rising : (n : ℕ) (d e : Entries) → Rising n (cells_of d) → Rising n (cells_of e) → All IsFilled d → All IsFilled e
+    → ((c : ℕ) → state_of d c ≡ state_of e c) → d ≡ e
+same_rising n [] [] r s p q same = refl
+same_rising n [] (b ∷ others) r s p q same =
+    absurd (lower_first b others [] (All-head IsFilled b others q) tt (sym (same b.0)))
+same_rising n (a ∷ more) [] r s p q same =
+    absurd (lower_first a more [] (All-head IsFilled a more p) tt (same a.0))
+same_rising n (a ∷ more) (b ∷ others) r s p q same = elim (cases_order a.0 b.0) [
+  inl is ↦ at is (same_rising (a.0 + 1) more others r.1 (subst (λ m. Rising (m + 1) (cells_of others)) (sym is) s.1)
+      (All-tail IsFilled a more p) (All-tail IsFilled b others q) (λ c. behind c is))
+  | inr (inl lt) ↦ absurd (lower_first a more (b ∷ others) (All-head IsFilled a more p) (omega (arith, lt), s.1)
+      (same a.0))
+  | inr (inr lt) ↦ absurd (lower_first b others (a ∷ more) (All-head IsFilled b others q) (omega (arith, lt), r.1)
+      (sym (same b.0)))
+]
+  where
+    behind : (c : ℕ) → a.0 ≡ b.0 → state_of more c ≡ state_of others c
+    behind c is = elim (cases_lt c (a.0 + 1)) [
+      inl lt ↦ state_of-rising (a.0 + 1) more c r.1 lt
+          ∙ sym (state_of-rising (b.0 + 1) others c s.1 (omega (arith, lt, is)))
+      | inr le ↦ sym (state_of-there a more c (λ eq. omega (arith, le, eq))) ∙ same c
+          ∙ state_of-there b others c (λ eq. omega (arith, le, eq, is))
+    ]
+
+    at : a.0 ≡ b.0 → more ≡ others → a ∷ more ≡ b ∷ others
+    at is tails =
+        let states : a.1 ≡ b.1 =
+            sym (state_of-here a more a.0 refl) ∙ same a.0 ∙ state_of-here b others a.0 (sym is) in
+        let first : a ≡ b = ap₂ (λ c x. (c, x)) is states in
+        ap₂ (λ x xs. x ∷ xs) first tails
+
+-- deltas have one joint
+pub joint_once : (deltas : List Entries) (d e : Entries) → IsJoint deltas d → IsJoint deltas e → d ≡ e
+joint_once deltas d e x y =
+    same_rising 0 d e (rising_of d x.lawful) (rising_of e y.lawful) x.lawful.none_empty y.lawful.none_empty
+    (λ c. ap (λ (s : State). s c) (x.joined ∙ sym y.joined))
+
+module _ {X : Type 0} (f : X → Entries) (xs : List X) (most : ℕ) where
+  -- no number above this one has a line
+  abbrev pub NoneAbove : ℕ → Type 0
+  NoneAbove count = (k : ℕ) (line : List ℕ) → count < k → k ≤ most → ¬ IsGroupLine (map f xs) k line
+
+  pub none_above_start : NoneAbove (min most (length xs))
+  none_above_start k line above within grouped =
+      let all : length (map f xs) ≡ length xs = length-map xs f in
+      omega (arith, above, within, grouped.within, all)
+
+  pub none_above_next : (count : ℕ) → 0 < count
+      → (delta : Entries) × IsJoint (map f (take count xs)) delta × (DELTA_LINE_LIMIT < length (delta_text delta))
+      → NoneAbove count → NoneAbove (count - 1)
+  none_above_next count some long none k line above within grouped = elim (cases_order k count) [
+    inr (inl lt) ↦ omega (arith, lt, above)
+    | inr (inr lt) ↦ none k line lt within grouped
+    | inl is ↦ at is
+  ]
+    where
+      at : k ≡ count → ⊥
+      at is =
+          let mine : IsJoint (map f (take count xs)) grouped.delta =
+              subst (λ (ds : List Entries). IsJoint ds grouped.delta) (ap (λ m. take m (map f xs)) is ∙ take-map f count xs)
+              grouped.joint in
+          let same : long.0 ≡ grouped.delta = joint_once (map f (take count xs)) long.0 grouped.delta long.1 mine in
+          let longer : length line ≡ length (delta_text long.0) =
+              ap length grouped.is ∙ ap (λ (d : Entries). length (delta_text d)) (sym same) in
+          omega (arith, long.2, grouped.fits, longer)
+
+  pub greatest_found : (count : ℕ) (line : List ℕ) → 0 < count → count ≤ most → count ≤ length xs
+      → (delta : Entries) × IsJoint (map f (take count xs)) delta × (line ≡ delta_text delta)
+      × (length line ≤ DELTA_LINE_LIMIT)
+      → NoneAbove count → IsGreatest (map f xs) most count line
+  greatest_found count line some within inside found none = record {
+    some = omega (arith, some);
+    within = within;
+    grouped = record {
+      within = let all : length (map f xs) ≡ length xs = length-map xs f in omega (arith, inside, all);
+      delta = found.0;
+      joint = subst (λ (ds : List Entries). IsJoint ds found.0) (sym (take-map f count xs)) found.1;
+      is = found.2;
+      fits = found.3;
+    };
+    greatest = none;
+  }
+
+  pub none_found : (count : ℕ) → count ≤ 0 → NoneAbove count → HasNone (map f xs) most
+  none_found count none_left none k line some within = none k line (omega (arith, some, none_left)) within
+
+module _ {X : Type 0} (f : X → Entries) (xs : List X) (history : List Entries) (from most : ℕ)
+    (same : map f xs ≡ history) (inside : from < length history) where
+  rest : map f (take (length xs - from) (drop from xs)) ≡ drop from history
+  rest = ap (map f) (take_rest xs from) ∙ sym (drop-map f from xs) ∙ ap (drop from) same
+
+  handed : (text : List ℕ) → HandsGroup from most (drop from history) text → HandsOut history from most text
+  handed text hands = record {
+    beyond = λ lt. absurd (omega (arith, lt, inside));
+    at_end = λ is. absurd (omega (arith, is, inside));
+    behind = λ _. hands;
+  }
+
+  pub hands_group : (n : ℕ) (line : List ℕ) → IsGreatest (map f (take (length xs - from) (drop from xs))) most n line
+      → HandsOut history from most (handed_text (from + n) line)
+  hands_group n line greatest =
+      handed _ (inl (n, line, subst (λ (ds : List Entries). IsGreatest ds most n line) rest greatest, refl))
+
+  hands_none : HasNone (map f (take (length xs - from) (drop from xs))) most
+      → HandsOut history from most (refusal_text refusals.TooLong)
+  hands_none none = handed _ (inr (subst (λ (ds : List Entries). HasNone ds most) rest none, refl))
+
+  pub hands_refusal : (refusal : Refusal) → (refusal ≡ refusals.TooLong) ⊎ (refusal ≡ refusals.Memory)
+      → (refusal ≡ refusals.TooLong → HasNone (map f (take (length xs - from) (drop from xs))) most)
+      → HandsOut history from most (refusal_text refusal) ⊎ (refusal_text refusal ≡ refusal_text refusals.Memory)
+  hands_refusal refusal (inl is) none =
+      inl (subst (λ e. HandsOut history from most (refusal_text e)) (sym is) (hands_none (none is)))
+  hands_refusal refusal (inr is) none = inr (ap refusal_text is)
