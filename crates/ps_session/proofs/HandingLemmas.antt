@@ -36,7 +36,7 @@ same_rising n [] (b ∷ others) r s p q same =
 same_rising n (a ∷ more) [] r s p q same =
     absurd (lower_first a more [] (All-head IsFilled a more p) tt (same a.0))
 same_rising n (a ∷ more) (b ∷ others) r s p q same = elim (cases_order a.0 b.0) [
-  inl is ↦ at is (same_rising (a.0 + 1) more others r.1 (subst (λ m. Rising (m + 1) (cells_of others)) (sym is) s.1)
+  | inl is ↦ at is (same_rising (a.0 + 1) more others r.1 (subst (λ m. Rising (m + 1) (cells_of others)) (sym is) s.1)
       (All-tail IsFilled a more p) (All-tail IsFilled b others q) (λ c. behind c is))
   | inr (inl lt) ↦ absurd (lower_first a more (b ∷ others) (All-head IsFilled a more p) (omega (arith, lt), s.1)
       (same a.0))
@@ -46,7 +46,7 @@ same_rising n (a ∷ more) (b ∷ others) r s p q same = elim (cases_order a.0 b
   where
     behind : (c : ℕ) → a.0 ≡ b.0 → state_of more c ≡ state_of others c
     behind c is = elim (cases_lt c (a.0 + 1)) [
-      inl lt ↦ state_of-rising (a.0 + 1) more c r.1 lt
+      | inl lt ↦ state_of-rising (a.0 + 1) more c r.1 lt
           ∙ sym (state_of-rising (b.0 + 1) others c s.1 (omega (arith, lt, is)))
       | inr le ↦ sym (state_of-there a more c (λ eq. omega (arith, le, eq))) ∙ same c
           ∙ state_of-there b others c (λ eq. omega (arith, le, eq, is))
@@ -55,7 +55,7 @@ same_rising n (a ∷ more) (b ∷ others) r s p q same = elim (cases_order a.0 b
     at : a.0 ≡ b.0 → more ≡ others → a ∷ more ≡ b ∷ others
     at is tails =
         let states : a.1 ≡ b.1 =
-            sym (state_of-here a more a.0 refl) ∙ same a.0 ∙ state_of-here b others a.0 (sym is) in
+        sym (state_of-here a more a.0 refl) ∙ same a.0 ∙ state_of-here b others a.0 (sym is) in
         let first : a ≡ b = ap₂ (λ c x. (c, x)) is states in
         ap₂ (λ x xs. x ∷ xs) first tails
 
@@ -79,7 +79,7 @@ module _ {X : Type 0} (f : X → Entries) (xs : List X) (most : ℕ) where
       → (delta : Entries) × IsJoint (map f (take count xs)) delta × (DELTA_LINE_LIMIT < length (delta_text delta))
       → NoneAbove count → NoneAbove (count - 1)
   none_above_next count some long none k line above within grouped = elim (cases_order k count) [
-    inr (inl lt) ↦ omega (arith, lt, above)
+    | inr (inl lt) ↦ omega (arith, lt, above)
     | inr (inr lt) ↦ none k line lt within grouped
     | inl is ↦ at is
   ]
@@ -87,11 +87,11 @@ module _ {X : Type 0} (f : X → Entries) (xs : List X) (most : ℕ) where
       at : k ≡ count → ⊥
       at is =
           let mine : IsJoint (map f (take count xs)) grouped.delta =
-              subst (λ (ds : List Entries). IsJoint ds grouped.delta) (ap (λ m. take m (map f xs)) is ∙ take-map f count xs)
-              grouped.joint in
+          subst (λ (ds : List Entries). IsJoint ds grouped.delta) (ap (λ m. take m (map f xs)) is ∙ take-map f count xs)
+          grouped.joint in
           let same : long.0 ≡ grouped.delta = joint_once (map f (take count xs)) long.0 grouped.delta long.1 mine in
           let longer : length line ≡ length (delta_text long.0) =
-              ap length grouped.is ∙ ap (λ (d : Entries). length (delta_text d)) (sym same) in
+          ap length grouped.is ∙ ap (λ (d : Entries). length (delta_text d)) (sym same) in
           omega (arith, long.2, grouped.fits, longer)
 
   pub greatest_found : (count : ℕ) (line : List ℕ) → 0 < count → count ≤ most → count ≤ length xs
@@ -141,3 +141,35 @@ module _ {X : Type 0} (f : X → Entries) (xs : List X) (history : List Entries)
   hands_refusal refusal (inl is) none =
       inl (subst (λ e. HandsOut history from most (refusal_text e)) (sym is) (hands_none (none is)))
   hands_refusal refusal (inr is) none = inr (ap refusal_text is)
+
+-- the line of so many deltas is one
+group_line_once : (deltas : List Entries) (n m : ℕ) (line other : List ℕ) → n ≡ m → IsGroupLine deltas n line
+    → IsGroupLine deltas m other → line ≡ other
+group_line_once deltas n m line other is a b =
+    let joint : IsJoint (take n deltas) b.delta =
+    subst (λ k. IsJoint (take k deltas) b.delta) (sym is) b.joint in
+    let same : a.delta ≡ b.delta = joint_once (take n deltas) a.delta b.delta a.joint joint in
+    a.is ∙ ap delta_text same ∙ sym b.is
+
+group_once : (from most : ℕ) (deltas : List Entries) (text told : List ℕ) → HandsGroup from most deltas text
+    → HandsGroup from most deltas told → text ≡ told
+group_once from most deltas text told (inr a) (inr b) = a.1 ∙ sym b.1
+group_once from most deltas text told (inl a) (inr b) =
+    absurd (b.0 a.0 a.1 a.2.some a.2.within a.2.grouped)
+group_once from most deltas text told (inr a) (inl b) =
+    absurd (a.0 b.0 b.1 b.2.some b.2.within b.2.grouped)
+group_once from most deltas text told (inl a) (inl b) = elim (cases_order a.0 b.0) [
+  | inl is ↦ a.3 ∙ ap₂ (λ n line. handed_text (from + n) line) is
+      (group_line_once deltas a.0 b.0 a.1 b.1 is a.2.grouped b.2.grouped) ∙ sym b.3
+  | inr (inl lt) ↦ absurd (a.2.greatest b.0 b.1 lt b.2.within b.2.grouped)
+  | inr (inr lt) ↦ absurd (b.2.greatest a.0 a.1 lt a.2.within a.2.grouped)
+]
+
+-- the history decides what is handed out
+pub hands_once : (history : List Entries) (from most : ℕ) (text told : List ℕ) → HandsOut history from most text
+    → HandsOut history from most told → text ≡ told
+hands_once history from most text told a b = elim (cases_order from (length history)) [
+  | inl is ↦ a.at_end is ∙ sym (b.at_end is)
+  | inr (inl lt) ↦ group_once from most (drop from history) text told (a.behind lt) (b.behind lt)
+  | inr (inr lt) ↦ a.beyond lt ∙ sym (b.beyond lt)
+]

@@ -12,5 +12,6 @@ mod WordLemmas
 mod CommandLemmas
 pub mod ReadingLaws
 mod SplitLemmas
+mod AskedLemmas
 mod ReplayLemmas
 mod HandingLemmas

@@ -8,7 +8,7 @@ use Rattle.ps_session.specs.Words.{behind_word, first_word, words}
 use Rattle.ps_session.specs.declared.command.Command.{Command}
 use Rattle.ps_session.specs.declared.command.Command.TheVariants as commands
 use Rattle.ps_session.specs.declared.verb.Verb.{Verb}
-use Rattle.ps_session.specs.declared.verb.Verb.TheVariants.{Add, Choose, Get, Set, Sub, Unchoose}
+use Rattle.ps_session.specs.declared.verb.Verb.TheVariants.{Add, Choose, Get, Pull, Push, Rows, Set, Sub, Unchoose}
 
 -- what reading a line as a `get` can come to
 get_reading : (others : List (List ℕ)) (reading : Read Command) → ReadsGet others reading
@@ -41,16 +41,19 @@ change_grows (Some Add) others entry reading reads change = refl
 change_grows (Some Sub) others entry reading reads change = refl
 change_grows (Some Choose) others entry reading reads change = refl
 change_grows (Some Unchoose) others entry reading reads change = refl
+change_grows (Some Rows) others entry reading reads change = refl
+change_grows (Some Push) others entry reading reads change = refl
+change_grows (Some Pull) others entry reading reads change = refl
 
 -- a command that isn't a `get` comes from a line that may lack memory
 pub changes_may_lack : (line : List ℕ) (command : Command) → ReadsLine line (Ok command) → is_get command ≡ false
     → has_memory_reply line ≡ true
 changes_may_lack line command reads change =
-    change_grows (verb_of (first_word line)) (drop 1 (words line)) (behind_word (behind_word line)) (Ok command) reads
+    change_grows (verb_of (first_word line)) (drop 1 (words line)) (behind_word line) (Ok command) reads
     change
 
 -- .. and so does a line that is refused for want of memory
 pub memory_refused : (line : List ℕ) → ReadsLine line (Err refusals.Memory) → has_memory_reply line ≡ true
 memory_refused line reads =
-    change_grows (verb_of (first_word line)) (drop 1 (words line)) (behind_word (behind_word line))
+    change_grows (verb_of (first_word line)) (drop 1 (words line)) (behind_word line)
     (Err refusals.Memory) reads refl

@@ -1,18 +1,21 @@
 -- What a sheet answers a line. It is told by the replica and by the history, the deltas that the replica has accepted;
 -- what the sheet shows follows from them.
-use Rattle.std.specs.Prelude.{◌≡◌, ◌≢◌, ◌⊎◌, ◌++◌, ◌∷◌, [], ℕ, Bool, true, false, List, length, Result, Ok, Err}
+use Rattle.std.specs.Prelude.{◌≡◌, ◌≢◌, ◌⊎◌, ◌++◌, ◌∷◌, [], ℕ, Bool, true, false, List, length, Result, Ok, Err, unwrap_or}
 use Rattle.ps_grid.specs.declared.refusal.Refusal.{Refusal}
 use Rattle.ps_grid.specs.declared.refusal.Refusal.TheVariants as refusals
+use Rattle.ps_grid.specs.Rectangle.{spanned}
 use Rattle.ps_eval.specs.Items.{Assignment}
 use Rattle.ps_delta.specs.Deltas.{Entries, joined_history}
 use Rattle.ps_sheet.specs.Settled.{IsSettled}
 use Rattle.ps_sheet.specs.Edits.{delta_of_edit}
-use Rattle.ps_sheet.specs.Sheet.{SheetView}
+use Rattle.ps_sheet.specs.Sheet.{SheetView, Takes}
+use Rattle.ps_csv.specs.Exports.{exported}
+use Rattle.ps_session.specs.Handing.{HandsOut}
 use Rattle.ps_session.specs.Commands.{Read, ReadsLine, has_memory_reply}
-use Rattle.ps_session.specs.Replies.{done_text, refusal_text, value_text}
+use Rattle.ps_session.specs.Replies.{done_text, refusal_text, rows_text, value_text}
 use Rattle.ps_session.specs.Transcript.{Answering, Lines}
 use Rattle.ps_session.specs.declared.command.Command.{Command}
-use Rattle.ps_session.specs.declared.command.Command.TheVariants.{Edit, Get}
+use Rattle.ps_session.specs.declared.command.Command.TheVariants.{Edit, Get, Pull, Push, Rows}
 
 -- what was made of an edit: its delta ends the history, and the reply is the new version; or it is refused
 abbrev pub Edited : Result Entries Refusal → List Entries → List ℕ → List Entries → Type 0
@@ -23,6 +26,9 @@ Edited (Err refusal) history text next = (next ≡ history) × (text ≡ refusal
 abbrev pub is_get : Command → Bool
 is_get (Edit edit) = false
 is_get (Get cell) = true
+is_get (Rows first last) = false
+is_get (Pull from most) = false
+is_get (Push delta) = false
 
 -- what a replica with a history does where a line asks for this: the reply, and the history afterwards
 abbrev pub Obeys : ℕ → List Entries → Read Command → List ℕ → List Entries → Type 0
@@ -30,6 +36,12 @@ Obeys replica history (Ok (Edit edit)) text next =
     Edited (delta_of_edit replica (joined_history history) edit) history text next
 Obeys replica history (Ok (Get cell)) text next =
     (next ≡ history) × (v : Assignment) × IsSettled (joined_history history) v × (text ≡ value_text (v cell))
+Obeys replica history (Ok (Rows first last)) text next = (next ≡ history) × (v : Assignment)
+    × IsSettled (joined_history history) v
+    × (text ≡ rows_text ((spanned first last).height) (exported v (spanned first last)))
+Obeys replica history (Ok (Pull from most)) text next =
+    (next ≡ history) × HandsOut history from (unwrap_or most 1) text
+Obeys replica history (Ok (Push delta)) text next = Takes delta history next × (text ≡ done_text (length next))
 Obeys replica history (Err refusal) text next = (next ≡ history) × (text ≡ refusal_text refusal)
 
 -- a line does what it asks for

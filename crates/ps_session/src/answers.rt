@@ -1,17 +1,25 @@
 //! A sheet answers lines.
-ghost use Rattle.std.specs.Prelude.{◌≡◌, ◌⊎◌, Ok, false};
+ghost use Rattle.std.specs.Prelude.{◌≡◌, ◌⊎◌, Ok, false, length};
 ghost use Rattle.ps_delta.specs.Deltas.{joined_history};
+ghost use Rattle.ps_eval.specs.Items.{Assignment};
+ghost use Rattle.ps_csv.specs.Exports.{exported};
 ghost use Rattle.ps_sheet.specs.Edits.{delta_of_edit};
+ghost use Rattle.ps_sheet.specs.Settled.{IsSettled};
+ghost use Rattle.ps_sheet.specs.Sheet.{Takes};
 ghost use Rattle.ps_session.specs.Answers.{Edited, Obeys, is_get};
-ghost use Rattle.ps_session.specs.Replies.{refusal_text, reply_text};
+ghost use Rattle.ps_session.specs.Replies.{done_text, refusal_text, reply_text, rows_text};
 
 use crate::board::Board;
 use crate::command::Command;
+use crate::handing::hand_out;
 use crate::reply::Reply;
+use ps_csv::exported_text;
+use ps_delta::Delta;
 use ps_eval::Meter;
-use ps_grid::{Cell, Refusal};
+use ps_grid::{Rect, Refusal};
 use ps_sheet::{Edit, Sheet};
 use std::alloc::Global;
+use std::sync::Arc;
 use std::sync::ledger::Ledger;
 
 impl<L: Ledger> Board<Meter<L>> for Sheet {
@@ -42,6 +50,9 @@ fn obey<L: Ledger>(
     match command {
         Command::Edit(edit) => carry_out(alloc, edit, sheet, meter),
         Command::Get(cell) => Reply::Shown(sheet.shown(cell)),
+        Command::Rows(first, last) => show_table(alloc, Rect::new(first, last), sheet),
+        Command::Pull { from, most } => hand_out(alloc, from, most.unwrap_or(1) as usize, sheet),
+        Command::Push(delta) => take_in(alloc, delta, sheet, meter),
     }
 }
 
@@ -54,6 +65,45 @@ fn carry_out<L: Ledger>(alloc: Global, edit: Edit, sheet: &mut Sheet, meter: &mu
 {
     match sheet.edit(alloc, edit, meter) {
         Ok(report) => Reply::Done(report.version),
+        Err(refusal) => Reply::Refused(refusal),
+    }
+}
+
+/// The shown values of a rectangle as a table.
+fn show_table(alloc: Global, rect: Rect, sheet: &Sheet) -> Reply
+    ensures { ((v : Assignment) × IsSettled (joined_history sheet.now.history) v
+        × (reply_text result ≡ rows_text rect.height (exported v rect)))
+        ⊎ (reply_text result ≡ refusal_text Refusal.Memory) }
+{
+    let _ = sheet.version();
+    match exported_text(alloc, sheet, rect) {
+        Ok(table) => Reply::Rows(height(rect), table),
+        Err(refusal) => Reply::Refused(refusal),
+    }
+}
+
+/// How many rows the rectangle has.
+fn height(rect: Rect) -> u64
+    ensures { result ≡ rect.height }
+{
+    let upper = rect.top_left().row() as u64;
+    let lower = rect.bottom_right().row() as u64;
+    lower - upper + 1
+}
+
+/// Accepts a delta made elsewhere, and tells the version.
+fn take_in<L: Ledger>(alloc: Global, delta: Delta, sheet: &mut Sheet, meter: &mut Meter<L>) -> Reply
+    ensures taken { (Takes delta sheet.old.history sheet.new.history
+        × (reply_text result ≡ done_text (length sheet.new.history)))
+        ⊎ ((reply_text result ≡ refusal_text Refusal.Memory) × (sheet.new.history ≡ sheet.old.history)) }
+    ensures replica { sheet.new.replica ≡ sheet.old.replica }
+{
+    let pushed = match Arc::new(alloc, delta) {
+        Ok(pushed) => pushed,
+        Err(_) => return Reply::Refused(Refusal::Memory),
+    };
+    match sheet.receive(alloc, pushed, meter) {
+        Ok(taken) => Reply::Done(taken.version),
         Err(refusal) => Reply::Refused(refusal),
     }
 }

@@ -13,8 +13,8 @@ counts-preserved c = (
   omega (arith, c.counts.invariant.0),
   omega (arith, c.counts.invariant.1),
   none_above_next arc_value c.args.deltas.now c.args.most c.counts.count (omega (arith, c.counts-test.true))
-  (c.group_line.ensures.too_long (c.in-Err-TooLong.is ∙ ap Err c.in-Err-TooLong.field-0-is))
-  c.counts.invariant.2,
+      (c.group_line.ensures.too_long (c.in-Err-TooLong.is ∙ ap Err c.in-Err-TooLong.field-0-is))
+      c.counts.invariant.2,
 )
 
 pub returns-clause-none : goal.returns-clause-none

@@ -5,15 +5,23 @@ use Rattle.ps_session.proofs.handing.hand_out.Goals as goal
 
 pub returns-in-Ok : goal.returns-in-Ok
 returns-in-Ok c =
-    let inside : c.args.from < length c.args.sheet.now.history = omega (arith, c.version-version.ensures.version,
-        c.if-from-version.false, c.if-from-version-2.false) in
+    let inside : c.args.from < length c.args.sheet.now.history = omega (
+      arith,
+      c.version-version.ensures.version,
+      c.if-from-version.false,
+      c.if-from-version-2.false,
+    ) in
     inl (hands_group arc_value c.history-history.result.now c.args.sheet.now.history c.args.from c.args.most
     c.history-history.ensures.history inside c.in-Ok.count c.in-Ok.line.items c.in-Ok.ensures.found)
 
 pub returns-in-Err : goal.returns-in-Err
 returns-in-Err c =
-    let inside : c.args.from < length c.args.sheet.now.history = omega (arith, c.version-version.ensures.version,
-        c.if-from-version.false, c.if-from-version-2.false) in
+    let inside : c.args.from < length c.args.sheet.now.history = omega (
+      arith,
+      c.version-version.ensures.version,
+      c.if-from-version.false,
+      c.if-from-version-2.false,
+    ) in
     hands_refusal arc_value c.history-history.result.now c.args.sheet.now.history c.args.from c.args.most
     c.history-history.ensures.history inside c.in-Err.refusal c.in-Err.ensures.refused
     (λ is. c.greatest_group.ensures.none (c.in-Err.is ∙ ap Err is))
