@@ -1,6 +1,6 @@
-use Rattle.std.proofs.Common.{◌≡◌, ◌∙◌, Err, ap, arith}
+use Rattle.std.proofs.Common.{◌∙◌, Err, ap, arith}
 use Rattle.std.specs.Arc.{arc_value}
-use Rattle.ps_session.proofs.HandingLemmas.{greatest_found, none_above_next, none_above_start, none_found}
+use Rattle.ps_session.proofs.HandingLemmas.{greatest_found, none_above_next, none_found}
 use Rattle.ps_session.proofs.handing.greatest_group.Goals as goal
 
 pub returns-in-Ok-clause-found : goal.returns-in-Ok-clause-found

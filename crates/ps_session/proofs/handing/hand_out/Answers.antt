@@ -1,4 +1,4 @@
-use Rattle.std.proofs.Common.{◌≡◌, ◌<◌, ◌∙◌, Err, ap, inl, length, arith}
+use Rattle.std.proofs.Common.{◌<◌, ◌∙◌, Err, ap, inl, length, arith}
 use Rattle.std.specs.Arc.{arc_value}
 use Rattle.ps_session.proofs.HandingLemmas.{hands_group, hands_refusal}
 use Rattle.ps_session.proofs.handing.hand_out.Goals as goal
