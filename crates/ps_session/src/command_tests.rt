@@ -98,9 +98,9 @@ fn entries(rt: HostRuntime) -> Result<(), Fail> {
 
 /// What a line that only looks asks for: two cells' indices, or a version and the size of a group.
 fn asked(alloc: Global, line: &[u8]) -> Option<(usize, u64)> {
-    match Command::read(alloc, line) {
-        Ok(Command::Rows(first, last)) => Some((first.index(), last.index() as u64)),
-        Ok(Command::Pull { from, most }) => Some((most.map_or(0, usize::from), from)),
+    match Command::read(alloc, line).ok()? {
+        Command::Rows(first, last) => Some((first.index(), last.index() as u64)),
+        Command::Pull { from, most } => Some((most.map_or(0, usize::from), from)),
         _ => None,
     }
 }

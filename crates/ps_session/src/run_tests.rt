@@ -61,20 +61,38 @@ fn answered_slowly<J: Ledger>(alloc: Global, input: Blank, text: &[u8]) -> Resul
 }
 
 /// Lines are carried out one after another and each is answered, in whatever pieces they come; an empty line isn't.
+/// What is handed out is one delta or as many as fit, joined; and a table's lines follow their number.
 #[test]
 fn lines_are_answered(rt: HostRuntime) -> Result<(), Fail> {
     let alloc = rt.alloc();
-    let text = b"set A1 5\nset B1 =[.A1]*2\r\n\nget B1\nadd A1 1\nhello\nget A1";
-    let replies = b"ok 1\nok 2\nval 10\nerr 5 not-tally\nerr 16 command\nval 5\n".as_slice();
-    let mut source = MemorySource::new(text);
-    let found = answered::<MemorySource, Brand, Brand>(
-        alloc,
-        &mut source,
-        Blank::new(1),
-        Blank::new(1),
-    );
-    assert!(rt; found.ok().ok_or("no fault")?.as_slice() == replies);
-    let found = answered_slowly::<Brand>(alloc, Blank::new(1), text);
-    assert!(rt; found.ok().ok_or("no fault")?.as_slice() == replies);
+    for (text, replies) in [
+        (
+            b"set A1 5\nset B1 =[.A1]*2\r\n\nget B1\nadd A1 1\nhello\nget A1".as_slice(),
+            b"ok 1\nok 2\nval 10\nerr 5 not-tally\nerr 16 command\nval 5\n".as_slice(),
+        ),
+        (
+            b"set A1 @choice\nchoose A1 7\nunchoose A1 7\npush [[\"A1\",null,[],[[7,2,1,0]]]]\n\
+            get A1\npull 2\npull 0 2\npull 0 16\npull 4 16\npull 0 17\npull 5",
+            b"ok 1\nok 2\nok 3\nok 4\nval {7}\ndelta 3 [[\"A1\",null,[],[[7,1,1,1]]]]\n\
+            delta 2 [[\"A1\",[1,1,\"@choice\"],[],[[7,1,1,0]]]]\n\
+            delta 4 [[\"A1\",[1,1,\"@choice\"],[],[[7,1,1,1],[7,2,1,0]]]]\n\
+            end 4\nerr 17 version\nerr 17 version\n",
+        ),
+        (
+            b"set A1 5\nset B1 x,y\nset C2 =[.A1]+1\nrows C2:A1\nrows A1",
+            b"ok 1\nok 2\nok 3\nrows 2\n5,\"x,y\",\n,,6\nerr 1 cell\n",
+        ),
+    ] {
+        let mut source = MemorySource::new(text);
+        let found = answered::<MemorySource, Brand, Brand>(
+            alloc,
+            &mut source,
+            Blank::new(1),
+            Blank::new(1),
+        );
+        assert!(rt; found.ok().ok_or("no fault")?.as_slice() == replies);
+        let found = answered_slowly::<Brand>(alloc, Blank::new(1), text);
+        assert!(rt; found.ok().ok_or("no fault")?.as_slice() == replies);
+    }
     Ok(())
 }
