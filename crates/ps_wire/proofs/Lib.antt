@@ -1,6 +1,8 @@
 pub mod AsciiLemmas
 pub mod CellLemmas
 pub mod ContentLemmas
+pub mod FitLemmas
+pub mod LawLemmas
 pub mod LineLemmas
 pub mod PartLemmas
 pub mod ValueLemmas

@@ -1,3 +1,4 @@
+pub mod Fits
 pub mod Line
 pub mod Refused
 pub mod Value

@@ -1,5 +1,6 @@
-//! What holds of the values of deltas, as functions that do nothing: each is its contract.
+//! What holds of the values and the texts of deltas, as functions that do nothing: each is its contract.
 
+ghost use Rattle.ps_wire.specs.Fits.{BatchesFit, EditsFit};
 ghost use Rattle.ps_wire.specs.Value.{OneDelta, OneValue};
 
 /// No two values stand for one delta, and no two deltas for one value.
@@ -9,4 +10,13 @@ ghost use Rattle.ps_wire.specs.Value.{OneDelta, OneValue};
 pub fn values_and_deltas_agree()
     ensures one_value { OneValue }
     ensures one_delta { OneDelta }
+{}
+
+/// The line of what an edit makes is never too long: of one cell with any register, any counts and any pairs of one
+/// option, and of a batch of contents for at most as many cells as a row has.
+///
+/// Cost: none.
+pub fn edited_lines_fit()
+    ensures batches { BatchesFit }
+    ensures edits { EditsFit }
 {}

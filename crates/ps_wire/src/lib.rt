@@ -19,8 +19,11 @@ mod parts;
 mod states;
 mod values;
 
-pub use laws::values_and_deltas_agree;
+pub use laws::{edited_lines_fit, values_and_deltas_agree};
 pub use line::{decode, encode};
 
 /// The most bytes of a delta's line.
 pub const DELTA_LINE_LIMIT: usize = 262_144;
+
+#[cfg(test)]
+mod tests;

@@ -1,0 +1,30 @@
+-- Deltas whose lines are never too long.
+use Rattle.std.specs.Prelude.{◌≡◌, ◌≤◌, ℕ, [], ◌∷◌, length}
+use Rattle.std.specs.List.{All}
+use Rattle.std.specs.FinMap as map
+use Rattle.ps_grid.specs.declared.size.TheConstants.{COLUMNS}
+use Rattle.ps_delta.specs.declared.cell_state.CellState.{CellState}
+use Rattle.ps_delta.specs.Deltas.{Entries}
+use Rattle.ps_wire.specs.declared.TheConstants.{DELTA_LINE_LIMIT}
+use Rattle.ps_wire.specs.Value.{IsLawful}
+use Rattle.ps_wire.specs.Line.{delta_text}
+
+-- the compact text is short enough for a line
+abbrev pub FitsLine : Entries → Type 0
+FitsLine delta = length (delta_text delta) ≤ DELTA_LINE_LIMIT
+
+-- no counts and no pairs, as in the state that an assigned content makes
+pub record HasRegisterAlone (state : CellState) : Type 0 where
+  pub tally : state.tally ≡ map.empty
+  pub choice : state.choice ≡ map.empty
+
+-- at most as many cells as a row has, each with a register alone: what a batch of contents makes
+abbrev pub BatchesFit : Type 0
+BatchesFit =
+    (delta : Entries) → IsLawful delta → length delta ≤ COLUMNS → All (λ e. HasRegisterAlone e.1) delta → FitsLine delta
+
+-- one cell, with any register, any counts, and any pairs of one option: what each edit of one cell makes
+abbrev pub EditsFit : Type 0
+EditsFit =
+    (cell : ℕ) (state : CellState) (option : ℕ) → IsLawful ((cell, state) ∷ [])
+    → All (λ p. p.0.option ≡ option) (map.entries state.choice) → FitsLine ((cell, state) ∷ [])

@@ -1,0 +1,129 @@
+//! Lines of deltas, good and bad.
+
+use crate::{DELTA_LINE_LIMIT, decode, encode};
+use ps_grid::Refusal;
+use std::alloc::Global;
+use std::test::Fail;
+
+// The compact text of the delta that the bytes stand for.
+fn rewritten(alloc: Global, bytes: &[u8]) -> Result<Vec<u8>, Refusal> {
+    let delta = decode(alloc, bytes)?;
+    let mut line = Vec::new(alloc);
+    encode(alloc, &delta, &mut line)?;
+    Ok(line)
+}
+
+fn is_refused(alloc: Global, bytes: &[u8]) -> bool {
+    matches!(decode(alloc, bytes), Err(Refusal::Delta))
+}
+
+/// Compact lines stay as they are: registers, counters and sets, also on the longest names and the last times.
+#[test]
+fn old_lines(rt: HostRuntime) -> Result<(), Fail> {
+    for line in [
+        r#"[["B1",[2,2,"4"],[],[]],["D1",[2,2,"=[.C1]"],[],[]]]"#,
+        r#"[["B1",[3,2,"=[.A1]"],[],[]],["D1",[3,2,"7"],[],[]]]"#,
+        r#"[["A1",[1,1,"=-2*SUM([.B1:.C2];7)"],[],[]]]"#,
+        r#"[["A1",[1,2,"'y"],[],[]]]"#,
+        r#"[["A1",[1,1,"'x"],[],[]]]"#,
+        r#"[["A1",[1,1,"3"],[],[]]]"#,
+        r#"[["A1",[1,1,"4"],[],[]]]"#,
+        r#"[["A1",[1,1,"@tally"],[],[]]]"#,
+        r#"[["A1",null,[[1,5,0]],[]]]"#,
+        r#"[["A1",null,[[2,0,2]],[]]]"#,
+        r#"[["A1",null,[],[[7,2,1,0]]]]"#,
+        r#"[["A1",null,[],[[7,1,1,1]]]]"#,
+        r#"[["B1",null,[],[[1,1,2,0]]]]"#,
+        r#"[["A1",[9007199254740991,2,"1"],[],[]]]"#,
+        r#"[["A1",[1,2,"5"],[],[]]]"#,
+        r#"[["A1",[1,2,"@tally"],[[1,1099511627776,0]],[]]]"#,
+        r#"[["A1",[1,2,"@choice"],[],[[5,1,64,0]]]]"#,
+        r#"[["A1",null,[],[[5,1,256,1]]]]"#,
+        r#"[["A1",[1,1,"@choice"],[],[[7,1,1,0]]]]"#,
+        r#"[["A1",[1,1,"@choice"],[],[[7,1,1,1],[7,2,1,0]]]]"#,
+        r#"[["CZ1024",[1,1,""],[],[]]]"#,
+        r#"[["A1",[1,1,"'a\"b\\c/é"],[],[]]]"#,
+    ] {
+        let text = rewritten(rt.alloc(), line.as_bytes())?;
+        assert_eq!(rt; text.as_slice(), line.as_bytes());
+    }
+    Ok(())
+}
+
+/// Blanks and escapes may be spelled in other ways; what is written is compact.
+#[test]
+fn other_spellings(rt: HostRuntime) -> Result<(), Fail> {
+    let spaced = rewritten(rt.alloc(), br#"[ ["A1", [1,2,"\u0035"], [], []] ]"#)?;
+    assert_eq!(rt;
+        spaced.as_slice(),
+        br#"[["A1",[1,2,"5"],[],[]]]"#.as_slice()
+    );
+    Ok(())
+}
+
+/// What isn't a delta: nothing, cells out of order or twice, names, numbers, contents, counts and pairs out of their
+/// ranges, numbers with a sign, a fraction or an exponent, and what goes on behind its end.
+#[test]
+fn refused_lines(rt: HostRuntime) -> Result<(), Fail> {
+    for line in [
+        r#"[]"#,
+        r#"[["A1",null,[],[]]]"#,
+        r#"[["B1",[1,1,"1"],[],[]],["A1",[1,1,"1"],[],[]]]"#,
+        r#"[["A1",[1,1,"1"],[],[]],["A1",[1,1,"1"],[],[]]]"#,
+        r#"[["A01",[1,1,"1"],[],[]]]"#,
+        r#"[["A1",[0,1,"1"],[],[]]]"#,
+        r#"[["A1",[1,33,"1"],[],[]]]"#,
+        r#"[["A1",[1.0,1,"1"],[],[]]]"#,
+        r#"[["A1",[1,1,"01"],[],[]]]"#,
+        r#"[["A1",[1,1,"=[.$A$1]"],[],[]]]"#,
+        r#"[["A1",null,[[1,0,0]],[]]]"#,
+        r#"[["A1",null,[],[[64,1,1,0]]]]"#,
+        r#"[["A1",null,[],[[0,1,257,0]]]]"#,
+        r#"[["A1",[1e0,1,"1"],[],[]]]"#,
+        r#"[["A1",[-1,1,"1"],[],[]]]"#,
+        r#"[["A1",[-0,1,"1"],[],[]]]"#,
+        r#"[["A1",[18446744073709551616,1,"1"],[],[]]]"#,
+        r#"[["A1",[9007199254740992,2,"1"],[],[]]]"#,
+        r#"[["A1",null,[],[[0,1,1,2]]]]"#,
+        r#"[["A1",null,[],[[0,257,1,0]]]]"#,
+        r#"[["A1",null,[[2,1,0],[1,1,0]],[]]]"#,
+        r#"[["A1",null,[],[[1,1,1,0],[1,1,1,1]]]]"#,
+        r#"[["DA1",[1,1,"1"],[],[]]]"#,
+        r#"[["A1",[1,1,"1"],[]]]"#,
+        r#"[["A1",[1,1,"1"],[],[]]] 1"#,
+        r#"{"A1":[1,1,"1"]}"#,
+        "",
+    ] {
+        assert!(rt; is_refused(rt.alloc(), line.as_bytes()), "{line}");
+    }
+    assert!(rt; is_refused(rt.alloc(), b"[[\"A1\",[1,1,\"'\xff\"],[],[]]]"));
+    Ok(())
+}
+
+/// Each proper beginning of a line is refused, and so are brackets without end.
+#[test]
+fn cut_lines(rt: HostRuntime) -> Result<(), Fail> {
+    let line = br#"[["B1",[2,2,"4"],[],[]],["D1",[2,2,"=[.C1]"],[],[]]]"#.as_slice();
+    for length in 0..line.len() {
+        assert!(rt; is_refused(rt.alloc(), &line[..length]), "{length}");
+    }
+    let mut brackets = Vec::new(rt.alloc());
+    for _ in 0..200 {
+        brackets.push(b'[')?;
+    }
+    assert!(rt; is_refused(rt.alloc(), &brackets));
+    Ok(())
+}
+
+/// A line may be padded with blanks up to the limit, and not beyond.
+#[test]
+fn padded_lines(rt: HostRuntime) -> Result<(), Fail> {
+    let text = br#"[["A1",[1,2,"5"],[],[]]]"#.as_slice();
+    let mut line = text.to_vec(rt.alloc())?;
+    line.resize(DELTA_LINE_LIMIT, b' ')?;
+    let read = rewritten(rt.alloc(), &line)?;
+    assert_eq!(rt; read.as_slice(), text);
+    line.push(b' ')?;
+    assert!(rt; is_refused(rt.alloc(), &line));
+    Ok(())
+}
