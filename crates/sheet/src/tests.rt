@@ -1,5 +1,6 @@
 mod devices;
 mod limits;
+mod replicas;
 mod scripts;
 mod session;
 mod words;

@@ -18,7 +18,7 @@ fn replies_to_long(alloc: Global, beginning: &[u8], letters: usize) -> Result<Ve
         second: b"",
         most: usize::MAX,
     };
-    replies(alloc, parts)
+    replies(alloc, 1, parts)
 }
 
 /// A line of 262,208 bytes is read; nothing of one byte more is carried out, and the next line is answered.
@@ -53,7 +53,7 @@ fn sequences_are_used_up(rt: HostRuntime) -> Result<(), Fail> {
         second: b"",
         most: usize::MAX,
     };
-    let found = replies(rt.alloc(), parts)?;
+    let found = replies(rt.alloc(), 1, parts)?;
     assert!(rt;
         found
             .as_slice()

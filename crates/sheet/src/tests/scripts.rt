@@ -176,35 +176,18 @@ fn row_9(rt: HostRuntime) -> Result<(), Fail> {
 fn row_10(rt: HostRuntime) -> Result<(), Fail> {
     let script = b"set A1 of:= - 2 * sum ( [.$C$2:.B1] ; 007 )\n\
         get A1\n\
+        pull 0\n\
         set A1 =1<2<3\n\
         get A1\n\
         set A1 =3>2>1\n\
         get A1\n";
     let expected = b"ok 1\n\
         val -14\n\
+        delta 1 [[\"A1\",[1,1,\"=-2*SUM([.B1:.C2];7)\"],[],[]]]\n\
         ok 2\n\
         val 1\n\
         ok 3\n\
         val 0\n";
-    assert!(rt; has_replies(rt.alloc(), script, expected)?);
-    Ok(())
-}
-
-/// A set: an option goes in and out, and one that isn't in can't be taken out.
-#[test]
-fn row_14(rt: HostRuntime) -> Result<(), Fail> {
-    let script = b"set A1 @choice\n\
-        choose A1 7\n\
-        get A1\n\
-        unchoose A1 7\n\
-        get A1\n\
-        unchoose A1 9\n";
-    let expected = b"ok 1\n\
-        ok 2\n\
-        val {7}\n\
-        ok 3\n\
-        val {}\n\
-        err 12 not-chosen\n";
     assert!(rt; has_replies(rt.alloc(), script, expected)?);
     Ok(())
 }
@@ -215,14 +198,20 @@ fn row_15(rt: HostRuntime) -> Result<(), Fail> {
     let script = b"set CZ1024 1\n\
         set A1025 1\n\
         set DA1 1\n\
+        push [[\"A1\",[1,2,\"5\"],[],[]]\n\
         get A1\n\
+        pull 99\n\
+        pull 1\n\
         add A1 1\n\
         add A1 0\n\
         hello\n";
     let expected = b"ok 1\n\
         err 1 cell\n\
         err 1 cell\n\
+        err 14 delta\n\
         val \n\
+        err 17 version\n\
+        end 1\n\
         err 5 not-tally\n\
         err 7 amount\n\
         err 16 command\n";
@@ -230,7 +219,7 @@ fn row_15(rt: HostRuntime) -> Result<(), Fail> {
     Ok(())
 }
 
-/// A formula counts the options of a set.
+/// A formula counts the options of a set, and the shown values of a rectangle are a table.
 #[test]
 fn row_18(rt: HostRuntime) -> Result<(), Fail> {
     let script = b"set A1 5\n\
@@ -238,15 +227,24 @@ fn row_18(rt: HostRuntime) -> Result<(), Fail> {
         choose B1 4\n\
         choose B1 1\n\
         set C1 =[.B1]*10\n\
-        get C1\n\
-        get B1\n";
+        rows C1:A1\n\
+        pull 3\n\
+        rows A1\n\
+        rows A1:B1:C1\n\
+        rows A1:\n\
+        rows\n";
     let expected = b"ok 1\n\
         ok 2\n\
         ok 3\n\
         ok 4\n\
         ok 5\n\
-        val 20\n\
-        val {1,4}\n";
+        rows 1\n\
+        5,\"{1,4}\",20\n\
+        delta 4 [[\"B1\",null,[],[[1,1,2,0]]]]\n\
+        err 1 cell\n\
+        err 1 cell\n\
+        err 1 cell\n\
+        err 16 command\n";
     assert!(rt; has_replies(rt.alloc(), script, expected)?);
     Ok(())
 }
@@ -270,6 +268,271 @@ fn row_20(rt: HostRuntime) -> Result<(), Fail> {
         val 5\n\
         ok 2\n\
         val 0\n";
+    assert!(rt; has_replies(rt.alloc(), script, expected)?);
+    Ok(())
+}
+
+/// Cells of two cycles, and cells above them: a delta ends one cycle and closes another, and the next one the other way round.
+#[test]
+fn row_6(rt: HostRuntime) -> Result<(), Fail> {
+    let script = b"set A1 =[.B1]\n\
+        set B1 =[.A1]\n\
+        set C1 =[.D1]\n\
+        set D1 7\n\
+        set E1 =[.A1]+1\n\
+        set F1 =[.C1]+1\n\
+        get A1\n\
+        get E1\n\
+        get C1\n\
+        get F1\n\
+        push [[\"B1\",[2,2,\"4\"],[],[]],[\"D1\",[2,2,\"=[.C1]\"],[],[]]]\n\
+        get A1\n\
+        get B1\n\
+        get E1\n\
+        get C1\n\
+        get D1\n\
+        get F1\n\
+        push [[\"B1\",[3,2,\"=[.A1]\"],[],[]],[\"D1\",[3,2,\"7\"],[],[]]]\n\
+        get A1\n\
+        get B1\n\
+        get E1\n\
+        get C1\n\
+        get F1\n";
+    let expected = b"ok 1\n\
+        ok 2\n\
+        ok 3\n\
+        ok 4\n\
+        ok 5\n\
+        ok 6\n\
+        val #CYCLE!\n\
+        val #CYCLE!\n\
+        val 7\n\
+        val 8\n\
+        ok 7\n\
+        val 4\n\
+        val 4\n\
+        val 5\n\
+        val #CYCLE!\n\
+        val #CYCLE!\n\
+        val #CYCLE!\n\
+        ok 8\n\
+        val #CYCLE!\n\
+        val #CYCLE!\n\
+        val #CYCLE!\n\
+        val 7\n\
+        val 8\n";
+    assert!(rt; has_replies(rt.alloc(), script, expected)?);
+    Ok(())
+}
+
+/// Two contents at one stamp, in both orders.
+#[test]
+fn row_12(rt: HostRuntime) -> Result<(), Fail> {
+    let script = b"push [[\"A1\",[1,1,\"3\"],[],[]]]\n\
+        push [[\"A1\",[1,1,\"4\"],[],[]]]\n\
+        get A1\n";
+    let expected = b"ok 1\n\
+        ok 2\n\
+        val 4\n";
+    assert!(rt; has_replies(rt.alloc(), script, expected)?);
+    Ok(())
+}
+
+/// Two contents at one stamp, the greater one first.
+#[test]
+fn row_12_the_other_way(rt: HostRuntime) -> Result<(), Fail> {
+    let script = b"push [[\"A1\",[1,1,\"4\"],[],[]]]\n\
+        push [[\"A1\",[1,1,\"3\"],[],[]]]\n\
+        get A1\n";
+    let expected = b"ok 1\n\
+        ok 1\n\
+        val 4\n";
+    assert!(rt; has_replies(rt.alloc(), script, expected)?);
+    Ok(())
+}
+
+/// The last time of a register, and a time past it.
+#[test]
+fn row_19(rt: HostRuntime) -> Result<(), Fail> {
+    let script = b"push [[\"A1\",[9007199254740991,2,\"1\"],[],[]]]\n\
+        set A1 2\n\
+        get A1\n\
+        push [[\"A1\",[9007199254740992,2,\"1\"],[],[]]]\n";
+    let expected = b"ok 1\n\
+        err 13 clock-full\n\
+        val 1\n\
+        err 14 delta\n";
+    assert!(rt; has_replies(rt.alloc(), script, expected)?);
+    Ok(())
+}
+
+/// A delta line may be spelled in other ways of JSON, and is written in one.
+#[test]
+fn escapes(rt: HostRuntime) -> Result<(), Fail> {
+    let script = b"push [ [\"A1\", [1,2,\"\\u0035\"], [], []] ]\n\
+        get A1\n\
+        pull 0\n";
+    let expected = b"ok 1\n\
+        val 5\n\
+        delta 1 [[\"A1\",[1,2,\"5\"],[],[]]]\n";
+    assert!(rt; has_replies(rt.alloc(), script, expected)?);
+    Ok(())
+}
+
+/// A count at its limit.
+#[test]
+fn a_full_counter(rt: HostRuntime) -> Result<(), Fail> {
+    let script = b"push [[\"A1\",[1,2,\"@tally\"],[[1,1099511627776,0]],[]]]\n\
+        add A1 1\n\
+        sub A1 1\n\
+        get A1\n";
+    let expected = b"ok 1\n\
+        err 10 tally-full\n\
+        ok 2\n\
+        val 1099511627775\n";
+    assert!(rt; has_replies(rt.alloc(), script, expected)?);
+    Ok(())
+}
+
+/// The last sequence of a replica.
+#[test]
+fn a_full_set(rt: HostRuntime) -> Result<(), Fail> {
+    let script = b"push [[\"A1\",[1,2,\"@choice\"],[],[[5,1,256,0]]]]\n\
+        choose A1 5\n\
+        unchoose A1 5\n\
+        get A1\n\
+        pull 1\n";
+    let expected = b"ok 1\n\
+        err 11 choice-full\n\
+        ok 2\n\
+        val {}\n\
+        delta 2 [[\"A1\",null,[],[[5,1,256,1]]]]\n";
+    assert!(rt; has_replies(rt.alloc(), script, expected)?);
+    Ok(())
+}
+
+/// A set: an option goes in and out, comes back by a pair that wasn't observed, and one that isn't in can't be taken out.
+#[test]
+fn row_14(rt: HostRuntime) -> Result<(), Fail> {
+    let script = b"set A1 @choice\n\
+        choose A1 7\n\
+        unchoose A1 7\n\
+        get A1\n\
+        push [[\"A1\",null,[],[[7,2,1,0]]]]\n\
+        get A1\n\
+        unchoose A1 9\n\
+        pull 2\n";
+    let expected = b"ok 1\n\
+        ok 2\n\
+        ok 3\n\
+        val {}\n\
+        ok 4\n\
+        val {7}\n\
+        err 12 not-chosen\n\
+        delta 3 [[\"A1\",null,[],[[7,1,1,1]]]]\n";
+    assert!(rt; has_replies(rt.alloc(), script, expected)?);
+    Ok(())
+}
+
+/// Pulls of several deltas as one, and of none; a group of more than 16 is refused.
+#[test]
+fn grouped_pulls(rt: HostRuntime) -> Result<(), Fail> {
+    let script = b"set A1 @choice\n\
+        choose A1 7\n\
+        unchoose A1 7\n\
+        get A1\n\
+        push [[\"A1\",null,[],[[7,2,1,0]]]]\n\
+        get A1\n\
+        unchoose A1 9\n\
+        pull 0 2\n\
+        pull 0 16\n\
+        pull 4 16\n\
+        pull 0 17\n";
+    let expected = b"ok 1\n\
+        ok 2\n\
+        ok 3\n\
+        val {}\n\
+        ok 4\n\
+        val {7}\n\
+        err 12 not-chosen\n\
+        delta 2 [[\"A1\",[1,1,\"@choice\"],[],[[7,1,1,0]]]]\n\
+        delta 4 [[\"A1\",[1,1,\"@choice\"],[],[[7,1,1,1],[7,2,1,0]]]]\n\
+        end 4\n\
+        err 17 version\n";
+    assert!(rt; has_replies(rt.alloc(), script, expected)?);
+    Ok(())
+}
+
+/// Numbers of a pull that are none, and the end of the history.
+#[test]
+fn pulls_that_are_refused(rt: HostRuntime) -> Result<(), Fail> {
+    let script = b"pull\n\
+        pull \n\
+        pull x\n\
+        pull 0\n\
+        pull 1\n\
+        pull 0 0\n\
+        pull 0 x\n\
+        pull 1 17\n\
+        pull 0 1 1\n\
+        set A1 1\n\
+        pull 0\n\
+        pull 00 01\n\
+        pull 1\n\
+        pull 18446744073709551616\n";
+    let expected = b"err 16 command\n\
+        err 17 version\n\
+        err 17 version\n\
+        end 0\n\
+        err 17 version\n\
+        err 17 version\n\
+        err 17 version\n\
+        err 17 version\n\
+        err 16 command\n\
+        ok 1\n\
+        delta 1 [[\"A1\",[1,1,\"1\"],[],[]]]\n\
+        delta 1 [[\"A1\",[1,1,\"1\"],[],[]]]\n\
+        end 1\n\
+        err 17 version\n";
+    assert!(rt; has_replies(rt.alloc(), script, expected)?);
+    Ok(())
+}
+
+/// Bodies of `push` that are refused, and nothing is taken in.
+#[test]
+fn lines_that_are_no_delta(rt: HostRuntime) -> Result<(), Fail> {
+    let script = b"push []\n\
+        push [[\"A1\",null,[],[]]]\n\
+        push [[\"B1\",[1,1,\"1\"],[],[]],[\"A1\",[1,1,\"1\"],[],[]]]\n\
+        push [[\"A1\",[1,1,\"1\"],[],[]],[\"A1\",[1,1,\"1\"],[],[]]]\n\
+        push [[\"A01\",[1,1,\"1\"],[],[]]]\n\
+        push [[\"A1\",[0,1,\"1\"],[],[]]]\n\
+        push [[\"A1\",[1,33,\"1\"],[],[]]]\n\
+        push [[\"A1\",[1.0,1,\"1\"],[],[]]]\n\
+        push [[\"A1\",[1,1,\"01\"],[],[]]]\n\
+        push [[\"A1\",[1,1,\"=[.$A$1]\"],[],[]]]\n\
+        push [[\"A1\",null,[[1,0,0]],[]]]\n\
+        push [[\"A1\",null,[],[[64,1,1,0]]]]\n\
+        push [[\"A1\",null,[],[[0,1,257,0]]]]\n\
+        push\n\
+        push \n\
+        pull 0\n";
+    let expected = b"err 14 delta\n\
+        err 14 delta\n\
+        err 14 delta\n\
+        err 14 delta\n\
+        err 14 delta\n\
+        err 14 delta\n\
+        err 14 delta\n\
+        err 14 delta\n\
+        err 14 delta\n\
+        err 14 delta\n\
+        err 14 delta\n\
+        err 14 delta\n\
+        err 14 delta\n\
+        err 16 command\n\
+        err 14 delta\n\
+        end 0\n";
     assert!(rt; has_replies(rt.alloc(), script, expected)?);
     Ok(())
 }

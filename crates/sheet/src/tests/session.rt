@@ -35,6 +35,7 @@ impl Read for Parts<'_> {
 
 fn written<I: Ledger, O: Ledger, M: Ledger>(
     alloc: Global,
+    replica: u8,
     parts: Parts,
     input: Blank,
     output: Blank,
@@ -53,7 +54,7 @@ fn written<I: Ledger, O: Ledger, M: Ledger>(
     let mut source = Reading::<Parts, I>::new(parts, input);
     let mut sink = MemorySink::<O>::new(alloc, output);
     let mut meter = Meter::<M>::new(count);
-    let mut sheet = Sheet::open(alloc, 1, 1)?;
+    let mut sheet = Sheet::open(alloc, replica, 1)?;
     if run(alloc, &mut source, &mut sink, &mut sheet, &mut meter).is_err() {
         return Err(Refusal::Device);
     }
@@ -62,19 +63,31 @@ fn written<I: Ledger, O: Ledger, M: Ledger>(
     Ok(bytes)
 }
 
-/// What a session on the empty sheet of replica 1 writes, where its input comes in these parts.
-pub(super) fn replies(alloc: Global, parts: Parts) -> Result<Vec<u8>, Refusal> {
-    written::<Brand, Brand, Brand>(alloc, parts, Blank::new(1), Blank::new(1), Blank::new(1))
+/// What a session on the empty sheet of a replica writes, where its input comes in these parts.
+pub(super) fn replies(alloc: Global, replica: u8, parts: Parts) -> Result<Vec<u8>, Refusal> {
+    written::<Brand, Brand, Brand>(
+        alloc,
+        replica,
+        parts,
+        Blank::new(1),
+        Blank::new(1),
+        Blank::new(1),
+    )
 }
 
-/// Whether the script has these replies: whole, byte by byte, and in each cut into two pieces.
-pub(super) fn has_replies(alloc: Global, script: &[u8], expected: &[u8]) -> Result<bool, Refusal> {
+/// Whether the script at the replica has these replies: whole, byte by byte, and in each cut into two pieces.
+pub(super) fn has_replies_at(
+    alloc: Global,
+    replica: u8,
+    script: &[u8],
+    expected: &[u8],
+) -> Result<bool, Refusal> {
     let bytewise = Parts {
         first: script,
         second: b"",
         most: 1,
     };
-    if replies(alloc, bytewise)?.as_slice() != expected {
+    if replies(alloc, replica, bytewise)?.as_slice() != expected {
         return Ok(false);
     }
     for cut in 0..=script.len() {
@@ -83,9 +96,14 @@ pub(super) fn has_replies(alloc: Global, script: &[u8], expected: &[u8]) -> Resu
             second: &script[cut..],
             most: usize::MAX,
         };
-        if replies(alloc, parts)?.as_slice() != expected {
+        if replies(alloc, replica, parts)?.as_slice() != expected {
             return Ok(false);
         }
     }
     Ok(true)
+}
+
+/// Whether the script at replica 1 has these replies, in whatever pieces it comes.
+pub(super) fn has_replies(alloc: Global, script: &[u8], expected: &[u8]) -> Result<bool, Refusal> {
+    has_replies_at(alloc, 1, script, expected)
 }
