@@ -1,1 +1,5 @@
+pub mod ApplyLemmas
 pub mod ExportLemmas
+pub mod ImportLemmas
+pub mod RecordLemmas
+pub mod TableLemmas

@@ -1,2 +1,5 @@
 pub mod Exports
+pub mod Imports
+pub mod Records
+pub mod Tables
 pub mod Writers

@@ -1,12 +1,22 @@
-//! Tables: the values of a rectangle as a table of CSV.
+//! Tables: entries of a table of CSV into a sheet, and the values of a rectangle as a table of CSV.
 //!
 //! It is not a session: it knows no lines and no replies. What a table's text is, it leaves to `csv`.
 //!
-//! Where A1 shows 2 and B1 the text `x,y`, the rectangle from A1 to B1 is written as `2,"x,y"` and a line feed.
+//! The table of `2,=[.A1]*3` and `"x,y",@tally` gives A1 the number 2, B1 the formula, A2 the text `x,y` and B2 a
+//! counter, by two edits. The rectangle from A1 to B2 is then written as `2,6` and `"x,y",0`.
 //!
-//! Cost: linear in the bytes of the text, which is built before it is written.
+//! Cost: linear in the bytes of the text, which is in memory as a whole on either way; an import makes an edit for
+//! each record.
 #![tactic(auto)]
 
+mod apply;
+mod bytes;
+mod fields;
+mod incoming;
 mod shown;
+mod table;
 
+pub use apply::ImportFault;
+pub use bytes::LONGEST_TABLE;
+pub use incoming::{Imported, import};
 pub use shown::{export, exported_text};

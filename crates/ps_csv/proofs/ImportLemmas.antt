@@ -1,0 +1,78 @@
+-- What is left of an import once its parts are known.
+use Rattle.std.proofs.Common.{◌≡◌, ◌⊎◌, ◌≤◌, ◌∷◌, ◌∙◌, [], ℕ, List, length, Bool, true, false, if◌then◌else◌}
+use Rattle.std.proofs.Common.{inl, inr, Result, Ok, Err, IfErr}
+use Rattle.ps_grid.specs.declared.refusal.Refusal.{Refusal}
+use Rattle.ps_grid.specs.declared.refusal.Refusal.TheVariants.{Csv, Device, Memory, Text}
+use Rattle.ps_content.specs.declared.content.Content.{Content}
+use Rattle.ps_content.specs.Entry.{Kind, Reads, too_long, empty, formula, tally, choice, number, text}
+use Rattle.ps_delta.specs.State.{State}
+use Rattle.ps_delta.specs.Deltas.{joined_history}
+use Rattle.ps_sheet.specs.Sheet.{SheetView}
+use Rattle.ps_csv.specs.declared.bytes.TheConstants.{LONGEST_TABLE}
+use Rattle.ps_csv.specs.declared.table.Table.{Table}
+use Rattle.ps_csv.specs.Records.{EntryFault, FirstFault, IsTable, Record, RecordFault}
+use Rattle.ps_csv.specs.Imports.{Assigned, TakesIn}
+use Rattle.ps_csv.specs.Tables.{HasRead, cells_of_each}
+use Rattle.ps_csv.proofs.TableLemmas.{length-read}
+
+-- no field's refusal is a device's
+text_refusal : (b : Bool) (x : Content) (e : Refusal) → Err e ≡ (if b then Ok x else Err Text) → e ≡ Device → ⊥
+text_refusal true x e is device = cc
+text_refusal false x e is device = cc
+
+entry_refusal : (k : Kind) (bytes : List ℕ) (e : Refusal) → Reads k bytes (Err e) → e ≡ Device → ⊥
+entry_refusal too_long bytes e reads device = cc
+entry_refusal empty bytes e reads device = cc
+entry_refusal formula bytes e reads device =
+    elim reads.refused [
+      | inl of_formula ↦ cc
+      | inr other ↦ elim other [ inl long ↦ cc | inr memory ↦ cc ]
+    ]
+entry_refusal tally bytes e reads device = cc
+entry_refusal choice bytes e reads device = cc
+entry_refusal (number value) bytes e reads device = cc
+entry_refusal (text label) bytes e reads device = text_refusal _ _ e reads device
+
+entry_fault_refusal : (s : State) (c : ℕ) (field : List ℕ) (e : Refusal) → EntryFault s c field e → e ≡ Device → ⊥
+unfolding EntryFault
+entry_fault_refusal s c [] e fault device = fault
+entry_fault_refusal s c (b ∷ bs) e (inl of_entry) device = entry_refusal _ (b ∷ bs) e of_entry.0 device
+entry_fault_refusal s c (b ∷ bs) e (inr full) device = let is = full.3 in cc
+
+record_fault_refusal : (s : State) (n : ℕ) (fields : Record) (e : Refusal) → RecordFault s n fields e → e ≡ Device → ⊥
+record_fault_refusal s n fields e at_fault device =
+    elim at_fault.fault [
+      | inl past ↦ let is = past.1 in cc
+      | inr within ↦ entry_fault_refusal s _ at_fault.field e within.1 device
+    ]
+
+pub first_fault_refusal : (s : State) (bytes : List ℕ) (e : Refusal) → FirstFault s bytes e → e ≡ Device → ⊥
+first_fault_refusal s bytes e first device =
+    elim first.fault [
+      | inl past ↦ let is = past.1 in cc
+      | inr within ↦ record_fault_refusal s _ first.here e within.1 device
+    ]
+
+-- so none of a table is
+pub no_device : (r : Result Table Refusal) (t : State) (bytes : List ℕ) (P : Type 0)
+    → IfErr r (λ e. (e ≡ Memory) ⊎ (e ≡ Csv) ⊎ FirstFault t bytes e) → IfErr r (λ e. e ≡ Device → P)
+no_device (Ok x) t bytes P fault = tt
+no_device (Err e) t bytes P (inl memory) = λ device. cc
+no_device (Err e) t bytes P (inr (inl csv)) = λ device. cc
+no_device (Err e) t bytes P (inr (inr first)) = λ device. absurd (first_fault_refusal t bytes e first device)
+
+-- a table that was read and assigned was taken in
+pub takes_in : (bytes : List ℕ) (table : List Record) (t : Table) (records fields : ℕ) (old new : SheetView)
+    → length bytes ≤ LONGEST_TABLE → IsTable bytes table → HasRead (joined_history old.history) table t
+    → Assigned old.replica old.history (cells_of_each t.batches.items) new.history → records ≡ length t.batches.items
+    → fields ≡ t.fields → TakesIn bytes records fields old new
+takes_in bytes table t records fields old new within is has assigned size most = record {
+  table = table;
+  batches = cells_of_each t.batches.items;
+  within = within;
+  read = is;
+  said = has.said;
+  assigned = assigned;
+  records_told = size ∙ length-read (joined_history old.history) table t has;
+  fields_told = most ∙ has.most;
+}

@@ -1,0 +1,14 @@
+use Rattle.std.proofs.Common.{◌≡◌, length, refl, rules}
+use Rattle.ps_csv.proofs.ImportLemmas.{takes_in}
+use Rattle.ps_csv.proofs.incoming.import.Goals as goal
+
+pub returns-in-Ok-apply-clause-imported : goal.returns-in-Ok-apply-clause-imported
+returns-in-Ok-apply-clause-imported g c =
+    let read = c.in-Ok.ensures.read in
+    let size : c.len-records.result ≡ length c.in-Ok.table.batches.items = search rules in (
+      read.0,
+      read.2,
+      read.3,
+      takes_in read.0 read.1 c.in-Ok.table _ _ c.args.sheet.now c.apply.new.sheet read.4 read.5 read.6 c.in-Ok-apply.ensures.assigned size
+          refl,
+    )

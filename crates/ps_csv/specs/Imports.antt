@@ -1,0 +1,37 @@
+-- What an import does to a sheet.
+use Rattle.std.specs.Prelude.{◌≡◌, ℕ, ◌<◌, ◌≤◌, List, [], ◌∷◌, ◌++◌, length, take, Ok}
+use Rattle.ps_delta.specs.Deltas.{Entries, joined_history}
+use Rattle.ps_sheet.specs.Sheet.{SheetView}
+use Rattle.ps_sheet.specs.Edits.{delta_of_edit}
+use Rattle.ps_sheet.specs.declared.edit.Edit.TheVariants.{SetAll}
+use Rattle.ps_csv.specs.declared.bytes.TheConstants.{LONGEST_TABLE}
+use Rattle.ps_csv.specs.Records.{Cells, IsTable, Record, RecordsSay, most_fields}
+
+-- ASSIGNED at replica r: the history h grew to k by the delta of one edit of all its cells for each list that has any,
+-- in order, and by nothing else
+unfoldable pub Assigned : ℕ → List Entries → List Cells → List Entries → Type 0
+Assigned r h [] k = k ≡ h
+Assigned r h ([] ∷ batches) k = Assigned r h batches k
+Assigned r h ((cell ∷ cells) ∷ batches) k = (delta : Entries)
+    × (delta_of_edit r (joined_history h) (SetAll (cell ∷ cells)) ≡ Ok delta) × Assigned r (h ++ delta ∷ []) batches k
+
+-- the table of the bytes was taken in, with this number of records and at most this many fields in one
+pub record TakesIn (bytes : List ℕ) (records fields : ℕ) (old new : SheetView) : Type 0 where
+  pub table : List Record
+  pub batches : List Cells
+  pub within : length bytes ≤ LONGEST_TABLE
+  pub read : IsTable bytes table
+  pub said : RecordsSay (joined_history old.history) 0 table batches
+  pub assigned : Assigned old.replica old.history batches new.history
+  pub records_told : records ≡ length table
+  pub fields_told : fields ≡ most_fields table
+
+-- only the first records of the table were taken in, this many
+pub record StopsAfter (bytes : List ℕ) (applied : ℕ) (old new : SheetView) : Type 0 where
+  pub table : List Record
+  pub batches : List Cells
+  pub within : length bytes ≤ LONGEST_TABLE
+  pub read : IsTable bytes table
+  pub said : RecordsSay (joined_history old.history) 0 table batches
+  pub assigned : Assigned old.replica old.history (take applied batches) new.history
+  pub short : applied < length batches

@@ -1,0 +1,31 @@
+-- A table on its way into a sheet.
+use Rattle.std.specs.Prelude.{◌≡◌, ℕ, List, map, false, Some, None}
+use Rattle.std.specs.Borrow.{Bor}
+use Rattle.csv.specs.Reading.{default_config, names_headers, reader_config, reader_headers, reader_state, reader_trim}
+use Rattle.csv.specs.Reading.{source_of, strip_bom}
+use Rattle.csv.specs.declared.parser.State.TheVariants as states
+use Rattle.csv.specs.declared.reader.Reader.{Reader}
+use Rattle.csv.specs.declared.reader.Trim.TheVariants as trims
+use Rattle.std.specs.Global.{Vec}
+use Rattle.ps_content.specs.declared.content.Content.{Content}
+use Rattle.ps_delta.specs.State.{State}
+use Rattle.ps_csv.specs.Records.{Cells, Record, RecordsSay, most_fields}
+use Rattle.ps_csv.specs.declared.table.Table.{Table}
+
+-- the cells of each record
+abbrev pub cells_of_each : List (Vec (ℕ × Content)) → List Cells
+cells_of_each batches = map (λ batch. batch.items) batches
+
+-- it has what these records say
+pub record HasRead (s : State) (table : List Record) (t : Table) : Type 0 where
+  pub said : RecordsSay s 0 table (cells_of_each t.batches.items)
+  pub most : t.fields ≡ most_fields table
+
+-- a reader of these bytes that has read nothing yet, by `csv`'s defaults but with no header row
+pub record IsFresh (bytes : List ℕ) (reader : Reader (Bor (List ℕ))) : Type 0 where
+  pub config : reader_config reader ≡ default_config
+  pub trim : reader_trim reader ≡ trims.None
+  pub no_headers : names_headers reader ≡ false
+  pub no_header_row : reader_headers reader ≡ None
+  pub state : reader_state reader ≡ states.StartRecord
+  pub source : source_of (λ s. Some s.now) reader ≡ Some (strip_bom bytes)

@@ -1,0 +1,40 @@
+//! The bytes of a source.
+
+ghost use Rattle.std.specs.Prelude.{◌≡◌, ◌⊎◌, ◌<◌, ◌≤◌, length, IfOk, IfErr, OnOk};
+ghost use Rattle.std.specs.Io.KnownBytes.{Consumes, IsAtEnd};
+
+use ps_grid::{CELLS, Refusal};
+use ps_value::Source;
+use std::alloc::Global;
+
+/// The most bytes of a table: 640 for each cell of the grid.
+pub const LONGEST_TABLE: usize = 640 * CELLS;
+
+// How many bytes are read at once.
+const PIECE: usize = 65_536;
+
+// The bytes of the source, to its end.
+pub(crate) fn read_all<S: Source>(alloc: Global, source: &mut S) -> Result<Vec<u8>, Refusal>
+    ensures read { IfOk result (λ bytes.
+        Consumes (S.remaining source.old) (S.remaining source.new) bytes.items × IsAtEnd (S.remaining source.new)) }
+    ensures within { IfOk result (λ bytes. length bytes.items ≤ LONGEST_TABLE) }
+    ensures calm { OnOk result (S.failures source.new ≡ S.failures source.old) }
+    ensures device { IfErr result (λ e. e ≡ Refusal.Device → S.failures source.old < S.failures source.new) }
+    ensures refused { IfErr result (λ e. (e ≡ Refusal.Memory) ⊎ (e ≡ Refusal.Device) ⊎ (e ≡ Refusal.Csv)) }
+{
+    let mut bytes = Vec::new(alloc);
+    let mut piece = [0u8; PIECE];
+    'pieces: loop {
+        let count = match source.take(&mut piece) {
+            Ok(count) => count,
+            Err(_) => return Err(Refusal::Device),
+        };
+        if count == 0 {
+            return Ok(bytes);
+        }
+        if count > LONGEST_TABLE - bytes.len() {
+            return Err(Refusal::Csv);
+        }
+        bytes.extend_from_slice(&piece[..count])?;
+    }
+}

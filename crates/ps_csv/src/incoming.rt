@@ -1,0 +1,121 @@
+//! A table of entries into a sheet.
+
+ghost use Rattle.std.specs.Prelude.{◌≡◌, ◌≢◌, ◌⊎◌, ◌<◌, ◌≤◌, ℕ, List, length, IfOk, IfErr, OnOk};
+ghost use Rattle.std.specs.Io.KnownBytes.{Consumes, IsAtEnd};
+ghost use Rattle.ps_delta.specs.State.{state_at};
+ghost use Rattle.ps_delta.specs.Deltas.{joined_history};
+ghost use Rattle.ps_sheet.specs.Sheet.{IsSheet};
+ghost use Rattle.ps_csv.specs.Records.{FirstFault, IsTable, Record};
+ghost use Rattle.ps_csv.specs.Tables.{HasRead};
+ghost use Rattle.ps_csv.specs.Imports.{StopsAfter, TakesIn};
+ghost use Rattle.ps_csv.specs.declared.bytes.TheConstants.{LONGEST_TABLE};
+
+use crate::apply::{ImportFault, apply};
+use crate::bytes::read_all;
+use crate::table::{Table, read_table};
+use ps_delta::Grid;
+use ps_eval::Meter;
+use ps_grid::Refusal;
+use ps_sheet::Sheet;
+use ps_value::Source;
+use std::alloc::Global;
+use std::sync::ledger::Ledger;
+
+/// What was taken in.
+#[derive(Clone, Copy, Debug, PartialEq, Eq)]
+pub struct Imported {
+    /// How many records the table has.
+    pub records: usize,
+    /// The most fields of one.
+    pub fields: usize,
+}
+
+/// Takes a table of entries into the sheet: field j of record n is an entry for the cell in column j and row n, and an
+/// empty field leaves its cell as it is. Each record with a field that isn't empty is one edit.
+///
+/// The source is read to its end, and all fields are checked before anything is assigned. Refused for the first of
+/// these: `Device` where the source failed, `Csv` where it has more than `LONGEST_TABLE` bytes; then, for the first
+/// field or record at fault in reading order, `Csv` for a record past the last row or a field past the last column or
+/// where `csv` gives no record, what `read_entry` refuses, and `ClockFull` where the cell's register has the last time.
+/// For lack of memory in place of any of them. Then nothing is assigned, but that where memory ends between two edits
+/// the records before stand.
+///
+/// Cost: the bytes of the source, the cells of the grid, the sheet's history, and an edit for each record.
+pub fn import<S: Source, L: Ledger>(
+    alloc: Global,
+    source: &mut S,
+    sheet: &mut Sheet,
+    meter: &mut Meter<L>,
+) -> Result<Imported, ImportFault>
+    ensures imported { IfOk result (λ i. (bytes : List ℕ)
+        × Consumes (S.remaining source.old) (S.remaining source.new) bytes × IsAtEnd (S.remaining source.new)
+        × TakesIn bytes i.records i.fields sheet.old sheet.new) }
+    ensures calm { OnOk result (S.failures source.new ≡ S.failures source.old) }
+    ensures refused { IfErr result (λ f. (f.refusal ≡ Refusal.Memory) ⊎ (f.refusal ≡ Refusal.Device)
+        ⊎ (f.refusal ≡ Refusal.Csv) ⊎ ((bytes : List ℕ)
+        × Consumes (S.remaining source.old) (S.remaining source.new) bytes × IsAtEnd (S.remaining source.new)
+        × (length bytes ≤ LONGEST_TABLE) × FirstFault (joined_history sheet.old.history) bytes f.refusal)) }
+    ensures device { IfErr result (λ f. f.refusal ≡ Refusal.Device → S.failures source.old < S.failures source.new) }
+    ensures none { IfErr result (λ f. f.refusal ≢ Refusal.Memory → f.applied ≡ 0) }
+    ensures kept { IfErr result (λ f. f.applied ≡ 0 → (sheet.new ≡ sheet.old) × (meter.new ≡ meter.old)) }
+    ensures stopped { IfErr result (λ f. 0 < f.applied → (bytes : List ℕ)
+        × Consumes (S.remaining source.old) (S.remaining source.new) bytes × IsAtEnd (S.remaining source.new)
+        × StopsAfter bytes f.applied sheet.old sheet.new) }
+    ensures replica { sheet.new.replica ≡ sheet.old.replica }
+    ensures sheet { IsSheet sheet.new }
+{
+    let table = match checked(alloc, source, sheet) {
+        Ok(table) => table,
+        Err(refusal) => {
+            return Err(ImportFault {
+                refusal,
+                applied: 0,
+            });
+        }
+    };
+    let Table { batches, fields } = table;
+    let records = batches.len();
+    match apply(alloc, batches, sheet, meter) {
+        Ok(()) => Ok(Imported { records, fields }),
+        Err(fault) => Err(fault),
+    }
+}
+
+// What the source's table says, where nothing of it is at fault.
+fn checked<S: Source>(alloc: Global, source: &mut S, sheet: &Sheet) -> Result<Table, Refusal>
+    ensures read { IfOk result (λ t. (bytes : List ℕ) × (table : List Record)
+        × Consumes (S.remaining source.old) (S.remaining source.new) bytes × IsAtEnd (S.remaining source.new)
+        × (length bytes ≤ LONGEST_TABLE) × IsTable bytes table
+        × HasRead (joined_history sheet.now.history) table t) }
+    ensures calm { OnOk result (S.failures source.new ≡ S.failures source.old) }
+    ensures refused { IfErr result (λ e. (e ≡ Refusal.Memory) ⊎ (e ≡ Refusal.Device)
+        ⊎ (e ≡ Refusal.Csv) ⊎ ((bytes : List ℕ)
+        × Consumes (S.remaining source.old) (S.remaining source.new) bytes × IsAtEnd (S.remaining source.new)
+        × (length bytes ≤ LONGEST_TABLE) × FirstFault (joined_history sheet.now.history) bytes e)) }
+    ensures device { IfErr result (λ e. e ≡ Refusal.Device → S.failures source.old < S.failures source.new) }
+    ensures sheet { IsSheet sheet.now }
+{
+    let _ = sheet.version();
+    let bytes = match read_all(alloc, source) {
+        Ok(bytes) => bytes,
+        Err(refusal) => return Err(refusal),
+    };
+    let grid = match grid_of(alloc, sheet) {
+        Ok(grid) => grid,
+        Err(refusal) => return Err(refusal),
+    };
+    read_table(alloc, &grid, &bytes)
+}
+
+// What the cells hold.
+fn grid_of(alloc: Global, sheet: &Sheet) -> Result<Grid, Refusal>
+    ensures state { IfOk result (λ g. state_at g ≡ joined_history sheet.now.history) }
+    ensures memory { IfErr result (λ e. e ≡ Refusal.Memory) }
+{
+    let mut grid = Grid::new(alloc)?;
+    let history = sheet.history();
+    for delta in history {
+        grid.join(alloc, delta)?;
+    }
+    Ok(grid)
+}
