@@ -552,8 +552,9 @@ fn a_refused_growth_changes_nothing(rt: HostRuntime) -> Result<(), Refusal> {
     let alloc = rt.alloc();
     let mut sheet = Sheet::open(alloc, 3, 1)?;
     go_on(&rt, alloc, &mut sheet, &[Ask("A1", Set("5"), Ok(1))])?;
-    let answer = apply(alloc, &mut sheet, Edit::SetAll(chain(&rt, alloc, 2)?));
-    let (version, shown) = if answer.is_ok() { (2, 2) } else { (1, 5) };
+    let seven = Edit::Set(cell(&rt, "A1"), Content::Number(7));
+    let answer = apply(alloc, &mut sheet, seven);
+    let (version, shown) = if answer.is_ok() { (2, 7) } else { (1, 5) };
     assert!(rt; answer == Ok(2) || answer == Err(Refusal::Memory));
     assert_eq!(rt; sheet.version(), version);
     assert_eq!(rt; sheet.history().len() as u64, version);
