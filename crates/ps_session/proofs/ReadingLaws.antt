@@ -166,7 +166,8 @@ verb_once : (verb : Option Verb) (others : List (List ℕ)) (behind : List ℕ) 
     → ReadsVerb verb others behind a → ReadsVerb verb others behind b → IsAmple a → IsAmple b → a ≡ b
 verb_once None others behind a b x y ample_a ample_b = x ∙ sym y
 verb_once (Some Get) others behind a b x y ample_a ample_b = get_once others a b x y
-verb_once (Some Set) others behind a b x y ample_a ample_b = set_once others (behind_word behind) a b x y ample_a ample_b
+verb_once (Some Set) others behind a b x y ample_a ample_b =
+    set_once others (behind_word behind) a b x y ample_a ample_b
 verb_once (Some Add) others behind a b x y ample_a ample_b = change_once _ refusals.Amount others a b x y
 verb_once (Some Sub) others behind a b x y ample_a ample_b = change_once _ refusals.Amount others a b x y
 verb_once (Some Choose) others behind a b x y ample_a ample_b = change_once _ refusals.OptionRange others a b x y
