@@ -1,6 +1,6 @@
 -- What a line asks for lies in the grid, and so does the delta of an edit that it asks for.
-use Rattle.std.proofs.Common.{◌≡◌, ◌<◌, ◌∙◌, refl, sym, subst, arith, ℕ, Bool, true, false, List, [], ◌∷◌, nat_le, nat_lt}
-use Rattle.std.proofs.Common.{not, ◌+◌, Option, Some, None, MatchOption, Result, Ok, Err, drop}
+use Rattle.std.proofs.Common.{◌≡◌, ◌<◌, ◌∙◌, refl, sym, subst, arith, ℕ, Bool, true, false, List, [], ◌∷◌}
+use Rattle.std.proofs.Common.{nat_le, nat_lt, not, ◌+◌, Option, Some, None, MatchOption, Result, Ok, Err, drop}
 use Rattle.std.specs.Prelude.{◌==◌}
 use Rattle.std.specs.List.{All, list_any}
 use Rattle.std.proofs.lemmas.List.Elements.{All-cons}
@@ -18,8 +18,8 @@ use Rattle.ps_sheet.specs.declared.edit.Edit.{Edit}
 use Rattle.ps_sheet.specs.declared.edit.Edit.TheVariants as edits
 use Rattle.ps_sheet.specs.Edits.{delta_of_edit, holds_choice, holds_tally, is_clock_full, refused_if}
 use Rattle.ps_sheet.specs.Settled.{content_of}
-use Rattle.ps_session.specs.Commands.{AtNumber, Read, ReadsChange, ReadsCorners, ReadsGet, ReadsLine, ReadsPair, ReadsPull}
-use Rattle.ps_session.specs.Commands.{ReadsPush, ReadsRows, ReadsSet, ReadsVerb, group_size, verb_of}
+use Rattle.ps_session.specs.Commands.{AtNumber, Read, ReadsChange, ReadsCorners, ReadsGet, ReadsLine, ReadsPair}
+use Rattle.ps_session.specs.Commands.{ReadsPull, ReadsPush, ReadsRows, ReadsSet, ReadsVerb, group_size, verb_of}
 use Rattle.ps_session.specs.Words.{behind_word, first_word, parts, words, whole_number}
 use Rattle.ps_session.specs.declared.command.Command.{Command}
 use Rattle.ps_session.specs.declared.command.Command.TheVariants as commands
@@ -149,8 +149,8 @@ guarded : (a b c : Bool) (x y z : Refusal) (answer : Result Entries Refusal) (d 
 guarded a b c x y z answer d is =
     refused_if-ok c z answer d (refused_if-ok b y _ d (refused_if-ok a x _ d is))
 
-one_in_grid : (c : ℕ) (x : CellState) (d : Entries) → c < CELLS → let made : Result Entries Refusal = Ok ((c, x) ∷ []) in
-    made ≡ Ok d → All (λ e. e.0 < CELLS) d
+one_in_grid : (c : ℕ) (x : CellState) (d : Entries) → c < CELLS
+    → let made : Result Entries Refusal = Ok ((c, x) ∷ []) in made ≡ Ok d → All (λ e. e.0 < CELLS) d
 one_in_grid c x d inside is =
     let same : (c, x) ∷ [] ≡ d = cc in
     subst (λ (k : Entries). All (λ e. e.0 < CELLS) k) same

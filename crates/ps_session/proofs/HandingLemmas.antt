@@ -1,5 +1,6 @@
 -- Deltas joined, and the line of the greatest number of them that isn't too long.
-use Rattle.std.proofs.Common.{◌≡◌, ◌≢◌, ◌⊎◌, ◌∙◌, ◌+◌, ◌-◌, ◌<◌, ◌≤◌, inl, inr, refl, sym, ap, ap₂, subst, arith, ℕ, List}
+use Rattle.std.proofs.Common.{◌≡◌, ◌≢◌, ◌⊎◌, ◌∙◌, ◌+◌, ◌-◌, ◌<◌, ◌≤◌, inl, inr, refl, sym, ap, ap₂, subst}
+use Rattle.std.proofs.Common.{arith, ℕ, List}
 use Rattle.std.proofs.Common.{[], ◌∷◌, length, take, map, min, drop}
 use Rattle.std.proofs.lemmas.List.{length-map, take_rest}
 use Rattle.std.specs.List.{All, drop-map, take-map}

@@ -51,7 +51,8 @@ obeyed_once : (r : ℕ) (history next after : List Entries) (asked : Read Comman
 obeyed_once r history next after (Ok (commands.Edit edit)) text told inside a b =
     edited_once (delta_of_edit r (joined_history history) edit) history next after text told a b
 obeyed_once r history next after (Ok (commands.Get c)) text told inside a b =
-    (a.3 ∙ ap value_text (settled_at_most_once (joined_history history) a.1 b.1 inside a.2 b.2 c) ∙ sym b.3, a.0 ∙ sym b.0)
+    let same : a.1 c ≡ b.1 c = settled_at_most_once (joined_history history) a.1 b.1 inside a.2 b.2 c in
+    (a.3 ∙ ap value_text same ∙ sym b.3, a.0 ∙ sym b.0)
 obeyed_once r history next after (Ok (commands.Rows c d)) text told inside a b =
     let same : a.1 ≡ b.1 = fun_ext (λ e. settled_at_most_once (joined_history history) a.1 b.1 inside a.2 b.2 e) in (
       a.3 ∙ ap (λ (v : Assignment). rows_text ((spanned c d).height) (exported v (spanned c d))) same ∙ sym b.3,

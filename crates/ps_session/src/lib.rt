@@ -5,8 +5,9 @@
 //! in order. What it promises is told by a definition of its own, the transcript (`specs/Transcript.antt`), which knows
 //! nothing of pieces.
 //!
-//! A [`Command`] is what a line asks for. A sheet is a board, and [`run`] is the talk of a sheet: the line `set A1 5` is
-//! answered `ok 1`, and `get A1` then `val 5`.
+//! A [`Command`] is what a line asks for. A sheet is a board, and [`run`] is the talk of a sheet: the line `set A1 5`
+//! is answered `ok 1`, `get A1` then `val 5`, and `pull 0` the line of the delta that another sheet may be pushed,
+//! `delta 1 [["A1",[1,1,"5"],[],[]]]`.
 //!
 //! Reading takes no memory beyond the room of one line; a line costs its bytes and what its board takes.
 #![tactic(auto)]

@@ -5,7 +5,8 @@ use Rattle.ps_session.proofs.handing.greatest_group.Goals as goal
 
 pub returns-in-Ok-clause-found : goal.returns-in-Ok-clause-found
 returns-in-Ok-clause-found c =
-    greatest_found arc_value c.args.deltas.now c.args.most c.counts.count c.in-Ok.line.items (omega (arith, c.counts-test.true))
+    greatest_found arc_value c.args.deltas.now c.args.most c.counts.count c.in-Ok.line.items
+    (omega (arith, c.counts-test.true))
     c.counts.invariant.0 c.counts.invariant.1 c.in-Ok.ensures.line c.counts.invariant.2
 
 pub counts-preserved : goal.counts-preserved
