@@ -1,9 +1,13 @@
 pub mod AsciiLemmas
 pub mod CellLemmas
 pub mod ContentLemmas
+pub mod CostLemmas
+pub mod EscapeLemmas
 pub mod FitLemmas
 pub mod LawLemmas
+pub mod LexLemmas
 pub mod LineLemmas
 pub mod PartLemmas
+pub mod ShorterLemmas
 pub mod ValueLemmas
 pub mod WrittenLemmas

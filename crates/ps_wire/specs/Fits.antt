@@ -1,5 +1,5 @@
 -- Deltas whose lines are never too long.
-use Rattle.std.specs.Prelude.{◌≡◌, ◌≤◌, ℕ, [], ◌∷◌, length}
+use Rattle.std.specs.Prelude.{◌≡◌, ◌≤◌, ℕ, List, [], ◌∷◌, length}
 use Rattle.std.specs.List.{All}
 use Rattle.std.specs.FinMap as map
 use Rattle.ps_grid.specs.declared.size.TheConstants.{COLUMNS}
@@ -7,7 +7,7 @@ use Rattle.ps_delta.specs.declared.cell_state.CellState.{CellState}
 use Rattle.ps_delta.specs.Deltas.{Entries}
 use Rattle.ps_wire.specs.declared.TheConstants.{DELTA_LINE_LIMIT}
 use Rattle.ps_wire.specs.Value.{IsLawful}
-use Rattle.ps_wire.specs.Line.{delta_text}
+use Rattle.ps_wire.specs.Line.{delta_text, IsLine}
 
 -- the compact text is short enough for a line
 abbrev pub FitsLine : Entries → Type 0
@@ -28,3 +28,9 @@ abbrev pub EditsFit : Type 0
 EditsFit =
     (cell : ℕ) (state : CellState) (option : ℕ) → IsLawful ((cell, state) ∷ [])
     → All (λ p. p.0.option ≡ option) (map.entries state.choice) → FitsLine ((cell, state) ∷ [])
+
+-- the text of what was read from a line is no longer than the line
+abbrev pub DecodedFit : Type 0
+DecodedFit =
+    (bytes : List ℕ) (delta : Entries) → IsLine bytes delta
+    → (length (delta_text delta) ≤ length bytes) × FitsLine delta

@@ -1,6 +1,6 @@
 //! What holds of the values and the texts of deltas, as functions that do nothing: each is its contract.
 
-ghost use Rattle.ps_wire.specs.Fits.{BatchesFit, EditsFit};
+ghost use Rattle.ps_wire.specs.Fits.{BatchesFit, DecodedFit, EditsFit};
 ghost use Rattle.ps_wire.specs.Value.{OneDelta, OneValue};
 
 /// No two values stand for one delta, and no two deltas for one value.
@@ -19,4 +19,11 @@ pub fn values_and_deltas_agree()
 pub fn edited_lines_fit()
     ensures batches { BatchesFit }
     ensures edits { EditsFit }
+{}
+
+/// The line of a delta that was read is never too long: its compact text is no longer than the line that was read.
+///
+/// Cost: none.
+pub fn decoded_lines_fit()
+    ensures { DecodedFit }
 {}

@@ -19,7 +19,7 @@ mod parts;
 mod states;
 mod values;
 
-pub use laws::{edited_lines_fit, values_and_deltas_agree};
+pub use laws::{decoded_lines_fit, edited_lines_fit, values_and_deltas_agree};
 pub use line::{decode, encode};
 
 /// The most bytes of a delta's line.
