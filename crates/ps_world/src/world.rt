@@ -176,7 +176,7 @@ impl World {
 ///
 /// Refused where the number of replicas is out of range, and for lack of memory.
 ///
-/// Cost: that of the edits and of the received deltas.
+/// Cost: opening the sheets, then that of each edit and of each delivery.
 pub fn play<L: Ledger>(
     alloc: Global,
     replicas: u8,
