@@ -1,11 +1,13 @@
 -- The records of a table, assigned one after another.
-use Rattle.std.proofs.Common.{◌≡◌, ◌+◌, ◌<◌, ◌≤◌, ◌∷◌, ◌++◌, ◌∙◌, [], ℕ, List, map, length, take, drop, Bool, true, false}
+use Rattle.std.proofs.Common.{◌≡◌, ◌+◌, ◌<◌, ◌≤◌, ◌∷◌, ◌++◌, ◌∙◌, [], ℕ, List, map, length, take, drop, Bool}
+use Rattle.std.proofs.Common.{true, false}
 use Rattle.std.proofs.Common.{refl, ap, sym, subst, arith, Result, Ok, Err, get_or}
 use Rattle.std.specs.Result.{IsOkAnd}
 use Rattle.std.specs.Global.{Vec}
 use Rattle.std.specs.List.{list_any}
 use Rattle.std.specs.List.Sorted.{IsStrictlyIncreasing}
-use Rattle.std.proofs.lemmas.List.{append-nil, drop_more, get_or-map, length-drop, length-map, take-append-drop, take_more}
+use Rattle.std.proofs.lemmas.List.{append-nil, drop_more, get_or-map, length-drop, length-map, take-append-drop}
+use Rattle.std.proofs.lemmas.List.{take_more}
 use Rattle.ps_grid.specs.declared.refusal.Refusal.{Refusal}
 use Rattle.ps_grid.specs.declared.refusal.Refusal.TheVariants.{ClockFull}
 use Rattle.ps_content.specs.declared.content.Content.{Content}
@@ -44,10 +46,12 @@ pub assigned_one : (r : ℕ) (h k : List Entries) (cells batch : Cells) → IsBa
 unfolding Assigned
 assigned_one r h k [] batch some is made = absurd (omega (arith, some.some))
 assigned_one r h k (c ∷ cs) batch some is made =
-    let made_of = subst (λ (xs : Cells). IsOkAnd (delta_of_edit r (joined_history h) (SetAll xs)) (λ d. k ≡ h ++ d ∷ [])) is made in
+    let Makes = λ (xs : Cells). IsOkAnd (delta_of_edit r (joined_history h) (SetAll xs)) (λ d. k ≡ h ++ d ∷ []) in
+    let made_of = subst Makes is made in
     ok_and (delta_of_edit r (joined_history h) (SetAll (c ∷ cs))) (λ d. k ≡ h ++ d ∷ []) made_of
 
-pub assigned_none : (r : ℕ) (h : List Entries) (cells : Cells) → (IsBatch cells → ⊥) → IsStrictlyIncreasing (map (λ e. e.0) cells)
+pub assigned_none : (r : ℕ) (h : List Entries) (cells : Cells) → (IsBatch cells → ⊥)
+    → IsStrictlyIncreasing (map (λ e. e.0) cells)
     → Assigned r h (cells ∷ []) h
 unfolding Assigned
 assigned_none r h [] none ascending = refl
@@ -74,13 +78,15 @@ under_batch r s n [] under = tt
 under_batch r s n (c ∷ cs) under = (under.0, under_batch r s n cs under.1)
 
 -- nothing changes behind a record
-pub unchanged_behind : (r n : ℕ) (h k : List Entries) (cells : Cells) → Under n (map (λ e. e.0) cells) → Assigned r h (cells ∷ []) k
+pub unchanged_behind : (r n : ℕ) (h k : List Entries) (cells : Cells) → Under n (map (λ e. e.0) cells)
+    → Assigned r h (cells ∷ []) k
     → (c : ℕ) → n ≤ c → joined_history k c ≡ joined_history h c
 unfolding Assigned
 unchanged_behind r n h k [] under one c le = ap (λ (g : List Entries). joined_history g c) one
 unchanged_behind r n h k (e ∷ es) under one c le =
     let delta = map (λ (x : ℕ × Content). (x.0, assigned r (joined_history h x.0) x.1)) (e ∷ es) in
-    let is : delta ≡ one.0 = not_refused (list_any (λ x. is_clock_full (joined_history h x.0)) (e ∷ es)) ClockFull one.0 delta one.1 in
+    let is : delta ≡ one.0 = not_refused (list_any (λ x. is_clock_full (joined_history h x.0)) (e ∷ es))
+    ClockFull one.0 delta one.1 in
     let none : state_of one.0 c ≡ empty_cell
     = ap (λ (d : Entries). state_of d c) (sym is)
     ∙ state_of-under n delta c (under_batch r (joined_history h) n (e ∷ es) under) le in
@@ -92,7 +98,8 @@ unchanged_behind r n h k (e ∷ es) under one c le =
 
 -- on its way: the first n of all records were assigned to the history h, which is k now; the cells of the others are
 -- what they were
-pub record IsApplying (r : ℕ) (h : List Entries) (all : List Cells) (n : ℕ) (rest : List Cells) (k : List Entries) : Type 0 where
+pub record IsApplying (r : ℕ) (h : List Entries) (all : List Cells) (n : ℕ) (rest : List Cells)
+    (k : List Entries) : Type 0 where
   pub table : List Record
   pub said : RecordsSay (joined_history h) n table rest
   pub so_far : Assigned r h (take n all) k
@@ -108,7 +115,8 @@ drop_none : (xs : List Cells) → drop 0 xs ≡ xs
 drop_none [] = refl
 drop_none (x ∷ xs) = refl
 
-pub applying_starts : (r : ℕ) (h : List Entries) (all : List Cells) (table : List Record) → RecordsSay (joined_history h) 0 table all
+pub applying_starts : (r : ℕ) (h : List Entries) (all : List Cells) (table : List Record)
+    → RecordsSay (joined_history h) 0 table all
     → IsApplying r h all 0 all h
 applying_starts r h all table said = record {
   table = table;
@@ -119,7 +127,8 @@ applying_starts r h all table said = record {
 }
 
 -- the record that is next
-pub next_says : (s : State) (n : ℕ) (table : List Record) (cells : Cells) (rest : List Cells) → RecordsSay s n table (cells ∷ rest)
+pub next_says : (s : State) (n : ℕ) (table : List Record) (cells : Cells) (rest : List Cells)
+    → RecordsSay s n table (cells ∷ rest)
     → (fields : Record) × (others : List Record) × FieldsSay s n 0 fields cells × RecordsSay s (n + 1) others rest
 unfolding RecordsSay
 next_says s n [] cells rest said = absurd (cc)
@@ -132,7 +141,8 @@ next_says s n (fields ∷ others) cells rest said =
       subst (λ (xs : List Cells). RecordsSay s (n + 1) others xs) tail said.4,
     )
 
-pub next_ascends : (r : ℕ) (h k : List Entries) (all rest : List Cells) (n : ℕ) (cells : Cells) → IsApplying r h all n (cells ∷ rest) k
+pub next_ascends : (r : ℕ) (h k : List Entries) (all rest : List Cells) (n : ℕ) (cells : Cells)
+    → IsApplying r h all n (cells ∷ rest) k
     → IsStrictlyIncreasing (map (λ e. e.0) cells)
 next_ascends r h k all rest n cells on =
     let next = next_says (joined_history h) n on.table cells rest on.said in
@@ -147,7 +157,8 @@ next_is_free r q h k all rest n cells e on refused =
     let answer = rw free at refused in
     cc
 
-pub next_is_there : (r : ℕ) (h k : List Entries) (all rest : List Cells) (n : ℕ) (cells : Cells) → IsApplying r h all n (cells ∷ rest) k
+pub next_is_there : (r : ℕ) (h k : List Entries) (all rest : List Cells) (n : ℕ) (cells : Cells)
+    → IsApplying r h all n (cells ∷ rest) k
     → n < length all
 next_is_there r h k all rest n cells on =
     let size = ap (λ (xs : List Cells). length xs) on.behind in
@@ -167,26 +178,33 @@ applying_goes_on r h k m all rest n cells on one =
     record {
       table = next.1;
       said = next.3;
-      so_far = subst (λ (xs : List Cells). Assigned r h xs m) (sym front) (assigned-push r h k m (take n all) cells on.so_far one);
+      so_far = subst (λ (xs : List Cells). Assigned r h xs m) (sym front)
+          (assigned-push r h k m (take n all) cells on.so_far one);
       behind = tail;
-      untouched = λ c le. unchanged_behind r (place (n + 1) 0) k m cells under one c le ∙ on.untouched c (omega (arith, le));
+      untouched = λ c le. unchanged_behind r (place (n + 1) 0) k m cells under one c le
+          ∙ on.untouched c (omega (arith, le));
     }
 
-pub applying_ends : (r : ℕ) (h k : List Entries) (all : List Cells) (n : ℕ) → IsApplying r h all n [] k → Assigned r h all k
+pub applying_ends : (r : ℕ) (h k : List Entries) (all : List Cells) (n : ℕ) → IsApplying r h all n [] k
+    → Assigned r h all k
 applying_ends r h k all n on =
     let whole : take n all ≡ all
-    = sym (append-nil (take n all)) ∙ ap (λ (xs : List Cells). take n all ++ xs) (sym on.behind) ∙ take-append-drop n all in
+    = sym (append-nil (take n all)) ∙ ap (λ (xs : List Cells). take n all ++ xs) (sym on.behind)
+    ∙ take-append-drop n all in
     subst (λ (xs : List Cells). Assigned r h xs k) whole on.so_far
 
 -- .. where the cells that are left are those of a list
-pub applying_from : (r : ℕ) (h : List Entries) (all : List Cells) (items left : List (Vec (ℕ × Content))) (table : List Record)
+pub applying_from : (r : ℕ) (h : List Entries) (all : List Cells) (items left : List (Vec (ℕ × Content)))
+    (table : List Record)
     → left ≡ items → all ≡ cells_of_each items → RecordsSay (joined_history h) 0 table all
     → IsApplying r h all 0 (cells_of_each left) h
 applying_from r h all items left table is of said =
     let same : all ≡ cells_of_each left = of ∙ ap (λ (xs : List (Vec (ℕ × Content))). cells_of_each xs) (sym is) in
     subst (λ (xs : List Cells). IsApplying r h all 0 xs h) same (applying_starts r h all table said)
 
-pub applying_next : (r : ℕ) (h k : List Entries) (all : List Cells) (n : ℕ) (items rest : List (Vec (ℕ × Content))) (x : Vec (ℕ × Content))
-    → items ≡ x ∷ rest → IsApplying r h all n (cells_of_each items) k → IsApplying r h all n (x.items ∷ cells_of_each rest) k
+pub applying_next : (r : ℕ) (h k : List Entries) (all : List Cells) (n : ℕ)
+    (items rest : List (Vec (ℕ × Content))) (x : Vec (ℕ × Content))
+    → items ≡ x ∷ rest → IsApplying r h all n (cells_of_each items) k
+    → IsApplying r h all n (x.items ∷ cells_of_each rest) k
 applying_next r h k all n items rest x is on =
     subst (λ (xs : List (Vec (ℕ × Content))). IsApplying r h all n (cells_of_each xs) k) is on

@@ -1,6 +1,8 @@
 -- What the fields of a record say, field by field.
-use Rattle.std.proofs.Common.{◌≡◌, ◌≢◌, ◌⊎◌, ◌+◌, ◌<◌, ◌≤◌, ◌∷◌, ◌++◌, ◌∙◌, [], ℕ, List, true, false, map, length, take, drop, get_or}
-use Rattle.std.proofs.Common.{refl, ap, sym, subst, inl, inr, arith, append_assoc, Option, Some, None, Ok, Err, IsSome, Bor}
+use Rattle.std.proofs.Common.{◌≡◌, ◌≢◌, ◌⊎◌, ◌+◌, ◌<◌, ◌≤◌, ◌∷◌, ◌++◌, ◌∙◌, [], ℕ, List, true, false, map}
+use Rattle.std.proofs.Common.{length, take, drop, get_or}
+use Rattle.std.proofs.Common.{refl, ap, sym, subst, inl, inr, arith, append_assoc, Option, Some, None, Ok, Err}
+use Rattle.std.proofs.Common.{IsSome, Bor}
 use Rattle.std.proofs.lemmas.List.{append-nil, drop_more, take-append-drop, take_all, take_more, length-take}
 use Rattle.std.specs.Option.{option_map}
 use Rattle.std.specs.List.{list_any}
@@ -48,13 +50,15 @@ fault-full s c [] content lt reads full = absurd (omega (arith, lt))
 fault-full s c (b ∷ bs) content lt reads full = inr (content, reads, full, refl)
 
 -- no field yet
-pub fields_say-none : (s : State) (n : ℕ) (fields : Record) (cells : Cells) → cells ≡ [] → FieldsSay s n 0 (take 0 fields) cells
+pub fields_say-none : (s : State) (n : ℕ) (fields : Record) (cells : Cells) → cells ≡ []
+    → FieldsSay s n 0 (take 0 fields) cells
 unfolding FieldsSay
 fields_say-none s n [] cells e = e
 fields_say-none s n (f ∷ fields) cells e = e
 
 -- one more field
-pub fields_say-push : (s : State) (n j : ℕ) (fields : Record) (field : List ℕ) (cells here : Cells) → FieldsSay s n j fields cells
+pub fields_say-push : (s : State) (n j : ℕ) (fields : Record) (field : List ℕ) (cells here : Cells)
+    → FieldsSay s n j fields cells
     → j + length fields < COLUMNS → FieldSays s (place n (j + length fields)) field here
     → FieldsSay s n j (fields ++ field ∷ []) (cells ++ here)
 unfolding FieldsSay
@@ -96,8 +100,10 @@ fields_say-rising s n j ((b ∷ bs) ∷ fields) cells said =
     (omega arith, subst (λ (k : ℕ). Rising k (map (λ e. e.0) said.1)) next later)
 
 -- the first fields of a record, and one more
-pub fields_say-more : (s : State) (n j : ℕ) (fields : Record) (field : List ℕ) (cells here : Cells) → j < length fields
-    → get_or fields j [] ≡ field → FieldsSay s n 0 (take j fields) cells → j < COLUMNS → FieldSays s (place n j) field here
+pub fields_say-more : (s : State) (n j : ℕ) (fields : Record) (field : List ℕ) (cells here : Cells)
+    → j < length fields
+    → get_or fields j [] ≡ field → FieldsSay s n 0 (take j fields) cells → j < COLUMNS
+    → FieldSays s (place n j) field here
     → FieldsSay s n 0 (take (j + 1) fields) (cells ++ here)
 fields_say-more s n j fields field cells here lt is said column says =
     let size : length (take j fields) ≡ j = length-take j fields ∙ omega arith in
@@ -107,8 +113,10 @@ fields_say-more s n j fields field cells here lt is said column says =
     rw (take_more fields j [] lt, is) more
 
 -- a field at fault behind fields that have no fault
-pub record_fault : (s : State) (n j : ℕ) (fields : Record) (field : List ℕ) (cells : Cells) (e : Refusal) → j < length fields
-    → get_or fields j [] ≡ field → FieldsSay s n 0 (take j fields) cells → FieldFault s n j field e → RecordFault s n fields e
+pub record_fault : (s : State) (n j : ℕ) (fields : Record) (field : List ℕ) (cells : Cells) (e : Refusal)
+    → j < length fields
+    → get_or fields j [] ≡ field → FieldsSay s n 0 (take j fields) cells → FieldFault s n j field e
+    → RecordFault s n fields e
 record_fault s n j fields field cells e lt is said fault =
     let size : j ≡ length (take j fields) = omega (arith, length-take j fields) in
     record {
@@ -123,7 +131,8 @@ record_fault s n j fields field cells e lt is said fault =
     }
 
 -- .. at the field that a record gives
-pub entry_fault : (s : State) (n j c : ℕ) (fields : Record) (field : List ℕ) (cells : Cells) (e : Refusal) → j < length fields
+pub entry_fault : (s : State) (n j c : ℕ) (fields : Record) (field : List ℕ) (cells : Cells) (e : Refusal)
+    → j < length fields
     → get_or fields j [] ≡ field → FieldsSay s n 0 (take j fields) cells → j < COLUMNS → c ≡ place n j
     → (e ≡ Memory) ⊎ EntryFault s c field e → (e ≡ Memory) ⊎ RecordFault s n fields e
 entry_fault s n j c fields field cells e lt is said column at (inl memory) = inl memory
@@ -143,7 +152,8 @@ more_said s n j c fields field old new lt is said column at more =
 -- at the last field
 pub fields_say-all : (s : State) (n j : ℕ) (fields : Record) (cells : Cells) → length fields ≤ j
     → FieldsSay s n 0 (take j fields) cells → FieldsSay s n 0 fields cells
-fields_say-all s n j fields cells le said = subst (λ (xs : Record). FieldsSay s n 0 xs cells) (take_all j fields le) said
+fields_say-all s n j fields cells le said =
+    subst (λ (xs : Record). FieldsSay s n 0 xs cells) (take_all j fields le) said
 
 -- the field that a record gives at a place
 pub field_given : (fields : Record) (j : ℕ) (got : Option (Bor (List ℕ))) (x : Bor (List ℕ))
@@ -165,7 +175,8 @@ fields_say-ascending s n fields cells said =
 pub fields_say-under : (s : State) (n j : ℕ) (fields : Record) (cells : Cells) → FieldsSay s n j fields cells
     → Under (place (n + 1) 0) (map (λ e. e.0) cells)
 unfolding FieldsSay FieldSays
-fields_say-under s n j [] cells said = subst (λ (xs : Cells). Under (place (n + 1) 0) (map (λ e. e.0) xs)) (sym said) tt
+fields_say-under s n j [] cells said =
+    subst (λ (xs : Cells). Under (place (n + 1) 0) (map (λ e. e.0) xs)) (sym said) tt
 fields_say-under s n j ([] ∷ fields) cells said =
     let same : cells ≡ said.1 = said.5 ∙ ap (λ (xs : Cells). xs ++ said.1) said.3 in
     subst (λ (xs : Cells). Under (place (n + 1) 0) (map (λ e. e.0) xs)) (sym same)

@@ -19,11 +19,13 @@ use Rattle.ps_grid.specs.declared.size.TheConstants.{ROWS}
 use Rattle.ps_content.specs.declared.content.Content.{Content}
 use Rattle.ps_delta.specs.State.{State}
 use Rattle.ps_csv.specs.declared.table.Table.{Table}
-use Rattle.ps_csv.specs.Records.{Cells, FieldsSay, FirstFault, IsTable, NextFault, Record, RecordFault, RecordsSay, most_fields}
+use Rattle.ps_csv.specs.Records.{Cells, FieldsSay, FirstFault, IsTable, NextFault, Record, RecordFault}
+use Rattle.ps_csv.specs.Records.{RecordsSay, most_fields}
 use Rattle.ps_csv.specs.Tables.{HasRead, IsFresh, cells_of_each}
 
 -- one more record
-pub records_say-push : (s : State) (n : ℕ) (table : List Record) (fields : Record) (batches : List Cells) (here : Cells)
+pub records_say-push : (s : State) (n : ℕ) (table : List Record) (fields : Record) (batches : List Cells)
+    (here : Cells)
     → RecordsSay s n table batches → n + length table < ROWS → FieldsSay s (n + length table) 0 fields here
     → RecordsSay s n (table ++ fields ∷ []) (batches ++ here ∷ [])
 unfolding RecordsSay
@@ -48,7 +50,8 @@ records_say-push s n (r ∷ table) fields batches here said lt says =
     )
 
 -- each record has its cells
-pub length-records_say : (s : State) (n : ℕ) (table : List Record) (batches : List Cells) → RecordsSay s n table batches
+pub length-records_say : (s : State) (n : ℕ) (table : List Record) (batches : List Cells)
+    → RecordsSay s n table batches
     → length batches ≡ length table
 unfolding RecordsSay
 length-records_say s n [] batches said = ap (λ (xs : List Cells). length xs) said
@@ -57,12 +60,15 @@ length-records_say s n (r ∷ table) batches said =
     let others = length-records_say s (n + 1) table said.1 said.4 in
     omega (arith, here, others)
 
-pub length-read : (s : State) (table : List Record) (t : Table) → HasRead s table t → length t.batches.items ≡ length table
+pub length-read : (s : State) (table : List Record) (t : Table) → HasRead s table t
+    → length t.batches.items ≡ length table
 length-read s table t has =
-    sym (length-map t.batches.items (λ batch. batch.items)) ∙ length-records_say s 0 table (cells_of_each t.batches.items) has.said
+    sym (length-map t.batches.items (λ batch. batch.items))
+    ∙ length-records_say s 0 table (cells_of_each t.batches.items) has.said
 
 -- one more record in the table
-pub has_read-more : (s : State) (table : List Record) (fields : Record) (t u : Table) (cells : Vec (ℕ × Content)) → HasRead s table t
+pub has_read-more : (s : State) (table : List Record) (fields : Record) (t u : Table) (cells : Vec (ℕ × Content))
+    → HasRead s table t
     → length t.batches.items < ROWS → FieldsSay s (length t.batches.items) 0 fields cells.items
     → u.batches.items ≡ t.batches.items ++ cells ∷ [] → u.fields ≡ max t.fields (length fields)
     → HasRead s (table ++ fields ∷ []) u
@@ -70,7 +76,8 @@ has_read-more s table fields t u cells has lt says batches most =
     let size = length-read s table t has in
     let at : length t.batches.items ≡ 0 + length table = omega (arith, size) in
     let says_there = subst (λ (k : ℕ). FieldsSay s k 0 fields cells.items) at says in
-    let said = records_say-push s 0 table fields (cells_of_each t.batches.items) cells.items has.said (omega (arith, size, lt)) says_there in
+    let said = records_say-push s 0 table fields (cells_of_each t.batches.items) cells.items has.said
+    (omega (arith, size, lt)) says_there in
     let each : cells_of_each u.batches.items ≡ cells_of_each t.batches.items ++ cells.items ∷ []
     = ap (λ (xs : List (Vec (ℕ × Content))). cells_of_each xs) batches
     ∙ map-append (λ (batch : Vec (ℕ × Content)). batch.items) t.batches.items (cells ∷ []) in
@@ -82,7 +89,8 @@ has_read-more s table fields t u cells has lt says batches most =
     }
 
 -- a record past the last row
-pub fault_past : (s : State) (table : List Record) (fields : Record) (t : Table) → HasRead s table t → ROWS ≤ length t.batches.items
+pub fault_past : (s : State) (table : List Record) (fields : Record) (t : Table) → HasRead s table t
+    → ROWS ≤ length t.batches.items
     → (Csv ≡ Memory) ⊎ NextFault s (length table) fields Csv
 fault_past s table fields t has le =
     let size = length-read s table t has in
@@ -106,15 +114,20 @@ pub record IsReading (s : State) (bytes : List ℕ) (it : ByteRecordsIntoIter (B
   pub table : List Record
   pub rest : List ℕ
   pub source : source_of (λ r. Some r.now) (owned_rows_reader it) ≡ Some rest
-  pub reached : Reached default_config states.StartRecord (strip_bom bytes) table (reader_state (owned_rows_reader it)) rest
+  pub reached : Reached default_config states.StartRecord (strip_bom bytes) table
+      (reader_state (owned_rows_reader it)) rest
   pub read : HasRead s table t
 
 -- a step that gave this
-abbrev pub Gave : ByteRecordsIntoIter (Bor (List ℕ)) → ByteRecordsIntoIter (Bor (List ℕ)) → Option (Result Row Error) → Type 0
-Gave a b r = RowStep (λ (x : Bor (List ℕ)). Some x.now) (owned_rows_reader a) (owned_rows_reader b) (owned_rows_left b) r
+abbrev pub Gave : ByteRecordsIntoIter (Bor (List ℕ)) → ByteRecordsIntoIter (Bor (List ℕ))
+    → Option (Result Row Error) → Type 0
+Gave a b r = RowStep (λ (x : Bor (List ℕ)). Some x.now) (owned_rows_reader a) (owned_rows_reader b)
+    (owned_rows_left b) r
 
-pub reading_starts : (s : State) (bytes : List ℕ) (reader : Reader (Bor (List ℕ))) (it : ByteRecordsIntoIter (Bor (List ℕ))) (t : Table)
-    → IsFresh bytes reader → owned_rows_reader it ≡ reader → 0 < owned_rows_left it → t.batches.items ≡ [] → t.fields ≡ 0
+pub reading_starts : (s : State) (bytes : List ℕ) (reader : Reader (Bor (List ℕ)))
+    (it : ByteRecordsIntoIter (Bor (List ℕ))) (t : Table)
+    → IsFresh bytes reader → owned_rows_reader it ≡ reader → 0 < owned_rows_left it → t.batches.items ≡ []
+    → t.fields ≡ 0
     → IsReading s bytes it t
 unfolding Reached RecordsSay
 reading_starts s bytes reader it t fresh is left none zero = record {
@@ -129,11 +142,14 @@ reading_starts s bytes reader it t fresh is left none zero = record {
   read = record { said = ap (λ (xs : List (Vec (ℕ × Content))). cells_of_each xs) none; most = zero };
 }
 
-pub reading_goes_on : (s : State) (bytes : List ℕ) (a b : ByteRecordsIntoIter (Bor (List ℕ))) (t u : Table) (row : Row)
+pub reading_goes_on : (s : State) (bytes : List ℕ) (a b : ByteRecordsIntoIter (Bor (List ℕ))) (t u : Table)
+    (row : Row)
     → (on : IsReading s bytes a t) → Gave a b (Some (Ok row))
-    → ((before : List Record) → HasRead s before t → HasRead s (before ++ fields_of row ∷ []) u) → IsReading s bytes b u
+    → ((before : List Record) → HasRead s before t → HasRead s (before ++ fields_of row ∷ []) u)
+    → IsReading s bytes b u
 reading_goes_on s bytes a b t u row on gave more =
-    let m = rows-more (λ (r : Bor (List ℕ)). Some r.now) (owned_rows_reader a) (owned_rows_reader b) (fields_of row) default_config
+    let m = rows-more (λ (r : Bor (List ℕ)). Some r.now) (owned_rows_reader a) (owned_rows_reader b)
+    (fields_of row) default_config
     states.StartRecord (strip_bom bytes) on.rest on.table on.config on.source on.reached gave.0 in
     record {
       config = gave.0.2 ∙ on.config;
@@ -147,12 +163,14 @@ reading_goes_on s bytes a b t u row on gave more =
       read = more on.table on.read;
     }
 
-pub reading_stops : (s : State) (bytes : List ℕ) (a b : ByteRecordsIntoIter (Bor (List ℕ))) (t : Table) (row : Row) (e : Refusal)
+pub reading_stops : (s : State) (bytes : List ℕ) (a b : ByteRecordsIntoIter (Bor (List ℕ))) (t : Table)
+    (row : Row) (e : Refusal)
     → IsReading s bytes a t → Gave a b (Some (Ok row))
     → ((before : List Record) → HasRead s before t → (e ≡ Memory) ⊎ NextFault s (length before) (fields_of row) e)
     → (e ≡ Memory) ⊎ (e ≡ Csv) ⊎ FirstFault s bytes e
 reading_stops s bytes a b t row e on gave fault =
-    let m = rows-more (λ (r : Bor (List ℕ)). Some r.now) (owned_rows_reader a) (owned_rows_reader b) (fields_of row) default_config
+    let m = rows-more (λ (r : Bor (List ℕ)). Some r.now) (owned_rows_reader a) (owned_rows_reader b)
+    (fields_of row) default_config
     states.StartRecord (strip_bom bytes) on.rest on.table on.config on.source on.reached gave.0 in
     elim (fault on.table on.read) [
       | inl memory ↦ inl memory
@@ -174,7 +192,8 @@ reading_ends s bytes a b t on gave = (
     reader_state (owned_rows_reader a),
     on.rest,
     on.reached,
-    rows-end (λ (r : Bor (List ℕ)). Some r.now) (owned_rows_reader a) (owned_rows_reader b) [] default_config on.rest on.config on.source gave,
+    rows-end (λ (r : Bor (List ℕ)). Some r.now) (owned_rows_reader a) (owned_rows_reader b) [] default_config
+        on.rest on.config on.source gave,
   ),
   on.read,
 )

@@ -24,8 +24,8 @@ Cells = List (ℕ × Content)
 abbrev pub place : ℕ → ℕ → ℕ
 place n j = n * COLUMNS + j
 
--- a field that isn't empty says the content of its entry for the cell c, whose register doesn't have the last time; an
--- empty field says nothing
+-- a field that isn't empty says the content of its entry for the cell c, whose register doesn't have the last time;
+-- an empty field says nothing
 unfoldable pub FieldSays : State → ℕ → List ℕ → Cells → Type 0
 FieldSays s c [] cells = cells ≡ []
 FieldSays s c (b ∷ bs) cells = (content : Content) × Reads (kind_of (b ∷ bs)) (b ∷ bs) (Ok content)
@@ -46,8 +46,10 @@ RecordsSay s n (record_n ∷ table) batches = (here : Cells) × (others : List C
 -- the refusal of a field for the cell c: that of its entry, or else the register's, where that has the last time
 unfoldable pub EntryFault : State → ℕ → List ℕ → Refusal → Type 0
 EntryFault s c [] e = ⊥
-EntryFault s c (b ∷ bs) e = (Reads (kind_of (b ∷ bs)) (b ∷ bs) (Err e) × (e ≢ Memory))
-    ⊎ ((content : Content) × Reads (kind_of (b ∷ bs)) (b ∷ bs) (Ok content) × (is_clock_full (s c) ≡ true) × (e ≡ ClockFull))
+EntryFault s c (b ∷ bs) e =
+    (Reads (kind_of (b ∷ bs)) (b ∷ bs) (Err e) × (e ≢ Memory))
+    ⊎ ((content : Content) × Reads (kind_of (b ∷ bs)) (b ∷ bs) (Ok content) × (is_clock_full (s c) ≡ true)
+    × (e ≡ ClockFull))
 
 -- the refusal of field j of record n; one past the last column is refused whatever it holds
 abbrev pub FieldFault : State → ℕ → ℕ → List ℕ → Refusal → Type 0
@@ -70,7 +72,8 @@ IsTable bytes table = AreRecords default_config reader.StartRecord (strip_bom by
 -- .. and these are the first ones
 abbrev pub BeginsTable : List ℕ → List Record → Type 0
 BeginsTable bytes table =
-    (state : ReaderState) × (rest : List ℕ) × Reached default_config reader.StartRecord (strip_bom bytes) table state rest
+    (state : ReaderState) × (rest : List ℕ) × Reached default_config reader.StartRecord (strip_bom bytes) table
+    state rest
 
 -- the first fault of a record behind others; one past the last row is refused whatever its fields hold
 abbrev pub NextFault : State → ℕ → Record → Refusal → Type 0

@@ -20,3 +20,6 @@ pub use apply::ImportFault;
 pub use bytes::LONGEST_TABLE;
 pub use incoming::{Imported, import};
 pub use shown::{export, exported_text};
+
+#[cfg(test)]
+mod tests;

@@ -9,8 +9,10 @@ pub loop-cells-init : goal.loop-cells-init
 loop-cells-init g c = (
   tt,
   tt,
-  applying_from c.args.sheet.now.replica c.args.sheet.now.history (cells_of_each c.args.batches.items) c.args.batches.items
-      (into_iter_items c.into_iter-cells-iterator.result) c.requires.said.0 c.into_iter-cells-iterator.ensures.into_iter_gives.0 refl
+  applying_from c.args.sheet.now.replica c.args.sheet.now.history (cells_of_each c.args.batches.items)
+      c.args.batches.items
+      (into_iter_items c.into_iter-cells-iterator.result) c.requires.said.0
+      c.into_iter-cells-iterator.ensures.into_iter_gives.0 refl
       c.requires.said.1,
   refl,
   c.requires.sheet,
@@ -33,7 +35,8 @@ returns-in-Err-clause-memory g c =
 pub loop-cells-preserved : goal.loop-cells-preserved
 loop-cells-preserved g c =
     let inv = c.loop-cells.invariant in
-    let one = subst (λ (q : ℕ). Assigned q c.loop-cells.sheet.history (c.in-Some.cells.items ∷ []) c.assign.new.sheet.history) inv.3
+    let one = subst (λ (q : ℕ). Assigned q c.loop-cells.sheet.history (c.in-Some.cells.items ∷ [])
+    c.assign.new.sheet.history) inv.3
     c.in-Ok.ensures.assigned in (
       tt,
       tt,

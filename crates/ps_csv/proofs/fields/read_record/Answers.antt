@@ -28,7 +28,8 @@ pub returns-in_err-take_field-clause-fault : goal.returns-in_err-take_field-clau
 returns-in_err-take_field-clause-fault c =
     let p = err_from_is_err_and c.from_residual.result c.from_residual.ensures.1 in
     let there : c.loop-j.j < length (fields_of c.args.fields.now) = omega arith in
-    let given = field_given (fields_of c.args.fields.now) c.loop-j.j c.get.result _ c.get.ensures.value c.unwrap-field.ensures in
+    let given = field_given (fields_of c.args.fields.now) c.loop-j.j c.get.result _ c.get.ensures.value
+    c.unwrap-field.ensures in
     rw (p.1, p.2)
     (entry_fault (state_at c.args.grid.now) c.args.n c.loop-j.j c.in-Some.cell (fields_of c.args.fields.now) _ _
     c.in_err-take_field.field-0.0 there given c.loop-j.invariant c.in-Some.ensures.0 c.in-Some.ensures.1
@@ -37,11 +38,14 @@ returns-in_err-take_field-clause-fault c =
 pub loop-j-preserved : goal.loop-j-preserved
 loop-j-preserved c =
     let there : c.loop-j.j < length (fields_of c.args.fields.now) = omega arith in
-    let given = field_given (fields_of c.args.fields.now) c.loop-j.j c.get.result _ c.get.ensures.value c.unwrap-field.ensures in
-    more_said (state_at c.args.grid.now) c.args.n c.loop-j.j c.in-Some.cell (fields_of c.args.fields.now) _ _ _ there given
+    let given = field_given (fields_of c.args.fields.now) c.loop-j.j c.get.result _ c.get.ensures.value
+    c.unwrap-field.ensures in
+    more_said (state_at c.args.grid.now) c.args.n c.loop-j.j c.in-Some.cell (fields_of c.args.fields.now) _ _ _
+    there given
     c.loop-j.invariant c.in-Some.ensures.0 c.in-Some.ensures.1 c.in_ok-take_field.ensures.said
 
 pub returns-clause-said : goal.returns-clause-said
 returns-clause-said c =
     let all : length (fields_of c.args.fields.now) ≤ c.loop-j.j = omega arith in
-    fields_say-all (state_at c.args.grid.now) c.args.n c.loop-j.j (fields_of c.args.fields.now) _ all c.loop-j.invariant
+    fields_say-all (state_at c.args.grid.now) c.args.n c.loop-j.j (fields_of c.args.fields.now) _ all
+    c.loop-j.invariant

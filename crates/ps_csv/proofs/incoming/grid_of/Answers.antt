@@ -15,5 +15,6 @@ loop-delta-preserved c =
     c.in_ok-join.ensures.ok
     ∙ ap (λ (s : State). joined_state s (state_of c.deref.result.now)) c.loop-delta.invariant
     ∙ ap (λ (d : Entries). joined_state before (state_of d)) c.deref.ensures
-    ∙ sym (history_more arc_value c.history-history.result.now c.loop-delta.delta-index c.delta-item.result c.loop-delta-test.true
+    ∙ sym (history_more arc_value c.history-history.result.now c.loop-delta.delta-index c.delta-item.result
+    c.loop-delta-test.true
     c.delta-item.is)

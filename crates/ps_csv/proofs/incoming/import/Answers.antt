@@ -9,6 +9,7 @@ returns-in-Ok-apply-clause-imported g c =
       read.0,
       read.2,
       read.3,
-      takes_in read.0 read.1 c.in-Ok.table _ _ c.args.sheet.now c.apply.new.sheet read.4 read.5 read.6 c.in-Ok-apply.ensures.assigned size
+      takes_in read.0 read.1 c.in-Ok.table _ _ c.args.sheet.now c.apply.new.sheet read.4 read.5 read.6
+          c.in-Ok-apply.ensures.assigned size
           refl,
     )

@@ -8,7 +8,8 @@ use Rattle.ps_csv.proofs.table.read_table.Goals as goal
 pub loop-row-init : goal.loop-row-init
 loop-row-init c =
     let same = c.into_iter-row-iterator.ensures.into_iter_gives in
-    let left : 0 < owned_rows_left c.into_iter-row-iterator.result = rw same c.into_byte_records-row-items.ensures.left in
+    let left : 0 < owned_rows_left c.into_iter-row-iterator.result = rw same
+    c.into_byte_records-row-items.ensures.left in
     reading_starts (state_at c.args.grid.now) c.args.bytes.now c.new_reader.result _ _ c.new_reader.ensures
     (ap (λ it. owned_rows_reader it) same ∙ c.into_byte_records-row-items.ensures.rdr) left c.new.ensures.items refl
 
@@ -18,12 +19,14 @@ returns-in_err-take_record-in-Ok-clause-fault c =
     let inv = c.loop-row.invariant in
     let gave = rw (c.in-Some.is, c.in-Ok.is) at ((c.next.ensures.steps inv.left inv.trim).0 inv.ready) in
     rw (p.1, p.2)
-    (reading_stops (state_at c.args.grid.now) c.args.bytes.now c.loop-row.row-iterator c.next.new.self c.loop-row.table c.in-Ok.row
+    (reading_stops (state_at c.args.grid.now) c.args.bytes.now c.loop-row.row-iterator c.next.new.self
+    c.loop-row.table c.in-Ok.row
     c.in_err-take_record-in-Ok.field-0.0 inv gave c.in_err-take_record-in-Ok.ensures.fault)
 
 pub loop-row-preserved : goal.loop-row-preserved
 loop-row-preserved c =
     let inv = c.loop-row.invariant in
     let gave = rw (c.in-Some.is, c.in-Ok.is) at ((c.next.ensures.steps inv.left inv.trim).0 inv.ready) in
-    reading_goes_on (state_at c.args.grid.now) c.args.bytes.now c.loop-row.row-iterator c.next.new.self c.loop-row.table
+    reading_goes_on (state_at c.args.grid.now) c.args.bytes.now c.loop-row.row-iterator c.next.new.self
+    c.loop-row.table
     c.take_record.new.table c.in-Ok.row inv gave c.in_ok-take_record-in-Ok.ensures.read

@@ -22,7 +22,8 @@ returns-in_err-cells-clause-fault c =
     let within : length c.args.table.now.batches.items < ROWS = omega (arith, size) in
     let fields = fields_of c.args.fields.now in
     let e = c.in_err-cells.field-0.0 in
-    let fault = subst (λ (k : ℕ). (e ≡ Memory) ⊎ RecordFault (state_at c.args.grid.now) k fields e) size c.in_err-cells.ensures.fault in
+    let fault = subst (λ (k : ℕ). (e ≡ Memory) ⊎ RecordFault (state_at c.args.grid.now) k fields e) size
+    c.in_err-cells.ensures.fault in
     fault_within (state_at c.args.grid.now) before fields c.args.table.now e has within fault)
 
 pub returns-clause-read : goal.returns-clause-read
@@ -30,6 +31,7 @@ returns-clause-read c = λ before has.
     let size : c.len-n.result ≡ length c.args.table.now.batches.items = search rules in
     let within : length c.args.table.now.batches.items < ROWS = omega (arith, size) in
     let fields = fields_of c.args.fields.now in
-    let says = subst (λ (k : ℕ). FieldsSay (state_at c.args.grid.now) k 0 fields c.in_ok-cells.cells.items) size c.in_ok-cells.ensures.said in
+    let says = subst (λ (k : ℕ). FieldsSay (state_at c.args.grid.now) k 0 fields c.in_ok-cells.cells.items) size
+    c.in_ok-cells.ensures.said in
     has_read-more (state_at c.args.grid.now) before fields c.args.table.now _ c.in_ok-cells.cells has within says
     c.in_ok-push.ensures.items (c.max-table.ensures ∙ ap (λ (k : ℕ). max c.args.table.now.fields k) c.len.ensures)
