@@ -7,7 +7,7 @@ use Rattle.clap.specs.Simple.{on_top}
 use Rattle.clap.specs.declared.builder.action.ArgAction.TheVariants.{Set}
 use Rattle.clap.specs.declared.builder.value_parser.ValueParser.TheVariants as vp
 use Rattle.sheet.specs.declared.options.Options.{Options}
-use Rattle.sheet.specs.declared.options.Options.TheVariants.{Run}
+use Rattle.sheet.specs.declared.options.Options.TheVariants.{Run, Table}
 
 -- an option with a number from 1 to most, 1 where it is not given
 abbrev pub number_option : Text → ℕ → Rule
@@ -22,17 +22,29 @@ abbrev pub run_app : App
 run_app = with_rule (with_rule (new_app (codes "run")) (number_option (codes "workers") 16)) (number_option (codes
     "replica") 32)
 
+abbrev pub table_app : App
+table_app = with_rule (new_app (codes "table")) (number_option (codes "workers") 16)
+
 -- the program has one of the commands
 abbrev pub sheet_app : App
-sheet_app = with_subcommand (on_top (λ s. record s { subcommand_required = true }) (new_app (codes "sheet")))
-    run_app.top
+sheet_app = with_subcommand (with_subcommand (on_top (λ s. record s { subcommand_required = true })
+    (new_app (codes "sheet"))) run_app.top) table_app.top
 
 -- among a command's matches the option has this number
 abbrev pub GivesNumber : List Row → Text → ℕ → Type 0
 GivesNumber rows id n = (text : Text) × (one_of id rows ≡ Some text)
     × (digits_value 10 (without_leading_plus text) ≡ n)
 
+-- the command's name
+abbrev pub name_of : Options → Text
+name_of (Run o) = codes "run"
+name_of (Table o) = codes "table"
+
+-- among a command's matches its options have these numbers
+abbrev pub GivesNumbers : List Row → Options → Type 0
+GivesNumbers rows (Run o) = GivesNumber rows (codes "workers") o.workers × GivesNumber rows (codes "replica") o.replica
+GivesNumbers rows (Table o) = GivesNumber rows (codes "workers") o.workers
+
 -- the matches are those of the command with its numbers
 abbrev pub GivesOptions : Option (Text × List Row) → Options → Type 0
-GivesOptions matches (Run o) = (rows : List Row) × (matches ≡ Some (codes "run", rows))
-    × GivesNumber rows (codes "workers") o.workers × GivesNumber rows (codes "replica") o.replica
+GivesOptions matches options = (rows : List Row) × (matches ≡ Some (name_of options, rows)) × GivesNumbers rows options

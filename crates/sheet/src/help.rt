@@ -20,3 +20,18 @@ and the name of what was refused. Cells are A1 to CZ1024. A formula is written
 Example:
 
   printf 'set A1 5\\nset B1 =[.A1]*2\\nget B1\\n' | sheet run";
+
+/// What stands below the options of `sheet table --help`.
+pub const TABLE_HELP: &str = "\
+Standard input is a table of CSV: its first record goes to row 1, its first field
+to column A. A field is an entry, as in `set`: a number, a formula, a text. What
+comes out is the table of what the cells show.
+
+Example:
+
+  printf '2,=[.A1]*3\\n\"x,y\",@tally\\n' | sheet table
+
+writes
+
+  2,6
+  \"x,y\",0";

@@ -1,27 +1,30 @@
 //! A replicated spreadsheet on the command line.
 //!
-//! `sheet run` opens an empty sheet and answers each line of standard input with a line on standard output.
+//! `sheet run` opens an empty sheet and answers each line of standard input on standard output; `sheet table` reads a
+//! table of CSV and writes the table of its settled values.
 //! [`read_words`] reads the command line: its contract ties the command and the numbers that it answers to the matches
 //! that `clap` finds in the words. A [`ProgramFault`] is what ends the program early, and [`status_of`] its exit
 //! status: 0 where all went well, 1 where a device failed, 2 for a command line that is none, 3 for any other refusal.
 #![tactic(auto)]
 
+mod commands;
 mod fault;
 mod help;
-mod lines;
 mod options;
+mod table;
 mod words;
 
 use clap::Error;
 use clap::error::ErrorKind;
+pub use commands::{answer_lines, fill_table};
 pub use fault::{ProgramFault, status_of};
-pub use lines::answer_lines;
-pub use options::{Options, RunOptions};
+pub use options::{Options, RunOptions, TableOptions};
 use ps_grid::Refusal;
 use std::io;
 use std::marker::Brand;
 use std::process::ExitCode;
 use std::sync::ledger::Blank;
+pub use table::table_on;
 pub use words::read_words;
 
 /// Runs the command that the words name, and reports what ends it early.
@@ -44,6 +47,7 @@ fn start(rt: &HostRuntime) -> Result<ExitCode, ProgramFault> {
     let words: Vec<String> = given.collect(rt.alloc())?;
     match read_words(rt.alloc(), words.as_slice()) {
         Ok(Options::Run(options)) => run_command(rt, options),
+        Ok(Options::Table(options)) => table_command(rt, options),
         Err(error) => tell(rt, &error),
     }
 }
@@ -76,6 +80,20 @@ fn tell(rt: &HostRuntime, error: &Error) -> Result<ExitCode, ProgramFault> {
 /// The command `run`, on standard input and output.
 fn run_command(rt: &HostRuntime, options: RunOptions) -> Result<ExitCode, ProgramFault> {
     answer_lines::<_, _, Brand, Brand, Brand>(
+        rt.alloc(),
+        rt.reader(),
+        rt.stdout(),
+        Blank::new(1),
+        Blank::new(1),
+        Blank::new(1),
+        options,
+    )?;
+    Ok(ExitCode::SUCCESS)
+}
+
+/// The command `table`, on standard input and output.
+fn table_command(rt: &HostRuntime, options: TableOptions) -> Result<ExitCode, ProgramFault> {
+    fill_table::<_, _, Brand, Brand, Brand>(
         rt.alloc(),
         rt.reader(),
         rt.stdout(),

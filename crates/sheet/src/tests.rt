@@ -3,4 +3,5 @@ mod limits;
 mod replicas;
 mod scripts;
 mod session;
+mod table;
 mod words;

@@ -2,10 +2,10 @@
 ghost use Rattle.std.specs.Prelude.{◌≡◌, ◌≤◌, ℕ, Some, IfOk, IfSome, List, codes, map, false, string_bytes};
 ghost use Rattle.clap.specs.Words.{app_of, found_of, rows_of, rule_of, subcommand_of};
 ghost use Rattle.clap.specs.declared.builder.command.Command.TheViews.{out-Command as fields_of};
-ghost use Rattle.sheet.specs.Words.{GivesNumber, GivesOptions, number_option, run_app, sheet_app};
+ghost use Rattle.sheet.specs.Words.{GivesNumber, GivesNumbers, GivesOptions, name_of, number_option, run_app, sheet_app, table_app};
 
-use crate::help::RUN_HELP;
-use crate::options::{Options, RunOptions};
+use crate::help::{RUN_HELP, TABLE_HELP};
+use crate::options::{Options, RunOptions, TableOptions};
 use clap::builder::ValueParser;
 use clap::{Arg, ArgAction, ArgMatches, Command, Error};
 use std::alloc::{AllocError, Global};
@@ -37,13 +37,27 @@ fn run_command<'a>(alloc: Global) -> Result<Command<'a>, AllocError>
         .arg(replica)
 }
 
+fn table_command<'a>(alloc: Global) -> Result<Command<'a>, AllocError>
+    ensures app { IfOk result (λ command. app_of command ≡ table_app) }
+    ensures local { IfOk result (λ command. (fields_of command).has_globals ≡ false) }
+{
+    let workers = number_option(alloc, "workers", 16).help(
+        "how many threads evaluate formulas, 1 to 16",
+    );
+    Command::new(alloc, "table")
+        .about("reads a table of CSV and writes its settled values as CSV")
+        .after_help(TABLE_HELP)
+        .arg(workers)
+}
+
 fn sheet_command<'a>(alloc: Global) -> Result<Command<'a>, AllocError>
     ensures { IfOk result (λ command. app_of command ≡ sheet_app) }
 {
     Command::new(alloc, "sheet")
         .about("a replicated spreadsheet")
         .subcommand_required(true)
-        .subcommand(run_command(alloc)?)
+        .subcommand(run_command(alloc)?)?
+        .subcommand(table_command(alloc)?)
 }
 
 /// The number of an option, if it lies in 1..=most.
@@ -57,6 +71,37 @@ fn number_of(matches: &ArgMatches<'_>, id: &str, most: u8) -> Option<u8>
     }
 }
 
+/// The numbers of `run`.
+fn run_options(matches: &ArgMatches<'_>) -> Option<Options>
+    ensures { IfSome result (λ options. (name_of options ≡ codes "run")
+        × GivesNumbers (rows_of (found_of matches.now)) options) }
+{
+    let workers = number_of(matches, "workers", 16)?;
+    let replica = number_of(matches, "replica", 32)?;
+    Some(Options::Run(RunOptions { workers, replica }))
+}
+
+/// The number of `table`.
+fn table_options(matches: &ArgMatches<'_>) -> Option<Options>
+    ensures { IfSome result (λ options. (name_of options ≡ codes "table")
+        × GivesNumbers (rows_of (found_of matches.now)) options) }
+{
+    let workers = number_of(matches, "workers", 16)?;
+    Some(Options::Table(TableOptions { workers }))
+}
+
+/// The options of a command by its name.
+fn options_of(name: &str, matches: &ArgMatches<'_>) -> Option<Options>
+    ensures { IfSome result (λ options. (name_of options ≡ name.now)
+        × GivesNumbers (rows_of (found_of matches.now)) options) }
+{
+    match name {
+        "run" => run_options(matches),
+        "table" => table_options(matches),
+        _ => None,
+    }
+}
+
 /// Reads the program's words, the first of which is its own name.
 pub fn read_words<'a>(alloc: Global, words: &'a [String]) -> Result<Options, Error>
     ensures { IfOk result (GivesOptions (subcommand_of sheet_app (map string_bytes words.now))) }
@@ -65,14 +110,8 @@ pub fn read_words<'a>(alloc: Global, words: &'a [String]) -> Result<Options, Err
     let Some((name, found)) = matches.subcommand() else {
         return Err(AllocError.into());
     };
-    if name != "run" {
-        return Err(AllocError.into());
-    }
-    let Some(workers) = number_of(found, "workers", 16) else {
+    let Some(options) = options_of(name, found) else {
         return Err(AllocError.into());
     };
-    let Some(replica) = number_of(found, "replica", 32) else {
-        return Err(AllocError.into());
-    };
-    Ok(Options::Run(RunOptions { workers, replica }))
+    Ok(options)
 }

@@ -11,20 +11,22 @@ fn words(alloc: Global, given: &[&str]) -> Result<Vec<String>, AllocError> {
     Ok(words)
 }
 
-/// The numbers of `run`, or the exit status that `clap` gives.
+/// The numbers of `run`, or that of `table` and 0, or the exit status that `clap` gives.
 fn numbers(alloc: Global, given: &[&str]) -> Result<Result<(u8, u8), i32>, AllocError> {
     let words = words(alloc, given)?;
     Ok(match read_words(alloc, words.as_slice()) {
         Ok(Options::Run(options)) => Ok((options.workers, options.replica)),
+        Ok(Options::Table(options)) => Ok((options.workers, 0)),
         Err(error) => Err(error.exit_code()),
     })
 }
 
-/// The options of `run`, given in both spellings, or left out.
+/// The options of `run` and of `table`, given in both spellings, or left out.
 #[test]
 fn options_are_read(rt: HostRuntime) -> Result<(), Fail> {
     let alloc = rt.alloc();
     assert!(rt; numbers(alloc, &["sheet", "run"])? == Ok((1, 1)));
+    assert!(rt; numbers(alloc, &["sheet", "table", "--workers=16"])? == Ok((16, 0)));
     assert!(rt;
         numbers(alloc, &["sheet", "run", "--workers", "16", "--replica=32"])? == Ok((16, 32))
     );

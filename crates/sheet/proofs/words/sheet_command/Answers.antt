@@ -16,8 +16,10 @@ pub returns : goal.returns
 returns c =
     let top_is : app_of c.subcommand_required.result ≡ on_top asks (app_of c.new.result) =
     ap app_of_fields (c.subcommand_required.ensures ∙ ap asks_fields c.about.ensures) in
-    IfOk-weaker c.subcommand.result _ _
-    (λ command h. h.shape c.in_ok-run_command.ensures.local
+    let with_run = c.in_ok-subcommand.ensures.shape c.in_ok-run_command.ensures.local
     ∙ ap₂ with_subcommand (top_is ∙ ap (on_top asks) c.new.ensures.app) (ap (λ (a : App). a.top)
-    c.in_ok-run_command.ensures.app))
-    c.subcommand.ensures
+    c.in_ok-run_command.ensures.app) in
+    IfOk-weaker c.subcommand-2.result _ _
+    (λ command h. h.shape c.in_ok-table_command.ensures.local
+    ∙ ap₂ with_subcommand with_run (ap (λ (a : App). a.top) c.in_ok-table_command.ensures.app))
+    c.subcommand-2.ensures

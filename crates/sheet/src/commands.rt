@@ -1,13 +1,14 @@
-//! The command `run`: a sheet that answers lines.
+//! The commands on a reader and a writer.
 ghost use Rattle.std.specs.Prelude.{◌≡◌, ◌<◌};
 
 use crate::fault::ProgramFault;
-use crate::options::RunOptions;
+use crate::options::{RunOptions, TableOptions};
+use crate::table::table_on;
 use ps_eval::Meter;
 use ps_grid::Refusal;
 use ps_session::{RunFault, run};
 use ps_sheet::Sheet;
-use ps_value::{Console, ConsoleInput, ConsoleOutput};
+use ps_value::{Console, ConsoleInput, ConsoleOutput, Reading, Writing};
 use std::alloc::Global;
 use std::io::{Read, Write};
 use std::sync::ledger::{Blank, Ledger};
@@ -48,4 +49,32 @@ pub fn answer_lines<R: Read + Drop, W: Write + Drop, I: Ledger, O: Ledger, M: Le
         (Err(RunFault::Memory), _) => Err(Refusal::Memory.into()),
         _ => Err(Refusal::Device.into()),
     }
+}
+
+/// Reads a table to the end of the reader's input, and writes the table of its settled values.
+///
+/// Refused as `table_on` is.
+pub fn fill_table<R: Read + Drop, W: Write + Drop, I: Ledger, O: Ledger, M: Ledger>(
+    alloc: Global,
+    reader: R,
+    writer: W,
+    input: Blank,
+    output: Blank,
+    count: Blank,
+    options: TableOptions,
+) -> Result<(), ProgramFault>
+    requires input_name { input.name ≡ I.name }
+    requires input_parts { input.parts ≡ I.parts }
+    requires input_some { 0 < I.parts }
+    requires output_name { output.name ≡ O.name }
+    requires output_parts { output.parts ≡ O.parts }
+    requires output_some { 0 < O.parts }
+    requires count_name { count.name ≡ M.name }
+    requires count_parts { count.parts ≡ M.parts }
+    requires count_some { 0 < M.parts }
+{
+    let mut source = Reading::<R, I>::new(reader, input);
+    let mut sink = Writing::<W, O>::new(writer, output);
+    let mut meter = Meter::<M>::new(count);
+    table_on(alloc, &mut source, &mut sink, &mut meter, options.workers)
 }

@@ -1,0 +1,28 @@
+-- What the command `table` writes.
+use Rattle.std.specs.Prelude.{◌≡◌, ◌==◌, ℕ, List, [], if◌then◌else◌}
+use Rattle.ps_grid.specs.Rectangle.{Area}
+use Rattle.ps_sheet.specs.Settled.{shown_at}
+use Rattle.ps_sheet.specs.Sheet.{IsSheet, SheetView}
+use Rattle.ps_csv.specs.Exports.{exported}
+use Rattle.ps_csv.specs.Imports.{TakesIn}
+
+-- so many rows and columns from A1 on
+abbrev pub from_first : ℕ → ℕ → Area
+from_first records fields = record { left = 0; top = 0; width = fields; height = records }
+
+-- the table of what a sheet shows; nothing where there are no records
+abbrev pub table_of : ℕ → ℕ → SheetView → List ℕ
+table_of records fields sheet =
+    if records == 0 then [] else exported (shown_at sheet.shown) (from_first records fields)
+
+-- the empty sheet of replica 1 took in the table of the bytes, and the text is the table of what it shows then
+pub record IsTableOf (bytes text : List ℕ) : Type 0 where
+  pub records : ℕ
+  pub fields : ℕ
+  pub empty : SheetView
+  pub filled : SheetView
+  pub replica : empty.replica ≡ 1
+  pub history : empty.history ≡ []
+  pub taken : TakesIn bytes records fields empty filled
+  pub settled : IsSheet filled
+  pub shown : text ≡ table_of records fields filled
