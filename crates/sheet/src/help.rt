@@ -2,7 +2,7 @@
 
 /// What stands below the options of `sheet run --help`.
 pub const RUN_HELP: &str = "\
-Each line of standard input is a command, and has one line of reply on standard output:
+Each line of standard input is a command, and has a reply on standard output:
 
   set A1 5              A1 holds a number            ok 1
   set B1 =[.A1]*2       .. or a formula              ok 2
@@ -12,10 +12,15 @@ Each line of standard input is a command, and has one line of reply on standard 
   set D1 @choice        D1 is a set of options       ok 6
   choose D1 7           .. with option 7 in it       ok 7
   unchoose D1 7         .. and taken out again       ok 8
+  rows A1:B1            a table of what cells show   rows 1, then 5,10
+  pull 0 16             what was done, as one line   delta 8 [[\"A1\", ..
+  push [[\"A1\", ..       .. taken in elsewhere        ok 1
 
 `ok` comes with the version, the number of changes so far; `err` with the number
-and the name of what was refused. Cells are A1 to CZ1024. A formula is written
-=SUM([.A1:.A3])*2, and anything that is no number and no formula is a text.
+and the name of what was refused. The line that a `pull` gives can be kept, and be
+pushed at another replica, in any order and again. Cells are A1 to CZ1024. A
+formula is written =SUM([.A1:.A3])*2, and anything that is no number and no
+formula is a text.
 
 Example:
 
