@@ -42,12 +42,14 @@ length-rising m n (c ∷ cs) r u h =
     let more : c + 1 + length cs ≤ n = length-rising (c + 1) n cs r.1 u.1 (omega (arith, u.0)) in
     omega (arith, more, r.0)
 
-pub rising_from_increasing : (n : ℕ) (cs : List ℕ) → IsStrictlyIncreasing cs → (0 < length cs → n ≤ get_or cs 0 0) → Rising n cs
+pub rising_from_increasing : (n : ℕ) (cs : List ℕ) → IsStrictlyIncreasing cs → (0 < length cs → n ≤ get_or cs 0 0)
+    → Rising n cs
 rising_from_increasing n [] inc least = tt
 rising_from_increasing n (c ∷ cs) inc least = (
   least (omega arith),
   rising_from_increasing (c + 1) cs
-      (λ k h. let p : get_or cs k 0 < get_or (c ∷ cs) (suc k + 1) 0 = inc (suc k) (omega (arith, h)) in rw add-one (rw add-one at p))
+      (λ k h. let p : get_or cs k 0 < get_or (c ∷ cs) (suc k + 1) 0 = inc (suc k) (omega (arith, h)) in
+      rw add-one (rw add-one at p))
       (λ h. let p : c < get_or cs 0 0 = inc 0 (omega (arith, h)) in omega (arith, p)),
 )
 

@@ -1,5 +1,32 @@
 -- The state that entries stand for.
-use Rattle.std.proofs.Common.{◌≡◌, ◌≢◌, ◌⊎◌, ℕ, zero, suc, ◌+◌, ◌<◌, ◌≤◌, [], ◌∷◌, ◌++◌, length, get_or, take, if◌then◌else◌, refl, sym, ap, ◌∙◌, eq-eqb, ne_eqb, arith, inl, inr, ⊎_elim}
+use Rattle.std.proofs.Common.{
+  ◌≡◌,
+  ◌≢◌,
+  ◌⊎◌,
+  ℕ,
+  zero,
+  suc,
+  ◌+◌,
+  ◌<◌,
+  ◌≤◌,
+  [],
+  ◌∷◌,
+  ◌++◌,
+  length,
+  get_or,
+  take,
+  if◌then◌else◌,
+  refl,
+  sym,
+  ap,
+  ◌∙◌,
+  eq-eqb,
+  ne_eqb,
+  arith,
+  inl,
+  inr,
+  ⊎_elim,
+}
 use Rattle.std.proofs.lemmas.Bool.{cases_eq}
 use Rattle.std.proofs.Math.Path.{fun_ext}
 use Rattle.ps_delta.specs.declared.cell_state.CellState.{CellState}
@@ -36,11 +63,13 @@ state_of-rising n (e ∷ es) c r h =
     state_of-there e es c (λ p. omega (arith, p, r.0, h)) ∙ state_of-rising (e.0 + 1) es c r.1 (omega (arith, r.0, h))
 
 -- a cell of the entries is n or later
-pub entry_at : (n : ℕ) (es : Entries) (i : ℕ) (d : ℕ × CellState) → Rising n (cells_of es) → i < length es → n ≤ (get_or es i d).0
+pub entry_at : (n : ℕ) (es : Entries) (i : ℕ) (d : ℕ × CellState) → Rising n (cells_of es) → i < length es
+    → n ≤ (get_or es i d).0
 entry_at n [] i d r h = absurd (omega (arith, h))
 entry_at n (e ∷ es) zero d r h = r.0
 entry_at n (e ∷ es) (suc i) d r h =
-    let later : e.0 + 1 ≤ (get_or es i d).0 = entry_at (e.0 + 1) es i d r.1 (omega (arith, h)) in omega (arith, later, r.0)
+    let later : e.0 + 1 ≤ (get_or es i d).0 = entry_at (e.0 + 1) es i d r.1 (omega (arith, h)) in
+    omega (arith, later, r.0)
 
 -- the entries before one are below it
 pub under_entry : (n : ℕ) (es : Entries) (i : ℕ) (d : ℕ × CellState) → Rising n (cells_of es) → i < length es
@@ -79,7 +108,8 @@ state_of-cons e rest r = fun_ext (λ c. cons_at e rest c r (cases_eq e.0 c))
 -- an entry after all others is joined to their state
 push_at : (es : Entries) (e : ℕ × CellState) (c : ℕ) → Under e.0 (cells_of es)
     → state_of (es ++ e ∷ []) c ≡ joined_cell (state_of es c) (state_of (e ∷ []) c)
-push_at [] e c u = sym (ap (λ x. joined_cell x (state_of (e ∷ []) c)) (nothing c) ∙ joined_cell-empty (state_of (e ∷ []) c))
+push_at [] e c u = sym (ap (λ x. joined_cell x (state_of (e ∷ []) c)) (nothing c)
+    ∙ joined_cell-empty (state_of (e ∷ []) c))
 push_at (d ∷ es) e c u =
     ⊎_elim
     (λ p. state_of-here d (es ++ e ∷ []) c p ∙ sym (joined_cell-empty_right d.1)

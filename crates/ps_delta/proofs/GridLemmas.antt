@@ -1,21 +1,78 @@
 -- What a walk over a delta's entries finds: what is below a state, what is touched, what a join puts into the grid.
-use Rattle.std.proofs.Common.{◌≡◌, ◌≢◌, ◌⊎◌, ℕ, zero, suc, ◌+◌, ◌<◌, ◌≤◌, false, List, [], ◌∷◌, ◌++◌, length, get_or, set, eqb, refl, sym, ap, ◌∙◌, eq-eqb, eqb-true, arith, subst, inl, inr, ⊎_elim, get_or-set_same, get_or-set_other}
+use Rattle.std.proofs.Common.{
+  ◌≡◌,
+  ◌≢◌,
+  ◌⊎◌,
+  ℕ,
+  zero,
+  suc,
+  ◌+◌,
+  ◌<◌,
+  ◌≤◌,
+  false,
+  List,
+  [],
+  ◌∷◌,
+  ◌++◌,
+  length,
+  get_or,
+  set,
+  eqb,
+  refl,
+  sym,
+  ap,
+  ◌∙◌,
+  eq-eqb,
+  eqb-true,
+  arith,
+  subst,
+  inl,
+  inr,
+  ⊎_elim,
+  get_or-set_same,
+  get_or-set_other,
+}
 use Rattle.std.proofs.lemmas.Bool.{cases_eq, cases_lt, or_cases, or_left, or_right}
 use Rattle.std.proofs.lemmas.List.{get_or_read, get_or_past}
 use Rattle.std.proofs.Math.Path.{fun_ext}
 use Rattle.std.specs.List.{list_any, All}
 use Rattle.ps_delta.specs.declared.cell_state.CellState.{CellState}
 use Rattle.ps_grid.specs.Chains.{In}
-use Rattle.ps_delta.specs.State.{State, empty_cell, empty_state, joined_cell, joined_state, with_cell, IsBelow, state_at, AreTouched}
+use Rattle.ps_delta.specs.State.{
+  State,
+  empty_cell,
+  empty_state,
+  joined_cell,
+  joined_state,
+  with_cell,
+  IsBelow,
+  state_at,
+  AreTouched,
+}
 use Rattle.ps_delta.specs.CellLaws.{joined_cell-empty, joined_cell-empty_right}
 use Rattle.ps_delta.specs.Deltas.{Entries, cells_of, state_of, raised_entries, overlaid}
 use Rattle.ps_delta.specs.Order.{Rising, Under}
 use Rattle.ps_delta.proofs.CellLists.{Rising-push, increasing_from_rising, rising_from_increasing}
-use Rattle.ps_delta.proofs.EntryLemmas.{state_of-here, state_of-there, state_of-under, state_of-push, state_of-nil, state_of-at}
-use Rattle.ps_delta.proofs.StateLemmas.{joined_state-at, joined_state-assoc, joined_state-swap, joined_state-empty_right, with_cell-same, with_cell-other}
+use Rattle.ps_delta.proofs.EntryLemmas.{
+  state_of-here,
+  state_of-there,
+  state_of-under,
+  state_of-push,
+  state_of-nil,
+  state_of-at,
+}
+use Rattle.ps_delta.proofs.StateLemmas.{
+  joined_state-at,
+  joined_state-assoc,
+  joined_state-swap,
+  joined_state-empty_right,
+  with_cell-same,
+  with_cell-other,
+}
 
 -- what a list of cell states holds
-pub state_at-read : (cells : List CellState) (c : ℕ) (x : CellState) → c < length cells → x ≡ get_or cells c x → x ≡ state_at cells c
+pub state_at-read : (cells : List CellState) (c : ℕ) (x : CellState) → c < length cells → x ≡ get_or cells c x
+    → x ≡ state_at cells c
 unfolding state_at
 state_at-read cells c x h is = get_or_read cells c x h is empty_cell
 
@@ -40,7 +97,8 @@ state_at-set cells cell x h = fun_ext (λ c. set_at cells cell c x h (cases_eq c
 pub state_at-empty : (cells : List CellState) → All (λ x. x ≡ empty_cell) cells → state_at cells ≡ empty_state
 unfolding state_at empty_state
 state_at-empty cells empty =
-    fun_ext (λ c. ⊎_elim (λ h. empty c empty_cell h) (λ h. get_or_past cells c empty_cell h) (cases_lt c (length cells)))
+    fun_ext (λ c. ⊎_elim (λ h. empty c empty_cell h) (λ h. get_or_past cells c empty_cell h)
+    (cases_lt c (length cells)))
 
 -- nothing is below every state
 pub below_none : (s : State) → IsBelow (state_of []) s
@@ -52,9 +110,11 @@ one_below : (s : State) (e : ℕ × CellState) → joined_cell (s e.0) e.1 ≡ s
 one_below s e h c (inl p) =
     ap (joined_cell (s c)) (state_of-here e [] c p) ∙ subst (λ x. joined_cell (s x) e.1 ≡ s x) p h
 one_below s e h c (inr p) =
-    ap (joined_cell (s c)) (state_of-there e [] c p ∙ state_of-under 0 [] c tt (omega arith)) ∙ joined_cell-empty_right (s c)
+    ap (joined_cell (s c)) (state_of-there e [] c p ∙ state_of-under 0 [] c tt (omega arith))
+    ∙ joined_cell-empty_right (s c)
 
-pub below_one : (s : State) (e : ℕ × CellState) → joined_cell (s e.0) e.1 ≡ s e.0 → joined_state s (state_of (e ∷ [])) ≡ s
+pub below_one : (s : State) (e : ℕ × CellState) → joined_cell (s e.0) e.1 ≡ s e.0
+    → joined_state s (state_of (e ∷ [])) ≡ s
 unfolding joined_state
 below_one s e h = fun_ext (λ c. one_below s e h c (cases_eq e.0 c))
 
@@ -110,7 +170,8 @@ Under-from_in n (c ∷ cs) h = (
 pub In-at : (cs : List ℕ) (k d : ℕ) → k < length cs → In cs (get_or cs k d)
 In-at [] k d h = absurd (omega (arith, h))
 In-at (c ∷ cs) zero d h = or_left (eqb c c) (list_any (eqb c) cs) (eq-eqb c c refl)
-In-at (c ∷ cs) (suc k) d h = or_right (eqb (get_or cs k d) c) (list_any (eqb (get_or cs k d)) cs) (In-at cs k d (omega (arith, h)))
+In-at (c ∷ cs) (suc k) d h = or_right (eqb (get_or cs k d) c) (list_any (eqb (get_or cs k d)) cs)
+    (In-at cs k d (omega (arith, h)))
 
 In-push : (cs : List ℕ) (e c : ℕ) → In cs c → In (cs ++ e ∷ []) c
 In-push [] e c h = cc
@@ -135,7 +196,8 @@ at_last : (s : State) (es : Entries) (e : ℕ × CellState) → Under e.0 (cells
     → joined_state s (state_of (es ++ e ∷ [])) e.0 ≡ joined_cell (s e.0) e.1
 at_last s es e u =
     joined_state-at s (state_of (es ++ e ∷ [])) e.0
-    ∙ ap (joined_cell (s e.0)) (ap (λ f. f e.0) (state_of-push es e u) ∙ joined_state-at (state_of es) (state_of (e ∷ [])) e.0
+    ∙ ap (joined_cell (s e.0)) (ap (λ f. f e.0) (state_of-push es e u)
+    ∙ joined_state-at (state_of es) (state_of (e ∷ [])) e.0
     ∙ ap (λ x. joined_cell x (state_of (e ∷ []) e.0)) (state_of-under e.0 es e.0 u (omega arith))
     ∙ joined_cell-empty (state_of (e ∷ []) e.0) ∙ state_of-here e [] e.0 refl)
 
@@ -158,8 +220,10 @@ touched_more s es e cs u ne t = record {
       (Under-from_in e.0 cs (touched_under s es e.0 cs u t)) (omega arith));
   differ = λ c h.
       ⊎_elim
-      (λ q. λ same. t.differ c q (same ∙ at_others s es e c u (λ p. omega (arith, p, touched_under s es e.0 cs u t c q))))
-      (λ q. λ same. ne (sym (at_last s es e u) ∙ sym (subst (λ x. s x ≡ joined_state s (state_of (es ++ e ∷ [])) x) q same)))
+      (λ q. λ same. t.differ c q (same ∙ at_others s es e c u
+      (λ p. omega (arith, p, touched_under s es e.0 cs u t c q))))
+      (λ q. λ same. ne (sym (at_last s es e u) ∙ sym
+      (subst (λ x. s x ≡ joined_state s (state_of (es ++ e ∷ [])) x) q same)))
       (In-push_cases cs e.0 c h);
   same = λ c h.
       t.same c (λ q. h (In-push cs e.0 c q))
@@ -167,12 +231,14 @@ touched_more s es e cs u ne t = record {
 }
 
 -- one more entry put into its place
-pub overlaid-push : (s : State) (es : Entries) (e : ℕ × CellState) → overlaid s (es ++ e ∷ []) ≡ with_cell (overlaid s es) e.0 e.1
+pub overlaid-push : (s : State) (es : Entries) (e : ℕ × CellState)
+    → overlaid s (es ++ e ∷ []) ≡ with_cell (overlaid s es) e.0 e.1
 overlaid-push s [] e = refl
 overlaid-push s (d ∷ es) e = overlaid-push (with_cell s d.0 d.1) es e
 
 -- before all entries, what was there stays
-overlaid-rising : (s t : State) (n : ℕ) (es : Entries) (c : ℕ) → Rising n (cells_of es) → c < n → overlaid t (raised_entries s es) c ≡ t c
+overlaid-rising : (s t : State) (n : ℕ) (es : Entries) (c : ℕ) → Rising n (cells_of es) → c < n
+    → overlaid t (raised_entries s es) c ≡ t c
 overlaid-rising s t n [] c r h = refl
 overlaid-rising s t n (e ∷ es) c r h =
     overlaid-rising s (with_cell t e.0 (joined_cell (s e.0) e.1)) (e.0 + 1) es c r.1 (omega (arith, r.0, h))
@@ -181,11 +247,13 @@ overlaid-rising s t n (e ∷ es) c r h =
 -- each cell with what it has in s and in the entries, put over a state that has there what s has
 overlaid_at : (s t : State) (n : ℕ) (es : Entries) (c : ℕ) → Rising n (cells_of es) → t c ≡ s c
     → overlaid t (raised_entries s es) c ≡ joined_cell (s c) (state_of es c)
-overlaid_at s t n [] c r h = h ∙ sym (ap (joined_cell (s c)) (state_of-under 0 [] c tt (omega arith)) ∙ joined_cell-empty_right (s c))
+overlaid_at s t n [] c r h = h ∙ sym (ap (joined_cell (s c)) (state_of-under 0 [] c tt (omega arith))
+    ∙ joined_cell-empty_right (s c))
 overlaid_at s t n (e ∷ es) c r h =
     ⊎_elim
     (λ p. overlaid-rising s (with_cell t e.0 (joined_cell (s e.0) e.1)) (e.0 + 1) es c r.1 (omega (arith, p))
-    ∙ subst (λ b. with_cell t e.0 (joined_cell (s e.0) e.1) b ≡ joined_cell (s b) e.1) p (with_cell-same t e.0 (joined_cell (s e.0) e.1))
+    ∙ subst (λ b. with_cell t e.0 (joined_cell (s e.0) e.1) b ≡ joined_cell (s b) e.1) p
+    (with_cell-same t e.0 (joined_cell (s e.0) e.1))
     ∙ ap (joined_cell (s c)) (sym (state_of-here e es c p)))
     (λ p. overlaid_at s (with_cell t e.0 (joined_cell (s e.0) e.1)) (e.0 + 1) es c r.1
     (with_cell-other t e.0 c (joined_cell (s e.0) e.1) p ∙ h)

@@ -1,20 +1,47 @@
 -- The joined history of a list of deltas.
-use Rattle.std.proofs.Common.{◌≡◌, ℕ, zero, suc, ◌<◌, List, [], ◌∷◌, ◌++◌, length, get_or, refl, sym, ap, ◌∙◌, arith, Contains}
+use Rattle.std.proofs.Common.{
+  ◌≡◌,
+  ℕ,
+  zero,
+  suc,
+  ◌<◌,
+  List,
+  [],
+  ◌∷◌,
+  ◌++◌,
+  length,
+  get_or,
+  refl,
+  sym,
+  ap,
+  ◌∙◌,
+  arith,
+  Contains,
+}
 use Rattle.ps_delta.specs.State.{empty_state, joined_state}
 use Rattle.ps_delta.specs.Deltas.{Entries, state_of, joined_history}
 use Rattle.ps_delta.specs.Laws.{HistoryIsASet, GroupsJoin, CoveredChangesNothing, StatesJoin, all_of}
-use Rattle.ps_delta.proofs.StateLemmas.{joined_state-comm, joined_state-assoc, joined_state-idem, joined_state-empty, joined_state-empty_right}
+use Rattle.ps_delta.proofs.StateLemmas.{
+  joined_state-comm,
+  joined_state-assoc,
+  joined_state-idem,
+  joined_state-empty,
+  joined_state-empty_right,
+}
 
 pub joined_history-nil : joined_history [] ≡ empty_state
 unfolding joined_history
 joined_history-nil = refl
 
-pub joined_history-cons : (d : Entries) (h : List Entries) → joined_history (d ∷ h) ≡ joined_state (state_of d) (joined_history h)
+pub joined_history-cons : (d : Entries) (h : List Entries)
+    → joined_history (d ∷ h) ≡ joined_state (state_of d) (joined_history h)
 unfolding joined_history
 joined_history-cons d h = refl
 
-pub joined_history-append : (g h : List Entries) → joined_history (g ++ h) ≡ joined_state (joined_history g) (joined_history h)
-joined_history-append [] h = sym (ap (λ s. joined_state s (joined_history h)) joined_history-nil ∙ joined_state-empty (joined_history h))
+pub joined_history-append : (g h : List Entries) → joined_history (g ++ h)
+    ≡ joined_state (joined_history g) (joined_history h)
+joined_history-append [] h = sym (ap (λ s. joined_state s (joined_history h)) joined_history-nil
+    ∙ joined_state-empty (joined_history h))
 joined_history-append (d ∷ g) h =
     joined_history-cons d (g ++ h) ∙ ap (joined_state (state_of d)) (joined_history-append g h)
     ∙ sym (joined_state-assoc (state_of d) (joined_history g) (joined_history h))
@@ -25,7 +52,8 @@ joined_history-one d =
     joined_history-cons d [] ∙ ap (joined_state (state_of d)) joined_history-nil ∙ joined_state-empty_right (state_of d)
 
 -- one more delta
-pub joined_history-push : (h : List Entries) (d : Entries) → joined_history (h ++ d ∷ []) ≡ joined_state (joined_history h) (state_of d)
+pub joined_history-push : (h : List Entries) (d : Entries)
+    → joined_history (h ++ d ∷ []) ≡ joined_state (joined_history h) (state_of d)
 joined_history-push h d = joined_history-append h (d ∷ []) ∙ ap (joined_state (joined_history h)) (joined_history-one d)
 
 -- a delta of the list is below its joined history
@@ -58,7 +86,8 @@ next_contained b d g c = (suc c.0, omega (arith, c.1), c.2)
 -- deltas that all stand in a list are together below its joined history
 pub joined_history-subset : (g h : List Entries) → ((d : Entries) → Contains g d → Contains h d)
     → joined_state (joined_history h) (joined_history g) ≡ joined_history h
-joined_history-subset [] h sub = ap (joined_state (joined_history h)) joined_history-nil ∙ joined_state-empty_right (joined_history h)
+joined_history-subset [] h sub = ap (joined_state (joined_history h)) joined_history-nil
+    ∙ joined_state-empty_right (joined_history h)
 joined_history-subset (d ∷ g) h sub =
     ap (joined_state (joined_history h)) (joined_history-cons d g)
     ∙ sym (joined_state-assoc (joined_history h) (state_of d) (joined_history g))

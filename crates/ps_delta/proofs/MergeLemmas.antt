@@ -1,5 +1,35 @@
 -- Two lists of entries merged, one entry after another.
-use Rattle.std.proofs.Common.{◌≡◌, ◌≢◌, ℕ, zero, suc, map, ◌+◌, ◌<◌, ◌≤◌, List, [], ◌∷◌, ◌++◌, length, get_or, take, drop, refl, sym, ap, ◌∙◌, ◌⊎◌, inl, inr, Some, None, slice_get, subst, arith}
+use Rattle.std.proofs.Common.{
+  ◌≡◌,
+  ◌≢◌,
+  ℕ,
+  zero,
+  suc,
+  map,
+  ◌+◌,
+  ◌<◌,
+  ◌≤◌,
+  List,
+  [],
+  ◌∷◌,
+  ◌++◌,
+  length,
+  get_or,
+  take,
+  drop,
+  refl,
+  sym,
+  ap,
+  ◌∙◌,
+  ◌⊎◌,
+  inl,
+  inr,
+  Some,
+  None,
+  slice_get,
+  subst,
+  arith,
+}
 use Rattle.std.proofs.lemmas.Bool.{cases_eq}
 use Rattle.std.proofs.lemmas.List.{length-map, map-append, take_more}
 use Rattle.std.proofs.Math.Path.{fun_ext}
@@ -8,17 +38,43 @@ use Rattle.std.specs.List.{All}
 use Rattle.ps_grid.specs.declared.size.TheConstants.{CELLS}
 use Rattle.ps_delta.specs.declared.cell_state.CellState.{CellState}
 use Rattle.ps_delta.specs.State.{State, empty_cell, joined_cell, joined_state}
-use Rattle.ps_delta.specs.CellLaws.{joined_cell-comm, joined_cell-idem, joined_cell-assoc, joined_cell-empty, joined_cell-empty_right}
+use Rattle.ps_delta.specs.CellLaws.{
+  joined_cell-comm,
+  joined_cell-idem,
+  joined_cell-assoc,
+  joined_cell-empty,
+  joined_cell-empty_right,
+}
 use Rattle.ps_delta.specs.Deltas.{Entries, cells_of, AreEntries, AreInGrid, IsDelta, state_of, joined_history}
 use Rattle.ps_delta.specs.Order.{Rising, Under, IsFirst}
-use Rattle.ps_delta.proofs.CellLists.{Rising-weaker, Rising-push, Rising-from_first, rising_from_increasing, increasing_from_rising}
-use Rattle.ps_delta.proofs.EntryLemmas.{state_of-nil, state_of-here, state_of-there, state_of-under, state_of-cons, state_of-push}
+use Rattle.ps_delta.proofs.CellLists.{
+  Rising-weaker,
+  Rising-push,
+  Rising-from_first,
+  rising_from_increasing,
+  increasing_from_rising,
+}
+use Rattle.ps_delta.proofs.EntryLemmas.{
+  state_of-nil,
+  state_of-here,
+  state_of-there,
+  state_of-under,
+  state_of-cons,
+  state_of-push,
+}
 use Rattle.ps_delta.proofs.HistoryLemmas.{joined_history-nil, joined_history-push}
-use Rattle.ps_delta.proofs.StateLemmas.{joined_state-comm, joined_state-assoc, joined_state-empty, joined_state-empty_right, joined_state-at}
+use Rattle.ps_delta.proofs.StateLemmas.{
+  joined_state-comm,
+  joined_state-assoc,
+  joined_state-empty,
+  joined_state-empty_right,
+  joined_state-at,
+}
 
 -- what is in `all`, and what is left of two lists
 pub record Merging (left right all mine theirs : Entries) : Type 0 where
-  pub state : joined_state (state_of all) (joined_state (state_of mine) (state_of theirs)) ≡ joined_state (state_of left) (state_of right)
+  pub state : joined_state (state_of all) (joined_state (state_of mine) (state_of theirs))
+      ≡ joined_state (state_of left) (state_of right)
   pub rising : Rising 0 (cells_of all)
   pub before : All (λ d. Rising (d.0 + 1) (cells_of mine) × Rising (d.0 + 1) (cells_of theirs)) all
   pub none_empty : All (λ d. d.1 ≢ empty_cell) all
@@ -52,20 +108,26 @@ rest_entries es i n r h = (
 cells_of-push : (es : Entries) (e : ℕ × CellState) → cells_of es ++ e.0 ∷ [] ≡ cells_of (es ++ e ∷ [])
 cells_of-push es e = sym (map-append (λ d. d.0) es (e ∷ []))
 
-pub merging_step : (left right all mine theirs : Entries) (e : ℕ × CellState) (i j : ℕ) → Merging left right all mine theirs
+pub merging_step : (left right all mine theirs : Entries) (e : ℕ × CellState) (i j : ℕ)
+    → Merging left right all mine theirs
     → IsFirst mine theirs e i j → Merging left right (all ++ e ∷ []) (drop i mine) (drop j theirs)
 merging_step left right all mine theirs e i j m f =
     let below : All (λ d. d.0 < e.0) all =
-    (λ k d h. let low : (get_or all k d).0 + 1 ≤ e.0 = f.lowest ((get_or all k d).0 + 1) (m.before k d h).0 (m.before k d h).1 in
+    (λ k d h. let low : (get_or all k d).0 + 1 ≤ e.0 = f.lowest ((get_or all k d).0 + 1) (m.before k d h).0
+    (m.before k d h).1 in
     let lower : (get_or all k d).0 < e.0 = omega (arith, low) in lower) in
-    let under : Under e.0 (cells_of all) = recursion_from_All (λ c. c < e.0) (cells_of all) (All-map (λ c. c < e.0) (λ d. d.0) all below) in
+    let under : Under e.0 (cells_of all) = recursion_from_All (λ c. c < e.0) (cells_of all)
+    (All-map (λ c. c < e.0) (λ d. d.0) all below) in
     record {
       state =
-          ap (λ s. joined_state s (joined_state (state_of (drop i mine)) (state_of (drop j theirs)))) (state_of-push all e under)
-          ∙ joined_state-assoc (state_of all) (state_of (e ∷ [])) (joined_state (state_of (drop i mine)) (state_of (drop j theirs)))
+          ap (λ s. joined_state s (joined_state (state_of (drop i mine)) (state_of (drop j theirs))))
+          (state_of-push all e under)
+          ∙ joined_state-assoc (state_of all) (state_of (e ∷ []))
+          (joined_state (state_of (drop i mine)) (state_of (drop j theirs)))
           ∙ ap (joined_state (state_of all)) (sym f.state) ∙ m.state;
       rising = subst (Rising 0) (cells_of-push all e) (Rising-push 0 (cells_of all) e.0 m.rising under (omega arith));
-      before = All-push (λ d. Rising (d.0 + 1) (cells_of (drop i mine)) × Rising (d.0 + 1) (cells_of (drop j theirs))) all e
+      before = All-push (λ d. Rising (d.0 + 1) (cells_of (drop i mine))
+          × Rising (d.0 + 1) (cells_of (drop j theirs))) all e
           (λ k d h. let low : (get_or all k d).0 < e.0 = below k d h in
           let weak : (get_or all k d).0 + 1 ≤ e.0 + 1 = omega (arith, low) in (
             Rising-weaker ((get_or all k d).0 + 1) (e.0 + 1) (cells_of (drop i mine)) weak f.left_after,
@@ -83,11 +145,14 @@ pub merging_end : (left right all mine theirs : Entries) → Merging left right 
     → state_of all ≡ joined_state (state_of left) (state_of right)
 merging_end left right all mine theirs m p q =
     sym (joined_state-empty_right (state_of all))
-    ∙ ap (joined_state (state_of all)) (sym (joined_state-empty_right (state_of []) ∙ state_of-nil) ∙ ap (joined_state (state_of [])) (sym state_of-nil))
-    ∙ ap (joined_state (state_of all)) (ap (λ es. joined_state (state_of es) (state_of [])) (sym p) ∙ ap (λ es. joined_state (state_of mine) (state_of es)) (sym q))
+    ∙ ap (joined_state (state_of all)) (sym (joined_state-empty_right (state_of []) ∙ state_of-nil)
+    ∙ ap (joined_state (state_of [])) (sym state_of-nil))
+    ∙ ap (joined_state (state_of all)) (ap (λ es. joined_state (state_of es) (state_of [])) (sym p)
+    ∙ ap (λ es. joined_state (state_of mine) (state_of es)) (sym q))
     ∙ m.state
 
-pub merging_entries : (left right all mine theirs : Entries) → Merging left right all mine theirs → AreEntries all × AreInGrid all
+pub merging_entries : (left right all mine theirs : Entries) → Merging left right all mine theirs
+    → AreEntries all × AreInGrid all
 merging_entries left right all mine theirs m =
     (record { ascending = increasing_from_rising 0 (cells_of all) m.rising; none_empty = m.none_empty }, m.in_grid)
 
@@ -110,10 +175,12 @@ first_in_grid : (e : ℕ × CellState) (rest : Entries) → AreInGrid (e ∷ res
 first_in_grid e rest h = h 0 e (omega arith)
 
 -- the second and the third of four change places
-crossed : (s u t v : State) → joined_state (joined_state s u) (joined_state t v) ≡ joined_state (joined_state s t) (joined_state u v)
+crossed : (s u t v : State) → joined_state (joined_state s u) (joined_state t v)
+    ≡ joined_state (joined_state s t) (joined_state u v)
 crossed s u t v =
     joined_state-assoc s u (joined_state t v)
-    ∙ ap (joined_state s) (sym (joined_state-assoc u t v) ∙ ap (λ f. joined_state f v) (joined_state-comm u t) ∙ joined_state-assoc t u v)
+    ∙ ap (joined_state s) (sym (joined_state-assoc u t v) ∙ ap (λ f. joined_state f v) (joined_state-comm u t)
+    ∙ joined_state-assoc t u v)
     ∙ sym (joined_state-assoc s t (joined_state u v))
 
 -- two entries of one cell, joined
@@ -127,14 +194,17 @@ one_at a b c h (inr p) =
     state_of-there (a.0, joined_cell a.1 b.1) [] c p ∙ state_of-under 0 [] c tt (omega arith)
     ∙ sym (joined_cell-empty empty_cell)
     ∙ ap (λ x. joined_cell x empty_cell) (sym (state_of-there a [] c p ∙ state_of-under 0 [] c tt (omega arith)))
-    ∙ ap (joined_cell (state_of (a ∷ []) c)) (sym (state_of-there b [] c (λ q. p (h ∙ q)) ∙ state_of-under 0 [] c tt (omega arith)))
+    ∙ ap (joined_cell (state_of (a ∷ []) c)) (sym (state_of-there b [] c (λ q. p (h ∙ q))
+    ∙ state_of-under 0 [] c tt (omega arith)))
 
-one_joined : (a b : ℕ × CellState) → a.0 ≡ b.0 → state_of ((a.0, joined_cell a.1 b.1) ∷ []) ≡ joined_state (state_of (a ∷ [])) (state_of (b ∷ []))
+one_joined : (a b : ℕ × CellState) → a.0 ≡ b.0 → state_of ((a.0, joined_cell a.1 b.1) ∷ [])
+    ≡ joined_state (state_of (a ∷ [])) (state_of (b ∷ []))
 unfolding joined_state
 one_joined a b h = fun_ext (λ c. one_at a b c h (cases_eq a.0 c))
 
 -- the first cell is the left one's
-pub first_left : (e : ℕ × CellState) (rest right : Entries) → AreEntries (e ∷ rest) × AreInGrid (e ∷ rest) → AreEntries right
+pub first_left : (e : ℕ × CellState) (rest right : Entries) → AreEntries (e ∷ rest) × AreInGrid (e ∷ rest)
+    → AreEntries right
     → (0 < length (cells_of right) → e.0 + 1 ≤ get_or (cells_of right) 0 0) → IsFirst (e ∷ rest) right e 1 0
 first_left e rest right l r h = record {
   state = ap (λ s. joined_state s (state_of right)) (state_of-cons e rest (rising_rest e rest l.0))
@@ -150,7 +220,8 @@ first_left e rest right l r h = record {
 }
 
 -- the first cell is the right one's
-pub first_right : (e : ℕ × CellState) (left rest : Entries) → AreEntries left → AreEntries (e ∷ rest) × AreInGrid (e ∷ rest)
+pub first_right : (e : ℕ × CellState) (left rest : Entries) → AreEntries left
+    → AreEntries (e ∷ rest) × AreInGrid (e ∷ rest)
     → (0 < length (cells_of left) → e.0 + 1 ≤ get_or (cells_of left) 0 0) → IsFirst left (e ∷ rest) e 0 1
 first_right e left rest l r h = record {
   state = joined_state-comm (state_of left) (state_of (e ∷ rest))
@@ -168,7 +239,8 @@ first_right e left rest l r h = record {
 }
 
 -- both lists begin with the first cell
-pub first_both : (a b : ℕ × CellState) (left right : Entries) → AreEntries (a ∷ left) × AreInGrid (a ∷ left) → AreEntries (b ∷ right)
+pub first_both : (a b : ℕ × CellState) (left right : Entries) → AreEntries (a ∷ left) × AreInGrid (a ∷ left)
+    → AreEntries (b ∷ right)
     → a.0 ≡ b.0 → IsFirst (a ∷ left) (b ∷ right) (a.0, joined_cell a.1 b.1) 1 1
 first_both a b left right l r h =
     let s : State = state_of (a ∷ []) in
@@ -218,7 +290,8 @@ left_lower (a' ∷ left) (b' ∷ right) a b l r p q h =
     let is : a' ≡ a = cc in
     let is' : b' ≡ b = cc in
     let low : a'.0 < b'.0 = subst (λ d. d.0 < b'.0) (sym is) (subst (λ d. a.0 < d.0) (sym is') h) in
-    subst (λ d. IsFirst (a' ∷ left) (b' ∷ right) d 1 0) is (first_left a' left (b' ∷ right) l r (λ _. omega (arith, low)))
+    subst (λ d. IsFirst (a' ∷ left) (b' ∷ right) d 1 0) is
+    (first_left a' left (b' ∷ right) l r (λ _. omega (arith, low)))
 
 pub right_lower : (left right : Entries) (a b : ℕ × CellState) → AreEntries left → AreEntries right × AreInGrid right
     → Some a ≡ slice_get left 0 → Some b ≡ slice_get right 0 → b.0 < a.0 → IsFirst left right b 0 1
@@ -228,10 +301,12 @@ right_lower (a' ∷ left) (b' ∷ right) a b l r p q h =
     let is : a' ≡ a = cc in
     let is' : b' ≡ b = cc in
     let low : b'.0 < a'.0 = subst (λ d. b'.0 < d.0) (sym is) (subst (λ d. d.0 < a.0) (sym is') h) in
-    subst (λ d. IsFirst (a' ∷ left) (b' ∷ right) d 0 1) is' (first_right b' (a' ∷ left) right l r (λ _. omega (arith, low)))
+    subst (λ d. IsFirst (a' ∷ left) (b' ∷ right) d 0 1) is'
+    (first_right b' (a' ∷ left) right l r (λ _. omega (arith, low)))
 
 pub same_cell : (left right : Entries) (a b : ℕ × CellState) → AreEntries left × AreInGrid left → AreEntries right
-    → Some a ≡ slice_get left 0 → Some b ≡ slice_get right 0 → a.0 ≡ b.0 → IsFirst left right (a.0, joined_cell a.1 b.1) 1 1
+    → Some a ≡ slice_get left 0 → Some b ≡ slice_get right 0 → a.0 ≡ b.0
+    → IsFirst left right (a.0, joined_cell a.1 b.1) 1 1
 same_cell [] right a b l r p q h = cc
 same_cell (a' ∷ left) [] a b l r p q h = cc
 same_cell (a' ∷ left) (b' ∷ right) a b l r p q h =
@@ -239,20 +314,23 @@ same_cell (a' ∷ left) (b' ∷ right) a b l r p q h =
     let is' : b' ≡ b = cc in
     let same : a'.0 ≡ b'.0 = ap (λ d. d.0) is ∙ h ∙ ap (λ d. d.0) (sym is') in
     subst (λ d. IsFirst (a' ∷ left) (b' ∷ right) (d.0, joined_cell d.1 b.1) 1 1) is
-    (subst (λ d. IsFirst (a' ∷ left) (b' ∷ right) (a'.0, joined_cell a'.1 d.1) 1 1) is' (first_both a' b' left right l r same))
+    (subst (λ d. IsFirst (a' ∷ left) (b' ∷ right) (a'.0, joined_cell a'.1 d.1) 1 1) is'
+    (first_both a' b' left right l r same))
 
 pub both_empty : (es : Entries) → slice_get es 0 ≡ None → es ≡ []
 both_empty [] p = refl
 both_empty (e ∷ es) p = cc
 
 -- a join with a delta has a cell
-some_merged : (s : State) (m es : Entries) → AreEntries es → 0 < length es → state_of m ≡ joined_state s (state_of es) → 0 < length m
+some_merged : (s : State) (m es : Entries) → AreEntries es → 0 < length es → state_of m ≡ joined_state s (state_of es)
+    → 0 < length m
 some_merged s (d ∷ m) es h some is = omega arith
 some_merged s [] [] h some is = absurd (omega (arith, some))
 some_merged s [] (e ∷ es) h some is =
     absurd (none_joined e.1 (s e.0) (first_some e es h)
     (joined_cell-comm e.1 (s e.0) ∙ ap (joined_cell (s e.0)) (sym (state_of-here e es e.0 refl))
-    ∙ sym (joined_state-at s (state_of (e ∷ es)) e.0) ∙ sym (ap (λ f. f e.0) is) ∙ state_of-under 0 [] e.0 tt (omega arith)))
+    ∙ sym (joined_state-at s (state_of (e ∷ es)) e.0) ∙ sym (ap (λ f. f e.0) is)
+    ∙ state_of-under 0 [] e.0 tt (omega arith)))
 
 -- the first i deltas of a list joined
 pub record Joined (deltas : List Entries) (i : ℕ) (cells : Entries) : Type 0 where
@@ -263,18 +341,24 @@ pub record Joined (deltas : List Entries) (i : ℕ) (cells : Entries) : Type 0 w
 pub joined_none : (deltas : List Entries) → Joined deltas 0 []
 joined_none deltas = record {
   state = state_of-nil ∙ sym joined_history-nil;
-  entries = (record { ascending = increasing_from_rising 0 [] tt; none_empty = All-nil (λ d. d.1 ≢ empty_cell) }, All-nil (λ d. d.0 < CELLS));
+  entries = (
+    record { ascending = increasing_from_rising 0 [] tt; none_empty = All-nil (λ d. d.1 ≢ empty_cell) },
+    All-nil (λ d. d.0 < CELLS),
+  );
   some = λ h. absurd (omega (arith, h));
 }
 
-pub joined_more : (deltas : List Entries) (i : ℕ) (cells more delta : Entries) → i < length deltas → delta ≡ get_or deltas i delta
+pub joined_more : (deltas : List Entries) (i : ℕ) (cells more delta : Entries) → i < length deltas
+    → delta ≡ get_or deltas i delta
     → IsDelta delta → state_of more ≡ joined_state (state_of cells) (state_of delta) → AreEntries more × AreInGrid more
     → Joined deltas i cells → Joined deltas (i + 1) more
 joined_more deltas i cells more delta within is d state entries j = record {
   state = state ∙ ap (λ s. joined_state s (state_of delta)) j.state ∙ sym (joined_history-push (take i deltas) delta)
-      ∙ ap (λ x. joined_history (take i deltas ++ x ∷ [])) is ∙ ap joined_history (sym (take_more deltas i delta within));
+      ∙ ap (λ x. joined_history (take i deltas ++ x ∷ [])) is
+      ∙ ap joined_history (sym (take_more deltas i delta within));
   entries = entries;
-  some = λ _. some_merged (state_of cells) more delta (record { ascending = d.ascending; none_empty = d.none_empty }) d.some state;
+  some = λ _. some_merged (state_of cells) more delta
+      (record { ascending = d.ascending; none_empty = d.none_empty }) d.some state;
 }
 
 mapped_at : {X : Type 0} (f : X → Entries) (xs : List X) (i : ℕ) (d : X) → get_or (map f xs) i (f d) ≡ f (get_or xs i d)
@@ -283,7 +367,8 @@ mapped_at f (x ∷ xs) zero d = refl
 mapped_at f (x ∷ xs) (suc i) d = mapped_at f xs i d
 
 -- the same where the deltas are what f gives of other values
-pub joined_more_of : {X : Type 0} (f : X → Entries) (xs : List X) (i : ℕ) (x : X) (cells more delta : Entries) → i < length xs
+pub joined_more_of : {X : Type 0} (f : X → Entries) (xs : List X) (i : ℕ) (x : X) (cells more delta : Entries)
+    → i < length xs
     → x ≡ get_or xs i x → delta ≡ f x → IsDelta delta → state_of more ≡ joined_state (state_of cells) (state_of delta)
     → AreEntries more × AreInGrid more → Joined (map f xs) i cells → Joined (map f xs) (i + 1) more
 joined_more_of f xs i x cells more delta within is same d state entries j =

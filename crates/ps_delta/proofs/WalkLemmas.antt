@@ -1,5 +1,24 @@
 -- One step of a walk over a delta's entries, at the entry e with the index i, whose cell holds x.
-use Rattle.std.proofs.Common.{◌≡◌, ◌≢◌, ℕ, ◌+◌, ◌<◌, ◌≤◌, List, [], ◌∷◌, ◌++◌, length, get_or, take, sym, ap, ◌∙◌, subst, arith}
+use Rattle.std.proofs.Common.{
+  ◌≡◌,
+  ◌≢◌,
+  ℕ,
+  ◌+◌,
+  ◌<◌,
+  ◌≤◌,
+  List,
+  [],
+  ◌∷◌,
+  ◌++◌,
+  length,
+  get_or,
+  take,
+  sym,
+  ap,
+  ◌∙◌,
+  subst,
+  arith,
+}
 use Rattle.std.proofs.lemmas.List.{take_more, take_all, map-append}
 use Rattle.std.proofs.lemmas.List.Elements.{All-nil, All-push}
 use Rattle.std.specs.List.{All}
@@ -8,14 +27,21 @@ use Rattle.ps_delta.specs.declared.cell_state.CellState.{CellState}
 use Rattle.ps_delta.specs.State.{State, empty_cell, joined_cell, joined_state, IsBelow, AreTouched}
 use Rattle.ps_delta.specs.Deltas.{Entries, cells_of, AreEntries, AreInGrid, IsDelta, raised_entries, state_of}
 use Rattle.ps_delta.specs.Order.{Rising, Under}
-use Rattle.ps_delta.proofs.CellLists.{Rising-push, Under-push, Under-weaker, rising_from_increasing, increasing_from_rising}
+use Rattle.ps_delta.proofs.CellLists.{
+  Rising-push,
+  Under-push,
+  Under-weaker,
+  rising_from_increasing,
+  increasing_from_rising,
+}
 use Rattle.ps_delta.proofs.EntryLemmas.{under_entry}
 use Rattle.ps_delta.proofs.GridLemmas.{below_more, not_below, touched_same, touched_more, touched_under, In-at}
 
 pub rising_of : (es : Entries) → IsDelta es → Rising 0 (cells_of es)
 rising_of es delta = rising_from_increasing 0 (cells_of es) delta.ascending (λ _. omega arith)
 
-pub walk-in_grid : (es : Entries) (i : ℕ) (e : ℕ × CellState) → i < length es → e ≡ get_or es i e → AreInGrid es → e.0 < CELLS
+pub walk-in_grid : (es : Entries) (i : ℕ) (e : ℕ × CellState) → i < length es → e ≡ get_or es i e → AreInGrid es
+    → e.0 < CELLS
 walk-in_grid es i e within is grid = subst (λ d. d.0 < CELLS) (sym is) (grid i e within)
 
 module _ (s : State) (es : Entries) (i : ℕ) (e : ℕ × CellState) (x : CellState)
@@ -74,7 +100,8 @@ so_far-none es = record {
   in_grid = All-nil (λ e. e.0 < CELLS);
 }
 
-more_entries : (es : Entries) (i : ℕ) (e : ℕ × CellState) → i < length es → e ≡ get_or es i e → take i es ++ e ∷ [] ≡ take (i + 1) es
+more_entries : (es : Entries) (i : ℕ) (e : ℕ × CellState) → i < length es → e ≡ get_or es i e
+    → take i es ++ e ∷ [] ≡ take (i + 1) es
 more_entries es i e within is = ap (λ d. take i es ++ d ∷ []) is ∙ sym (take_more es i e within)
 
 last_under : (n : ℕ) (es : Entries) (e : ℕ × CellState) → Under n (cells_of (es ++ e ∷ [])) → e.0 < n
@@ -89,13 +116,15 @@ pub so_far-more : (es : Entries) (i least : ℕ) (e : ℕ × CellState) → i < 
 so_far-more es i least e within is above grid some f = record {
   rising = subst (λ ds. Rising 0 (cells_of ds)) (more_entries es i e within is)
       (subst (Rising 0) (cells_of-push (take i es) e)
-      (Rising-push 0 (cells_of (take i es)) e.0 f.rising (Under-weaker least e.0 (cells_of (take i es)) above f.under) (omega arith)));
+      (Rising-push 0 (cells_of (take i es)) e.0 f.rising (Under-weaker least e.0 (cells_of (take i es)) above f.under)
+      (omega arith)));
   under = subst (λ ds. Under (e.0 + 1) (cells_of ds)) (more_entries es i e within is)
       (subst (Under (e.0 + 1)) (cells_of-push (take i es) e)
       (Under-push (e.0 + 1) (cells_of (take i es)) e.0
       (Under-weaker least (e.0 + 1) (cells_of (take i es)) (omega (arith, above)) f.under) (omega arith)));
   sharp = λ n u.
-      let last : e.0 < n = last_under n (take i es) e (subst (λ ds. Under n (cells_of ds)) (sym (more_entries es i e within is)) u) in
+      let last : e.0 < n = last_under n (take i es) e
+      (subst (λ ds. Under n (cells_of ds)) (sym (more_entries es i e within is)) u) in
       omega (arith, last);
   none_empty = subst (All (λ d. d.1 ≢ empty_cell)) (more_entries es i e within is)
       (All-push (λ d. d.1 ≢ empty_cell) (take i es) e f.none_empty some);
@@ -111,7 +140,8 @@ so_far-order es i least e within is f entries =
 pub so_far-all : (es : Entries) (i least : ℕ) → length es ≤ i → SoFar es i least → AreEntries es × AreInGrid es
 so_far-all es i least h f = (
   record {
-    ascending = increasing_from_rising 0 (cells_of es) (subst (λ ds. Rising 0 (cells_of ds)) (take_all i es h) f.rising);
+    ascending = increasing_from_rising 0 (cells_of es)
+        (subst (λ ds. Rising 0 (cells_of ds)) (take_all i es h) f.rising);
     none_empty = subst (All (λ d. d.1 ≢ empty_cell)) (take_all i es h) f.none_empty;
   },
   subst AreInGrid (take_all i es h) f.in_grid,

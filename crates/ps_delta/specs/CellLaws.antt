@@ -26,13 +26,15 @@ by_parts r t c = λ i. record { register = r i; tally = t i; choice = c i }
 pub joined_cell-comm : (s t : CellState) → joined_cell s t ≡ joined_cell t s
 unfolding joined_cell
 joined_cell-comm s t =
-    by_parts ((registers_is_join content_cmp content_cmp-total content_cmp-IsAntisymmetric).commutative s.register t.register)
+    by_parts ((registers_is_join content_cmp content_cmp-total content_cmp-IsAntisymmetric).commutative s.register
+    t.register)
     (tallies_is_join.commutative s.tally t.tally) (choices_is_join.commutative s.choice t.choice)
 
 pub joined_cell-assoc : (s t u : CellState) → joined_cell (joined_cell s t) u ≡ joined_cell s (joined_cell t u)
 unfolding joined_cell
 joined_cell-assoc s t u =
-    by_parts ((registers_is_join content_cmp content_cmp-total content_cmp-IsAntisymmetric).associative s.register t.register u.register)
+    by_parts ((registers_is_join content_cmp content_cmp-total content_cmp-IsAntisymmetric).associative s.register
+    t.register u.register)
     (tallies_is_join.associative s.tally t.tally u.tally) (choices_is_join.associative s.choice t.choice u.choice)
 
 pub joined_cell-idem : (s : CellState) → joined_cell s s ≡ s
@@ -72,7 +74,8 @@ unfolding joined_cell
 below_from_parts s t r c h = by_parts r c h
 
 -- each part of a join is the join of the parts
-pub joined_cell-register : (s t : CellState) → (joined_cell s t).register ≡ joined_registers content_cmp s.register t.register
+pub joined_cell-register : (s t : CellState) → (joined_cell s t).register
+    ≡ joined_registers content_cmp s.register t.register
 unfolding joined_cell
 joined_cell-register s t = refl
 

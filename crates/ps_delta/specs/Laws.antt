@@ -13,7 +13,8 @@ pub record StatesJoin : Type 0 where
 
 -- two lists with the same deltas, in any order and any number of times, have the same joined history
 abbrev pub HistoryIsASet : Type 0
-HistoryIsASet = (g h : List Entries) → ((d : Entries) → Contains g d ↔ Contains h d) → joined_history g ≡ joined_history h
+HistoryIsASet = (g h : List Entries) → ((d : Entries) → Contains g d ↔ Contains h d)
+    → joined_history g ≡ joined_history h
 
 -- the lists of a list, one after another
 abbrev pub all_of : List (List Entries) → List Entries
@@ -26,8 +27,10 @@ IsJoinOf group delta = state_of delta ≡ joined_history group
 
 -- deltas in groups have the same joined history as the joins of the groups
 abbrev pub GroupsJoin : Type 0
-GroupsJoin = (groups : List (List Entries)) (joins : List Entries) → AllZip IsJoinOf groups joins → joined_history (all_of groups) ≡ joined_history joins
+GroupsJoin = (groups : List (List Entries)) (joins : List Entries) → AllZip IsJoinOf groups joins
+    → joined_history (all_of groups) ≡ joined_history joins
 
 -- a delta below the state changes nothing
 abbrev pub CoveredChangesNothing : Type 0
-CoveredChangesNothing = (h : List Entries) (d : Entries) → IsBelow (state_of d) (joined_history h) → joined_history (h ++ d ∷ []) ≡ joined_history h
+CoveredChangesNothing = (h : List Entries) (d : Entries) → IsBelow (state_of d) (joined_history h)
+    → joined_history (h ++ d ∷ []) ≡ joined_history h

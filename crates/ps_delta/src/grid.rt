@@ -122,7 +122,8 @@ impl Grid {
 
     // The cells of the delta, each with what it holds here and there, joined.
     fn raised(&self, alloc: Global, delta: &Delta) -> Result<Vec<(Cell, CellState)>, Refusal>
-        ensures ok { IfOk result (λ r. overlaid (state_at self.now) r.items ≡ joined_state (state_at self.now) (state_of delta.now)) }
+        ensures ok { IfOk result (λ r. overlaid (state_at self.now) r.items
+            ≡ joined_state (state_at self.now) (state_of delta.now)) }
         ensures memory { IfErr result (λ e. e ≡ Refusal.Memory) }
     {
         let mut raised = Vec::new(alloc);

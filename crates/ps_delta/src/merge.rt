@@ -60,7 +60,8 @@ fn first_of(
 ) -> Result<Option<First>, Refusal>
     requires left { AreEntries left.now × AreInGrid left.now }
     requires right { AreEntries right.now × AreInGrid right.now }
-    ensures ok { IfOk result (λ o. MatchOption o ((left.now ≡ []) × (right.now ≡ [])) (λ f. IsFirst left.now right.now f.entry f.left f.right)) }
+    ensures ok { IfOk result (λ o. MatchOption o ((left.now ≡ []) × (right.now ≡ []))
+        (λ f. IsFirst left.now right.now f.entry f.left f.right)) }
     ensures memory { IfErr result (λ e. e ≡ Refusal.Memory) }
 {
     let first = match (left.first(), right.first()) {
@@ -109,7 +110,8 @@ fn of_both(
     mine: &(Cell, CellState),
     theirs: &(Cell, CellState),
 ) -> Result<First, Refusal>
-    ensures ok { IfOk result (λ f. (f.entry ≡ (mine.now.0, joined_cell mine.now.1 theirs.now.1)) × (f.left ≡ 1) × (f.right ≡ 1)) }
+    ensures ok { IfOk result (λ f. (f.entry ≡ (mine.now.0, joined_cell mine.now.1 theirs.now.1))
+        × (f.left ≡ 1) × (f.right ≡ 1)) }
     ensures memory { IfErr result (λ e. e ≡ Refusal.Memory) }
 {
     let mut state = mine.1.twin(alloc)?;

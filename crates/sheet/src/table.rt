@@ -13,8 +13,8 @@ use ps_value::{Sink, Source};
 use std::alloc::Global;
 use std::sync::ledger::Ledger;
 
-/// Takes a table of entries into an empty sheet of replica 1, and writes the shown values from A1 to the last record and
-/// the most fields that a record has; nothing where there is no record. The workers are 1 to 16.
+/// Takes a table of entries into an empty sheet of replica 1, and writes the shown values from A1 to the last record
+/// and the most fields that a record has; nothing where there is no record. The workers are 1 to 16.
 ///
 /// Refused as an import or an export is. Nothing is written before the whole table is taken in.
 ///

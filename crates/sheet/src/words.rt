@@ -2,7 +2,16 @@
 ghost use Rattle.std.specs.Prelude.{◌≡◌, ◌≤◌, ℕ, Some, IfOk, IfSome, List, codes, map, false, string_bytes};
 ghost use Rattle.clap.specs.Words.{app_of, found_of, rows_of, rule_of, subcommand_of};
 ghost use Rattle.clap.specs.declared.builder.command.Command.TheViews.{out-Command as fields_of};
-ghost use Rattle.sheet.specs.Words.{GivesNumber, GivesNumbers, GivesOptions, name_of, number_option, run_app, sheet_app, table_app};
+ghost use Rattle.sheet.specs.Words.{
+  GivesNumber,
+  GivesNumbers,
+  GivesOptions,
+  name_of,
+  number_option,
+  run_app,
+  sheet_app,
+  table_app,
+};
 
 use crate::help::{RUN_HELP, TABLE_HELP};
 use crate::options::{Options, RunOptions, TableOptions};

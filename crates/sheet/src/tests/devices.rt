@@ -110,7 +110,8 @@ fn session(alloc: Global, given: Given, keeper: Keeper) -> Result<SessionEnd, Re
 }
 
 /// The sessions of three edits on writers that fail at their first, second .. call: each ends with the sink's failure,
-/// what was written is a beginning of the replies, and the sheet is that of the lines up to the one whose reply was cut.
+/// what was written is a beginning of the replies, and the sheet is that of the lines up to the one whose reply was
+/// cut.
 fn ends_at_each_call(alloc: Global) -> Result<bool, Refusal> {
     let due = b"ok 1\nok 2\nok 3\n";
     for calls in 0..9 {

@@ -22,7 +22,8 @@ fn page_first_apart(rt: HostRuntime) -> Result<(), Fail> {
         val apples\n\
         val 3\n\
         val 6\n\
-        delta 4 [[\"A1\",[1,1,\"'apples\"],[],[]],[\"B1\",[1,1,\"@tally\"],[[1,3,0]],[]],[\"C1\",[1,1,\"=[.B1]*2\"],[],[]]]\n";
+        delta 4 [[\"A1\",[1,1,\"'apples\"],[],[]],[\"B1\",[1,1,\"@tally\"],[[1,3,0]],[]],\
+        [\"C1\",[1,1,\"=[.B1]*2\"],[],[]]]\n";
     assert!(rt; has_replies_at(rt.alloc(), 1, script, expected)?);
     Ok(())
 }
@@ -49,8 +50,8 @@ fn page_second_apart(rt: HostRuntime) -> Result<(), Fail> {
 /// The first replica of the page, restored from its line, takes in the second one's, twice.
 #[test]
 fn page_first_together(rt: HostRuntime) -> Result<(), Fail> {
-    let script =
-        b"push [[\"A1\",[1,1,\"'apples\"],[],[]],[\"B1\",[1,1,\"@tally\"],[[1,3,0]],[]],[\"C1\",[1,1,\"=[.B1]*2\"],[],[]]]\n\
+    let script = b"push [[\"A1\",[1,1,\"'apples\"],[],[]],[\"B1\",[1,1,\"@tally\"],[[1,3,0]],[]],\
+        [\"C1\",[1,1,\"=[.B1]*2\"],[],[]]]\n\
         push [[\"A1\",[1,2,\"'pears\"],[],[]],[\"B1\",[1,2,\"@tally\"],[[2,4,0]],[]]]\n\
         push [[\"A1\",[1,2,\"'pears\"],[],[]],[\"B1\",[1,2,\"@tally\"],[[2,4,0]],[]]]\n\
         get A1\n\
@@ -70,7 +71,8 @@ fn page_first_together(rt: HostRuntime) -> Result<(), Fail> {
 #[test]
 fn page_second_together(rt: HostRuntime) -> Result<(), Fail> {
     let script = b"push [[\"A1\",[1,2,\"'pears\"],[],[]],[\"B1\",[1,2,\"@tally\"],[[2,4,0]],[]]]\n\
-        push [[\"A1\",[1,1,\"'apples\"],[],[]],[\"B1\",[1,1,\"@tally\"],[[1,3,0]],[]],[\"C1\",[1,1,\"=[.B1]*2\"],[],[]]]\n\
+        push [[\"A1\",[1,1,\"'apples\"],[],[]],[\"B1\",[1,1,\"@tally\"],[[1,3,0]],[]],\
+        [\"C1\",[1,1,\"=[.B1]*2\"],[],[]]]\n\
         get A1\n\
         get B1\n\
         get C1\n";

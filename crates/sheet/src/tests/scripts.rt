@@ -272,7 +272,8 @@ fn row_20(rt: HostRuntime) -> Result<(), Fail> {
     Ok(())
 }
 
-/// Cells of two cycles, and cells above them: a delta ends one cycle and closes another, and the next one the other way round.
+/// Cells of two cycles, and cells above them: a delta ends one cycle and closes another, and the next one the other way
+/// round.
 #[test]
 fn row_6(rt: HostRuntime) -> Result<(), Fail> {
     let script = b"set A1 =[.B1]\n\
@@ -411,7 +412,8 @@ fn a_full_set(rt: HostRuntime) -> Result<(), Fail> {
     Ok(())
 }
 
-/// A set: an option goes in and out, comes back by a pair that wasn't observed, and one that isn't in can't be taken out.
+/// A set: an option goes in and out, comes back by a pair that wasn't observed, and one that isn't in can't be taken
+/// out.
 #[test]
 fn row_14(rt: HostRuntime) -> Result<(), Fail> {
     let script = b"set A1 @choice\n\

@@ -1,6 +1,9 @@
 use Rattle.std.proofs.Common.{◌≤◌, ◌∙◌, arith, refl, sym, ap, true≢false}
 use Rattle.ps_delta.proofs.WalkLemmas.{so_far-more, so_far-order, so_far-all}
-use Rattle.ps_delta.proofs.delta.are_entries.Goals.{then-index-least-via-then-index-least, then-index-least-via-else-index-least+then-is_empty}
+use Rattle.ps_delta.proofs.delta.are_entries.Goals.{
+  then-index-least-via-then-index-least,
+  then-index-least-via-else-index-least+then-is_empty,
+}
 use Rattle.ps_delta.proofs.delta.are_entries.Goals as goal
 
 pub returns-then-index-least-clause-entries : goal.returns-then-index-least-clause-entries
@@ -24,7 +27,8 @@ returns-then-index-least-clause-entries c =
 pub loop-entry-preserved : goal.loop-entry-preserved
 loop-entry-preserved c =
     rw c.index-index.ensures.index
-    (so_far-more _ _ c.loop-entry.least _ c.loop-entry-test.true c.entry-item.is (omega (arith, c.if-index-least.false, c.index-index.ensures.index))
+    (so_far-more _ _ c.loop-entry.least _ c.loop-entry-test.true c.entry-item.is
+    (omega (arith, c.if-index-least.false, c.index-index.ensures.index))
     (omega (arith, c.index-index.ensures.index, c.index-index.ensures.in_grid))
     (λ h. true≢false (sym (c.is_empty.ensures.1 h) ∙ c.if-is_empty.false)) c.loop-entry.invariant)
 

@@ -12,7 +12,8 @@ returns-clause-joined c =
 pub loop-all-preserved : goal.loop-all-preserved
 loop-all-preserved c =
     let first = rw c.in-Some.is at c.in_ok-first.ensures.ok in
-    rw (c.in_ok-push.ensures.items, c.rest-mine.ensures, c.rest-theirs.ensures) (merging_step _ _ _ _ _ _ _ _ c.loop-all.invariant first)
+    rw (c.in_ok-push.ensures.items, c.rest-mine.ensures, c.rest-theirs.ensures)
+    (merging_step _ _ _ _ _ _ _ _ c.loop-all.invariant first)
 
 pub returns-clause-entries : goal.returns-clause-entries
 returns-clause-entries c = merging_entries _ _ _ _ _ c.loop-all.invariant

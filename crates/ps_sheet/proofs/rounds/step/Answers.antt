@@ -12,7 +12,8 @@ use Rattle.ps_sheet.proofs.rounds.step.Goals.{After-eval-value}
 this_step : (g : Over) (c : After-eval-value g)
     → IsStep (state_at c.args.grid.now) c.args.shown.now c.args.cell c.in-Some.formula.now c.eval-value.result
 this_step g c = record {
-  in_range = let i = c.index-place.ensures.in_grid in let e = c.index-place.ensures.index in let w = c.requires.whole in omega (arith, i, e, w);
+  in_range = let i = c.index-place.ensures.in_grid in let e = c.index-place.ensures.index in let w = c.requires.whole in
+      omega (arith, i, e, w);
   content = sym (ap content_of c.at.ensures.value) ∙ c.in-Some.ensures.some;
   waits = sym (ap is_waiting c.value_in.ensures) ∙ (sym c.is_waiting.ensures ∙ c.if-not-is_waiting.false);
   free = c.if-not-is_ready.ensures;

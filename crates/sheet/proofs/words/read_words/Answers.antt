@@ -16,7 +16,8 @@ returns c =
     let entered = subcommand_rows_is _ c.in-Some.name.now (rows_of (found_of c.in-Some.found.now))
     c.in-Some.ensures.name c.in-Some.ensures.rows in
     let command_is = ap (λ a. subcommand_of a (map string_bytes c.args.words.now)) c.in_ok-sheet_command.ensures in
-    let name_is = ap (λ (t : Text). Some (t, rows_of (found_of c.in-Some.found.now))) (sym c.in-Some-options_of.ensures.0) in (
+    let name_is = ap (λ (t : Text). Some (t, rows_of (found_of c.in-Some.found.now)))
+    (sym c.in-Some-options_of.ensures.0) in (
       rows_of (found_of c.in-Some.found.now),
       sym command_is ∙ sym matched.1 ∙ entered ∙ name_is,
       c.in-Some-options_of.ensures.1,

@@ -15,5 +15,6 @@ pub returns-clause-ok : goal.returns-clause-ok
 returns-clause-ok c =
     ap (overlaid (state_at c.args.self.now))
     (rw (take_all c.loop-entry.entry-index c.parts-parts.result.now c.loop-entry-test.false) at c.loop-entry.invariant)
-    ∙ overlaid-raised (state_at c.args.self.now) 0 c.parts-parts.result.now (rising_of c.parts-parts.result.now c.parts-parts.ensures.delta)
+    ∙ overlaid-raised (state_at c.args.self.now) 0 c.parts-parts.result.now
+    (rising_of c.parts-parts.result.now c.parts-parts.ensures.delta)
     ∙ ap (λ es. joined_state (state_at c.args.self.now) (state_of es)) c.parts-parts.ensures.value

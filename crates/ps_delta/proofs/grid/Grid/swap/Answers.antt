@@ -13,4 +13,5 @@ pub returns-clause-taken : goal.returns-clause-taken
 returns-clause-taken c =
     let size : length c.self.inside.cells.items ≡ CELLS = c.self.invariant in
     let within : c.index.result < length c.self.inside.cells.items = omega (arith, size, c.index.ensures.in_grid) in
-    rw (← c.self.view_is, ← c.index.ensures.index) (c.swap.ensures.y_after ∙ state_at-read _ _ _ within c.index_mut.ensures.value)
+    rw (← c.self.view_is, ← c.index.ensures.index)
+    (c.swap.ensures.y_after ∙ state_at-read _ _ _ within c.index_mut.ensures.value)

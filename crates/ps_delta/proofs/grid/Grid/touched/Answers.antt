@@ -14,7 +14,8 @@ add-requires-clause-in_grid c =
 
 pub add-requires-clause-above : goal.add-requires-clause-above
 add-requires-clause-above c =
-    walk-last _ _ _ _ _ c.parts-parts.ensures.delta c.loop-change-test.true c.change-item.is c.at.ensures.value _ c.loop-change.invariant
+    walk-last _ _ _ _ _ c.parts-parts.ensures.delta c.loop-change-test.true c.change-item.is c.at.ensures.value _
+    c.loop-change.invariant
 
 pub loop-change-preserved : goal.loop-change-preserved
 loop-change-preserved c =
@@ -29,5 +30,6 @@ loop-change-preserved c =
 
 pub returns : goal.returns
 returns c =
-    let all = take_all c.loop-change.change-index c.parts-parts.result.now c.loop-change-test.false ∙ c.parts-parts.ensures.value in
+    let all = take_all c.loop-change.change-index c.parts-parts.result.now c.loop-change-test.false
+    ∙ c.parts-parts.ensures.value in
     rw all at c.loop-change.invariant

@@ -5,7 +5,9 @@ use Rattle.ps_delta.proofs.touched.Touched.add.Goals as goal
 
 pub put-requires : goal.put-requires
 put-requires c =
-    let above = recursion_from_All (λ d. d < c.args.cell) c.self.inside.cells.items (rw c.self.view_is c.requires.above) in
+    let above = recursion_from_All (λ d. d < c.args.cell) c.self.inside.cells.items
+    (rw c.self.view_is c.requires.above) in
     let rising = rising_from_increasing 0 c.self.inside.cells.items c.self.invariant.ascending (λ _. omega arith) in
-    let few : length c.self.inside.cells.items ≤ c.args.cell = omega (arith, length-rising 0 c.args.cell c.self.inside.cells.items rising above (omega arith)) in
+    let few : length c.self.inside.cells.items ≤ c.args.cell = omega
+    (arith, length-rising 0 c.args.cell c.self.inside.cells.items rising above (omega arith)) in
     omega (arith, few, c.requires.in_grid, c.self.invariant.room)
