@@ -4,11 +4,12 @@ ghost use Rattle.std.specs.Prelude.{◌≡◌, false, IfSome, IfNone};
 ghost use Rattle.std.specs.Option.{option_copied};
 ghost use Rattle.ps_sheet.specs.Settled.{content_of, options_of};
 ghost use Rattle.ps_sheet.specs.Rounds.{first_by, first_value, is_formula};
+ghost use Rattle.ps_sheet.specs.Edits.{is_clock_full};
 
 use ps_content::Content;
 use ps_delta::CellState;
 use ps_formula::Formula;
-use ps_lattice::Choice;
+use ps_lattice::{Choice, LAST_TIME};
 use ps_value::{Fault, Value};
 
 /// The formula of a cell, if its content is one.
@@ -40,6 +41,16 @@ fn is_formula(content: &Content) -> bool
     match content {
         Content::Formula(_) => true,
         _ => false,
+    }
+}
+
+/// Whether the register of a cell has the last time.
+pub(crate) fn is_clock_full(state: &CellState) -> bool
+    ensures { result ≡ is_clock_full state.now }
+{
+    match state.register.parts() {
+        None => false,
+        Some(assigned) => assigned.time == LAST_TIME,
     }
 }
 

@@ -6,8 +6,10 @@ ghost use Rattle.std.specs.Arc.{arc_value};
 ghost use Rattle.ps_delta.specs.State.{IsBelow, joined_state};
 ghost use Rattle.ps_delta.specs.Deltas.{joined_history, state_of};
 ghost use Rattle.ps_sheet.specs.Settled.{Cyclic, shown_at};
+ghost use Rattle.ps_sheet.specs.Edits.{is_clock_full};
 
 use crate::changes::take_in;
+use crate::contents;
 use crate::edit::Edit;
 use crate::made::delta_of;
 use crate::rounds::value_in;
@@ -208,6 +210,16 @@ impl Sheet {
         ensures sheet { IsSheet self.now }
     {
         value_in(&self.shown, cell)
+    }
+
+    /// Whether the cell's register has the last time, so that no edit can give the cell a content any more.
+    ///
+    /// Cost: constant.
+    pub fn is_clock_full(&self, cell: Cell) -> bool
+        ensures full { result ≡ is_clock_full (joined_history self.now.history cell) }
+        ensures sheet { IsSheet self.now }
+    {
+        contents::is_clock_full(self.grid.at(cell))
     }
 
     /// The accepted deltas that changed the state, in the order in which they came.

@@ -47,7 +47,7 @@ invariant_of-self-2 g c =
       joined = joined_after x.history d c.deref.result.now (state_at c.self.inside.grid)
           (state_at c.take_in.new.grid)
           (map arc_value c.put.new.history.items) pushed c.self.invariant.joined c.deref.ensures
-              c.in_ok-take_in.ensures.joined;
+          c.in_ok-take_in.ensures.joined;
       listed = c.in_ok-take_in.ensures.listed;
     }
 
