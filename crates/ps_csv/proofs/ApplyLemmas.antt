@@ -6,12 +6,12 @@ use Rattle.std.specs.Result.{IsOkAnd}
 use Rattle.std.specs.Global.{Vec}
 use Rattle.std.specs.List.{list_any}
 use Rattle.std.specs.List.Sorted.{IsStrictlyIncreasing}
-use Rattle.std.proofs.lemmas.List.{append-nil, drop_more, get_or-map, length-drop, length-map, take-append-drop}
+use Rattle.std.proofs.lemmas.List.{append-nil, drop_more, length-drop, take-append-drop}
 use Rattle.std.proofs.lemmas.List.{take_more}
 use Rattle.ps_grid.specs.declared.refusal.Refusal.{Refusal}
 use Rattle.ps_grid.specs.declared.refusal.Refusal.TheVariants.{ClockFull}
 use Rattle.ps_content.specs.declared.content.Content.{Content}
-use Rattle.ps_delta.specs.State.{State, empty_cell, joined_cell, joined_state}
+use Rattle.ps_delta.specs.State.{State, empty_cell, joined_cell}
 use Rattle.ps_delta.specs.CellLaws.{joined_cell-empty_right}
 use Rattle.ps_delta.specs.Deltas.{Entries, cells_of, joined_history, state_of}
 use Rattle.ps_delta.specs.Order.{Under}
@@ -25,15 +25,6 @@ use Rattle.ps_csv.specs.Imports.{Assigned}
 use Rattle.ps_csv.specs.Records.{Cells, FieldsSay, Record, RecordsSay, place}
 use Rattle.ps_csv.specs.Tables.{cells_of_each}
 use Rattle.ps_csv.proofs.RecordLemmas.{clocks_free, fields_say-ascending, fields_say-under}
-
--- the history as far as a walk of it has come
-pub history_more : {X : Type 0} (f : X → Entries) (xs : List X) (i : ℕ) (x : X) → i < length xs → x ≡ get_or xs i x
-    → joined_history (take (i + 1) (map f xs)) ≡ joined_state (joined_history (take i (map f xs))) (state_of (f x))
-history_more f xs i x lt is =
-    let at : get_or (map f xs) i (f x) ≡ f x = get_or-map f xs i x (f x) lt ∙ ap f (sym is) in
-    let there : i < length (map f xs) = simp length-map (omega (arith, lt)) in
-    ap joined_history (take_more (map f xs) i (f x) there ∙ ap (λ (d : Entries). take i (map f xs) ++ d ∷ []) at)
-    ∙ joined_history-push (take i (map f xs)) (f x)
 
 -- the value of an answer
 pub ok_and : {T E : Type 0} (r : Result T E) (Q : T → Type 0) → IsOkAnd r Q → (x : T) × (r ≡ Ok x) × Q x

@@ -1,13 +1,18 @@
 -- What the records of a table say, record by record, as `csv` gives them.
 use Rattle.std.proofs.Common.{◌≡◌, ◌⊎◌, ◌+◌, ◌<◌, ◌≤◌, ◌∷◌, ◌++◌, ◌∙◌, [], ℕ, List, length, max}
-use Rattle.std.proofs.Common.{refl, ap, sym, subst, inl, inr, arith, Option, Some, None, Result, Ok, Bor}
+use Rattle.std.proofs.Common.{refl, ap, sym, subst, inl, inr, arith, true, false, Option, Some, None}
+use Rattle.std.proofs.Common.{Result, Ok, Err, Bor}
+use Rattle.std.proofs.lemmas.Bool.{false≢true}
 use Rattle.std.proofs.lemmas.List.{length-map, map-append}
 use Rattle.std.proofs.lemmas.List.Sums.{fold-append}
 use Rattle.std.specs.Global.{Vec}
-use Rattle.csv.specs.Reading.{Reached, Ready, RowStep, default_config, owned_rows_left, owned_rows_reader}
+use Rattle.csv.specs.Reading.{ExplainsRead, FlexibleStep, Reached, Ready, RowStep, default_config, error_kind}
+use Rattle.csv.specs.Reading.{is_flexible, owned_rows_left, owned_rows_reader}
 use Rattle.csv.specs.Reading.{reader_config, reader_state, reader_trim, source_of, strip_bom}
 use Rattle.csv.specs.Records.{Row, fields_of}
 use Rattle.csv.specs.declared.error.Error.{Error}
+use Rattle.csv.specs.declared.error.ErrorKind.{ErrorKind}
+use Rattle.csv.specs.declared.error.ErrorKind.TheVariants as kinds
 use Rattle.csv.specs.declared.iter.ByteRecordsIntoIter.{ByteRecordsIntoIter}
 use Rattle.csv.specs.declared.parser.State.TheVariants as states
 use Rattle.csv.specs.declared.reader.Reader.{Reader}
@@ -19,8 +24,8 @@ use Rattle.ps_grid.specs.declared.size.TheConstants.{ROWS}
 use Rattle.ps_content.specs.declared.content.Content.{Content}
 use Rattle.ps_delta.specs.State.{State}
 use Rattle.ps_csv.specs.declared.table.Table.{Table}
-use Rattle.ps_csv.specs.Records.{Cells, FieldsSay, FirstFault, IsTable, NextFault, Record, RecordFault}
-use Rattle.ps_csv.specs.Records.{RecordsSay, most_fields}
+use Rattle.ps_csv.specs.Records.{Cells, FieldsSay, IsTable, NextFault, Record, RecordFault}
+use Rattle.ps_csv.specs.Records.{RecordsSay, TableFault, most_fields, refusal_of_kind}
 use Rattle.ps_csv.specs.Tables.{HasRead, IsFresh, cells_of_each}
 
 -- one more record
@@ -109,6 +114,7 @@ fault_within s table fields t e has lt (inr fault) =
 pub record IsReading (s : State) (bytes : List ℕ) (it : ByteRecordsIntoIter (Bor (List ℕ))) (t : Table) : Type 0 where
   pub config : reader_config (owned_rows_reader it) ≡ default_config
   pub trim : reader_trim (owned_rows_reader it) ≡ trims.None
+  pub flexible : is_flexible (owned_rows_reader it) ≡ true
   pub ready : Ready (owned_rows_reader it)
   pub left : 0 < owned_rows_left it
   pub table : List Record
@@ -133,6 +139,7 @@ unfolding Reached RecordsSay
 reading_starts s bytes reader it t fresh is left none zero = record {
   config = ap reader_config is ∙ fresh.config;
   trim = ap reader_trim is ∙ fresh.trim;
+  flexible = ap is_flexible is ∙ fresh.flexible;
   ready = rw is (inr (inr (fresh.no_headers, fresh.no_header_row)));
   left = left;
   table = [];
@@ -144,16 +151,18 @@ reading_starts s bytes reader it t fresh is left none zero = record {
 
 pub reading_goes_on : (s : State) (bytes : List ℕ) (a b : ByteRecordsIntoIter (Bor (List ℕ))) (t u : Table)
     (row : Row)
-    → (on : IsReading s bytes a t) → Gave a b (Some (Ok row))
+    → IsReading s bytes a t → Gave a b (Some (Ok row))
+    → FlexibleStep (owned_rows_reader a) (owned_rows_reader b) (Some (Ok row))
     → ((before : List Record) → HasRead s before t → HasRead s (before ++ fields_of row ∷ []) u)
     → IsReading s bytes b u
-reading_goes_on s bytes a b t u row on gave more =
+reading_goes_on s bytes a b t u row on gave kept more =
     let m = rows-more (λ (r : Bor (List ℕ)). Some r.now) (owned_rows_reader a) (owned_rows_reader b)
     (fields_of row) default_config
     states.StartRecord (strip_bom bytes) on.rest on.table on.config on.source on.reached gave.0 in
     record {
       config = gave.0.2 ∙ on.config;
       trim = gave.0.3 ∙ on.trim;
+      flexible = kept ∙ on.flexible;
       ready = inl gave.1;
       left = gave.2;
       table = on.table ++ fields_of row ∷ [];
@@ -167,14 +176,14 @@ pub reading_stops : (s : State) (bytes : List ℕ) (a b : ByteRecordsIntoIter (B
     (row : Row) (e : Refusal)
     → IsReading s bytes a t → Gave a b (Some (Ok row))
     → ((before : List Record) → HasRead s before t → (e ≡ Memory) ⊎ NextFault s (length before) (fields_of row) e)
-    → (e ≡ Memory) ⊎ (e ≡ Csv) ⊎ FirstFault s bytes e
+    → (e ≡ Memory) ⊎ TableFault s bytes e
 reading_stops s bytes a b t row e on gave fault =
     let m = rows-more (λ (r : Bor (List ℕ)). Some r.now) (owned_rows_reader a) (owned_rows_reader b)
     (fields_of row) default_config
     states.StartRecord (strip_bom bytes) on.rest on.table on.config on.source on.reached gave.0 in
     elim (fault on.table on.read) [
       | inl memory ↦ inl memory
-      | inr next ↦ inr (inr (record {
+      | inr next ↦ inr (inl (record {
         before = on.table;
         here = fields_of row;
         batches = cells_of_each t.batches.items;
@@ -183,6 +192,36 @@ reading_stops s bytes a b t row e on gave fault =
         fault = next;
       }))
     ]
+
+-- an error of `csv` that isn't of memory says that what it reads from failed
+explained : (s : State) (bytes : List ℕ) (a b : ByteRecordsIntoIter (Bor (List ℕ))) (t : Table) (kind : ErrorKind)
+    → IsReading s bytes a t
+    → ExplainsRead (λ (r : Bor (List ℕ)). Some r.now) (owned_rows_reader a) (owned_rows_reader b) false kind
+    → (refusal_of_kind kind ≡ Memory) ⊎ TableFault s bytes (refusal_of_kind kind)
+explained s bytes a b t kinds.OutOfMemory on why = inl refl
+explained s bytes a b t (kinds.Io e) on why = inr (inr (
+  refl,
+  record {
+    before = on.table;
+    batches = cells_of_each t.batches.items;
+    read = (reader_state (owned_rows_reader a), on.rest, on.reached);
+    said = on.read.said;
+    error = kinds.Io e;
+    of_source = refl;
+  },
+))
+explained s bytes a b t (kinds.UnequalLengths pos expected len) on why =
+    absurd (false≢true (sym why.0 ∙ on.flexible))
+explained s bytes a b t (kinds.Utf8 pos err) on why = absurd (false≢true why.0)
+explained s bytes a b t (kinds.Serialize text) on why = absurd why
+explained s bytes a b t (kinds.Deserialize pos err) on why = absurd why
+
+pub reading_fails : (s : State) (bytes : List ℕ) (a b : ByteRecordsIntoIter (Bor (List ℕ))) (t : Table)
+    (error : Error) (e : Refusal)
+    → IsReading s bytes a t → Gave a b (Some (Err error)) → e ≡ refusal_of_kind (error_kind error)
+    → (e ≡ Memory) ⊎ TableFault s bytes e
+reading_fails s bytes a b t error e on gave is =
+    rw is (explained s bytes a b t (error_kind error) on gave)
 
 pub reading_ends : (s : State) (bytes : List ℕ) (a b : ByteRecordsIntoIter (Bor (List ℕ))) (t : Table)
     → IsReading s bytes a t → Gave a b None → (table : List Record) × IsTable bytes table × HasRead s table t

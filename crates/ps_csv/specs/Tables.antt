@@ -1,8 +1,8 @@
 -- A table on its way into a sheet.
-use Rattle.std.specs.Prelude.{◌≡◌, ℕ, List, map, false, Some, None}
+use Rattle.std.specs.Prelude.{◌≡◌, ℕ, List, map, true, false, Some, None}
 use Rattle.std.specs.Borrow.{Bor}
-use Rattle.csv.specs.Reading.{default_config, names_headers, reader_config, reader_headers, reader_state, reader_trim}
-use Rattle.csv.specs.Reading.{source_of, strip_bom}
+use Rattle.csv.specs.Reading.{default_config, is_flexible, names_headers, reader_config, reader_headers}
+use Rattle.csv.specs.Reading.{reader_state, reader_trim, source_of, strip_bom}
 use Rattle.csv.specs.declared.parser.State.TheVariants as states
 use Rattle.csv.specs.declared.reader.Reader.{Reader}
 use Rattle.csv.specs.declared.reader.Trim.TheVariants as trims
@@ -21,10 +21,12 @@ pub record HasRead (s : State) (table : List Record) (t : Table) : Type 0 where
   pub said : RecordsSay s 0 table (cells_of_each t.batches.items)
   pub most : t.fields ≡ most_fields table
 
--- a reader of these bytes that has read nothing yet, by `csv`'s defaults but with no header row
+-- a reader of these bytes that has read nothing yet, by `csv`'s defaults but with no header row and with records of any
+-- length
 pub record IsFresh (bytes : List ℕ) (reader : Reader (Bor (List ℕ))) : Type 0 where
   pub config : reader_config reader ≡ default_config
   pub trim : reader_trim reader ≡ trims.None
+  pub flexible : is_flexible reader ≡ true
   pub no_headers : names_headers reader ≡ false
   pub no_header_row : reader_headers reader ≡ None
   pub state : reader_state reader ≡ states.StartRecord

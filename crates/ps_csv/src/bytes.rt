@@ -1,7 +1,8 @@
 //! The bytes of a source.
 
-ghost use Rattle.std.specs.Prelude.{◌≡◌, ◌⊎◌, ◌<◌, ◌≤◌, length, IfOk, IfErr, OnOk};
+ghost use Rattle.std.specs.Prelude.{◌≡◌, ◌≢◌, ◌⊎◌, ◌<◌, ◌≤◌, length, IfOk, IfErr, OnOk};
 ghost use Rattle.std.specs.Io.KnownBytes.{Consumes, IsAtEnd};
+ghost use Rattle.ps_csv.specs.Sources.{TooManyBytes};
 
 use ps_grid::{CELLS, Refusal};
 use ps_value::Source;
@@ -13,14 +14,16 @@ pub const LONGEST_TABLE: usize = 640 * CELLS;
 // How many bytes are read at once.
 const PIECE: usize = 65_536;
 
-// The bytes of the source, to its end.
+// The bytes of the source, to its end. No more are taken out once they are too many.
 pub(crate) fn read_all<S: Source>(alloc: Global, source: &mut S) -> Result<Vec<u8>, Refusal>
     ensures read { IfOk result (λ bytes.
         Consumes (S.remaining source.old) (S.remaining source.new) bytes.items × IsAtEnd (S.remaining source.new)) }
     ensures within { IfOk result (λ bytes. length bytes.items ≤ LONGEST_TABLE) }
     ensures calm { OnOk result (S.failures source.new ≡ S.failures source.old) }
     ensures device { IfErr result (λ e. e ≡ Refusal.Device → S.failures source.old < S.failures source.new) }
-    ensures refused { IfErr result (λ e. (e ≡ Refusal.Memory) ⊎ (e ≡ Refusal.Device) ⊎ (e ≡ Refusal.Csv)) }
+    ensures steady { IfErr result (λ e. e ≢ Refusal.Device → S.failures source.new ≡ S.failures source.old) }
+    ensures refused { IfErr result (λ e. (e ≡ Refusal.Memory) ⊎ (e ≡ Refusal.Device)
+        ⊎ ((e ≡ Refusal.Csv) × TooManyBytes (S.remaining source.old) (S.remaining source.new))) }
 {
     let mut bytes = Vec::new(alloc);
     let mut piece = [0u8; PIECE];

@@ -4,28 +4,27 @@ ghost use Rattle.std.specs.Prelude.{◌≡◌, ◌⊎◌, ℕ, ◌+◌, ◌*◌,
 ghost use Rattle.std.specs.Option.{SomeIff};
 ghost use Rattle.csv.specs.Records.{fields_of};
 ghost use Rattle.ps_grid.specs.declared.size.TheConstants.{COLUMNS, ROWS};
-ghost use Rattle.ps_delta.specs.State.{state_at};
-ghost use Rattle.ps_sheet.specs.Edits.{is_clock_full};
+ghost use Rattle.ps_delta.specs.Deltas.{joined_history};
 ghost use Rattle.ps_csv.specs.Records.{Cells, EntryFault, FieldSays, FieldsSay, RecordFault, place};
 
 use csv::ByteRecord;
 use ps_content::{Content, read_entry};
-use ps_delta::Grid;
 use ps_grid::{COLUMNS, Cell, Refusal};
-use ps_lattice::LAST_TIME;
+use ps_sheet::Sheet;
 use std::alloc::Global;
 
 // The contents that the fields of record n say for their cells, in order.
 pub(crate) fn read_record(
     alloc: Global,
-    grid: &Grid,
+    sheet: &Sheet,
     n: usize,
     fields: &ByteRecord,
 ) -> Result<Vec<(Cell, Content)>, Refusal>
     requires { n < ROWS }
-    ensures said { IfOk result (λ cells. FieldsSay (state_at grid.now) n 0 (fields_of fields.now) cells.items) }
+    ensures said { IfOk result (λ cells.
+        FieldsSay (joined_history sheet.now.history) n 0 (fields_of fields.now) cells.items) }
     ensures fault { IfErr result (λ e.
-        (e ≡ Refusal.Memory) ⊎ RecordFault (state_at grid.now) n (fields_of fields.now) e) }
+        (e ≡ Refusal.Memory) ⊎ RecordFault (joined_history sheet.now.history) n (fields_of fields.now) e) }
 {
     let mut cells = Vec::new(alloc);
     for j in 0..fields.len() {
@@ -33,7 +32,7 @@ pub(crate) fn read_record(
             return Err(Refusal::Csv);
         };
         let field = fields.get(j).unwrap();
-        take_field(alloc, grid, cell, field, &mut cells)?;
+        take_field(alloc, sheet, cell, field, &mut cells)?;
     }
     Ok(cells)
 }
@@ -41,21 +40,21 @@ pub(crate) fn read_record(
 // Appends the content that a field says for its cell, if it isn't empty.
 fn take_field(
     alloc: Global,
-    grid: &Grid,
+    sheet: &Sheet,
     cell: Cell,
     field: &[u8],
     cells: &mut Vec<(Cell, Content)>,
 ) -> Result<(), Refusal>
-    ensures said { OnOk result ((here : Cells) × FieldSays (state_at grid.now) cell field.now here
+    ensures said { OnOk result ((here : Cells) × FieldSays (joined_history sheet.now.history) cell field.now here
         × (cells.new.items ≡ cells.old.items ++ here)) }
     ensures fault { IfErr result (λ e.
-        (e ≡ Refusal.Memory) ⊎ EntryFault (state_at grid.now) cell field.now e) }
+        (e ≡ Refusal.Memory) ⊎ EntryFault (joined_history sheet.now.history) cell field.now e) }
 {
     if field.is_empty() {
         return Ok(());
     }
     let content = read_entry(alloc, field)?;
-    if is_full(grid, cell) {
+    if sheet.is_clock_full(cell) {
         return Err(Refusal::ClockFull);
     }
     cells.push((cell, content))?;
@@ -71,14 +70,4 @@ fn cell_of(n: usize, j: usize) -> Option<Cell>
         return None;
     }
     Cell::from_index(n * COLUMNS + j)
-}
-
-// Whether the cell's register has the last time.
-fn is_full(grid: &Grid, cell: Cell) -> bool
-    ensures { result ≡ is_clock_full (state_at grid.now cell) }
-{
-    match grid.at(cell).register.parts() {
-        Some(assignment) => assignment.time == LAST_TIME,
-        None => false,
-    }
 }

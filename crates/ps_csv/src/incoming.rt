@@ -2,10 +2,11 @@
 
 ghost use Rattle.std.specs.Prelude.{◌≡◌, ◌≢◌, ◌⊎◌, ◌<◌, ◌≤◌, ℕ, List, length, IfOk, IfErr, OnOk};
 ghost use Rattle.std.specs.Io.KnownBytes.{Consumes, IsAtEnd};
-ghost use Rattle.ps_delta.specs.State.{state_at};
+ghost use Rattle.ps_grid.specs.declared.size.TheConstants.{COLUMNS, ROWS};
 ghost use Rattle.ps_delta.specs.Deltas.{joined_history};
 ghost use Rattle.ps_sheet.specs.Sheet.{IsSheet};
-ghost use Rattle.ps_csv.specs.Records.{FirstFault, IsTable, Record};
+ghost use Rattle.ps_csv.specs.Records.{IsTable, Record, TableFault};
+ghost use Rattle.ps_csv.specs.Sources.{TooManyBytes};
 ghost use Rattle.ps_csv.specs.Tables.{HasRead};
 ghost use Rattle.ps_csv.specs.Imports.{StopsAfter, TakesIn};
 ghost use Rattle.ps_csv.specs.declared.bytes.TheConstants.{LONGEST_TABLE};
@@ -13,7 +14,6 @@ ghost use Rattle.ps_csv.specs.declared.bytes.TheConstants.{LONGEST_TABLE};
 use crate::apply::{ImportFault, apply};
 use crate::bytes::read_all;
 use crate::table::{Table, read_table};
-use ps_delta::Grid;
 use ps_eval::Meter;
 use ps_grid::Refusal;
 use ps_sheet::Sheet;
@@ -35,12 +35,12 @@ pub struct Imported {
 ///
 /// The source is read to its end, and all fields are checked before anything is assigned. Refused for the first of
 /// these: `Device` where the source failed, `Csv` where it has more than `LONGEST_TABLE` bytes; then, for the first
-/// field or record at fault in reading order, `Csv` for a record past the last row or a field past the last column or
-/// where `csv` gives no record, what `read_entry` refuses, and `ClockFull` where the cell's register has the last time.
-/// For lack of memory in place of any of them. Then nothing is assigned, but that where memory ends between two edits
-/// the records before stand.
+/// field or record at fault in reading order, `Csv` for a record past the last row or a field past the last column,
+/// what `read_entry` refuses, and `ClockFull` where the cell's register has the last time; and `Csv` where `csv`'s
+/// reader fails, though it reads bytes in memory. For lack of memory in place of any of them. Then nothing is
+/// assigned, but that where memory ends between two edits the records before stand.
 ///
-/// Cost: the bytes of the source, the cells of the grid, the sheet's history, and an edit for each record.
+/// Cost: the bytes of the source, and an edit for each record.
 pub fn import<S: Source, L: Ledger>(
     alloc: Global,
     source: &mut S,
@@ -50,12 +50,17 @@ pub fn import<S: Source, L: Ledger>(
     ensures imported { IfOk result (λ i. (bytes : List ℕ)
         × Consumes (S.remaining source.old) (S.remaining source.new) bytes × IsAtEnd (S.remaining source.new)
         × TakesIn bytes i.records i.fields sheet.old sheet.new) }
+    // the records and their fields lie in the grid, and a record has a field
+    ensures extent { IfOk result (λ i. (i.records ≤ ROWS) × (i.fields ≤ COLUMNS) × (0 < i.records → 0 < i.fields)) }
     ensures calm { OnOk result (S.failures source.new ≡ S.failures source.old) }
     ensures refused { IfErr result (λ f. (f.refusal ≡ Refusal.Memory) ⊎ (f.refusal ≡ Refusal.Device)
-        ⊎ (f.refusal ≡ Refusal.Csv) ⊎ ((bytes : List ℕ)
+        ⊎ ((f.refusal ≡ Refusal.Csv) × TooManyBytes (S.remaining source.old) (S.remaining source.new))
+        ⊎ ((bytes : List ℕ)
         × Consumes (S.remaining source.old) (S.remaining source.new) bytes × IsAtEnd (S.remaining source.new)
-        × (length bytes ≤ LONGEST_TABLE) × FirstFault (joined_history sheet.old.history) bytes f.refusal)) }
+        × (length bytes ≤ LONGEST_TABLE) × TableFault (joined_history sheet.old.history) bytes f.refusal)) }
     ensures device { IfErr result (λ f. f.refusal ≡ Refusal.Device → S.failures source.old < S.failures source.new) }
+    ensures steady { IfErr result (λ f. f.refusal ≢ Refusal.Device
+        → S.failures source.new ≡ S.failures source.old) }
     ensures none { IfErr result (λ f. f.refusal ≢ Refusal.Memory → f.applied ≡ 0) }
     ensures kept { IfErr result (λ f. f.applied ≡ 0 → (sheet.new ≡ sheet.old) × (meter.new ≡ meter.old)) }
     ensures stopped { IfErr result (λ f. 0 < f.applied → (bytes : List ℕ)
@@ -89,10 +94,12 @@ fn checked<S: Source>(alloc: Global, source: &mut S, sheet: &Sheet) -> Result<Ta
         × HasRead (joined_history sheet.now.history) table t) }
     ensures calm { OnOk result (S.failures source.new ≡ S.failures source.old) }
     ensures refused { IfErr result (λ e. (e ≡ Refusal.Memory) ⊎ (e ≡ Refusal.Device)
-        ⊎ (e ≡ Refusal.Csv) ⊎ ((bytes : List ℕ)
+        ⊎ ((e ≡ Refusal.Csv) × TooManyBytes (S.remaining source.old) (S.remaining source.new))
+        ⊎ ((bytes : List ℕ)
         × Consumes (S.remaining source.old) (S.remaining source.new) bytes × IsAtEnd (S.remaining source.new)
-        × (length bytes ≤ LONGEST_TABLE) × FirstFault (joined_history sheet.now.history) bytes e)) }
+        × (length bytes ≤ LONGEST_TABLE) × TableFault (joined_history sheet.now.history) bytes e)) }
     ensures device { IfErr result (λ e. e ≡ Refusal.Device → S.failures source.old < S.failures source.new) }
+    ensures steady { IfErr result (λ e. e ≢ Refusal.Device → S.failures source.new ≡ S.failures source.old) }
     ensures sheet { IsSheet sheet.now }
 {
     let _ = sheet.version();
@@ -100,22 +107,5 @@ fn checked<S: Source>(alloc: Global, source: &mut S, sheet: &Sheet) -> Result<Ta
         Ok(bytes) => bytes,
         Err(refusal) => return Err(refusal),
     };
-    let grid = match grid_of(alloc, sheet) {
-        Ok(grid) => grid,
-        Err(refusal) => return Err(refusal),
-    };
-    read_table(alloc, &grid, &bytes)
-}
-
-// What the cells hold.
-fn grid_of(alloc: Global, sheet: &Sheet) -> Result<Grid, Refusal>
-    ensures state { IfOk result (λ g. state_at g ≡ joined_history sheet.now.history) }
-    ensures memory { IfErr result (λ e. e ≡ Refusal.Memory) }
-{
-    let mut grid = Grid::new(alloc)?;
-    let history = sheet.history();
-    for delta in history {
-        grid.join(alloc, delta)?;
-    }
-    Ok(grid)
+    read_table(alloc, sheet, &bytes)
 }

@@ -1,16 +1,17 @@
 //! The records of a table.
 
 ghost use Rattle.std.specs.Prelude.{◌≡◌, ◌⊎◌, ◌∷◌, ◌++◌, [], List, length, IfOk, IfErr, OnOk};
+ghost use Rattle.csv.specs.Reading.{error_kind};
 ghost use Rattle.csv.specs.Records.{fields_of};
-ghost use Rattle.ps_delta.specs.State.{state_at};
-ghost use Rattle.ps_csv.specs.Records.{FirstFault, IsTable, NextFault, Record};
+ghost use Rattle.ps_delta.specs.Deltas.{joined_history};
+ghost use Rattle.ps_csv.specs.Records.{IsTable, NextFault, Record, TableFault, refusal_of_kind};
 ghost use Rattle.ps_csv.specs.Tables.{HasRead, IsFresh};
 
 use crate::fields::read_record;
 use csv::{ByteRecord, Error, ErrorKind, Reader, ReaderBuilder};
 use ps_content::Content;
-use ps_delta::Grid;
 use ps_grid::{Cell, ROWS, Refusal};
+use ps_sheet::Sheet;
 use std::alloc::Global;
 
 // What the records of a table say.
@@ -22,12 +23,12 @@ pub(crate) struct Table {
     pub(crate) fields: usize,
 }
 
-// What the records of a text say for the cells of the grid.
-pub(crate) fn read_table(alloc: Global, grid: &Grid, bytes: &[u8]) -> Result<Table, Refusal>
+// What the records of a text say for the cells of the sheet.
+pub(crate) fn read_table(alloc: Global, sheet: &Sheet, bytes: &[u8]) -> Result<Table, Refusal>
     ensures read { IfOk result (λ t. (table : List Record) × IsTable bytes.now table
-        × HasRead (state_at grid.now) table t) }
+        × HasRead (joined_history sheet.now.history) table t) }
     ensures fault { IfErr result (λ e.
-        (e ≡ Refusal.Memory) ⊎ (e ≡ Refusal.Csv) ⊎ FirstFault (state_at grid.now) bytes.now e) }
+        (e ≡ Refusal.Memory) ⊎ TableFault (joined_history sheet.now.history) bytes.now e) }
 {
     let mut table = Table {
         batches: Vec::new(alloc),
@@ -35,7 +36,7 @@ pub(crate) fn read_table(alloc: Global, grid: &Grid, bytes: &[u8]) -> Result<Tab
     };
     for row in new_reader(alloc, bytes).into_byte_records() {
         match row {
-            Ok(row) => take_record(alloc, grid, &row, &mut table)?,
+            Ok(row) => take_record(alloc, sheet, &row, &mut table)?,
             Err(error) => return Err(refusal_of(&error)),
         }
     }
@@ -55,28 +56,30 @@ fn new_reader(alloc: Global, bytes: &[u8]) -> Reader<&[u8]>
 // Takes one more record into the table.
 fn take_record(
     alloc: Global,
-    grid: &Grid,
+    sheet: &Sheet,
     fields: &ByteRecord,
     table: &mut Table,
 ) -> Result<(), Refusal>
-    ensures read { OnOk result ((before : List Record) → HasRead (state_at grid.now) before table.old
-        → HasRead (state_at grid.now) (before ++ fields_of fields.now ∷ []) table.new) }
-    ensures fault { IfErr result (λ e. (before : List Record) → HasRead (state_at grid.now) before table.old
-        → (e ≡ Refusal.Memory) ⊎ NextFault (state_at grid.now) (length before) (fields_of fields.now) e) }
+    ensures read { OnOk result ((before : List Record)
+        → HasRead (joined_history sheet.now.history) before table.old
+        → HasRead (joined_history sheet.now.history) (before ++ fields_of fields.now ∷ []) table.new) }
+    ensures fault { IfErr result (λ e. (before : List Record)
+        → HasRead (joined_history sheet.now.history) before table.old → (e ≡ Refusal.Memory)
+        ⊎ NextFault (joined_history sheet.now.history) (length before) (fields_of fields.now) e) }
 {
     let n = table.batches.len();
     if n >= ROWS {
         return Err(Refusal::Csv);
     }
-    let cells = read_record(alloc, grid, n, fields)?;
+    let cells = read_record(alloc, sheet, n, fields)?;
     table.batches.push(cells)?;
     table.fields = table.fields.max(fields.len());
     Ok(())
 }
 
-// Why `csv` gave no record.
+// The refusal of an error of `csv`.
 fn refusal_of(error: &Error) -> Refusal
-    ensures { (result ≡ Refusal.Memory) ⊎ (result ≡ Refusal.Csv) }
+    ensures { result ≡ refusal_of_kind (error_kind error.now) }
 {
     match error.kind() {
         ErrorKind::OutOfMemory => Refusal::Memory,

@@ -1,8 +1,8 @@
 use Rattle.std.proofs.Common.{take}
 use Rattle.csv.specs.Records.{fields_of}
-use Rattle.ps_delta.specs.State.{state_at}
+use Rattle.ps_delta.specs.Deltas.{joined_history}
 use Rattle.ps_csv.specs.Records.{FieldsSay}
 use Rattle.ps_csv.proofs.fields.read_record.Given as goal
 
 abbrev pub invariant-loop-j : goal.invariant-loop-j
-invariant-loop-j l = FieldsSay (state_at l.grid) l.n 0 (take l.j (fields_of l.fields)) l.cells.items
+invariant-loop-j l = FieldsSay (joined_history l.sheet.history) l.n 0 (take l.j (fields_of l.fields)) l.cells.items

@@ -1,4 +1,6 @@
 use Rattle.std.proofs.Common.{◌≡◌, length, refl, rules}
+use Rattle.ps_delta.specs.Deltas.{joined_history}
+use Rattle.ps_csv.proofs.ExtentLemmas.{extent}
 use Rattle.ps_csv.proofs.ImportLemmas.{takes_in}
 use Rattle.ps_csv.proofs.incoming.import.Goals as goal
 
@@ -13,3 +15,9 @@ returns-in-Ok-apply-clause-imported g c =
           c.in-Ok-apply.ensures.assigned size
           refl,
     )
+
+pub returns-in-Ok-apply-clause-extent : goal.returns-in-Ok-apply-clause-extent
+returns-in-Ok-apply-clause-extent g c =
+    let read = c.in-Ok.ensures.read in
+    let size : c.len-records.result ≡ length c.in-Ok.table.batches.items = search rules in
+    extent (joined_history c.args.sheet.now.history) read.0 read.1 c.in-Ok.table _ _ read.5 read.6 size refl
