@@ -127,3 +127,44 @@ fn padded_lines(rt: HostRuntime) -> Result<(), Fail> {
     assert!(rt; is_refused(rt.alloc(), &line));
     Ok(())
 }
+
+// A line of a cell with all three parts, and of a formula, whose content takes memory of its own.
+const FULL_LINE: &[u8] =
+    br#"[["A1",[1,1,"@choice"],[[1,5,0]],[[7,1,1,1],[7,2,1,0]]],["B1",[2,2,"=-[.A1]"],[],[]]]"#;
+
+/// Where one growth is refused (`rt try --test --fail-alloc N`), `decode` answers `Memory` or the delta of the line,
+/// and the next call answers that delta.
+#[test]
+fn refused_decode(rt: HostRuntime) -> Result<(), Fail> {
+    let delta = match decode(rt.alloc(), FULL_LINE) {
+        Err(Refusal::Memory) => decode(rt.alloc(), FULL_LINE)?,
+        answer => answer?,
+    };
+    let mut line = Vec::new(rt.alloc());
+    if encode(rt.alloc(), &delta, &mut line).is_ok() {
+        assert_eq!(rt; line.as_slice(), FULL_LINE);
+    }
+    Ok(())
+}
+
+/// Where one growth is refused (`rt try --test --fail-alloc N`), `encode` answers `Memory` and leaves the line as it
+/// was, be it empty or not; the next call appends the text.
+#[test]
+fn refused_encode(rt: HostRuntime) -> Result<(), Fail> {
+    let alloc = rt.alloc();
+    let Ok(delta) = decode(alloc, FULL_LINE) else {
+        return Ok(());
+    };
+    let mut line = Vec::new(alloc);
+    for length in [0, FULL_LINE.len()] {
+        if let Err(refusal) = encode(alloc, &delta, &mut line) {
+            assert_eq!(rt; refusal, Refusal::Memory);
+            assert_eq!(rt; line.as_slice(), &FULL_LINE[..length]);
+            encode(alloc, &delta, &mut line)?;
+        }
+    }
+    let (first, second) = line.split_at(FULL_LINE.len());
+    assert_eq!(rt; first, FULL_LINE);
+    assert_eq!(rt; second, FULL_LINE);
+    Ok(())
+}
