@@ -6,7 +6,7 @@ mod TurnLemmas
 mod EndLemmas
 mod ReadLemmas
 mod AnswerLemmas
-mod ReplicaLemmas
+mod KeptLemmas
 mod MemoryLemmas
 mod WordLemmas
 mod CommandLemmas
@@ -15,3 +15,7 @@ mod SplitLemmas
 mod AskedLemmas
 mod ReplayLemmas
 mod HandingLemmas
+mod RangeLemmas
+mod EditLineLemmas
+mod EntryLemmas
+mod PullLemmas

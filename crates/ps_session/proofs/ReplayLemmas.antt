@@ -25,7 +25,7 @@ use Rattle.ps_session.specs.Transcript.{Replies, Run, answered_count, with_last}
 use Rattle.ps_session.specs.declared.command.Command.{Command}
 use Rattle.ps_session.specs.declared.command.Command.TheVariants as commands
 use Rattle.ps_session.specs.declared.session.TheConstants.{LINE_LIMIT}
-use Rattle.ps_session.proofs.AskedLemmas.{AsksInGrid, line_in_grid, made_in_grid}
+use Rattle.ps_session.proofs.AskedLemmas.{AsksInRange, line_in_range, made_in_grid}
 use Rattle.ps_session.proofs.HandingLemmas.{hands_once}
 use Rattle.ps_session.proofs.ReadingLaws.{reads_once}
 use Rattle.ps_session.proofs.SplitLemmas.{divides_one_way}
@@ -85,7 +85,7 @@ edited_in_grid (Ok d) history next text inside all edited =
 edited_in_grid (Err e) history next text inside all edited =
     subst (λ (h : List Entries). IsInGrid (joined_history h)) (sym edited.0) inside
 
-obeyed_in_grid : (r : ℕ) (history next : List Entries) (asked : Read Command) (text : List ℕ) → AsksInGrid asked
+obeyed_in_grid : (r : ℕ) (history next : List Entries) (asked : Read Command) (text : List ℕ) → AsksInRange asked
     → IsInGrid (joined_history history) → Obeys r history asked text next → IsInGrid (joined_history next)
 obeyed_in_grid r history next (Ok (commands.Edit edit)) text asks inside obeys =
     edited_in_grid (delta_of_edit r (joined_history history) edit) history next text inside
@@ -97,7 +97,7 @@ obeyed_in_grid r history next (Ok (commands.Rows c d)) text asks inside obeys =
 obeyed_in_grid r history next (Ok (commands.Pull from most)) text asks inside obeys =
     subst (λ (h : List Entries). IsInGrid (joined_history h)) (sym obeys.0) inside
 obeyed_in_grid r history next (Ok (commands.Push d)) text asks inside obeys =
-    taken_in_grid d history next inside asks obeys.0
+    taken_in_grid d history next inside asks.lawful.in_grid obeys.0
 obeyed_in_grid r history next (Err e) text asks inside obeys =
     subst (λ (h : List Entries). IsInGrid (joined_history h)) (sym obeys.0) inside
 
@@ -120,7 +120,7 @@ module _ (a b last end : SheetView) (text told : List ℕ) (same : IsSameSheet a
       record {
         text_same = once.0;
         sheet_same = record { replica = s.replica ∙ same.replica ∙ sym t.replica; history = once.1 };
-        inside = obeyed_in_grid a.replica a.history last.history s.asked text (line_in_grid line s.asked s.reads)
+        inside = obeyed_in_grid a.replica a.history last.history s.asked text (line_in_range line s.asked s.reads)
             inside s.obeys;
       }
 

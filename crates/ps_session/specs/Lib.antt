@@ -9,3 +9,4 @@ pub mod Commands
 pub mod Handing
 pub mod Answers
 pub mod Laws
+pub mod EditLines

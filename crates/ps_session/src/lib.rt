@@ -26,7 +26,7 @@ mod words;
 
 pub use board::Board;
 pub use command::Command;
-pub use laws::{bytes_divide_one_way, transcript_is_decided};
+pub use laws::{bytes_divide_one_way, edit_lines_fit, pulls_hand_out, transcript_is_decided};
 pub use reply::{Reply, send};
 pub use session::{Fed, LINE_LIMIT, Line, Session};
 pub use sheet_session::run;

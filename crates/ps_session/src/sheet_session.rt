@@ -1,9 +1,11 @@
 //! A session of a sheet, from bytes to bytes.
 ghost use Rattle.std.specs.Prelude.{◌≡◌, ◌<◌, ℕ, List, Err, IfOk, OnOk};
 ghost use Rattle.std.specs.Io.KnownBytes.{Consumes, IsAtEnd};
+ghost use Rattle.std.specs.List.{All};
 ghost use Rattle.ps_sheet.specs.Sheet.{IsSheet};
 ghost use Rattle.ps_session.specs.Transcript.{Answered, Cut, Transcribed};
 ghost use Rattle.ps_session.specs.Answers.{SheetLines};
+ghost use Rattle.ps_session.specs.EditLines.{HasLine};
 
 use crate::transcript::{RunFault, talk};
 use ps_eval::Meter;
@@ -17,6 +19,8 @@ use std::sync::ledger::Ledger;
 ///
 /// A line whose reply can't be written has been carried out all the same. After a fault the sheet is the one behind the
 /// last line that was carried out.
+///
+/// Where each delta of the history has a line, as in an empty one, it stays so, and no pull is refused as too long.
 ///
 /// Cost: that of the lines, and the room of one line.
 pub fn run<S: Source, K: Sink, L: Ledger>(
@@ -41,6 +45,7 @@ pub fn run<S: Source, K: Sink, L: Ledger>(
         → (source.new ≡ source.old) × (sink.new ≡ sink.old) × (sheet.new ≡ sheet.old) }
     ensures replica { sheet.new.replica ≡ sheet.old.replica }
     ensures sheet { IsSheet sheet.new }
+    ensures lines { All HasLine sheet.old.history → All HasLine sheet.new.history }
     ensures calm { OnOk result ((S.failures source.new ≡ S.failures source.old)
         × (K.failures sink.new ≡ K.failures sink.old)) }
     ensures sink_failed { result ≡ Err RunFault.Sink → K.failures sink.old < K.failures sink.new }

@@ -1,0 +1,5 @@
+use Rattle.ps_session.proofs.PullLemmas.{pulls_hand_out}
+use Rattle.ps_session.proofs.laws.pulls_hand_out.Goals as goal
+
+pub returns : goal.returns
+returns c = pulls_hand_out
