@@ -1,14 +1,14 @@
 //! Worked examples of the three types.
+//!
+//! What a test asserts is worked out by small functions with few owned values each: those are quick to prove.
 
 use crate::{
     Assignment, COUNT_LIMIT, Choice, Count, Join, LAST_TIME, Linear, Pair, Register, Tally,
 };
 use ps_grid::{Refusal, Twin};
 use std::alloc::Global;
-use std::process::Abort;
-use std::test::Fail;
 
-#[derive(Clone, Copy, Debug, PartialEq, Eq, PartialOrd, Ord)]
+#[derive(Clone, Copy, PartialEq, Eq, PartialOrd, Ord)]
 struct Letter {
     byte: u8,
 }
@@ -37,188 +37,282 @@ fn pair(option: u8, replica: u8, sequence: u16) -> Pair {
     }
 }
 
-fn written(time: u64, replica: u8, byte: u8) -> Option<Register<Letter>> {
+// The register with this stamp; a stamp that is out of range is refused here like a full clock.
+fn written(time: u64, replica: u8, byte: u8) -> Result<Register<Letter>, Refusal> {
+    let content = Letter { byte };
     Register::from_parts(Assignment {
         time,
         replica,
-        content: Letter { byte },
+        content,
     })
+    .ok_or(Refusal::ClockFull)
 }
 
-// Three states joined in two orders, one of them with a repeat, are below each other.
-fn joins_in_any_order<R: Abort, J: Join + Twin + Drop>(
-    rt: &R,
+// Joins what an edit answered into the state.
+fn take_in<J: Join + Drop>(
+    edit: Result<J, Refusal>,
+    state: &mut J,
+    alloc: Global,
+) -> Result<(), Refusal> {
+    state.join(alloc, &edit?)
+}
+
+// The state with the others joined into it in turn.
+fn with<J: Join + Twin + Drop>(alloc: Global, state: &J, others: &[&J]) -> Result<J, Refusal> {
+    let mut joined = state.twin(alloc)?;
+    for other in others {
+        joined.join(alloc, other)?;
+    }
+    Ok(joined)
+}
+
+// Whether three states joined in two orders, one of them with a repeat, are below each other.
+fn orders_agree<J: Join + Twin + Drop>(
     alloc: Global,
     a: &J,
     b: &J,
     c: &J,
-) -> Result<(), Refusal> {
-    let mut left = a.twin(alloc)?;
-    left.join(alloc, b)?;
-    left.join(alloc, c)?;
-    let mut right = c.twin(alloc)?;
-    right.join(alloc, b)?;
-    right.join(alloc, a)?;
-    right.join(alloc, b)?;
-    assert!(rt; left.below(&right));
-    assert!(rt; right.below(&left));
-    assert!(rt; a.below(&left));
-    Ok(())
+) -> Result<bool, Refusal> {
+    let left = with(alloc, a, &[b, c])?;
+    let right = with(alloc, c, &[b, a, b])?;
+    Ok(left.below(&right) && right.below(&left) && a.below(&left))
+}
+
+fn join_in_any_order<J: Join + Twin + Drop>(
+    alloc: Global,
+    a: Result<J, Refusal>,
+    b: Result<J, Refusal>,
+    c: Result<J, Refusal>,
+) -> Result<bool, Refusal> {
+    orders_agree(alloc, &a?, &b?, &c?)
+}
+
+fn counters_join(alloc: Global) -> Result<bool, Refusal> {
+    let none = Tally::empty(alloc);
+    join_in_any_order(
+        alloc,
+        none.add(alloc, 1, 5),
+        none.sub(alloc, 2, 7),
+        none.add(alloc, 1, 3),
+    )
+}
+
+fn choices_join(alloc: Global) -> Result<bool, Refusal> {
+    let none = Choice::empty(alloc);
+    let chosen = none.choose(alloc, 1, 7)?;
+    let removal = chosen.unchoose(alloc, 7);
+    join_in_any_order(alloc, Ok(chosen), removal, none.choose(alloc, 2, 7))
+}
+
+fn registers_join(alloc: Global) -> Result<bool, Refusal> {
+    join_in_any_order(
+        alloc,
+        written(1, 1, b'x'),
+        written(1, 2, b'y'),
+        written(1, 2, b'z'),
+    )
+}
+
+fn is_later_below() -> Result<bool, Refusal> {
+    Ok(written(1, 2, b'y')?.below(&written(1, 1, b'x')?))
 }
 
 /// Counters, choices and registers join in any order and again.
 #[test]
-fn every_type_joins_in_any_order(rt: HostRuntime) -> Result<(), Fail> {
+fn every_type_joins_in_any_order(rt: HostRuntime) {
     let alloc = rt.alloc();
-    let none = Tally::empty(alloc);
-    joins_in_any_order(
-        &rt,
-        alloc,
-        &none.add(alloc, 1, 5)?,
-        &none.sub(alloc, 2, 7)?,
-        &none.add(alloc, 1, 3)?,
-    )?;
-    let nothing = Choice::empty(alloc);
-    let chosen = nothing.choose(alloc, 1, 7)?;
-    joins_in_any_order(
-        &rt,
-        alloc,
-        &chosen,
-        &chosen.unchoose(alloc, 7)?,
-        &nothing.choose(alloc, 2, 7)?,
-    )?;
-    let x = written(1, 1, b'x').ok_or("in range")?;
-    let y = written(1, 2, b'y').ok_or("in range")?;
-    joins_in_any_order(&rt, alloc, &x, &y, &written(1, 2, b'z').ok_or("in range")?)?;
-    assert!(rt; !y.below(&x));
-    Ok(())
+    assert!(rt; counters_join(alloc) == Ok(true));
+    assert!(rt; choices_join(alloc) == Ok(true));
+    assert!(rt; registers_join(alloc) == Ok(true));
+    assert!(rt; is_later_below() == Ok(false));
+}
+
+fn five_less_seven(alloc: Global) -> Result<bool, Refusal> {
+    let mut tally = Tally::empty(alloc);
+    let was_empty = tally.is_empty();
+    take_in(tally.add(alloc, 1, 5), &mut tally, alloc)?;
+    take_in(tally.sub(alloc, 1, 7), &mut tally, alloc)?;
+    Ok(was_empty && tally.value() == -2 && tally.parts() == [(1, count(5, 7))].as_slice())
+}
+
+fn five_less_two(alloc: Global) -> Result<bool, Refusal> {
+    let five = Tally::empty(alloc).add(alloc, 1, 5)?;
+    let delta = five.sub(alloc, 2, 2)?;
+    let other = with(alloc, &five, &[&delta, &five])?;
+    let is_alone = delta.parts() == [(2, count(0, 2))].as_slice();
+    Ok(is_alone && five.below(&other) && other.value() == 3)
 }
 
 /// A counter to which 5 is added and from which 7 is subtracted shows -2; replica 2's delta holds its own counts alone,
 /// and joining a delta again changes nothing.
 #[test]
-fn a_counter_shows_sums(rt: HostRuntime) -> Result<(), Fail> {
-    let alloc = rt.alloc();
-    let mut tally = Tally::empty(alloc);
-    assert!(rt; tally.is_empty());
-    tally.join(alloc, &tally.add(alloc, 1, 5)?)?;
-    tally.join(alloc, &tally.sub(alloc, 1, 7)?)?;
-    assert_eq!(rt; tally.value(), -2);
-    assert_eq!(rt; tally.parts(), [(1, count(5, 7))].as_slice());
-    let received = Tally::from_parts(vec![in alloc; (1, count(5, 0))]?).ok_or("in range")?;
-    let mut other = received.twin(alloc)?;
-    let delta = other.sub(alloc, 2, 2)?;
-    assert_eq!(rt; delta.parts(), [(2, count(0, 2))].as_slice());
-    other.join(alloc, &delta)?;
-    assert!(rt; received.below(&other));
-    other.join(alloc, &received)?;
-    assert_eq!(rt; other.value(), 3);
-    Ok(())
+fn a_counter_shows_sums(rt: HostRuntime) {
+    assert!(rt; five_less_seven(rt.alloc()) == Ok(true));
+    assert!(rt; five_less_two(rt.alloc()) == Ok(true));
+}
+
+fn counter(alloc: Global, parts: &[(u8, Count)]) -> Result<Option<Tally>, Refusal> {
+    Ok(Tally::from_parts(Vec::from_slice(alloc, parts)?))
+}
+
+// Why adding the amount at replica 1 is refused, and why subtracting it is.
+fn refusals(alloc: Global, tally: &Tally, amount: u64) -> (Option<Refusal>, Option<Refusal>) {
+    (
+        tally.add(alloc, 1, amount).err(),
+        tally.sub(alloc, 1, amount).err(),
+    )
+}
+
+fn a_full_counter_refuses(alloc: Global) -> Result<bool, Refusal> {
+    let Some(full) = counter(alloc, &[(1, count(COUNT_LIMIT, 0))])? else {
+        return Ok(false);
+    };
+    let out_of_range = (Some(Refusal::Amount), Some(Refusal::Amount));
+    let too_much = (Some(Refusal::TallyFull), None);
+    Ok(
+        refusals(alloc, &full, 0) == out_of_range
+            && refusals(alloc, &full, 1) == too_much
+            && refusals(alloc, &full, 1_000_000) == too_much
+            && refusals(alloc, &full, 1_000_001) == out_of_range,
+    )
+}
+
+// Whether a counter has these counts, whose order and range are to be tested.
+fn is_counter(alloc: Global, parts: &[(u8, Count)]) -> Result<bool, Refusal> {
+    Ok(counter(alloc, parts)?.is_some())
 }
 
 /// Amounts out of range, and counts that would pass their limit, are refused.
 #[test]
-fn a_counter_refuses(rt: HostRuntime) -> Result<(), Fail> {
+fn a_counter_refuses(rt: HostRuntime) {
     let alloc = rt.alloc();
-    let full = Tally::from_parts(vec![in alloc; (1, count(COUNT_LIMIT, 0))]?).ok_or("in range")?;
-    for amount in [0, 1_000_001] {
-        assert!(rt; matches!(full.add(alloc, 1, amount), Err(Refusal::Amount)));
-        assert!(rt; matches!(full.sub(alloc, 1, amount), Err(Refusal::Amount)));
+    assert!(rt; a_full_counter_refuses(alloc) == Ok(true));
+    for (replica, added) in [(0, 1), (33, 1), (1, 0), (1, COUNT_LIMIT + 1)] {
+        assert!(rt; is_counter(alloc, &[(replica, count(added, 0))]) == Ok(false));
     }
-    assert!(rt; matches!(full.add(alloc, 1, 1), Err(Refusal::TallyFull)));
-    assert!(rt; full.sub(alloc, 1, 1_000_000).is_ok());
-    for bad in [
-        (0, count(1, 0)),
-        (33, count(1, 0)),
-        (1, count(0, 0)),
-        (1, count(COUNT_LIMIT + 1, 0)),
-    ] {
-        assert!(rt; Tally::from_parts(vec![in alloc; bad]?).is_none());
+    for first in [2, 1] {
+        let parts = [(first, count(1, 0)), (1, count(1, 0))];
+        assert!(rt; is_counter(alloc, &parts) == Ok(false));
     }
-    assert!(rt; Tally::from_parts(vec![in alloc; (2, count(1, 0)), (1, count(1, 0))]?).is_none());
-    assert!(rt; Tally::from_parts(vec![in alloc; (1, count(1, 0)), (1, count(1, 0))]?).is_none());
-    Ok(())
+}
+
+// The options that are in once the edit is joined.
+fn options_after(
+    edit: Result<Choice, Refusal>,
+    choice: &mut Choice,
+    alloc: Global,
+) -> Result<u64, Refusal> {
+    take_in(edit, choice, alloc)?;
+    Ok(choice.options())
+}
+
+// The options that are in after option 7 is chosen, removed, and chosen by a replica that didn't see it.
+fn options_shown(alloc: Global) -> Result<(u64, u64, u64), Refusal> {
+    let mut choice = Choice::empty(alloc);
+    let other = choice.choose(alloc, 2, 7);
+    let chosen = options_after(choice.choose(alloc, 1, 7), &mut choice, alloc)?;
+    let removed = options_after(choice.unchoose(alloc, 7), &mut choice, alloc)?;
+    let back = options_after(other, &mut choice, alloc)?;
+    Ok((chosen, removed, back))
+}
+
+fn options_are_refused(alloc: Global, choice: &Choice) -> bool {
+    choice.unchoose(alloc, 9).err() == Some(Refusal::NotChosen)
+        && choice.unchoose(alloc, 64).err() == Some(Refusal::OptionRange)
+        && choice.choose(alloc, 1, 64).err() == Some(Refusal::OptionRange)
+}
+
+fn a_removal_holds_its_pair(alloc: Global) -> Result<bool, Refusal> {
+    let chosen = Choice::empty(alloc).choose(alloc, 1, 7)?;
+    let removal = chosen.unchoose(alloc, 7)?;
+    let is_alone = removal.parts() == [(pair(7, 1, 1), true)].as_slice();
+    Ok(is_alone && !removal.is_empty() && options_are_refused(alloc, &chosen))
 }
 
 /// An option that is removed comes back with a pair that the removal didn't see.
 #[test]
-fn a_removal_keeps_what_it_did_not_see(rt: HostRuntime) -> Result<(), Fail> {
-    let alloc = rt.alloc();
+fn a_removal_keeps_what_it_did_not_see(rt: HostRuntime) {
+    assert!(rt; options_shown(rt.alloc()) == Ok((1 << 7, 0, 1 << 7)));
+    assert!(rt; a_removal_holds_its_pair(rt.alloc()) == Ok(true));
+}
+
+fn chosen_256_times(alloc: Global) -> Result<bool, Refusal> {
     let mut choice = Choice::empty(alloc);
-    choice.join(alloc, &choice.choose(alloc, 1, 7)?)?;
-    assert_eq!(rt; choice.options(), 1 << 7);
-    let removal = choice.unchoose(alloc, 7)?;
-    assert_eq!(rt; removal.parts(), [(pair(7, 1, 1), true)].as_slice());
-    choice.join(alloc, &removal)?;
-    assert_eq!(rt; choice.options(), 0);
-    assert!(rt; !choice.is_empty());
-    choice.join(
-        alloc,
-        &Choice::from_parts(vec![in alloc; (pair(7, 2, 1), false)]?).ok_or("in range")?,
-    )?;
-    assert_eq!(rt; choice.options(), 1 << 7);
-    assert!(rt; matches!(choice.unchoose(alloc, 9), Err(Refusal::NotChosen)));
-    assert!(rt; matches!(choice.unchoose(alloc, 64), Err(Refusal::OptionRange)));
-    assert!(rt; matches!(choice.choose(alloc, 1, 64), Err(Refusal::OptionRange)));
-    Ok(())
+    for _ in 0..256 {
+        take_in(choice.choose(alloc, 1, 0), &mut choice, alloc)?;
+    }
+    Ok(
+        choice.parts().len() == 256
+            && choice.choose(alloc, 1, 3).err() == Some(Refusal::ChoiceFull)
+            && choice.choose(alloc, 2, 3).is_ok(),
+    )
+}
+
+fn is_choice(alloc: Global, parts: &[(Pair, bool)]) -> Result<bool, Refusal> {
+    Ok(Choice::from_parts(Vec::from_slice(alloc, parts)?).is_some())
 }
 
 /// A replica has 256 sequences in a choice, over all options.
 #[test]
-fn a_choice_has_256_sequences(rt: HostRuntime) -> Result<(), Fail> {
+fn a_choice_has_256_sequences(rt: HostRuntime) {
     let alloc = rt.alloc();
-    let mut choice = Choice::empty(alloc);
-    for _ in 0..256 {
-        choice.join(alloc, &choice.choose(alloc, 1, 0)?)?;
-    }
-    assert_eq!(rt; choice.parts().len(), 256);
-    assert!(rt; matches!(choice.choose(alloc, 1, 3), Err(Refusal::ChoiceFull)));
-    assert!(rt; choice.choose(alloc, 2, 3).is_ok());
-    for bad in [
-        pair(64, 1, 1),
-        pair(0, 0, 1),
-        pair(0, 33, 1),
-        pair(0, 1, 0),
-        pair(0, 1, 257),
+    assert!(rt; chosen_256_times(alloc) == Ok(true));
+    for (option, replica, sequence, is_in_range) in [
+        (64, 1, 1, false),
+        (0, 0, 1, false),
+        (0, 33, 1, false),
+        (0, 1, 0, false),
+        (0, 1, 257, false),
+        (7, 2, 1, true),
     ] {
-        assert!(rt; Choice::from_parts(vec![in alloc; (bad, false)]?).is_none());
+        let parts = [(pair(option, replica, sequence), false)];
+        assert!(rt; is_choice(alloc, &parts) == Ok(is_in_range));
     }
-    assert!(rt;
-        Choice::from_parts(vec![in alloc;
-            (pair(1, 1, 1), false),
-            (pair(0, 1, 1), false)
-        ]?).is_none()
-    );
-    assert!(rt;
-        Choice::from_parts(vec![in alloc; (pair(1, 1, 1), false), (pair(1, 1, 1), true)]?).is_none()
-    );
-    Ok(())
+    for (second, is_removed) in [(0, false), (1, true)] {
+        let parts = [(pair(1, 1, 1), false), (pair(second, 1, 1), is_removed)];
+        assert!(rt; is_choice(alloc, &parts) == Ok(false));
+    }
+}
+
+fn held(register: &Register<Letter>) -> Option<(u64, u8, u8)> {
+    let held = register.parts()?;
+    Some((held.time, held.replica, held.content.byte))
+}
+
+fn the_later_stays(alloc: Global) -> Result<bool, Refusal> {
+    let mut register = Register::empty();
+    let was_empty = register.is_empty();
+    take_in(
+        register.assign(1, Letter { byte: b'b' }),
+        &mut register,
+        alloc,
+    )?;
+    take_in(
+        register.assign(2, Letter { byte: b'a' }),
+        &mut register,
+        alloc,
+    )?;
+    Ok(was_empty && held(&register) == Some((2, 2, b'a')))
+}
+
+fn the_greater_stays(alloc: Global) -> Result<bool, Refusal> {
+    let three = written(1, 1, b'3')?;
+    let joined = with(alloc, &three, &[&written(1, 1, b'4')?, &three])?;
+    Ok(held(&joined) == Some((1, 1, b'4')))
+}
+
+fn the_last_time_refuses() -> Result<bool, Refusal> {
+    let edit = written(LAST_TIME, 2, b'1')?.assign(1, Letter { byte: b'2' });
+    Ok(edit.err() == Some(Refusal::ClockFull))
 }
 
 /// The later assignment stays; at equal stamps the greater content does; after the last time none is made.
 #[test]
-fn the_last_writer_wins(rt: HostRuntime) -> Result<(), Fail> {
-    let alloc = rt.alloc();
-    let mut register = Register::empty();
-    assert!(rt; register.is_empty());
-    register.join(alloc, &register.assign(1, Letter { byte: b'b' })?)?;
-    let delta = register.assign(2, Letter { byte: b'a' })?;
-    register.join(alloc, &delta)?;
-    let held = register.parts().ok_or("assigned")?;
-    assert_eq!(rt; (held.time, held.replica, held.content.byte), (2, 2, b'a'));
-    let mut three = written(1, 1, b'3').ok_or("in range")?;
-    three.join(alloc, &written(1, 1, b'4').ok_or("in range")?)?;
-    three.join(alloc, &written(1, 1, b'3').ok_or("in range")?)?;
-    assert_eq!(rt; three.parts().ok_or("assigned")?.content.byte, b'4');
-    let last = written(LAST_TIME, 2, b'1').ok_or("in range")?;
-    assert!(rt;
-        matches!(
-            last.assign(1, Letter { byte: b'2' }),
-            Err(Refusal::ClockFull)
-        )
-    );
+fn the_last_writer_wins(rt: HostRuntime) {
+    assert!(rt; the_later_stays(rt.alloc()) == Ok(true));
+    assert!(rt; the_greater_stays(rt.alloc()) == Ok(true));
+    assert!(rt; the_last_time_refuses() == Ok(true));
     for (time, replica) in [(0, 1), (LAST_TIME + 1, 1), (1, 0), (1, 33)] {
-        assert!(rt; written(time, replica, b'1').is_none());
+        assert!(rt; written(time, replica, b'1').is_err());
     }
-    Ok(())
 }
