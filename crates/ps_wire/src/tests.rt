@@ -1,6 +1,7 @@
 //! Lines of deltas, good and bad.
 
 use crate::{DELTA_LINE_LIMIT, decode, encode};
+use ps_delta::Delta;
 use ps_grid::Refusal;
 use std::alloc::Global;
 use std::test::Fail;
@@ -132,38 +133,53 @@ fn padded_lines(rt: HostRuntime) -> Result<(), Fail> {
 const FULL_LINE: &[u8] =
     br#"[["A1",[1,1,"@choice"],[[1,5,0]],[[7,1,1,1],[7,2,1,0]]],["B1",[2,2,"=-[.A1]"],[],[]]]"#;
 
+// The delta of the line, by a second call where the first one lacked memory.
+fn decoded(alloc: Global, bytes: &[u8]) -> Result<Delta, Refusal> {
+    match decode(alloc, bytes) {
+        Err(Refusal::Memory) => decode(alloc, bytes),
+        answer => answer,
+    }
+}
+
+// Appends the text of the delta, by a second call where the first one is refused. Whether such a refusal was `Memory`
+// and left the line as before.
+fn append(
+    alloc: Global,
+    delta: &Delta,
+    line: &mut Vec<u8>,
+    before: &[u8],
+) -> Result<bool, Refusal> {
+    match encode(alloc, delta, line) {
+        Ok(()) => Ok(true),
+        Err(refusal) => {
+            let is_kept = refusal == Refusal::Memory && line.as_slice() == before;
+            encode(alloc, delta, line)?;
+            Ok(is_kept)
+        }
+    }
+}
+
 /// Where one growth is refused (`rt try --test --fail-alloc N`), `decode` answers `Memory` or the delta of the line,
 /// and the next call answers that delta.
 #[test]
-fn refused_decode(rt: HostRuntime) -> Result<(), Fail> {
-    let delta = match decode(rt.alloc(), FULL_LINE) {
-        Err(Refusal::Memory) => decode(rt.alloc(), FULL_LINE)?,
-        answer => answer?,
-    };
+fn refused_decode(rt: HostRuntime) -> Result<(), Refusal> {
+    let delta = decoded(rt.alloc(), FULL_LINE)?;
     let mut line = Vec::new(rt.alloc());
-    if encode(rt.alloc(), &delta, &mut line).is_ok() {
-        assert_eq!(rt; line.as_slice(), FULL_LINE);
-    }
+    let _ = append(rt.alloc(), &delta, &mut line, b"")?;
+    assert!(rt; line.as_slice() == FULL_LINE);
     Ok(())
 }
 
 /// Where one growth is refused (`rt try --test --fail-alloc N`), `encode` answers `Memory` and leaves the line as it
 /// was, be it empty or not; the next call appends the text.
 #[test]
-fn refused_encode(rt: HostRuntime) -> Result<(), Fail> {
-    let alloc = rt.alloc();
-    let Ok(delta) = decode(alloc, FULL_LINE) else {
-        return Ok(());
-    };
-    let mut line = Vec::new(alloc);
-    for length in [0, FULL_LINE.len()] {
-        if let Err(refusal) = encode(alloc, &delta, &mut line) {
-            assert_eq!(rt; refusal, Refusal::Memory);
-            assert_eq!(rt; line.as_slice(), &FULL_LINE[..length]);
-            encode(alloc, &delta, &mut line)?;
-        }
-    }
-    assert_eq!(rt; line.len(), 2 * FULL_LINE.len());
+fn refused_encode(rt: HostRuntime) -> Result<(), Refusal> {
+    let delta = decoded(rt.alloc(), FULL_LINE)?;
+    let mut line = Vec::new(rt.alloc());
+    let is_kept_empty = append(rt.alloc(), &delta, &mut line, b"")?;
+    let is_kept_full = append(rt.alloc(), &delta, &mut line, FULL_LINE)?;
+    assert!(rt; is_kept_empty && is_kept_full);
     assert!(rt; line.starts_with(FULL_LINE) && line.ends_with(FULL_LINE));
+    assert!(rt; line.len() == 2 * FULL_LINE.len());
     Ok(())
 }
