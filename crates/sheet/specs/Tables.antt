@@ -1,10 +1,17 @@
 -- What the command `table` writes.
-use Rattle.std.specs.Prelude.{◌≡◌, ◌==◌, ℕ, List, [], if◌then◌else◌}
+use Rattle.std.specs.Prelude.{◌≡◌, ◌⊎◌, ◌≤◌, ◌==◌, ℕ, List, [], length, Option, if◌then◌else◌}
+use Rattle.std.specs.Io.KnownBytes.{Consumes, IsAtEnd}
 use Rattle.ps_grid.specs.Rectangle.{Area}
+use Rattle.ps_grid.specs.declared.refusal.Refusal.{Refusal}
+use Rattle.ps_grid.specs.declared.refusal.Refusal.TheVariants.{Csv, Device, Memory}
+use Rattle.ps_delta.specs.Deltas.{joined_history}
 use Rattle.ps_sheet.specs.Settled.{shown_at}
 use Rattle.ps_sheet.specs.Sheet.{IsSheet, SheetView}
 use Rattle.ps_csv.specs.Exports.{exported}
 use Rattle.ps_csv.specs.Imports.{TakesIn}
+use Rattle.ps_csv.specs.Records.{FirstFault}
+use Rattle.ps_csv.specs.Sources.{TooManyBytes}
+use Rattle.ps_csv.specs.declared.bytes.TheConstants.{LONGEST_TABLE}
 
 -- so many rows and columns from A1 on
 abbrev pub from_first : ℕ → ℕ → Area
@@ -26,3 +33,11 @@ pub record IsTableOf (bytes text : List ℕ) : Type 0 where
   pub taken : TakesIn bytes records fields empty filled
   pub settled : IsSheet filled
   pub shown : text ≡ table_of records fields filled
+
+-- the causes of a refusal: memory, a device, too many bytes, or the first fault of a table in an empty sheet. A source
+-- had `old` and has `new` to come
+abbrev pub IsCauseOf : Option (List ℕ) → Option (List ℕ) → Refusal → Type 0
+IsCauseOf old new e =
+    (e ≡ Memory) ⊎ (e ≡ Device) ⊎ ((e ≡ Csv) × TooManyBytes old new)
+    ⊎ ((bytes : List ℕ) × Consumes old new bytes × IsAtEnd new × (length bytes ≤ LONGEST_TABLE)
+    × FirstFault (joined_history []) bytes e)

@@ -1,7 +1,9 @@
 //! The command `table`: a table of entries in, the table of its settled values out.
-ghost use Rattle.std.specs.Prelude.{◌≡◌, ◌≢◌, ◌<◌, ◌≤◌, ◌⊎◌, ℕ, List, IfErr, IfSome, OnOk};
+ghost use Rattle.std.specs.Prelude.{◌≡◌, ◌≢◌, ◌<◌, ◌≤◌, ◌⊎◌, ℕ, List, IfErr, OnOk};
 ghost use Rattle.std.specs.Io.KnownBytes.{Appends, Consumes, IsAtEnd};
-ghost use Rattle.sheet.specs.Tables.{IsTableOf, from_first};
+ghost use Rattle.std.specs.Option.{SomeIff};
+ghost use Rattle.ps_grid.specs.declared.size.TheConstants.{COLUMNS, ROWS};
+ghost use Rattle.sheet.specs.Tables.{IsCauseOf, IsTableOf, from_first};
 ghost use Rattle.sheet.specs.declared.fault.ProgramFault.TheVariants.{Refused};
 
 use crate::fault::ProgramFault;
@@ -16,7 +18,9 @@ use std::sync::ledger::Ledger;
 /// Takes a table of entries into an empty sheet of replica 1, and writes the shown values from A1 to the last record
 /// and the most fields that a record has; nothing where there is no record. The workers are 1 to 16.
 ///
-/// Refused as an import or an export is. Nothing is written before the whole table is taken in.
+/// Refused as an import or an export is: `Device` where one of the two fails, `Csv` where the source has too many bytes,
+/// and for the first fault of the table in reading order; for lack of memory in place of any of them. Nothing is written
+/// before the whole table is taken in.
 ///
 /// Cost: that of an import and an export.
 pub fn table_on<S: Source, K: Sink, L: Ledger>(
@@ -32,6 +36,8 @@ pub fn table_on<S: Source, K: Sink, L: Ledger>(
         × IsTableOf bytes text × Appends (K.contents sink.old) (K.contents sink.new) text) }
     ensures calm { OnOk result ((S.failures source.new ≡ S.failures source.old)
         × (K.failures sink.new ≡ K.failures sink.old)) }
+    ensures refused { IfErr result (λ f. (e : Refusal) × (f ≡ Refused e)
+        × IsCauseOf (S.remaining source.old) (S.remaining source.new) e) }
     ensures device { IfErr result (λ f. f ≡ Refused Refusal.Device
         → (S.failures source.old < S.failures source.new) ⊎ (K.failures sink.old < K.failures sink.new)) }
     ensures unwritten { IfErr result (λ f. f ≢ Refused Refusal.Device → sink.new ≡ sink.old) }
@@ -44,11 +50,8 @@ pub fn table_on<S: Source, K: Sink, L: Ledger>(
         Ok(imported) => imported,
         Err(fault) => return Err(ProgramFault::Refused(fault.refusal)),
     };
-    if imported.records == 0 {
-        return Ok(());
-    }
     let Some(rect) = extent(imported) else {
-        return Err(ProgramFault::Refused(Refusal::Csv));
+        return Ok(());
     };
     match export(alloc, &sheet, rect, sink) {
         Ok(()) => Ok(()),
@@ -56,13 +59,17 @@ pub fn table_on<S: Source, K: Sink, L: Ledger>(
     }
 }
 
-/// The cells from A1 to the last record and the most fields, if they lie in the grid.
+/// The cells from A1 to the last record and the most fields; none where there is no record.
 fn extent(imported: Imported) -> Option<Rect>
-    ensures { IfSome result (λ rect. rect ≡ from_first imported.records imported.fields) }
+    requires records { imported.records ≤ ROWS }
+    requires fields { imported.fields ≤ COLUMNS }
+    requires some { 0 < imported.records → 0 < imported.fields }
+    ensures { SomeIff result (0 < imported.records) (from_first imported.records imported.fields) }
 {
-    let fields = u8::try_from(imported.fields).ok()?;
-    let records = u16::try_from(imported.records).ok()?;
-    let first = Cell::new(0, 1)?;
-    let last = Cell::new(fields.checked_sub(1)?, records)?;
+    if imported.records == 0 {
+        return None;
+    }
+    let first = Cell::new(0, 1).unwrap();
+    let last = Cell::new(imported.fields as u8 - 1, imported.records as u16).unwrap();
     Some(Rect::new(first, last))
 }

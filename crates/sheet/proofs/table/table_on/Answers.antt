@@ -9,9 +9,8 @@ no_table : (records fields : ℕ) (sheet : SheetView) → records ≡ 0 → [] �
 no_table zero fields sheet is = refl
 no_table (suc n) fields sheet is = search rules
 
--- src/table.rt:48:9
-pub returns-then-imported-eq0-clause-done : goal.returns-then-imported-eq0-clause-done
-returns-then-imported-eq0-clause-done g c =
+pub returns-in_default-clause-done : goal.returns-in_default-clause-done
+returns-in_default-clause-done g c =
     let imported = c.in-Ok-import.ensures.imported in (
       imported.0,
       [],
