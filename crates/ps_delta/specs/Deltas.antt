@@ -1,4 +1,5 @@
--- A delta names cells in order, each with a state that isn't empty. It stands for a state; a list of deltas for the join.
+-- A delta names cells in order, each with a state that isn't empty. It stands for a state; a list of deltas for
+-- their join.
 use Rattle.std.specs.Prelude.{◌≢◌, ◌<◌, ℕ, ◌==◌, if◌then◌else◌, List, [], ◌∷◌, length, map, fold}
 use Rattle.std.specs.List.{All}
 use Rattle.std.specs.List.Sorted.{IsStrictlyIncreasing}
