@@ -10,7 +10,7 @@ use Rattle.ps_delta.specs.Deltas.{joined_history}
 use Rattle.ps_sheet.specs.Sheet.{SheetView}
 use Rattle.ps_csv.specs.declared.bytes.TheConstants.{LONGEST_TABLE}
 use Rattle.ps_csv.specs.declared.table.Table.{Table}
-use Rattle.ps_csv.specs.Records.{EntryFault, FirstFault, IsTable, Record, RecordFault}
+use Rattle.ps_csv.specs.Records.{EntryFault, FirstFault, IsTable, Record, RecordFault, TableFault}
 use Rattle.ps_csv.specs.Imports.{Assigned, TakesIn}
 use Rattle.ps_csv.specs.Tables.{HasRead, cells_of_each}
 use Rattle.ps_csv.proofs.TableLemmas.{length-read}
@@ -55,10 +55,11 @@ first_fault_refusal s bytes e first device =
 
 -- so none of a table is
 pub no_device : (r : Result Table Refusal) (t : State) (bytes : List ℕ) (P : Type 0)
-    → IfErr r (λ e. (e ≡ Memory) ⊎ FirstFault t bytes e) → IfErr r (λ e. e ≡ Device → P)
+    → IfErr r (λ e. (e ≡ Memory) ⊎ TableFault t bytes e) → IfErr r (λ e. e ≡ Device → P)
 no_device (Ok x) t bytes P fault = tt
 no_device (Err e) t bytes P (inl memory) = λ device. cc
-no_device (Err e) t bytes P (inr first) = λ device. absurd (first_fault_refusal t bytes e first device)
+no_device (Err e) t bytes P (inr (inl first)) = λ device. absurd (first_fault_refusal t bytes e first device)
+no_device (Err e) t bytes P (inr (inr fails)) = λ device. let is = fails.0 in cc
 
 -- a table that was read and assigned was taken in
 pub takes_in : (bytes : List ℕ) (table : List Record) (t : Table) (records fields : ℕ) (old new : SheetView)

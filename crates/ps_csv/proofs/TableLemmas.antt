@@ -6,16 +6,7 @@ use Rattle.std.proofs.lemmas.Bool.{false≢true}
 use Rattle.std.proofs.lemmas.List.{length-map, map-append}
 use Rattle.std.proofs.lemmas.List.Sums.{fold-append}
 use Rattle.std.specs.Global.{Vec}
-use Rattle.csv.specs.Reading.{
-  ExplainsRead,
-  FlexibleStep,
-  Reached,
-  Ready,
-  RowStep,
-  default_config,
-  error_kind,
-  stops_reader,
-}
+use Rattle.csv.specs.Reading.{ExplainsRead, FlexibleStep, Reached, Ready, RowStep, default_config, error_kind}
 use Rattle.csv.specs.Reading.{is_flexible, owned_rows_left, owned_rows_reader}
 use Rattle.csv.specs.Reading.{reader_config, reader_state, reader_trim, source_of, strip_bom}
 use Rattle.csv.specs.Records.{Row, fields_of}
@@ -33,8 +24,8 @@ use Rattle.ps_grid.specs.declared.size.TheConstants.{ROWS}
 use Rattle.ps_content.specs.declared.content.Content.{Content}
 use Rattle.ps_delta.specs.State.{State}
 use Rattle.ps_csv.specs.declared.table.Table.{Table}
-use Rattle.ps_csv.specs.Records.{Cells, FieldsSay, FirstFault, IsTable, NextFault, Record, RecordFault}
-use Rattle.ps_csv.specs.Records.{RecordsSay, most_fields}
+use Rattle.ps_csv.specs.Records.{Cells, FieldsSay, IsTable, NextFault, Record, RecordFault}
+use Rattle.ps_csv.specs.Records.{RecordsSay, TableFault, most_fields, refusal_of_kind}
 use Rattle.ps_csv.specs.Tables.{HasRead, IsFresh, cells_of_each}
 
 -- one more record
@@ -185,30 +176,40 @@ pub reading_stops : (s : State) (bytes : List ℕ) (a b : ByteRecordsIntoIter (B
     (row : Row) (e : Refusal)
     → IsReading s bytes a t → Gave a b (Some (Ok row))
     → ((before : List Record) → HasRead s before t → (e ≡ Memory) ⊎ NextFault s (length before) (fields_of row) e)
-    → (e ≡ Memory) ⊎ FirstFault s bytes e
+    → (e ≡ Memory) ⊎ TableFault s bytes e
 reading_stops s bytes a b t row e on gave fault =
     let m = rows-more (λ (r : Bor (List ℕ)). Some r.now) (owned_rows_reader a) (owned_rows_reader b)
     (fields_of row) default_config
     states.StartRecord (strip_bom bytes) on.rest on.table on.config on.source on.reached gave.0 in
     elim (fault on.table on.read) [
       | inl memory ↦ inl memory
-      | inr next ↦ inr (record {
+      | inr next ↦ inr (inl (record {
         before = on.table;
         here = fields_of row;
         batches = cells_of_each t.batches.items;
         read = (reader_state (owned_rows_reader b), m.0, m.2);
         said = on.read.said;
         fault = next;
-      })
+      }))
     ]
 
--- over bytes in memory, with records of any length, `csv` gives no error but one of the bytes or of memory
+-- an error of `csv` that isn't of memory says that what it reads from failed
 explained : (s : State) (bytes : List ℕ) (a b : ByteRecordsIntoIter (Bor (List ℕ))) (t : Table) (kind : ErrorKind)
     → IsReading s bytes a t
     → ExplainsRead (λ (r : Bor (List ℕ)). Some r.now) (owned_rows_reader a) (owned_rows_reader b) false kind
-    → stops_reader kind ≡ true
-explained s bytes a b t kinds.OutOfMemory on why = refl
-explained s bytes a b t (kinds.Io e) on why = refl
+    → (refusal_of_kind kind ≡ Memory) ⊎ TableFault s bytes (refusal_of_kind kind)
+explained s bytes a b t kinds.OutOfMemory on why = inl refl
+explained s bytes a b t (kinds.Io e) on why = inr (inr (
+  refl,
+  record {
+    before = on.table;
+    batches = cells_of_each t.batches.items;
+    read = (reader_state (owned_rows_reader a), on.rest, on.reached);
+    said = on.read.said;
+    error = kinds.Io e;
+    of_source = refl;
+  },
+))
 explained s bytes a b t (kinds.UnequalLengths pos expected len) on why =
     absurd (false≢true (sym why.0 ∙ on.flexible))
 explained s bytes a b t (kinds.Utf8 pos err) on why = absurd (false≢true why.0)
@@ -216,8 +217,11 @@ explained s bytes a b t (kinds.Serialize text) on why = absurd why
 explained s bytes a b t (kinds.Deserialize pos err) on why = absurd why
 
 pub reading_fails : (s : State) (bytes : List ℕ) (a b : ByteRecordsIntoIter (Bor (List ℕ))) (t : Table)
-    (error : Error) → IsReading s bytes a t → Gave a b (Some (Err error)) → stops_reader (error_kind error) ≡ true
-reading_fails s bytes a b t error on gave = explained s bytes a b t (error_kind error) on gave
+    (error : Error) (e : Refusal)
+    → IsReading s bytes a t → Gave a b (Some (Err error)) → e ≡ refusal_of_kind (error_kind error)
+    → (e ≡ Memory) ⊎ TableFault s bytes e
+reading_fails s bytes a b t error e on gave is =
+    rw is (explained s bytes a b t (error_kind error) on gave)
 
 pub reading_ends : (s : State) (bytes : List ℕ) (a b : ByteRecordsIntoIter (Bor (List ℕ))) (t : Table)
     → IsReading s bytes a t → Gave a b None → (table : List Record) × IsTable bytes table × HasRead s table t

@@ -1,7 +1,9 @@
 -- What the records of a table say: field j of record n, both counted from 0, is an entry for its cell.
 use Rattle.std.specs.Prelude.{◌≡◌, ◌≢◌, ◌⊎◌, ℕ, ◌+◌, ◌*◌, ◌<◌, ◌≤◌, true, false, List, [], ◌∷◌, ◌++◌, length, max}
 use Rattle.std.specs.Prelude.{Ok, Err, fold}
-use Rattle.csv.specs.Reading.{AreRecords, Reached, default_config, strip_bom}
+use Rattle.csv.specs.Reading.{AreRecords, Reached, default_config, is_io, strip_bom}
+use Rattle.csv.specs.declared.error.ErrorKind.{ErrorKind}
+use Rattle.csv.specs.declared.error.ErrorKind.TheVariants as kinds
 use Rattle.csv.specs.declared.parser.State.{State as ReaderState}
 use Rattle.csv.specs.declared.parser.State.TheVariants as reader
 use Rattle.ps_grid.specs.declared.refusal.Refusal.{Refusal}
@@ -87,6 +89,25 @@ pub record FirstFault (s : State) (bytes : List ℕ) (e : Refusal) : Type 0 wher
   pub read : BeginsTable bytes (before ++ here ∷ [])
   pub said : RecordsSay s 0 before batches
   pub fault : NextFault s (length before) here e
+
+-- the refusal of an error of `csv`
+abbrev pub refusal_of_kind : ErrorKind → Refusal
+refusal_of_kind kinds.OutOfMemory = Memory
+refusal_of_kind _ = Csv
+
+-- `csv`'s reader gives no record behind the first ones, which have no fault: it says that what it reads from failed.
+-- No word of `csv` rules that out of bytes in memory; it rules out each of its other errors, but that of memory
+pub record ReaderFails (s : State) (bytes : List ℕ) : Type 0 where
+  pub before : List Record
+  pub batches : List Cells
+  pub read : BeginsTable bytes before
+  pub said : RecordsSay s 0 before batches
+  pub error : ErrorKind
+  pub of_source : is_io error ≡ true
+
+-- WHY A TEXT ISN'T TAKEN IN: for its first fault, or since `csv`'s reader fails
+abbrev pub TableFault : State → List ℕ → Refusal → Type 0
+TableFault s bytes e = FirstFault s bytes e ⊎ ((e ≡ Csv) × ReaderFails s bytes)
 
 -- the greatest number of fields in a record
 abbrev pub most_fields : List Record → ℕ

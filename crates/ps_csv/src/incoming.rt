@@ -5,7 +5,7 @@ ghost use Rattle.std.specs.Io.KnownBytes.{Consumes, IsAtEnd};
 ghost use Rattle.ps_grid.specs.declared.size.TheConstants.{COLUMNS, ROWS};
 ghost use Rattle.ps_delta.specs.Deltas.{joined_history};
 ghost use Rattle.ps_sheet.specs.Sheet.{IsSheet};
-ghost use Rattle.ps_csv.specs.Records.{FirstFault, IsTable, Record};
+ghost use Rattle.ps_csv.specs.Records.{IsTable, Record, TableFault};
 ghost use Rattle.ps_csv.specs.Sources.{TooManyBytes};
 ghost use Rattle.ps_csv.specs.Tables.{HasRead};
 ghost use Rattle.ps_csv.specs.Imports.{StopsAfter, TakesIn};
@@ -36,8 +36,9 @@ pub struct Imported {
 /// The source is read to its end, and all fields are checked before anything is assigned. Refused for the first of
 /// these: `Device` where the source failed, `Csv` where it has more than `LONGEST_TABLE` bytes; then, for the first
 /// field or record at fault in reading order, `Csv` for a record past the last row or a field past the last column,
-/// what `read_entry` refuses, and `ClockFull` where the cell's register has the last time. For lack of memory in place
-/// of any of them. Then nothing is assigned, but that where memory ends between two edits the records before stand.
+/// what `read_entry` refuses, and `ClockFull` where the cell's register has the last time; and `Csv` where `csv`'s
+/// reader fails, though it reads bytes in memory. For lack of memory in place of any of them. Then nothing is
+/// assigned, but that where memory ends between two edits the records before stand.
 ///
 /// Cost: the bytes of the source, and an edit for each record.
 pub fn import<S: Source, L: Ledger>(
@@ -56,7 +57,7 @@ pub fn import<S: Source, L: Ledger>(
         ⊎ ((f.refusal ≡ Refusal.Csv) × TooManyBytes (S.remaining source.old) (S.remaining source.new))
         ⊎ ((bytes : List ℕ)
         × Consumes (S.remaining source.old) (S.remaining source.new) bytes × IsAtEnd (S.remaining source.new)
-        × (length bytes ≤ LONGEST_TABLE) × FirstFault (joined_history sheet.old.history) bytes f.refusal)) }
+        × (length bytes ≤ LONGEST_TABLE) × TableFault (joined_history sheet.old.history) bytes f.refusal)) }
     ensures device { IfErr result (λ f. f.refusal ≡ Refusal.Device → S.failures source.old < S.failures source.new) }
     ensures steady { IfErr result (λ f. f.refusal ≢ Refusal.Device
         → S.failures source.new ≡ S.failures source.old) }
@@ -96,7 +97,7 @@ fn checked<S: Source>(alloc: Global, source: &mut S, sheet: &Sheet) -> Result<Ta
         ⊎ ((e ≡ Refusal.Csv) × TooManyBytes (S.remaining source.old) (S.remaining source.new))
         ⊎ ((bytes : List ℕ)
         × Consumes (S.remaining source.old) (S.remaining source.new) bytes × IsAtEnd (S.remaining source.new)
-        × (length bytes ≤ LONGEST_TABLE) × FirstFault (joined_history sheet.now.history) bytes e)) }
+        × (length bytes ≤ LONGEST_TABLE) × TableFault (joined_history sheet.now.history) bytes e)) }
     ensures device { IfErr result (λ e. e ≡ Refusal.Device → S.failures source.old < S.failures source.new) }
     ensures steady { IfErr result (λ e. e ≢ Refusal.Device → S.failures source.new ≡ S.failures source.old) }
     ensures sheet { IsSheet sheet.now }

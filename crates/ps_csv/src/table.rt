@@ -1,10 +1,10 @@
 //! The records of a table.
 
-ghost use Rattle.std.specs.Prelude.{◌≡◌, ◌⊎◌, ◌∷◌, ◌++◌, [], true, List, length, IfOk, IfErr, OnOk};
-ghost use Rattle.csv.specs.Reading.{error_kind, stops_reader};
+ghost use Rattle.std.specs.Prelude.{◌≡◌, ◌⊎◌, ◌∷◌, ◌++◌, [], List, length, IfOk, IfErr, OnOk};
+ghost use Rattle.csv.specs.Reading.{error_kind};
 ghost use Rattle.csv.specs.Records.{fields_of};
 ghost use Rattle.ps_delta.specs.Deltas.{joined_history};
-ghost use Rattle.ps_csv.specs.Records.{FirstFault, IsTable, NextFault, Record};
+ghost use Rattle.ps_csv.specs.Records.{IsTable, NextFault, Record, TableFault, refusal_of_kind};
 ghost use Rattle.ps_csv.specs.Tables.{HasRead, IsFresh};
 
 use crate::fields::read_record;
@@ -28,7 +28,7 @@ pub(crate) fn read_table(alloc: Global, sheet: &Sheet, bytes: &[u8]) -> Result<T
     ensures read { IfOk result (λ t. (table : List Record) × IsTable bytes.now table
         × HasRead (joined_history sheet.now.history) table t) }
     ensures fault { IfErr result (λ e.
-        (e ≡ Refusal.Memory) ⊎ FirstFault (joined_history sheet.now.history) bytes.now e) }
+        (e ≡ Refusal.Memory) ⊎ TableFault (joined_history sheet.now.history) bytes.now e) }
 {
     let mut table = Table {
         batches: Vec::new(alloc),
@@ -77,14 +77,12 @@ fn take_record(
     Ok(())
 }
 
-// The refusal of an error of `csv`. Over bytes in memory only the want of memory comes; `csv` leaves open that the
-// bytes fail to be read, which counts as that too.
+// The refusal of an error of `csv`.
 fn refusal_of(error: &Error) -> Refusal
-    requires { stops_reader (error_kind error.now) ≡ true }
-    ensures { result ≡ Refusal.Memory }
+    ensures { result ≡ refusal_of_kind (error_kind error.now) }
 {
     match error.kind() {
-        ErrorKind::OutOfMemory | ErrorKind::Io(_) => Refusal::Memory,
-        _ => unreachable!(),
+        ErrorKind::OutOfMemory => Refusal::Memory,
+        _ => Refusal::Csv,
     }
 }

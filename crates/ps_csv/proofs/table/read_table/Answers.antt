@@ -25,6 +25,14 @@ returns-in_err-take_record-in-Ok-clause-fault c =
     c.loop-row.table c.in-Ok.row
     c.in_err-take_record-in-Ok.field-0.0 inv gave c.in_err-take_record-in-Ok.ensures.fault)
 
+pub returns-in-Err-clause-fault : goal.returns-in-Err-clause-fault
+returns-in-Err-clause-fault c =
+    let s = joined_history c.args.sheet.now.history in
+    let inv = c.loop-row.invariant in
+    let gave = rw (c.in-Some.is, c.in-Err.is) at ((c.next.ensures.steps inv.left inv.trim).0 inv.ready) in
+    reading_fails s c.args.bytes.now c.loop-row.row-iterator c.next.new.self
+    c.loop-row.table c.in-Err.error c.refusal_of.result inv gave c.refusal_of.ensures
+
 pub loop-row-preserved : goal.loop-row-preserved
 loop-row-preserved c =
     let s = joined_history c.args.sheet.now.history in
