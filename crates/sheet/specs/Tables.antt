@@ -9,7 +9,7 @@ use Rattle.ps_sheet.specs.Settled.{shown_at}
 use Rattle.ps_sheet.specs.Sheet.{IsSheet, SheetView}
 use Rattle.ps_csv.specs.Exports.{exported}
 use Rattle.ps_csv.specs.Imports.{TakesIn}
-use Rattle.ps_csv.specs.Records.{FirstFault}
+use Rattle.ps_csv.specs.Records.{TableFault}
 use Rattle.ps_csv.specs.Sources.{TooManyBytes}
 use Rattle.ps_csv.specs.declared.bytes.TheConstants.{LONGEST_TABLE}
 
@@ -34,10 +34,10 @@ pub record IsTableOf (bytes text : List ℕ) : Type 0 where
   pub settled : IsSheet filled
   pub shown : text ≡ table_of records fields filled
 
--- the causes of a refusal: memory, a device, too many bytes, or the first fault of a table in an empty sheet. A source
--- had `old` and has `new` to come
+-- the causes of a refusal: memory, a device, too many bytes, or what is at fault with a table for an empty sheet. A
+-- source had `old` and has `new` to come
 abbrev pub IsCauseOf : Option (List ℕ) → Option (List ℕ) → Refusal → Type 0
 IsCauseOf old new e =
     (e ≡ Memory) ⊎ (e ≡ Device) ⊎ ((e ≡ Csv) × TooManyBytes old new)
     ⊎ ((bytes : List ℕ) × Consumes old new bytes × IsAtEnd new × (length bytes ≤ LONGEST_TABLE)
-    × FirstFault (joined_history []) bytes e)
+    × TableFault (joined_history []) bytes e)

@@ -19,8 +19,8 @@ use std::sync::ledger::Ledger;
 /// and the most fields that a record has; nothing where there is no record. The workers are 1 to 16.
 ///
 /// Refused as an import or an export is: `Device` where one of the two fails, `Csv` where the source has too many
-/// bytes, and for the first fault of the table in reading order; for lack of memory in place of any of them. Nothing is
-/// written before the whole table is taken in.
+/// bytes, and for the first fault of the table in reading order, or as `Csv` where `csv`'s reader fails; for lack of
+/// memory in place of any of them. Nothing is written before the whole table is taken in.
 ///
 /// Cost: that of an import and an export.
 pub fn table_on<S: Source, K: Sink, L: Ledger>(

@@ -2,7 +2,7 @@ use Rattle.std.proofs.Common.{◌<◌, ◌∙◌, ap, refl}
 use Rattle.std.proofs.lemmas.Result.{err_from_is_err_and}
 use Rattle.csv.specs.Reading.{owned_rows_left, owned_rows_reader}
 use Rattle.ps_delta.specs.Deltas.{joined_history}
-use Rattle.ps_csv.proofs.TableLemmas.{reading_goes_on, reading_starts, reading_stops}
+use Rattle.ps_csv.proofs.TableLemmas.{reading_fails, reading_goes_on, reading_starts, reading_stops}
 use Rattle.ps_csv.proofs.table.read_table.Goals as goal
 
 pub loop-row-init : goal.loop-row-init
