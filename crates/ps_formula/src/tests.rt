@@ -1,13 +1,97 @@
 //! Formulas as a person writes them, and texts that are none.
+//!
+//! What a test asserts is worked out by small functions with few owned values each, and its tables are texts: those
+//! are quick to prove.
 
 use crate::{Argument, Expr, Formula, Sign};
 use ps_grid::{Cell, Rect, Refusal};
 use ps_tokens::{Function, Operator};
 use std::alloc::Global;
-use std::test::Fail;
 
-fn cell(column: u8, row: u16) -> Result<Cell, &'static str> {
-    Cell::new(column, row).ok_or("no cell")
+// Whether the text is a formula with this canonical text.
+fn has_canonical(alloc: Global, text: &[u8], canonical: &[u8]) -> Result<bool, Refusal> {
+    Ok(Formula::read(alloc, text)?.text() == canonical)
+}
+
+// Whether the first formula is less than the second, and whether it equals that.
+fn compared(alloc: Global, first: &[u8], second: &[u8]) -> Result<(bool, bool), Refusal> {
+    let first = Formula::read(alloc, first)?;
+    let second = Formula::read(alloc, second)?;
+    Ok((first < second, first == second))
+}
+
+fn becomes(alloc: Global, text: &[u8], canonical: &[u8]) -> bool {
+    has_canonical(alloc, text, canonical) == Ok(true)
+        && compared(alloc, text, canonical) == Ok((false, true))
+}
+
+/// A formula that was read gives its canonical text: no blanks, no `$`, no leading zeros, names in upper case, a
+/// range's corners at the top left and the bottom right; parentheses and signs are kept, and so is a range of one
+/// cell. Its canonical text is read as the same formula.
+#[test]
+fn canonical_texts(rt: HostRuntime) {
+    // in each line a text and its canonical text
+    let texts = "of:= - 2 * sum ( [.$C$2:.B1] ; 007 ) ~ =-2*SUM([.B1:.C2];7)\n\
+        = sum( [.$B$2:.A1] ; -007) ~ =SUM([.A1:.B2];-7)\n\
+        = true ( ) ~ =TRUE()\n\
+        of:=False() ~ =FALSE()\n\
+        of:= 1 ~ =1\n\
+        =--3*-2 ~ =--3*-2\n\
+        =2-3-4 ~ =2-3-4\n\
+        =2-(3-4) ~ =2-(3-4)\n\
+        =+ +1 ~ =++1\n\
+        =((1)) ~ =((1))\n\
+        =(1<2)*5 ~ =(1<2)*5\n\
+        =1 = 2 <> 3 < 4 <= 5 > 6 >= 7 ~ =1=2<>3<4<=5>6>=7\n\
+        =9223372036854775807+1 ~ =9223372036854775807+1\n\
+        =0009223372036854775807 ~ =9223372036854775807\n\
+        =IF(0;1) ~ =IF(0;1)\n\
+        =COUNT(1;MOD(1;0);[.$Z9]) ~ =COUNT(1;MOD(1;0);[.Z9])\n\
+        =SUM(([.A1])) ~ =SUM(([.A1]))\n\
+        =MIN([.A3:.A2];9) ~ =MIN([.A2:.A3];9)\n\
+        =Max([.B1:.A2]) ~ =MAX([.A1:.B2])\n\
+        =SUM([.A1:.A1]) ~ =SUM([.A1:.A1])\n\
+        =QUOTIENT(-9223372036854775807-1;-1) ~ =QUOTIENT(-9223372036854775807-1;-1)\n\
+        =AND(1;or(0;not([.CZ1024]));abs(-5)) ~ =AND(1;OR(0;NOT([.CZ1024]));ABS(-5))";
+    for row in texts.lines() {
+        let pair = row.split_once(" ~ ");
+        let (text, canonical) = pair.unwrap_or(("", ""));
+        assert!(rt;
+            becomes(rt.alloc(), text.as_bytes(), canonical.as_bytes()),
+            "{text}"
+        );
+    }
+    assert!(rt; becomes(rt.alloc(), b"=iF(MOD(1;0);1;\t2)\r\n", b"=IF(MOD(1;0);1;2)"));
+}
+
+/// Formulas are ordered by the bytes of their canonical texts, however they were written.
+#[test]
+fn order(rt: HostRuntime) {
+    assert!(rt; compared(rt.alloc(), b"=12", b"= 02") == Ok((true, false)));
+    assert!(rt; compared(rt.alloc(), b"= 02", b"of:=2") == Ok((false, true)));
+}
+
+// Why the text is refused.
+fn refusal(alloc: Global, text: &[u8]) -> Option<Refusal> {
+    Formula::read(alloc, text).err()
+}
+
+/// What the grammar does not have is refused as no formula.
+#[test]
+fn no_formulas(rt: HostRuntime) {
+    // one in each line; the first is empty, and the third begins with a blank
+    let texts = "\n1\n =1\n\
+        of: =1\nOF:=1\n=\n= \n==1\n=SUM()\n=AND()\n=TRUE\n=TRUE(1)\n=[.A1:.A2]\n=AND([.A1:.A2])\n\
+        =IF([.A1:.A2];1)\n=([.A1:.A2])\n=SUM(([.A1:.A2]))\n=SUM([.A1:.A2]+1)\n=NONE(1)\n=SUMS(1)\n\
+        =IF(1)\n=IF(1;2;3;4)\n=MOD(1)\n=MOD(1;2;3)\n=QUOTIENT(1)\n=ABS()\n=ABS(1;2)\n=NOT(1;2)\n\
+        =SUM(1;)\n=SUM(;1)\n=SUM(1;;2)\n=S UM(1)\n=1 2\n=[.A 1]\n=1< =2\n=[.a1]\n=[.A0]\n=[.A01]\n\
+        =[.DA1]\n=[.A1025]\n=[A1]\n=\"text\"\n=1.5\n=9223372036854775808\n=1+\n=*1\n=(1\n=1)";
+    for text in texts.lines() {
+        assert!(rt;
+            refusal(rt.alloc(), text.as_bytes()) == Some(Refusal::Formula),
+            "{text}"
+        );
+    }
 }
 
 // The opening of a formula, a byte a number of times, and an end.
@@ -21,197 +105,91 @@ fn repeated(alloc: Global, byte: u8, count: usize, end: &[u8]) -> Result<Vec<u8>
     Ok(text)
 }
 
-/// A formula that was read gives its canonical text: no blanks, no `$`, no leading zeros, names in upper case, a
-/// range's corners at the top left and the bottom right; parentheses and signs are kept, and so is a range of one
-/// cell. Its canonical text is read as the same formula.
-#[test]
-fn canonical_texts(rt: HostRuntime) -> Result<(), Fail> {
-    let texts: [(&[u8], &[u8]); 23] = [
-        (
-            b"of:= - 2 * sum ( [.$C$2:.B1] ; 007 )",
-            b"=-2*SUM([.B1:.C2];7)",
-        ),
-        (b"= sum( [.$B$2:.A1] ; -007)", b"=SUM([.A1:.B2];-7)"),
-        (b"= true ( )", b"=TRUE()"),
-        (b"of:=False()", b"=FALSE()"),
-        (b"of:= 1", b"=1"),
-        (b"=--3*-2", b"=--3*-2"),
-        (b"=2-3-4", b"=2-3-4"),
-        (b"=2-(3-4)", b"=2-(3-4)"),
-        (b"=+ +1", b"=++1"),
-        (b"=((1))", b"=((1))"),
-        (b"=(1<2)*5", b"=(1<2)*5"),
-        (b"=1 = 2 <> 3 < 4 <= 5 > 6 >= 7", b"=1=2<>3<4<=5>6>=7"),
-        (b"=9223372036854775807+1", b"=9223372036854775807+1"),
-        (b"=0009223372036854775807", b"=9223372036854775807"),
-        (b"=IF(0;1)", b"=IF(0;1)"),
-        (b"=iF(MOD(1;0);1;\t2)\r\n", b"=IF(MOD(1;0);1;2)"),
-        (b"=COUNT(1;MOD(1;0);[.$Z9])", b"=COUNT(1;MOD(1;0);[.Z9])"),
-        (b"=SUM(([.A1]))", b"=SUM(([.A1]))"),
-        (b"=MIN([.A3:.A2];9)", b"=MIN([.A2:.A3];9)"),
-        (b"=Max([.B1:.A2])", b"=MAX([.A1:.B2])"),
-        (b"=SUM([.A1:.A1])", b"=SUM([.A1:.A1])"),
-        (
-            b"=QUOTIENT(-9223372036854775807-1;-1)",
-            b"=QUOTIENT(-9223372036854775807-1;-1)",
-        ),
-        (
-            b"=AND(1;or(0;not([.CZ1024]));abs(-5))",
-            b"=AND(1;OR(0;NOT([.CZ1024]));ABS(-5))",
-        ),
-    ];
-    for (text, canonical) in texts {
-        let formula = Formula::read(rt.alloc(), text)?;
-        assert_eq!(rt; formula.text(), canonical);
-        let again = Formula::read(rt.alloc(), canonical)?;
-        assert!(rt; again == formula);
-    }
-    Ok(())
-}
-
-/// Formulas are ordered by the bytes of their canonical texts, however they were written.
-#[test]
-fn order(rt: HostRuntime) -> Result<(), Fail> {
-    let two = Formula::read(rt.alloc(), b"= 02")?;
-    let twelve = Formula::read(rt.alloc(), b"=12")?;
-    let again = Formula::read(rt.alloc(), b"of:=2")?;
-    assert!(rt; twelve < two);
-    assert!(rt; two == again && two != twelve);
-    Ok(())
-}
-
-/// What the grammar does not have is refused as no formula.
-#[test]
-fn no_formulas(rt: HostRuntime) {
-    let texts: [&[u8]; 48] = [
-        b"",
-        b"1",
-        b" =1",
-        b"of: =1",
-        b"OF:=1",
-        b"=",
-        b"= ",
-        b"==1",
-        b"=SUM()",
-        b"=AND()",
-        b"=TRUE",
-        b"=TRUE(1)",
-        b"=[.A1:.A2]",
-        b"=AND([.A1:.A2])",
-        b"=IF([.A1:.A2];1)",
-        b"=([.A1:.A2])",
-        b"=SUM(([.A1:.A2]))",
-        b"=SUM([.A1:.A2]+1)",
-        b"=NONE(1)",
-        b"=SUMS(1)",
-        b"=IF(1)",
-        b"=IF(1;2;3;4)",
-        b"=MOD(1)",
-        b"=MOD(1;2;3)",
-        b"=QUOTIENT(1)",
-        b"=ABS()",
-        b"=ABS(1;2)",
-        b"=NOT(1;2)",
-        b"=SUM(1;)",
-        b"=SUM(;1)",
-        b"=SUM(1;;2)",
-        b"=S UM(1)",
-        b"=1 2",
-        b"=[.A 1]",
-        b"=1< =2",
-        b"=[.a1]",
-        b"=[.A0]",
-        b"=[.A01]",
-        b"=[.DA1]",
-        b"=[.A1025]",
-        b"=[A1]",
-        b"=\"text\"",
-        b"=1.5",
-        b"=9223372036854775808",
-        b"=1+",
-        b"=*1",
-        b"=(1",
-        b"=1)",
-    ];
-    for text in texts {
-        assert_eq!(rt;
-            Formula::read(rt.alloc(), text).err(),
-            Some(Refusal::Formula),
-            "{text:?}"
-        );
+// Why such a text is refused.
+fn refusal_of(alloc: Global, byte: u8, count: usize, end: &[u8]) -> Option<Refusal> {
+    match repeated(alloc, byte, count, end) {
+        Ok(text) => refusal(alloc, &text),
+        Err(refusal) => Some(refusal),
     }
 }
 
 /// 512 bytes are read, 513 are too long whatever they hold; a canonical text has at most 256 bytes. Nothing nests
 /// too deep for the reader.
 #[test]
-fn lengths(rt: HostRuntime) -> Result<(), Fail> {
+fn lengths(rt: HostRuntime) {
     let alloc = rt.alloc();
-    let reading = |text: Vec<u8>| Formula::read(alloc, &text).err();
-    assert_eq!(rt; reading(repeated(alloc, b' ', 510, b"1")?), None);
-    assert_eq!(rt;
-        reading(repeated(alloc, b' ', 511, b"1")?),
-        Some(Refusal::TooLong)
-    );
-    assert_eq!(rt;
-        reading(repeated(alloc, b'?', 512, b"")?),
-        Some(Refusal::TooLong)
-    );
-    assert_eq!(rt; reading(repeated(alloc, b'-', 254, b"1")?), None);
-    assert_eq!(rt;
-        reading(repeated(alloc, b'-', 255, b"1")?),
-        Some(Refusal::TooLong)
-    );
-    assert_eq!(rt;
-        reading(repeated(alloc, b'(', 511, b"")?),
-        Some(Refusal::Formula)
-    );
-    let closed = [b')'; 128];
-    let mut nested = repeated(alloc, b'(', 127, b"1")?;
-    nested.extend_from_slice(&closed[..127])?;
-    assert_eq!(rt; reading(nested), None);
-    let mut nested = repeated(alloc, b'(', 128, b"1")?;
-    nested.extend_from_slice(&closed)?;
-    assert_eq!(rt; reading(nested), Some(Refusal::TooLong));
-    Ok(())
+    assert!(rt; refusal_of(alloc, b' ', 510, b"1") == None);
+    assert!(rt; refusal_of(alloc, b' ', 511, b"1") == Some(Refusal::TooLong));
+    assert!(rt; refusal_of(alloc, b'?', 512, b"") == Some(Refusal::TooLong));
+    assert!(rt; refusal_of(alloc, b'-', 254, b"1") == None);
+    assert!(rt; refusal_of(alloc, b'-', 255, b"1") == Some(Refusal::TooLong));
+    assert!(rt; refusal_of(alloc, b'(', 511, b"") == Some(Refusal::Formula));
+    // a numeral and 128 closing parentheses
+    let mut closed = [b')'; 129];
+    closed[0] = b'1';
+    assert!(rt; refusal_of(alloc, b'(', 127, &closed[..128]) == None);
+    assert!(rt; refusal_of(alloc, b'(', 128, &closed) == Some(Refusal::TooLong));
+}
+
+// Whether the tree is (2-3) less the product of -4 and 5, as far as its operators, 4 and 5 say.
+fn is_grouped(tree: &Expr) -> bool {
+    let Expr::Infix(left, Operator::Minus, right) = tree else {
+        return false;
+    };
+    let Expr::Infix(four, Operator::Times, five) = &**right else {
+        return false;
+    };
+    let Expr::Prefix(Sign::Minus, four) = &**four else {
+        return false;
+    };
+    matches!(&**left, Expr::Infix(_, Operator::Minus, _))
+        && matches!(&**four, Expr::Numeral(4))
+        && matches!(&**five, Expr::Numeral(5))
+}
+
+fn read_is_grouped(alloc: Global) -> Result<bool, Refusal> {
+    Ok(is_grouped(Formula::read(alloc, b"=2-3--4*5")?.tree()))
 }
 
 /// Operators of one level group from the left, `*` binds tighter than `-`, and a sign tighter than both.
 #[test]
-fn grouping(rt: HostRuntime) -> Result<(), Fail> {
-    let formula = Formula::read(rt.alloc(), b"=2-3--4*5")?;
-    let Expr::Infix(left, Operator::Minus, right) = formula.tree() else {
-        return Err("no difference")?;
+fn grouping(rt: HostRuntime) {
+    assert!(rt; read_is_grouped(rt.alloc()) == Ok(true));
+}
+
+fn expected_rects() -> Option<[Rect; 3]> {
+    let b1 = Cell::new(1, 1)?;
+    let a1 = Cell::new(0, 1)?;
+    Some([
+        Rect::new(b1, b1),
+        Rect::new(a1, Cell::new(2, 2)?),
+        Rect::new(a1, Cell::new(103, 1024)?),
+    ])
+}
+
+fn has_expected_rects(rects: &[Rect]) -> bool {
+    match expected_rects() {
+        Some(expected) => rects == expected.as_slice(),
+        None => false,
+    }
+}
+
+// Whether it is a call of IF with three arguments, of which the second is a reference.
+fn is_choice(tree: &Expr) -> bool {
+    let Expr::Call(Function::If, arguments) = tree else {
+        return false;
     };
-    assert!(rt; matches!(&**left, Expr::Infix(_, Operator::Minus, _)));
-    let Expr::Infix(four, Operator::Times, five) = &**right else {
-        return Err("no product")?;
-    };
-    let Expr::Prefix(Sign::Minus, four) = &**four else {
-        return Err("no sign")?;
-    };
-    assert!(rt; matches!(&**four, Expr::Numeral(4)));
-    assert!(rt; matches!(&**five, Expr::Numeral(5)));
-    Ok(())
+    arguments.len() == 3 && matches!(&arguments[1], Argument::Expression(Expr::Reference(_)))
+}
+
+fn refers_to_all(alloc: Global) -> Result<bool, Refusal> {
+    let formula = Formula::read(alloc, b"=IF(0;[.B1];SUM([.C2:.A1];[.A1:.CZ1024]))")?;
+    Ok(has_expected_rects(formula.rects()) && is_choice(formula.tree()))
 }
 
 /// A formula refers to the cells of all its references and ranges, in branches that are not taken too; a range that
 /// covers the grid is one rectangle.
 #[test]
-fn references(rt: HostRuntime) -> Result<(), Fail> {
-    let formula = Formula::read(rt.alloc(), b"=IF(0;[.B1];SUM([.C2:.A1];[.A1:.CZ1024]))")?;
-    let b1 = cell(1, 1)?;
-    let a1 = cell(0, 1)?;
-    let expected = [
-        Rect::new(b1, b1),
-        Rect::new(a1, cell(2, 2)?),
-        Rect::new(a1, cell(103, 1024)?),
-    ];
-    assert_eq!(rt; formula.rects(), expected.as_slice());
-    let Expr::Call(Function::If, arguments) = formula.tree() else {
-        return Err("no call")?;
-    };
-    assert_eq!(rt; arguments.len(), 3);
-    assert!(rt; matches!(&arguments[1], Argument::Expression(Expr::Reference(_))));
-    Ok(())
+fn references(rt: HostRuntime) {
+    assert!(rt; refers_to_all(rt.alloc()) == Ok(true));
 }
