@@ -1,15 +1,15 @@
 -- A session whose input is read on piece by piece, and its end.
 use Rattle.std.proofs.Common.{◌≡◌, ◌≢◌, ◌^◌, ◌+◌, ◌-◌, ◌<◌, ◌≤◌, ℕ, min, List, [], ◌∷◌, ◌++◌}
-use Rattle.std.proofs.Common.{length, take, drop, refl, sym, ap, ◌∙◌, rules, arith, Option, Some, None, subst}
+use Rattle.std.proofs.Common.{length, take, drop, refl, sym, ap, ◌∙◌, rules, arith, Option, Some, None, subst, inl, inr}
 use Rattle.std.proofs.Common.{append_assoc, append-nil, length-drop}
 use Rattle.std.specs.Prelude.{⊤}
-use Rattle.std.specs.Io.KnownBytes.{Appends}
+use Rattle.std.specs.Io.KnownBytes.{Appends, Keeps}
 use Rattle.std.proofs.Math.Seq.{take-add}
 use Rattle.std.proofs.lemmas.List.{take-append-drop}
-use Rattle.ps_value.proofs.DeviceLemmas.{Appends-append, Appends-nil, rest-range}
+use Rattle.ps_value.proofs.DeviceLemmas.{Appends-append, Appends-keeps, Appends-nil, rest-range}
 use Rattle.ps_session.specs.Kept.{kept}
 use Rattle.ps_session.specs.Feeding.{Ends, Reading}
-use Rattle.ps_session.specs.Transcript.{Answered, Answering, Cut, IsBehindLine, Run, Transcribed, answered_count}
+use Rattle.ps_session.specs.Transcript.{Answered, Answering, Cut, IsBehindLine, Run, Stopped, Transcribed, answered_count}
 use Rattle.ps_session.specs.Transcript.{has_reply, stream_of, with_last}
 use Rattle.ps_session.specs.Stands.{Stands}
 use Rattle.ps_session.specs.Holds.{Holds, as_one}
@@ -135,6 +135,34 @@ module _ {State : Type 0} (Handles : Answering State) (first : State) (written :
     stands_answered board pending contents answered s =
         record { lines = s.lines; rest = s.rest; text = s.text; split = s.split; run = s.run; sent = s.sent }
 
+    -- what was put was handed on
+    pub stands_settled : (board : State) (pending contents after : Option (List ℕ)) (answered : ℕ) → Keeps contents after
+        → Stands Handles first written read board pending contents answered
+        → Stands Handles first written read board pending after answered
+    stands_settled board pending contents after answered same s = record {
+      lines = s.lines;
+      rest = s.rest;
+      text = s.text;
+      split = s.split;
+      run = s.run;
+      held = s.held;
+      sent = Appends-keeps written contents after s.text s.sent same;
+      counted = s.counted;
+    }
+
+    pub transcribed_settled : (board : State) (contents after : Option (List ℕ)) (answered : ℕ) → Keeps contents after
+        → Transcribed Handles first written read board contents answered
+        → Transcribed Handles first written read board after answered
+    transcribed_settled board contents after answered same s = record {
+      lines = s.lines;
+      rest = s.rest;
+      text = s.text;
+      split = s.split;
+      run = s.run;
+      sent = Appends-keeps written contents after s.text s.sent same;
+      counted = s.counted;
+    }
+
     -- a cut reply, with what is known of the end of the input
     pub cut_behind_end : (P Q : Type 0) (last : State) (contents : Option (List ℕ)) → (P → Q)
         → Cut Handles P first written read last contents
@@ -160,6 +188,14 @@ module _ {State : Type 0} (Handles : Answering State) (first : State) (written :
         go : (after : List ℕ) → IsBehindLine P after → IsBehindLine Q after
         go [] p = known p
         go (b ∷ bs) p = p
+
+    -- the sink failed, with what is known of the end of the input
+    pub stopped_behind_end : (P Q : Type 0) (last : State) (contents : Option (List ℕ)) → (P → Q)
+        → Stopped Handles P first written read last contents
+        → Stopped Handles Q first written read last contents
+    stopped_behind_end P Q last contents known (inl cut) = inl (cut_behind_end P Q last contents known cut)
+    stopped_behind_end P Q last contents known (inr (inl all)) = inr (inl all)
+    stopped_behind_end P Q last contents known (inr (inr end)) = inr (inr (known end.0, end.1, end.2))
 
     pub stands_more : (bytes : List ℕ) (start taken : ℕ) (board : State) (pending contents : Option (List ℕ)) (answered
         : ℕ)

@@ -19,7 +19,7 @@ use Rattle.ps_session.specs.Answers.{Answers, Edited, Obeys, SheetLines}
 use Rattle.ps_session.specs.Commands.{Read}
 use Rattle.ps_session.specs.EditLines.{HasLine}
 use Rattle.ps_session.specs.Feeding.{without_return}
-use Rattle.ps_session.specs.Transcript.{Answered, Cut, Replies, Run, Transcribed}
+use Rattle.ps_session.specs.Transcript.{Answered, Cut, Replies, Run, Stopped, Transcribed}
 use Rattle.ps_session.proofs.AskedLemmas.{AsksInRange, is_edit, line_in_range}
 use Rattle.ps_session.proofs.EditLineLemmas.{edit_lines_fit, edits_are_lawful}
 
@@ -129,18 +129,24 @@ module _ (first last : SheetView) (written contents : Option (List ℕ)) where
       then_keeps first t.middle last (run_keeps first t.middle _ _ t.run)
       (line_keeps t.middle last t.line t.reply t.answers)
 
+  stopped_keeps : (read : List ℕ) (ended : Type 0) → Stopped SheetLines ended first written read last contents
+      → Keeps first last
+  stopped_keeps read ended (inl cut) = cut_keeps read ended cut
+  stopped_keeps read ended (inr (inl all)) = answered_all_keeps read all
+  stopped_keeps read ended (inr (inr end)) = transcribed_keeps read end.1 end.2
+
   -- .. whatever a session came to
   pub session_keeps : (Read : List ℕ → Type 0) (ended source sink : Type 0) (result : Result ℕ RunFault)
       → IfOk result (λ answered. (read : List ℕ) × Read read × ended
       × Transcribed SheetLines first written read last contents answered)
       → (result ≡ Err faults.Sink
-      → (read : List ℕ) × Read read × Cut SheetLines ended first written read last contents)
+      → (read : List ℕ) × Read read × Stopped SheetLines ended first written read last contents)
       → (result ≡ Err faults.Source
       → (read : List ℕ) × Read read × Answered SheetLines first written read last contents)
       → (result ≡ Err faults.Memory → source × sink × (last ≡ first))
       → Keeps first last
   session_keeps Read ended source sink (Ok answered) all cut some none = transcribed_keeps all.0 answered all.3
-  session_keeps Read ended source sink (Err faults.Sink) all cut some none = cut_keeps (cut refl).0 ended (cut refl).2
+  session_keeps Read ended source sink (Err faults.Sink) all cut some none = stopped_keeps (cut refl).0 ended (cut refl).2
   session_keeps Read ended source sink (Err faults.Source) all cut some none =
       answered_all_keeps (some refl).0 (some refl).2
   session_keeps Read ended source sink (Err faults.Memory) all cut some none = unchanged first last (none refl).2

@@ -1,7 +1,7 @@
 -- The transcript of a session: which lines the bytes hold, what each is answered, and what the answers leave. It
 -- knows
 -- nothing of the pieces in which the bytes came.
-use Rattle.std.specs.Prelude.{◌≡◌, ◌<◌, ◌^◌, ◌-◌, ℕ, Bool, true, false, List, [], ◌∷◌, ◌++◌, length, take, min}
+use Rattle.std.specs.Prelude.{◌≡◌, ◌⊎◌, ◌<◌, ◌^◌, ◌-◌, ℕ, Bool, true, false, List, [], ◌∷◌, ◌++◌, length, take, min}
 use Rattle.std.specs.Prelude.{Option, if◌then◌else◌, nat_le, MatchBool, count_by, flat_map}
 use Rattle.std.specs.List.{All}
 use Rattle.std.specs.Io.KnownBytes.{Appends}
@@ -110,3 +110,11 @@ pub record Cut {State : Type 0} (Line : Answering State) (ended : Type 0) (first
   pub answers : Line middle line reply last
   pub short : count < length reply
   pub sent : Appends written contents (text ++ take count reply)
+
+-- the sink failed: the reply to one line was cut; or every line was answered, and what waits could not be handed on
+abbrev pub Stopped : {State : Type 0} → Answering State → Type 0 → State → Option (List ℕ) → List ℕ → State
+    → Option (List ℕ) → Type 0
+Stopped Line ended first written read last contents =
+    Cut Line ended first written read last contents
+    ⊎ Answered Line first written read last contents
+    ⊎ (ended × (answered : ℕ) × Transcribed Line first written read last contents answered)

@@ -1,9 +1,9 @@
 //! A session of a sheet, from bytes to bytes.
-ghost use Rattle.std.specs.Prelude.{◌≡◌, ◌<◌, ℕ, List, Err, IfOk, OnOk};
+ghost use Rattle.std.specs.Prelude.{◌≡◌, ◌<◌, ℕ, List, [], Err, IfOk, OnOk};
 ghost use Rattle.std.specs.Io.KnownBytes.{Consumes, IsAtEnd};
 ghost use Rattle.std.specs.List.{All};
 ghost use Rattle.ps_sheet.specs.Sheet.{IsSheet};
-ghost use Rattle.ps_session.specs.Transcript.{Answered, Cut, Transcribed};
+ghost use Rattle.ps_session.specs.Transcript.{Answered, Stopped, Transcribed};
 ghost use Rattle.ps_session.specs.Answers.{SheetLines};
 ghost use Rattle.ps_session.specs.EditLines.{HasLine};
 
@@ -36,11 +36,13 @@ pub fn run<S: Source, K: Sink, L: Ledger>(
         × Transcribed SheetLines sheet.old (K.contents sink.old) read sheet.new (K.contents sink.new) answered) }
     ensures sink { result ≡ Err RunFault.Sink
         → (read : List ℕ) × Consumes (S.remaining source.old) (S.remaining source.new) read
-        × Cut SheetLines (IsAtEnd (S.remaining source.new)) sheet.old (K.contents sink.old) read
+        × Stopped SheetLines (IsAtEnd (S.remaining source.new)) sheet.old (K.contents sink.old) read
         sheet.new (K.contents sink.new) }
     ensures source { result ≡ Err RunFault.Source
         → (read : List ℕ) × Consumes (S.remaining source.old) (S.remaining source.new) read
         × Answered SheetLines sheet.old (K.contents sink.old) read sheet.new (K.contents sink.new) }
+    ensures settled { OnOk result (K.waiting sink.new ≡ []) }
+    ensures source_settled { result ≡ Err RunFault.Source → K.waiting sink.new ≡ [] }
     ensures memory { result ≡ Err RunFault.Memory
         → (source.new ≡ source.old) × (sink.new ≡ sink.old) × (sheet.new ≡ sheet.old) }
     ensures replica { sheet.new.replica ≡ sheet.old.replica }

@@ -2,7 +2,7 @@
 ghost use Rattle.std.specs.Prelude.{◌≡◌, ◌≢◌, [], ◌<◌, ◌≤◌, ◌++◌, ◌+◌, ◌-◌, ◌^◌, ℕ, min, List, Option, Result, Ok};
 ghost use Rattle.std.specs.Prelude.{Err, IfOk, OnOk, OnErr, ⊤, length, take, MatchResult};
 ghost use Rattle.std.specs.Io.KnownBytes.{Consumes, IsAtEnd};
-ghost use Rattle.ps_session.specs.Transcript.{Answered, Cut, Lines, Replies, Transcribed, has_reply, is_filled};
+ghost use Rattle.ps_session.specs.Transcript.{Answered, Cut, Lines, Replies, Stopped, Transcribed, has_reply, is_filled};
 ghost use Rattle.ps_session.specs.Replies.{refusal_text, reply_text};
 ghost use Rattle.ps_value.specs.Device.{Sends};
 ghost use Rattle.ps_session.specs.Stands.{Stands};
@@ -193,12 +193,13 @@ fn read_on<S: Source, B: Board<M>, M, K: Sink>(
         → (read : List ℕ) × Consumes (S.remaining source.old) (S.remaining source.new) read
         × ((first : B) (written : Option (List ℕ))
         → Stands (Lines B.answers) first written [] board.old session.old.pending (K.contents sink.old) answered.old
-        → Cut (Lines B.answers) ⊥ first written read board.new (K.contents sink.new)) }
+        → Stopped (Lines B.answers) ⊥ first written read board.new (K.contents sink.new)) }
     ensures source { result ≡ Err RunFault.Source
         → (read : List ℕ) × Consumes (S.remaining source.old) (S.remaining source.new) read
         × ((first : B) (written : Option (List ℕ))
         → Stands (Lines B.answers) first written [] board.old session.old.pending (K.contents sink.old) answered.old
         → Answered (Lines B.answers) first written read board.new (K.contents sink.new)) }
+    ensures source_settled { result ≡ Err RunFault.Source → K.waiting sink.new ≡ [] }
     ensures memory { result ≢ Err RunFault.Memory }
     ensures calm { OnOk result ((S.failures source.new ≡ S.failures source.old)
         × (K.failures sink.new ≡ K.failures sink.old)) }
@@ -207,6 +208,10 @@ fn read_on<S: Source, B: Board<M>, M, K: Sink>(
 {
     let mut piece = [0u8; PIECE];
     'pieces: loop {
+        match sink.settle() {
+            Ok(()) => {}
+            Err(_) => return Err(RunFault::Sink),
+        }
         let count = match source.take(&mut piece) {
             Ok(count) => count,
             Err(_) => return Err(RunFault::Source),
@@ -224,7 +229,8 @@ fn read_on<S: Source, B: Board<M>, M, K: Sink>(
 /// Answers each line of a source on a sink, to the end of the input, and tells how many lines had a reply; 2^64 - 1
 /// stands for more.
 ///
-/// The input is read in pieces of 65,536 bytes, and where a line is cut doesn't matter. Takes the room of one line.
+/// The input is read in pieces of 65,536 bytes, and where a line is cut doesn't matter. Before each read, and at the
+/// end, all replies are handed on. Takes the room of one line.
 pub fn talk<S: Source, B: Board<M>, M, K: Sink>(
     alloc: Global,
     source: &mut S,
@@ -238,11 +244,13 @@ pub fn talk<S: Source, B: Board<M>, M, K: Sink>(
         × Transcribed (Lines B.answers) board.old (K.contents sink.old) read board.new (K.contents sink.new) answered) }
     ensures sink { result ≡ Err RunFault.Sink
         → (read : List ℕ) × Consumes (S.remaining source.old) (S.remaining source.new) read
-        × Cut (Lines B.answers) (IsAtEnd (S.remaining source.new)) board.old (K.contents sink.old) read
+        × Stopped (Lines B.answers) (IsAtEnd (S.remaining source.new)) board.old (K.contents sink.old) read
         board.new (K.contents sink.new) }
     ensures source { result ≡ Err RunFault.Source
         → (read : List ℕ) × Consumes (S.remaining source.old) (S.remaining source.new) read
         × Answered (Lines B.answers) board.old (K.contents sink.old) read board.new (K.contents sink.new) }
+    ensures settled { OnOk result (K.waiting sink.new ≡ []) }
+    ensures source_settled { result ≡ Err RunFault.Source → K.waiting sink.new ≡ [] }
     ensures memory { result ≡ Err RunFault.Memory
         → (source.new ≡ source.old) × (sink.new ≡ sink.old) × (board.new ≡ board.old) }
     ensures calm { OnOk result ((S.failures source.new ≡ S.failures source.old)
@@ -265,6 +273,10 @@ pub fn talk<S: Source, B: Board<M>, M, K: Sink>(
         &mut answered,
     )?;
     match finish(alloc, &mut session, board, lent, sink, &mut answered) {
+        Ok(()) => {}
+        Err(_) => return Err(RunFault::Sink),
+    }
+    match sink.settle() {
         Ok(()) => Ok(answered),
         Err(_) => Err(RunFault::Sink),
     }

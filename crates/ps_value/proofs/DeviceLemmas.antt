@@ -3,9 +3,9 @@ use Rattle.std.proofs.Common.{◌≡◌, ◌≢◌, ℕ, zero, suc, ◌+◌, ◌
 use Rattle.std.proofs.Common.{Option, None, Some, Result, Ok, Err, refl, sym, ap, ◌∙◌, arith, append_assoc}
 use Rattle.std.proofs.Common.{append-nil, length-append, length-drop}
 use Rattle.std.specs.Result.{IsErr}
-use Rattle.std.specs.Io.KnownBytes.{Appends}
+use Rattle.std.specs.Io.KnownBytes.{Appends, Keeps, append_known}
 use Rattle.std.proofs.lemmas.Bool.{false≢true}
-use Rattle.std.proofs.lemmas.List.{take-append-le}
+use Rattle.std.proofs.lemmas.List.{take-append-le, take-append-drop, drop-drop}
 use Rattle.std.proofs.Math.Seq.{take-add, take-length, take-append-add}
 use Rattle.ps_value.specs.Device.{failed_put, Sends}
 
@@ -72,3 +72,36 @@ pub Sends-cut_behind : (E : Type 0) (old mid new : Option (List ℕ)) (result : 
     → (count : ℕ) × (count < length second) × Appends mid new (take count second) → Sends old new result whole
 Sends-cut_behind E old mid new result whole first second rest e is p q =
     Sends-cut E old new result whole (first ++ second) rest e is (cut_behind old mid new first second p q)
+
+-- ---- what waits
+
+-- bytes that a writer was given are no longer among those that wait
+pub Keeps-handed : (first old new : Option (List ℕ)) (bytes : List ℕ) (start count : ℕ)
+    → Keeps first (append_known old (drop start bytes))
+    → Appends old new (take count (take (length bytes - start) (drop start bytes)))
+    → Keeps first (append_known new (drop (start + count) bytes))
+Keeps-handed None old new bytes start count p q = tt
+Keeps-handed (Some x) None new bytes start count p q = absurd p
+Keeps-handed (Some x) (Some y) None bytes start count p q = absurd q
+Keeps-handed (Some x) (Some y) (Some z) bytes start count p q =
+    let given : z ≡ y ++ take count (drop start bytes) = q ∙ ap (λ l. y ++ take count l) (rest-range bytes start) in
+    let rest : drop start bytes ≡ take count (drop start bytes) ++ drop (start + count) bytes =
+        sym (take-append-drop count (drop start bytes)) ∙ ap (λ l. take count (drop start bytes) ++ l) (drop-drop count start bytes) in
+    ap (λ l. l ++ drop (start + count) bytes) given
+    ∙ append_assoc y (take count (drop start bytes)) (drop (start + count) bytes)
+    ∙ ap (λ l. y ++ l) (sym rest)
+    ∙ p
+
+pub Keeps-keeps : (first old new : Option (List ℕ)) → Keeps first old → Keeps old new → Keeps first new
+Keeps-keeps None old new p q = tt
+Keeps-keeps (Some x) None new p q = absurd p
+Keeps-keeps (Some x) (Some y) None p q = absurd q
+Keeps-keeps (Some x) (Some y) (Some z) p q = q ∙ p
+
+-- bytes that were put and are known still
+pub Appends-keeps : (old mid new : Option (List ℕ)) (bytes : List ℕ) → Appends old mid bytes → Keeps mid new
+    → Appends old new bytes
+Appends-keeps None mid new bytes p q = tt
+Appends-keeps (Some x) None new bytes p q = absurd p
+Appends-keeps (Some x) (Some y) None bytes p q = absurd q
+Appends-keeps (Some x) (Some y) (Some z) bytes p q = q ∙ p

@@ -1,7 +1,7 @@
 //! Where bytes come from and where they go.
-ghost use Rattle.std.specs.Prelude.{◌≡◌, ℕ, ◌+◌, ◌<◌, ◌≤◌, List, Option, length, IfOk, OnOk, OnErr};
-ghost use Rattle.std.specs.Io.KnownBytes.{ReadConsumes, WriteAppends};
-ghost use Rattle.ps_value.specs.Device.{failed_take, failed_put, Sends};
+ghost use Rattle.std.specs.Prelude.{◌≡◌, ℕ, ◌+◌, ◌<◌, ◌≤◌, List, [], Option, length, IfOk, OnOk, OnErr};
+ghost use Rattle.std.specs.Io.KnownBytes.{Keeps, ReadConsumes, WriteAppends};
+ghost use Rattle.ps_value.specs.Device.{failed_take, failed_put, failed_settle, Sends};
 
 /// A device failed.
 #[derive(Clone, Copy, Debug, PartialEq, Eq)]
@@ -32,11 +32,14 @@ pub trait Source {
 
 /// Where bytes go.
 ///
-/// Contracts see what was written so far, where the sink tells it, and how many calls failed so far. A
-/// call fails where it answers an error, or takes none of a piece that isn't empty.
+/// Contracts see what was put so far, where the sink tells it, which of it still waits to be handed on, and how many
+/// calls failed so far. A call fails where it answers an error, or takes none of a piece that isn't empty.
 pub trait Sink {
-    /// The bytes written so far, where the sink tells them.
+    /// The bytes put so far, where the sink tells them; those that wait are the last of them.
     ghost contents: { Self → Option (List ℕ) };
+
+    /// The bytes that wait to be handed on.
+    ghost waiting: { Self → List ℕ };
 
     /// How many calls failed so far.
     ghost failures: { Self → ℕ };
@@ -46,6 +49,12 @@ pub trait Sink {
         ensures within { IfOk result (λ count. count ≤ length piece.now) }
         ensures bytes { WriteAppends (contents self.old) (contents self.new) result piece.now }
         ensures counted { failures self.new ≡ failures self.old + failed_put result piece.now };
+
+    /// Hands on all that waits.
+    fn settle(&mut self) -> Result<(), Failed>
+        ensures same { Keeps (contents self.old) (contents self.new) }
+        ensures settled { OnOk result (waiting self.new ≡ []) }
+        ensures counted { failures self.new ≡ failures self.old + failed_settle result };
 }
 
 /// Writes all of these bytes, or those before a failure of the sink. O(n), in as many calls as the sink

@@ -17,7 +17,7 @@ mod shown;
 mod stream;
 mod value;
 
-pub use console::{Console, ConsoleInput, ConsoleOutput};
+pub use console::ConsoleOutput;
 pub use count::FailureCount;
 pub use device::{Failed, Sink, Source, put_all};
 pub use label::Label;

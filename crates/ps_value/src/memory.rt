@@ -67,6 +67,8 @@ impl<L: Ledger> MemorySink<L> {
 impl<L: Ledger> Sink for MemorySink<L> {
     ghost contents = { λ sink. Some sink.bytes.items };
 
+    ghost waiting = { λ sink. [] };
+
     ghost failures = { λ sink. sink.failed };
 
     fn put(&mut self, piece: &[u8]) -> Result<usize, Failed> {
@@ -75,5 +77,9 @@ impl<L: Ledger> Sink for MemorySink<L> {
             return Err(Failed);
         }
         Ok(piece.len())
+    }
+
+    fn settle(&mut self) -> Result<(), Failed> {
+        Ok(())
     }
 }

@@ -1,5 +1,5 @@
 //! Devices over the readers and writers of std: standard input and output, files, TCP streams.
-ghost use Rattle.std.specs.Prelude.{◌≡◌, ◌<◌, ◌+◌};
+ghost use Rattle.std.specs.Prelude.{◌≡◌, ◌<◌, ◌+◌, []};
 
 use crate::count::FailureCount;
 use crate::device::{Failed, Sink, Source};
@@ -29,15 +29,6 @@ impl<R: Read + Drop, L: Ledger> Reading<R, L> {
             tries: u64::MAX,
             failed: FailureCount::new(blank),
         }
-    }
-
-    /// Counts a failure that came before the read.
-    pub(crate) fn fail(&mut self)
-        ensures reader { self.new.reader ≡ self.old.reader }
-        ensures tries { self.new.tries ≡ self.old.tries }
-        ensures counted { self.new.failed ≡ self.old.failed + 1 }
-    {
-        self.failed.rise();
     }
 }
 
@@ -89,10 +80,28 @@ impl<W: Write + Drop, L: Ledger> Writing<W, L> {
             failed: FailureCount::new(blank),
         }
     }
+
+    /// The writer.
+    pub fn into_writer(self) -> W
+        ensures { result ≡ self.writer }
+    {
+        let Writing { writer, .. } = self;
+        writer
+    }
+
+    /// Counts a failure that came before the write.
+    pub(crate) fn fail(&mut self)
+        ensures writer { self.new.writer ≡ self.old.writer }
+        ensures counted { self.new.failed ≡ self.old.failed + 1 }
+    {
+        self.failed.rise();
+    }
 }
 
 impl<W: Write + Drop, L: Ledger> Sink for Writing<W, L> {
     ghost contents = { λ sink. W.contents sink.writer };
+
+    ghost waiting = { λ sink. [] };
 
     ghost failures = { λ sink. sink.failed };
 
@@ -105,6 +114,22 @@ impl<W: Write + Drop, L: Ledger> Sink for Writing<W, L> {
             match self.writer.write(piece) {
                 Ok(0) => break,
                 Ok(count) => return Ok(count),
+                Err(error) => {
+                    if error.kind() != ErrorKind::Interrupted {
+                        break;
+                    }
+                }
+            }
+        }
+        self.failed.rise();
+        Err(Failed)
+    }
+
+    fn settle(&mut self) -> Result<(), Failed> {
+        while self.tries > 0 {
+            self.tries -= 1;
+            match self.writer.flush() {
+                Ok(()) => return Ok(()),
                 Err(error) => {
                     if error.kind() != ErrorKind::Interrupted {
                         break;

@@ -2,8 +2,8 @@
 ghost use Rattle.std.specs.Prelude.{◌≡◌, ◌<◌};
 
 use crate::{
-    Console, ConsoleInput, ConsoleOutput, Fault, Label, MemorySink, MemorySource, Reading, Sink,
-    Source, Value, Writing, put_all, write_shown,
+    ConsoleOutput, Fault, Label, MemorySink, MemorySource, Reading, Sink, Source, Value, Writing,
+    put_all, write_shown,
 };
 use ps_grid::Refusal;
 use std::alloc::Global;
@@ -242,15 +242,15 @@ fn heard<L: Ledger, M: Ledger>(
     requires output_some { 0 < M.parts }
 {
     let count = RefCell::new(0);
-    let console = Console::new(alloc, Listener(&count))?;
-    let mut source = ConsoleInput::<Listener, Listener, L>::new(&console, Listener(&count), input);
-    let mut sink = ConsoleOutput::<Listener, M>::new(&console, output);
+    let mut source = Reading::<Listener, L>::new(Listener(&count), input);
+    let mut sink = ConsoleOutput::<Listener, M>::new(alloc, Listener(&count), output)?;
     let mut piece = [0; 4];
     put_all(&mut sink, b"ok 1\n").map_err(|_| Refusal::Device)?;
     let before = match count.try_borrow() {
         Ok(heard) => *heard,
         Err(_) => 255,
     };
+    sink.settle().map_err(|_| Refusal::Device)?;
     source.take(&mut piece).map_err(|_| Refusal::Device)?;
     Ok([before, piece[0]])
 }

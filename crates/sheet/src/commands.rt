@@ -8,7 +8,7 @@ use ps_eval::Meter;
 use ps_grid::Refusal;
 use ps_session::{RunFault, run};
 use ps_sheet::Sheet;
-use ps_value::{Console, ConsoleInput, ConsoleOutput, Reading, Writing};
+use ps_value::{ConsoleOutput, Reading, Writing};
 use std::alloc::Global;
 use std::io::{Read, Write};
 use std::sync::ledger::{Blank, Ledger};
@@ -37,17 +37,14 @@ pub fn answer_lines<R: Read + Drop, W: Write + Drop, I: Ledger, O: Ledger, M: Le
     requires count_parts { count.parts ≡ M.parts }
     requires count_some { 0 < M.parts }
 {
-    let console = Console::new(alloc, writer)?;
-    let mut source = ConsoleInput::<R, W, I>::new(&console, reader, input);
-    let mut sink = ConsoleOutput::<W, O>::new(&console, output);
+    let mut source = Reading::<R, I>::new(reader, input);
+    let mut sink = ConsoleOutput::<W, O>::new(alloc, writer, output)?;
     let mut meter = Meter::<M>::new(count);
     let mut sheet = Sheet::open(alloc, options.replica, usize::from(options.workers))?;
-    let ran = run(alloc, &mut source, &mut sink, &mut sheet, &mut meter);
-    let sent = console.flush();
-    match (ran, sent) {
-        (Ok(_), Ok(())) => Ok(()),
-        (Err(RunFault::Memory), _) => Err(Refusal::Memory.into()),
-        _ => Err(Refusal::Device.into()),
+    match run(alloc, &mut source, &mut sink, &mut sheet, &mut meter) {
+        Ok(_) => Ok(()),
+        Err(RunFault::Memory) => Err(Refusal::Memory.into()),
+        Err(RunFault::Source | RunFault::Sink) => Err(Refusal::Device.into()),
     }
 }
 

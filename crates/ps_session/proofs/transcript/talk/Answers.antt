@@ -1,5 +1,6 @@
+use Rattle.std.proofs.Common.{inl, inr}
 use Rattle.std.proofs.lemmas.Result.{err_from_is_err_and}
-use Rattle.ps_session.proofs.EndLemmas.{cut_behind_end, stands_first}
+use Rattle.ps_session.proofs.EndLemmas.{cut_behind_end, stands_first, stopped_behind_end, transcribed_settled}
 use Rattle.ps_session.proofs.ReadLemmas.{same_fault}
 use Rattle.ps_session.proofs.transcript.talk.Goals as goal
 
@@ -9,7 +10,7 @@ returns-in_err-read_on-clause-sink g c = λ is.
     let r = c.in_err-read_on.ensures.sink (same_fault c.from_residual.result p.0 _ _ p.1 p.2 is) in (
       r.0,
       r.1,
-      cut_behind_end _ _ _ _ ⊥ _ _ _ (λ no_end. absurd no_end) (r.2 c.args.board.now _ (stands_first _
+      stopped_behind_end _ _ _ _ ⊥ _ _ _ (λ no_end. absurd no_end) (r.2 c.args.board.now _ (stands_first _
           c.args.board.now _ _ c.in-Ok.ensures)),
     )
 
@@ -19,14 +20,25 @@ returns-in_err-read_on-clause-source g c = λ is.
     let r = c.in_err-read_on.ensures.source (same_fault c.from_residual.result p.0 _ _ p.1 p.2 is) in
     (r.0, r.1, r.2 c.args.board.now _ (stands_first _ c.args.board.now _ _ c.in-Ok.ensures))
 
-pub returns-in-Ok-finish-clause-transcribed : goal.returns-in-Ok-finish-clause-transcribed
-returns-in-Ok-finish-clause-transcribed g c =
+pub returns-in-Err-finish-clause-sink : goal.returns-in-Err-finish-clause-sink
+returns-in-Err-finish-clause-sink g c = λ is.
+    let r = c.in_ok-read_on.ensures.read in (
+      r.0,
+      r.1,
+      inl (cut_behind_end _ _ _ _ _ _ _ _ (λ all. r.2)
+          (c.in-Err-finish.ensures.cut c.args.board.now _ r.0 (r.3 c.args.board.now _ (stands_first _
+          c.args.board.now _ _ c.in-Ok.ensures)))),
+    )
+
+pub returns-in-Ok-settle-clause-transcribed : goal.returns-in-Ok-settle-clause-transcribed
+returns-in-Ok-settle-clause-transcribed g c =
     let r = c.in_ok-read_on.ensures.read in (
       r.0,
       r.1,
       r.2,
-      c.in-Ok-finish.ensures.transcribed c.args.board.now _ r.0 (r.3 c.args.board.now _ (stands_first _
-          c.args.board.now _ _ c.in-Ok.ensures)),
+      transcribed_settled _ c.args.board.now _ r.0 _ _ _ _ c.in-Ok-settle.ensures.same
+          (c.in-Ok-finish.ensures.transcribed c.args.board.now _ r.0 (r.3 c.args.board.now _ (stands_first _
+          c.args.board.now _ _ c.in-Ok.ensures))),
     )
 
 pub returns-clause-sink : goal.returns-clause-sink
@@ -34,7 +46,11 @@ returns-clause-sink g c = λ is.
     let r = c.in_ok-read_on.ensures.read in (
       r.0,
       r.1,
-      cut_behind_end _ _ _ _ _ _ _ _ (λ all. r.2)
-          (c.in-Err-finish.ensures.cut c.args.board.now _ r.0 (r.3 c.args.board.now _ (stands_first _
-          c.args.board.now _ _ c.in-Ok.ensures))),
+      inr (inr (
+        r.2,
+        _,
+        transcribed_settled _ c.args.board.now _ r.0 _ _ _ _ c.in-Err-settle.ensures.same
+            (c.in-Ok-finish.ensures.transcribed c.args.board.now _ r.0 (r.3 c.args.board.now _ (stands_first _
+            c.args.board.now _ _ c.in-Ok.ensures))),
+      )),
     )
