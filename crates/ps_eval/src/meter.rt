@@ -1,27 +1,26 @@
 //! The count of evaluations.
 
-ghost use Rattle.std.specs.Prelude.{◌≡◌, ◌+◌, ◌<◌};
+ghost use Rattle.std.specs.Prelude.{◌≡◌, ◌+◌};
+ghost use Rattle.ps_grid.specs.Blanks.{IsBlankOf};
 
+use ps_grid::Count;
 use std::marker::Model;
-use std::sync::ledger::{Blank, Book, Ledger, Share};
+use std::sync::ledger::{Blank, Ledger};
 
 /// A count of evaluations that contracts see. It takes no bytes and has no greatest value.
+///
+/// It rises by evaluations alone: no crate but this one can tick it.
 #[derive(Drop)]
 pub struct Meter<L: Ledger> {
-    // the ticks, as the total of a ledger
-    book: Book<L>,
-    // the right to add to the book
-    share: Share<L>,
+    ticks: Count<L>,
 }
 
 impl<L: Ledger> Model for Meter<L> {
-    ghost use Rattle.std.specs.Prelude.{ℕ, ◌<◌};
+    ghost use Rattle.std.specs.Prelude.{ℕ};
 
     ghost Value = { ℕ };
 
-    ghost view = { λ m. m.book.total };
-
-    ghost invariant = { λ m. 0 < m.share.parts };
+    ghost view = { λ m. m.ticks };
 }
 
 /// What a meter had counted when it ended. Only a meter makes it, and a thread may hand it to another.
@@ -43,13 +42,12 @@ impl<L: Ledger> Meter<L> {
     ///
     /// Cost: none.
     pub fn new(blank: Blank) -> Meter<L>
-        requires name { blank.name ≡ L.name }
-        requires parts { blank.parts ≡ L.parts }
-        requires some { 0 < L.parts }
+        requires { IsBlankOf blank L.name L.parts }
         ensures { result ≡ 0 }
     {
-        let (book, share) = blank.open::<L>();
-        Meter { book, share }
+        Meter {
+            ticks: Count::new(blank),
+        }
     }
 
     /// Ends the meter and hands on what it has counted, which the caller knows.
@@ -68,13 +66,15 @@ impl<L: Ledger> Meter<L> {
     pub fn add(&mut self, counted: Counted)
         ensures { self.new ≡ self.old + counted }
     {
-        self.book.add(&mut self.share, counted.ticks);
+        self.ticks.add(counted.ticks);
     }
 
-    // One more evaluation.
+    /// Counts one more evaluation.
+    ///
+    /// Cost: none.
     pub(crate) fn tick(&mut self)
         ensures { self.new ≡ self.old + 1 }
     {
-        self.book.add(&mut self.share, 1);
+        self.ticks.rise();
     }
 }

@@ -1,3 +1,4 @@
+pub mod Blanks
 pub mod Chains
 pub mod Place
 pub mod Rectangle

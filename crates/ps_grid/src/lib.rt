@@ -10,6 +10,7 @@
 #![tactic(auto)]
 
 mod cell;
+mod count;
 mod laws;
 mod rect;
 mod refusal;
@@ -17,6 +18,7 @@ mod size;
 mod twin;
 
 pub use cell::Cell;
+pub use count::Count;
 pub use laws::{long_chains_repeat, refusal_numbers_differ};
 pub use rect::{Cells, Rect};
 pub use refusal::Refusal;

@@ -1,0 +1,56 @@
+//! Counts that contracts alone see.
+ghost use Rattle.std.specs.Prelude.{◌≡◌, ◌+◌};
+ghost use Rattle.ps_grid.specs.Blanks.{IsBlankOf};
+
+use std::marker::Model;
+use std::sync::ledger::{Blank, Book, Ledger, Share};
+
+/// A count that contracts see. It takes no bytes, has no greatest value and never falls.
+#[derive(Drop)]
+pub struct Count<L: Ledger> {
+    // the count, as the total of a ledger
+    book: Book<L>,
+    // the right to add to the book
+    share: Share<L>,
+}
+
+impl<L: Ledger> Model for Count<L> {
+    ghost use Rattle.std.specs.Prelude.{ℕ, ◌<◌};
+
+    ghost Value = { ℕ };
+
+    ghost view = { λ count. count.book.total };
+
+    ghost invariant = { λ count. 0 < count.share.parts };
+}
+
+impl<L: Ledger> Count<L> {
+    /// A count of nothing yet, over a new ledger.
+    ///
+    /// Cost: none.
+    pub fn new(blank: Blank) -> Count<L>
+        requires { IsBlankOf blank L.name L.parts }
+        ensures { result ≡ 0 }
+    {
+        let (book, share) = blank.open();
+        Count { book, share }
+    }
+
+    /// Counts one more.
+    ///
+    /// Cost: none.
+    pub fn rise(&mut self)
+        ensures { self.new ≡ self.old + 1 }
+    {
+        self.add(1);
+    }
+
+    /// Counts so many more.
+    ///
+    /// Cost: none.
+    pub fn add(&mut self, amount: u64)
+        ensures { self.new ≡ self.old + amount }
+    {
+        self.book.add(&mut self.share, amount);
+    }
+}
