@@ -4,8 +4,8 @@ ghost use Rattle.std.specs.Prelude.{◌≡◌, ◌≢◌, ◌⊎◌, ◌<◌, �
 ghost use Rattle.std.specs.Io.KnownBytes.{Consumes, IsAtEnd};
 ghost use Rattle.ps_csv.specs.Sources.{TooManyBytes};
 
+use ps_device::Source;
 use ps_grid::{CELLS, Refusal};
-use ps_value::Source;
 use std::alloc::Global;
 
 /// The most bytes of a table: 640 for each cell of the grid.

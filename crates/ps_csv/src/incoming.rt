@@ -14,10 +14,10 @@ ghost use Rattle.ps_csv.specs.declared.bytes.TheConstants.{LONGEST_TABLE};
 use crate::apply::{ImportFault, apply};
 use crate::bytes::read_all;
 use crate::table::{Table, read_table};
+use ps_device::Source;
 use ps_eval::Meter;
 use ps_grid::Refusal;
 use ps_sheet::Sheet;
-use ps_value::Source;
 use std::alloc::Global;
 use std::sync::ledger::Ledger;
 

@@ -9,9 +9,10 @@ ghost use Rattle.ps_csv.specs.Exports.{cell_in, exported, shown_record};
 ghost use Rattle.ps_csv.specs.Writers.{HasWritten};
 
 use csv::{ByteRecord, Writer, WriterBuilder};
+use ps_device::{MemorySink, Sink, put_all};
 use ps_eval::Look;
 use ps_grid::{Cell, Rect, Refusal};
-use ps_value::{MemorySink, Sink, Value, put_all, write_shown};
+use ps_value::{Value, write_shown};
 use std::alloc::Global;
 use std::marker::Brand;
 use std::sync::ledger::{Blank, Ledger};

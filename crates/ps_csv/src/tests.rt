@@ -4,10 +4,10 @@
 ghost use Rattle.std.specs.Prelude.{◌≡◌, ◌<◌, None, length, if◌then◌else◌};
 
 use crate::{ImportFault, Imported, exported_text, import};
+use ps_device::{Failed, MemorySource, Source};
 use ps_eval::Meter;
 use ps_grid::{Cell, Rect, Refusal};
 use ps_sheet::Sheet;
-use ps_value::{Failed, MemorySource, Source};
 use std::alloc::Global;
 use std::marker::Brand;
 use std::sync::ledger::{Blank, Ledger};

@@ -6,7 +6,7 @@ use Rattle.std.specs.Prelude.{⊤}
 use Rattle.std.specs.Io.KnownBytes.{Appends, Keeps}
 use Rattle.std.proofs.Math.Seq.{take-add}
 use Rattle.std.proofs.lemmas.List.{take-append-drop}
-use Rattle.ps_value.proofs.DeviceLemmas.{Appends-append, Appends-keeps, Appends-nil, rest-range}
+use Rattle.ps_device.proofs.DeviceLemmas.{Appends-append, Appends-keeps, Appends-nil, rest-range}
 use Rattle.ps_session.specs.Kept.{kept}
 use Rattle.ps_session.specs.Feeding.{Ends, Reading}
 use Rattle.ps_session.specs.Transcript.{Answered, Answering, Cut, IsBehindLine, Run, Stopped, Transcribed, answered_count}

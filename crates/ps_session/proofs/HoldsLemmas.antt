@@ -2,7 +2,7 @@
 use Rattle.std.proofs.Common.{◌≡◌, ◌^◌, ◌+◌, ◌-◌, ℕ, min, Bool, true, false, List, length, refl, sym, rules}
 use Rattle.std.proofs.Common.{Option, Some, None, Result, Ok, Err, subst, nat_le}
 use Rattle.std.specs.Prelude.{if◌then◌else◌, MatchBool, OnOk}
-use Rattle.ps_value.specs.Device.{Sends}
+use Rattle.ps_device.specs.Device.{Sends}
 use Rattle.ps_session.specs.declared.session.TheConstants.{LINE_LIMIT}
 use Rattle.ps_session.specs.Kept.{kept}
 use Rattle.ps_session.specs.Feeding.{without_return}

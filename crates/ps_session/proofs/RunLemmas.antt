@@ -8,7 +8,7 @@ use Rattle.std.proofs.lemmas.Grind.{flat_map-append}
 use Rattle.std.proofs.lemmas.List.Elements.{All-append, All-push}
 use Rattle.std.proofs.lemmas.List.Sums.{fold-append}
 use Rattle.std.proofs.lemmas.Bool.Decides.{nat_tests}
-use Rattle.ps_value.proofs.DeviceLemmas.{Appends-append}
+use Rattle.ps_device.proofs.DeviceLemmas.{Appends-append}
 use Rattle.ps_session.specs.declared.session.TheConstants.{LINE_LIMIT}
 use Rattle.ps_session.specs.Kept.{kept, kept_after}
 use Rattle.ps_session.specs.Feeding.{HasNoFeed}

@@ -6,15 +6,15 @@ use Rattle.std.proofs.lemmas.List.{take-append-le, take-append-drop}
 use Rattle.std.proofs.lemmas.Grind.{flat_map-append}
 use Rattle.std.proofs.Math.Seq.{take-suc}
 use Rattle.std.proofs.Math.ListN.{get_or}
-use Rattle.ps_value.proofs.DeviceLemmas.{Appends-append, cut_behind}
-use Rattle.ps_value.specs.Device.{Sends}
+use Rattle.ps_device.proofs.DeviceLemmas.{Appends-append, cut_after}
+use Rattle.ps_device.specs.Device.{Sends}
 
 -- a second piece behind one that was sent whole
 pub Sends-behind : (E : Type 0) (old middle new : Option (List ℕ)) (first second : List ℕ) (result : Result (Unit
     {0}) E)
     → Appends old middle first → Sends middle new result second → Sends old new result (first ++ second)
 Sends-behind E old middle new first second (Ok x) p q = Appends-append old middle new first second p q
-Sends-behind E old middle new first second (Err e) p q = cut_behind old middle new first second p q
+Sends-behind E old middle new first second (Err e) p q = cut_after old middle new first second p q
 
 -- a cut in the first piece is a cut in both
 pub cut_first : (old new : Option (List ℕ)) (first second : List ℕ) → (count : ℕ) × (count < length first)
@@ -54,5 +54,5 @@ pub pieces_cut : {X : Type 0} (f : X → List ℕ) (xs : List X) (i : ℕ) (d : 
 pieces_cut f xs i d old middle new lt p q =
     let rest : List ℕ = flat_map f (drop (i + 1) xs) in
     subst (λ t. (count : ℕ) × (count < length t) × Appends old new (take count t)) (sym (flat_map-split f xs i d lt))
-    (cut_behind old middle new (flat_map f (take i xs)) (f (get_or xs i d) ++ rest) p (cut_first middle new (f
+    (cut_after old middle new (flat_map f (take i xs)) (f (get_or xs i d) ++ rest) p (cut_first middle new (f
     (get_or xs i d)) rest q))

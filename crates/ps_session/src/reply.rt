@@ -1,12 +1,13 @@
 //! What a line is answered.
 ghost use Rattle.std.specs.Prelude.{◌≡◌, ◌<◌, ◌++◌, ◌∷◌, [], OnErr, OnOk, codes, decimal, flat_map};
-ghost use Rattle.ps_value.specs.Device.{Sends};
+ghost use Rattle.ps_device.specs.Device.{Sends};
 ghost use Rattle.ps_value.specs.Shown.{shown_text};
 ghost use Rattle.ps_session.specs.Replies.{reply_text, rows_text};
 
 use itoa::Buffer;
+use ps_device::{Failed, Sink, put_all};
 use ps_grid::Refusal;
-use ps_value::{Failed, Sink, Value, put_all, write_shown};
+use ps_value::{Value, write_shown};
 
 /// The reply to a line.
 #[derive(Drop)]

@@ -2,10 +2,10 @@
 ghost use Rattle.std.specs.Prelude.{◌≡◌, ◌<◌};
 
 use crate::run;
+use ps_device::{MemorySink, MemorySource, Reading, Source};
 use ps_eval::Meter;
 use ps_grid::Refusal;
 use ps_sheet::Sheet;
-use ps_value::{MemorySink, MemorySource, Reading, Source};
 use std::alloc::Global;
 use std::io;
 use std::io::Read;

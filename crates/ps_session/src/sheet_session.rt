@@ -8,9 +8,9 @@ ghost use Rattle.ps_session.specs.Answers.{SheetLines};
 ghost use Rattle.ps_session.specs.EditLines.{HasLine};
 
 use crate::transcript::{RunFault, talk};
+use ps_device::{Sink, Source};
 use ps_eval::Meter;
 use ps_sheet::Sheet;
-use ps_value::{Sink, Source};
 use std::alloc::Global;
 use std::sync::ledger::Ledger;
 

@@ -4,7 +4,7 @@ ghost use Rattle.std.specs.Prelude.{Err, IfOk, OnOk, OnErr, ⊤, length, take, M
 ghost use Rattle.std.specs.Io.KnownBytes.{Consumes, IsAtEnd};
 ghost use Rattle.ps_session.specs.Transcript.{Answered, Cut, Lines, Replies, Stopped, Transcribed, has_reply, is_filled};
 ghost use Rattle.ps_session.specs.Replies.{refusal_text, reply_text};
-ghost use Rattle.ps_value.specs.Device.{Sends};
+ghost use Rattle.ps_device.specs.Device.{Sends};
 ghost use Rattle.ps_session.specs.Stands.{Stands};
 ghost use Rattle.ps_session.specs.Holds.{Holds, Replied, as_one};
 ghost use Rattle.ps_grid.specs.declared.refusal.Refusal.TheVariants as refusals;
@@ -12,8 +12,8 @@ ghost use Rattle.ps_grid.specs.declared.refusal.Refusal.TheVariants as refusals;
 use crate::board::Board;
 use crate::reply::{Reply, send};
 use crate::session::{Line, Session};
+use ps_device::{Failed, Sink, Source};
 use ps_grid::Refusal;
-use ps_value::{Failed, Sink, Source};
 use std::alloc::Global;
 
 /// Answers a line that isn't too long; an empty one has no reply.

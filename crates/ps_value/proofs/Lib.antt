@@ -1,3 +1,2 @@
 pub mod LabelLemmas
-pub mod DeviceLemmas
 pub mod ShownLemmas

@@ -1,4 +1,3 @@
-pub mod Device
 pub mod Label
 pub mod Shown
 pub mod Stored

@@ -1,12 +1,12 @@
 //! The text of what a cell shows.
 ghost use Rattle.std.specs.Prelude.{◌≡◌, ◌<◌, ◌≤◌, ◌+◌, [], ◌∷◌, ◌++◌, Bool, codes, decimal, length, OnOk, OnErr};
 ghost use Rattle.std.specs.Prelude.{IfErr, if◌then◌else◌};
-ghost use Rattle.ps_value.specs.Device.{Sends};
+ghost use Rattle.ps_device.specs.Device.{Sends};
 ghost use Rattle.ps_value.specs.Shown.{choice_text, fault_text, is_chosen, listed, options_below, shown_text};
 
-use crate::device::{Failed, Sink, put_all};
 use crate::value::{Fault, Value};
 use itoa::{Buffer, Integer};
+use ps_device::{Failed, Sink, put_all};
 use ps_grid::Refusal;
 
 /// Writes the text of the value: nothing, the number in decimal, the bytes of the text, the options

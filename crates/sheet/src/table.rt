@@ -8,10 +8,10 @@ ghost use Rattle.sheet.specs.declared.fault.ProgramFault.TheVariants.{Refused};
 
 use crate::fault::ProgramFault;
 use ps_csv::{Imported, export, import};
+use ps_device::{Sink, Source};
 use ps_eval::Meter;
 use ps_grid::{Cell, Rect, Refusal};
 use ps_sheet::Sheet;
-use ps_value::{Sink, Source};
 use std::alloc::Global;
 use std::sync::ledger::Ledger;
 

@@ -1,11 +1,11 @@
 //! Devices that fail in the middle of a session.
 ghost use Rattle.std.specs.Prelude.{◌≡◌, ◌<◌};
 
+use ps_device::{Reading, Writing};
 use ps_eval::Meter;
 use ps_grid::Refusal;
 use ps_session::{RunFault, run};
 use ps_sheet::Sheet;
-use ps_value::{Reading, Writing};
 use std::alloc::Global;
 use std::cell::RefCell;
 use std::io;

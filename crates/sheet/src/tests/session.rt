@@ -1,11 +1,11 @@
 //! Scripts from bytes to bytes: what a session on an empty sheet writes.
 ghost use Rattle.std.specs.Prelude.{◌≡◌, ◌<◌};
 
+use ps_device::{MemorySink, Reading};
 use ps_eval::Meter;
 use ps_grid::Refusal;
 use ps_session::run;
 use ps_sheet::Sheet;
-use ps_value::{MemorySink, Reading};
 use std::alloc::Global;
 use std::io;
 use std::io::Read;

@@ -2,9 +2,9 @@
 ghost use Rattle.std.specs.Prelude.{◌≡◌, ◌<◌};
 
 use crate::{ProgramFault, table_on};
+use ps_device::{MemorySink, MemorySource};
 use ps_eval::Meter;
 use ps_grid::Refusal;
-use ps_value::{MemorySink, MemorySource};
 use std::alloc::Global;
 use std::marker::Brand;
 use std::sync::ledger::{Blank, Ledger};

@@ -1,6 +1,6 @@
 use Rattle.std.proofs.Common.{refl}
 use Rattle.std.proofs.lemmas.Result.{err_from_is_err_and}
-use Rattle.ps_value.proofs.DeviceLemmas.{Appends-nil}
+use Rattle.ps_device.proofs.DeviceLemmas.{Appends-nil}
 use Rattle.ps_session.proofs.SendLemmas.{pieces_cut}
 use Rattle.ps_session.proofs.reply.send_pieces.Goals as goal
 

@@ -1,6 +1,6 @@
 use Rattle.std.proofs.Common.{◌∷◌, ◌++◌, [], codes}
 use Rattle.std.proofs.lemmas.Result.{err_from_is_err_and}
-use Rattle.ps_value.proofs.DeviceLemmas.{cut_behind}
+use Rattle.ps_device.proofs.DeviceLemmas.{cut_after}
 use Rattle.ps_value.specs.Shown.{shown_text}
 use Rattle.ps_session.proofs.SendLemmas.{cut_first}
 use Rattle.ps_session.proofs.reply.send_shown.Goals as goal
@@ -14,5 +14,5 @@ pub returns-in_err-send_value-clause-sent : goal.returns-in_err-send_value-claus
 returns-in_err-send_value-clause-sent g c =
     let p = err_from_is_err_and c.from_residual-in_err-send_value.result c.from_residual-in_err-send_value.ensures.1
     in
-    rw (p.1) (cut_behind _ _ _ (codes "val ") (shown_text c.args.value ++ 10 ∷ []) c.in_ok-put_all.ensures.sent
+    rw (p.1) (cut_after _ _ _ (codes "val ") (shown_text c.args.value ++ 10 ∷ []) c.in_ok-put_all.ensures.sent
     c.in_err-send_value.ensures.sent)

@@ -1,7 +1,7 @@
 use Rattle.std.proofs.Common.{refl, sym, ◌∙◌}
 use Rattle.ps_value.specs.Shown.{listed, options_below}
-use Rattle.ps_value.specs.declared.device.Failed.{Failed}
-use Rattle.ps_value.proofs.DeviceLemmas.{Appends-nil, Sends-cut_behind, Appends-append}
+use Rattle.ps_device.specs.declared.device.Failed.{Failed}
+use Rattle.ps_device.proofs.DeviceLemmas.{Appends-nil, Sends-cut_after, Appends-append}
 use Rattle.ps_value.proofs.ShownLemmas.{listed-none, is_empty-none, is_empty, listed_next, listed-front_chosen}
 use Rattle.ps_value.proofs.ShownLemmas.{is_chosen-bit, is_chosen-no_bit, listed_below-chosen, listed_below-other}
 use Rattle.ps_value.proofs.ShownLemmas.{is_empty_below-chosen, is_empty_below-other}
@@ -21,7 +21,7 @@ returns-in_err-put_option-clause-shown g c =
     let bits = c.args.bits in
     let front = listed-front_chosen n 64 bits c.loop-option-test.true
     (is_chosen-bit bits n c.if-bits-option-eq1.true) in
-    Sends-cut_behind Failed _ _ _ _ (listed (options_below 64 bits)) (listed (options_below n bits))
+    Sends-cut_after Failed _ _ _ _ (listed (options_below 64 bits)) (listed (options_below n bits))
     (listed_next (is_empty (options_below n bits)) n)
     front.0 front.1 c.from_residual.ensures.0
     c.loop-option.invariant.sent (rw c.loop-option.invariant.first at c.in_err-put_option.ensures.shown)

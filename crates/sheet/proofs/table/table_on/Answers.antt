@@ -1,6 +1,6 @@
 use Rattle.std.proofs.Common.{rules, ◌≡◌, ℕ, [], refl, zero, suc}
 use Rattle.ps_sheet.specs.Sheet.{SheetView}
-use Rattle.ps_value.proofs.DeviceLemmas.{Appends-nil}
+use Rattle.ps_device.proofs.DeviceLemmas.{Appends-nil}
 use Rattle.sheet.specs.Tables.{table_of}
 use Rattle.sheet.proofs.table.table_on.Goals as goal
 

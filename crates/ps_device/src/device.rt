@@ -1,0 +1,76 @@
+//! Where bytes come from and where they go.
+ghost use Rattle.std.specs.Prelude.{◌≡◌, ℕ, ◌+◌, ◌<◌, ◌≤◌, List, [], Option, length, IfOk, OnOk, OnErr};
+ghost use Rattle.std.specs.Io.KnownBytes.{Keeps, ReadConsumes, WriteAppends};
+ghost use Rattle.ps_device.specs.Device.{failed_take, failed_put, failed_settle, Sends};
+
+/// A device failed.
+#[derive(Clone, Copy, Debug, PartialEq, Eq)]
+pub struct Failed;
+
+/// Where bytes come from.
+///
+/// Contracts see what remains, where the source tells it, how many calls failed so far, and a number
+/// that falls with each call that gives bytes. A call fails where it answers an error. An answer of 0 to
+/// a piece that isn't empty is the end of the input.
+pub trait Source {
+    /// The bytes that are still to come, where the source tells them.
+    ghost remaining: { Self → Option (List ℕ) };
+
+    /// How many calls failed so far.
+    ghost failures: { Self → ℕ };
+
+    /// At most how many more calls give bytes.
+    ghost left: { Self → ℕ };
+
+    /// Puts the next bytes at the front of the piece and answers how many.
+    fn take(&mut self, piece: &mut [u8]) -> Result<usize, Failed>
+        ensures within { IfOk result (λ count. count ≤ length piece.new) }
+        ensures bytes { ReadConsumes (remaining self.old) (remaining self.new) result piece.new }
+        ensures counted { failures self.new ≡ failures self.old + failed_take result }
+        ensures falls { IfOk result (λ count. 0 < count → left self.new < left self.old) };
+}
+
+/// Where bytes go.
+///
+/// Contracts see what was put so far, where the sink tells it, which of it still waits to be handed on, and how many
+/// calls failed so far. A call fails where it answers an error, or takes none of a piece that isn't empty.
+pub trait Sink {
+    /// The bytes put so far, where the sink tells them; those that wait are the last of them.
+    ghost contents: { Self → Option (List ℕ) };
+
+    /// The bytes that wait to be handed on.
+    ghost waiting: { Self → List ℕ };
+
+    /// How many calls failed so far.
+    ghost failures: { Self → ℕ };
+
+    /// Writes bytes from the front of the piece and answers how many.
+    fn put(&mut self, piece: &[u8]) -> Result<usize, Failed>
+        ensures within { IfOk result (λ count. count ≤ length piece.now) }
+        ensures bytes { WriteAppends (contents self.old) (contents self.new) result piece.now }
+        ensures counted { failures self.new ≡ failures self.old + failed_put result piece.now };
+
+    /// Hands on all that waits.
+    fn settle(&mut self) -> Result<(), Failed>
+        ensures same { Keeps (contents self.old) (contents self.new) }
+        ensures settled { OnOk result (waiting self.new ≡ []) }
+        ensures counted { failures self.new ≡ failures self.old + failed_settle result };
+}
+
+/// Writes all of these bytes, or those before a failure of the sink. O(n), in as many calls as the sink
+/// wants.
+pub fn put_all<K: Sink>(sink: &mut K, bytes: &[u8]) -> Result<(), Failed>
+    ensures sent { Sends (K.contents sink.old) (K.contents sink.new) result bytes.now }
+    ensures calm { OnOk result (K.failures sink.new ≡ K.failures sink.old) }
+    ensures failed { OnErr result (K.failures sink.old < K.failures sink.new) }
+{
+    let mut start = 0;
+    while start < bytes.len() {
+        let count = sink.put(&bytes[start..])?;
+        if count == 0 {
+            return Err(Failed);
+        }
+        start += count;
+    }
+    Ok(())
+}

@@ -1,0 +1,33 @@
+//! Devices: where bytes come from (`Source`) and where they go (`Sink`).
+//!
+//! It is not the session: it knows no lines and no values, opens no file and no port, and waits for nobody but the
+//! reader or writer that it is given.
+//!
+//! The contract to use is that of the two traits. A call of a device either moves bytes or fails, and each failure is
+//! counted; so who is lent a device can say that a refusal as `Device` comes just where its count rose. What was put on a
+//! sink is what it has handed on, in order and whole, and then what waits; after a `settle` that is Ok nothing waits.
+//!
+//! The devices: over memory (`MemorySource`, `MemorySink`), over the readers and writers of std (`Reading`, `Writing`),
+//! and the console (`ConsoleOutput`), which keeps what is put until it is settled. Over a `ConsoleOutput` on standard
+//! output, two `put_all` of `b"ok 1\n"` and `b"ok 2\n"` write nothing; the `settle` after them is one write of ten bytes.
+//! Where that write fails, `settle` is the error, the count of failures is 1, and no later call writes anything.
+//!
+//! Cost: a call is one call of its reader or writer, more where a signal interrupts; a console has 65,536 bytes of
+//! memory, the others none.
+#![tactic(auto)]
+
+mod console;
+mod device;
+mod memory;
+mod stream;
+
+pub use console::ConsoleOutput;
+pub use device::{Failed, Sink, Source, put_all};
+pub use memory::{MemorySink, MemorySource};
+pub use stream::{Reading, Writing};
+
+/// How many bytes are read at once, and how many wait at most before they are written.
+pub const PIECE_BYTES: usize = 65_536;
+
+#[cfg(test)]
+mod tests;

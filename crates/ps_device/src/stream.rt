@@ -1,0 +1,140 @@
+//! Devices over the readers and writers of std: standard input and output, files, TCP streams.
+ghost use Rattle.std.specs.Prelude.{◌≡◌, ◌+◌, []};
+ghost use Rattle.ps_grid.specs.Blanks.{IsBlankOf};
+
+use crate::device::{Failed, Sink, Source};
+use ps_grid::Count;
+use std::io::{ErrorKind, Read, Write};
+use std::sync::ledger::{Blank, Ledger};
+
+/// A source over a reader. A read that a signal interrupted is tried again and is no failure.
+#[derive(Drop)]
+pub struct Reading<R: Read + Drop, L: Ledger> {
+    reader: R,
+    // how many more reads are made before the source fails for good
+    tries: u64,
+    failed: Count<L>,
+}
+
+impl<R: Read + Drop, L: Ledger> Reading<R, L> {
+    /// A source over this reader. It gives up, as a failure, after 2^64 - 1 reads. O(1).
+    pub fn new(reader: R, blank: Blank) -> Reading<R, L>
+        requires { IsBlankOf blank L.name L.parts }
+        ensures calm { ⟦<Reading<R, L> as Source>⟧.failures result ≡ 0 }
+        ensures remaining { ⟦<Reading<R, L> as Source>⟧.remaining result ≡ R.remaining reader }
+    {
+        Reading {
+            reader,
+            tries: u64::MAX,
+            failed: Count::new(blank),
+        }
+    }
+}
+
+impl<R: Read + Drop, L: Ledger> Source for Reading<R, L> {
+    ghost remaining = { λ source. R.remaining source.reader };
+
+    ghost failures = { λ source. source.failed };
+
+    ghost left = { λ source. source.tries };
+
+    fn take(&mut self, piece: &mut [u8]) -> Result<usize, Failed> {
+        while self.tries > 0 {
+            self.tries -= 1;
+            match self.reader.read(piece) {
+                Ok(count) => return Ok(count),
+                Err(error) => {
+                    if error.kind() != ErrorKind::Interrupted {
+                        break;
+                    }
+                }
+            }
+        }
+        self.failed.rise();
+        Err(Failed)
+    }
+}
+
+/// A sink over a writer. A write that a signal interrupted is tried again and is no failure.
+#[derive(Drop)]
+pub struct Writing<W: Write + Drop, L: Ledger> {
+    writer: W,
+    // how many more writes are made before the sink fails for good
+    tries: u64,
+    failed: Count<L>,
+}
+
+impl<W: Write + Drop, L: Ledger> Writing<W, L> {
+    /// A sink over this writer. It gives up, as a failure, after 2^64 - 1 writes. O(1).
+    pub fn new(writer: W, blank: Blank) -> Writing<W, L>
+        requires { IsBlankOf blank L.name L.parts }
+        ensures calm { ⟦<Writing<W, L> as Sink>⟧.failures result ≡ 0 }
+        ensures contents { ⟦<Writing<W, L> as Sink>⟧.contents result ≡ W.contents writer }
+    {
+        Writing {
+            writer,
+            tries: u64::MAX,
+            failed: Count::new(blank),
+        }
+    }
+
+    /// The writer.
+    pub fn into_writer(self) -> W
+        ensures { result ≡ self.writer }
+    {
+        let Writing { writer, .. } = self;
+        writer
+    }
+
+    /// Counts a failure that came before the write.
+    pub(crate) fn fail(&mut self)
+        ensures writer { self.new.writer ≡ self.old.writer }
+        ensures counted { self.new.failed ≡ self.old.failed + 1 }
+    {
+        self.failed.rise();
+    }
+}
+
+impl<W: Write + Drop, L: Ledger> Sink for Writing<W, L> {
+    ghost contents = { λ sink. W.contents sink.writer };
+
+    ghost waiting = { λ sink. [] };
+
+    ghost failures = { λ sink. sink.failed };
+
+    fn put(&mut self, piece: &[u8]) -> Result<usize, Failed> {
+        if piece.is_empty() {
+            return Ok(0);
+        }
+        while self.tries > 0 {
+            self.tries -= 1;
+            match self.writer.write(piece) {
+                Ok(0) => break,
+                Ok(count) => return Ok(count),
+                Err(error) => {
+                    if error.kind() != ErrorKind::Interrupted {
+                        break;
+                    }
+                }
+            }
+        }
+        self.failed.rise();
+        Err(Failed)
+    }
+
+    fn settle(&mut self) -> Result<(), Failed> {
+        while self.tries > 0 {
+            self.tries -= 1;
+            match self.writer.flush() {
+                Ok(()) => return Ok(()),
+                Err(error) => {
+                    if error.kind() != ErrorKind::Interrupted {
+                        break;
+                    }
+                }
+            }
+        }
+        self.failed.rise();
+        Err(Failed)
+    }
+}
