@@ -27,6 +27,7 @@ pub trait Source {
         ensures within { IfOk result (λ count. count ≤ length piece.new) }
         ensures bytes { ReadConsumes (remaining self.old) (remaining self.new) result piece.new }
         ensures counted { failures self.new ≡ failures self.old + failed_take result }
+        ensures kept { left self.new ≤ left self.old }
         ensures falls { IfOk result (λ count. 0 < count → left self.new < left self.old) };
 }
 
