@@ -17,7 +17,7 @@ test_fails : (b : Bool) → (b ≡ true → ⊥) → false ≡ b
 test_fails true refuted = absurd (refuted refl)
 test_fails false refuted = refl
 
--- what `from_utf8` answers is the test
+-- what `from_utf8` returns is the test
 pub is_ok-utf8 : {X E : Type 0} (A : X → Type 0) (B : E → Type 0) (bytes : List ℕ) (r : Result X E) →
     MatchResult r (λ s. A s × IsUtf8 bytes) (λ e. ¬ (IsUtf8 bytes) × B e) → is_ok r ≡ is_utf8 bytes
 is_ok-utf8 A B bytes (Ok s) said = sym (is_utf8-from_IsUtf8 bytes said.1)

@@ -17,11 +17,11 @@ is_label bytes =
 abbrev pub IsLabel : List ℕ → Type 0
 IsLabel bytes = IsTrue (is_label bytes)
 
--- the bytes, and zeros behind them up to LABEL_BYTES
+-- the bytes, and zeros after them up to LABEL_BYTES
 unfoldable pub padded : List ℕ → List ℕ
 padded bytes = bytes ++ replicate (LABEL_BYTES - length bytes) 0
 
--- how a label lies in its room: its bytes in front, zeros behind
+-- how a label lies in its room: its bytes in front, zeros after them
 pub record IsStored (room : List ℕ) (used : ℕ) : Type 0 where
   pub within : used ≤ length room
   pub zeros : room ≡ padded (take used room)

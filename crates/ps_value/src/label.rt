@@ -1,4 +1,4 @@
-// Labels.
+//! Labels: short texts of one line.
 ghost use Rattle.std.specs.Prelude.{◌≡◌, ◌↔◌, ◌≤◌, IsSome, IfSome, length, nat_eq};
 ghost use Rattle.std.specs.List.{list_all};
 ghost use Rattle.std.specs.Str.{is_utf8};
@@ -19,7 +19,7 @@ use std::marker::Model;
 /// It is kept in place, so it is `Copy` and takes no memory. Labels are ordered by their bytes.
 #[derive(Clone, Copy)]
 pub struct Label {
-    // the bytes, and zeros behind them
+    // the bytes, and zeros after them
     room: [u8; LABEL_BYTES],
     // how many bytes the text has
     used: u8,
@@ -42,7 +42,9 @@ impl Model for Label {
 }
 
 impl Label {
-    /// The label of these bytes, if they are one. O(n).
+    /// The label of these bytes, if they are one.
+    ///
+    /// Cost: O(n) in the bytes, no memory.
     pub fn new(bytes: &[u8]) -> Option<Label>
         ensures labels { IsSome result ↔ IsLabel bytes.now }
         ensures bytes { IfSome result (λ label. label ≡ bytes.now) }
@@ -56,7 +58,9 @@ impl Label {
         })
     }
 
-    /// The bytes of the text. O(1).
+    /// The bytes of the text.
+    ///
+    /// Cost: O(1).
     pub fn bytes(&self) -> &[u8]
         ensures bytes { result.now ≡ self.now }
         ensures label { IsLabel self.now }
@@ -103,6 +107,7 @@ impl Ord for Label {
     }
 }
 
+/// Whether these are the bytes of a label.
 fn is_text_of_one_line(bytes: &[u8]) -> bool
     ensures { result ≡ is_label bytes.now }
 {
@@ -110,18 +115,21 @@ fn is_text_of_one_line(bytes: &[u8]) -> bool
     1 <= len && len <= LABEL_BYTES && is_all_printed(bytes) && is_text(bytes)
 }
 
+/// Whether no byte is a control character or DEL.
 fn is_all_printed(bytes: &[u8]) -> bool
     ensures { result ≡ list_all is_printed bytes.now }
 {
     bytes.iter().all(|b| 32 <= *b && *b != 127)
 }
 
+/// Whether the bytes are UTF-8.
 fn is_text(bytes: &[u8]) -> bool
     ensures { result ≡ is_utf8 bytes.now }
 {
     str::from_utf8(bytes).is_ok()
 }
 
+/// The bytes, and zeros after them.
 fn in_room(bytes: &[u8]) -> [u8; LABEL_BYTES]
     requires { length bytes.now ≤ LABEL_BYTES }
     ensures { result ≡ padded bytes.now }

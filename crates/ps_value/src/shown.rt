@@ -12,8 +12,9 @@ use ps_grid::Refusal;
 /// Writes the text of the value: nothing, the number in decimal, the bytes of the text, the options
 /// ascending in braces with commas between, or the fault's name.
 ///
-/// Refused as `Device` where the sink failed, and then some of the text may have been written. O(n) in
-/// the length of the text, and no memory.
+/// Refused as `Device` where the sink failed, and then some of the text may have been written.
+///
+/// Cost: O(n) in the length of the text, no memory.
 pub fn write_shown<K: Sink>(value: Value, sink: &mut K) -> Result<(), Refusal>
     ensures shown { Sends (K.contents sink.old) (K.contents sink.new) result (shown_text value) }
     ensures calm { OnOk result (K.failures sink.new ≡ K.failures sink.old) }
@@ -23,6 +24,7 @@ pub fn write_shown<K: Sink>(value: Value, sink: &mut K) -> Result<(), Refusal>
     put_shown(value, sink).map_err(|_| Refusal::Device)
 }
 
+/// Puts the text of the value.
 fn put_shown<K: Sink>(value: Value, sink: &mut K) -> Result<(), Failed>
     ensures shown { Sends (K.contents sink.old) (K.contents sink.new) result (shown_text value) }
     ensures calm { OnOk result (K.failures sink.new ≡ K.failures sink.old) }
@@ -37,6 +39,7 @@ fn put_shown<K: Sink>(value: Value, sink: &mut K) -> Result<(), Failed>
     }
 }
 
+/// The name of the fault.
 fn text_of_fault(fault: Fault) -> &'static [u8]
     ensures { result.now ≡ fault_text fault }
 {
@@ -48,6 +51,7 @@ fn text_of_fault(fault: Fault) -> &'static [u8]
     }
 }
 
+/// Puts the number in decimal.
 fn put_number<K: Sink, I: Integer>(number: I, sink: &mut K) -> Result<(), Failed>
     ensures shown { Sends (K.contents sink.old) (K.contents sink.new) result (I.text number) }
     ensures calm { OnOk result (K.failures sink.new ≡ K.failures sink.old) }
@@ -58,6 +62,7 @@ fn put_number<K: Sink, I: Integer>(number: I, sink: &mut K) -> Result<(), Failed
     put_all(sink, digits.as_bytes())
 }
 
+/// Puts the options, ascending, in braces.
 fn put_choice<K: Sink>(bits: u64, sink: &mut K) -> Result<(), Failed>
     ensures shown { Sends (K.contents sink.old) (K.contents sink.new) result (choice_text bits) }
     ensures calm { OnOk result (K.failures sink.new ≡ K.failures sink.old) }
@@ -68,6 +73,7 @@ fn put_choice<K: Sink>(bits: u64, sink: &mut K) -> Result<(), Failed>
     put_all(sink, b"}")
 }
 
+/// Puts the options, ascending, with commas between.
 fn put_options<K: Sink>(bits: u64, sink: &mut K) -> Result<(), Failed>
     ensures shown { Sends (K.contents sink.old) (K.contents sink.new) result (listed (options_below 64 bits)) }
     ensures calm { OnOk result (K.failures sink.new ≡ K.failures sink.old) }
@@ -83,6 +89,7 @@ fn put_options<K: Sink>(bits: u64, sink: &mut K) -> Result<(), Failed>
     Ok(())
 }
 
+/// Puts an option, after a comma unless it is the first.
 fn put_option<K: Sink>(option: u32, is_first: bool, sink: &mut K) -> Result<(), Failed>
     ensures shown { Sends (K.contents sink.old) (K.contents sink.new) result
         (if is_first then decimal option else codes "," ++ decimal option) }

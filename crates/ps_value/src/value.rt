@@ -1,4 +1,4 @@
-// What a cell shows.
+//! What a cell shows.
 use crate::label::Label;
 
 /// Why a cell has no number.
