@@ -1,1 +1,3 @@
+pub mod Console
 pub mod Device
+pub mod Stream

@@ -1,9 +1,9 @@
 //! A console's output: bytes that wait in memory until they are handed on.
 //!
-//! A batch of lines costs one write a piece of input, and a peer that waits for a reply has it, as a session hands on
-//! all that waits before each read.
-ghost use Rattle.std.specs.Prelude.{◌≡◌, ◌<◌, ◌≤◌, ◌+◌, [], IfErr, IfOk, IsErr, OnErr, OnOk, drop, length, true, vec_len};
-ghost use Rattle.std.specs.Prelude.{vec_capacity};
+//! A batch of lines costs one write a piece of input, and a peer that waits for a reply has it, as a session settles its
+//! sink before each read.
+ghost use Rattle.std.specs.Prelude.{◌≡◌, ◌<◌, ◌≤◌, ◌+◌, [], IfErr, IfOk, IsErr, IsOk, IsTrue, OnOk, drop, false, is_err};
+ghost use Rattle.std.specs.Prelude.{length, vec_capacity, vec_len};
 ghost use Rattle.std.specs.Io.KnownBytes.{Keeps, WriteAppends, append_known};
 ghost use Rattle.ps_device.specs.Device.{failed_put, failed_settle};
 ghost use Rattle.ps_device.specs.declared.TheConstants.{PIECE_BYTES};
@@ -19,42 +19,54 @@ use std::sync::ledger::{Blank, Ledger};
 
 /// A sink over a writer, that keeps what is put until it is settled, or until the room is full.
 ///
-/// What was put is what the writer was given, in order, and then what waits. After a failure nothing more is written,
-/// and every further call fails.
+/// What was put is what the writer was given, in order and whole, and then what waits. After a failure nothing more is
+/// written, and every further call fails. A settle flushes the writer too, which no clause shows.
 #[derive(Drop)]
 pub struct ConsoleOutput<W: Write + Drop, L: Ledger> {
+    // the writer, and the count of all failures
     sink: Writing<W, L>,
-    // what waits, behind `sent` bytes that the writer has already
+    // the bytes put last, of which the writer has the first `sent` already
     bytes: Vec<u8>,
     sent: usize,
     // a call failed
-    stuck: bool,
+    is_stopped: bool,
     ghost within: { vec_len bytes ≤ PIECE_BYTES },
-    ghost room: { PIECE_BYTES ≤ vec_capacity bytes },
-    ghost behind: { sent ≤ vec_len bytes },
+    ghost reserved: { PIECE_BYTES ≤ vec_capacity bytes },
+    ghost sent_within: { sent ≤ vec_len bytes },
+    ghost sent_whole: { is_stopped ≡ false → sent ≡ 0 },
 }
 
 impl<W: Write + Drop, L: Ledger> ConsoleOutput<W, L> {
-    /// An output over this writer, with room for 65,536 bytes that wait. Refused for lack of memory. O(1).
+    ghost use Rattle.ps_device.specs.Console.{console_contents, console_waiting, console_writer, has_failed};
+
+    /// An output over this writer, with room for `PIECE_BYTES` bytes that wait. Refused out of memory.
+    ///
+    /// Cost: O(1), one allocation.
     pub fn new(alloc: Global, writer: W, blank: Blank) -> Result<ConsoleOutput<W, L>, Refusal>
         requires { IsBlankOf blank L.name L.parts }
         ensures memory { IfErr result (λ refusal. refusal ≡ Refusal.Memory) }
-        ensures contents { IfOk result (λ output. Keeps (W.contents writer) (⟦<ConsoleOutput<W, L> as Sink>⟧.contents output)) }
-        ensures waiting { IfOk result (λ output. ⟦<ConsoleOutput<W, L> as Sink>⟧.waiting output ≡ []) }
+        ensures writer { IfOk result (λ output. console_writer output ≡ writer) }
+        ensures waiting { IfOk result (λ output. console_waiting output ≡ []) }
+        ensures contents { IfOk result (λ output.
+            Keeps (W.contents writer) (⟦<ConsoleOutput<W, L> as Sink>⟧.contents output)) }
         ensures calm { IfOk result (λ output. ⟦<ConsoleOutput<W, L> as Sink>⟧.failures output ≡ 0) }
+        ensures open { IfOk result (λ output. has_failed output ≡ false) }
     {
         let bytes = Vec::with_capacity(alloc, PIECE_BYTES)?;
         Ok(ConsoleOutput {
             sink: Writing::new(writer, blank),
             bytes,
             sent: 0,
-            stuck: false,
+            is_stopped: false,
         })
     }
 
     /// The writer, which has all that was put where nothing waits.
+    ///
+    /// Cost: O(1).
     pub fn into_writer(self) -> W
-        ensures { ⟦<ConsoleOutput<W, L> as Sink>⟧.waiting self ≡ []
+        ensures writer { result ≡ console_writer self }
+        ensures whole { console_waiting self ≡ []
             → Keeps (⟦<ConsoleOutput<W, L> as Sink>⟧.contents self) (W.contents result) }
     {
         let ConsoleOutput { sink, .. } = self;
@@ -63,12 +75,13 @@ impl<W: Write + Drop, L: Ledger> ConsoleOutput<W, L> {
 
     /// Gives the writer what waits.
     fn send(&mut self) -> Result<(), Failed>
-        ensures same { Keeps (append_known (W.contents self.old.sink.writer) (drop self.old.sent self.old.bytes.items))
-            (append_known (W.contents self.new.sink.writer) (drop self.new.sent self.new.bytes.items)) }
+        ensures same { Keeps (console_contents W.contents self.old) (console_contents W.contents self.new) }
         ensures sent { OnOk result (self.new.bytes.items ≡ []) }
         ensures counted { self.new.sink.failed ≡ self.old.sink.failed + failed_settle result }
-        ensures stuck { self.new.stuck ≡ self.old.stuck }
+        ensures stops { has_failed self.new ≡ is_err result }
     {
+        // what fails on the way leaves it so
+        self.is_stopped = true;
         while self.sent < self.bytes.len() {
             let count = self.sink.put(&self.bytes[self.sent..])?;
             if count == 0 {
@@ -78,57 +91,66 @@ impl<W: Write + Drop, L: Ledger> ConsoleOutput<W, L> {
         }
         self.bytes.clear();
         self.sent = 0;
+        self.is_stopped = false;
         Ok(())
     }
 }
 
 impl<W: Write + Drop, L: Ledger> Sink for ConsoleOutput<W, L> {
+    ghost use Rattle.ps_device.specs.Console.{console_contents, console_waiting, console_writer, has_failed};
+
     ghost contents = { λ output. append_known (W.contents output.sink.writer) (drop output.sent output.bytes.items) };
 
     ghost waiting = { λ output. drop output.sent output.bytes.items };
 
     ghost failures = { λ output. output.sink.failed };
 
+    /// Keeps bytes from the front of the piece; where the room is full, it is sent first. Some of a piece that isn't
+    /// empty is taken at Ok.
+    ///
+    /// Cost: O(n) in the bytes taken, and no call of the writer while there is room.
     fn put(&mut self, piece: &[u8]) -> Result<usize, Failed>
         ensures within { IfOk result (λ count. count ≤ length piece.now) }
-        ensures bytes { WriteAppends
-            (append_known (W.contents self.old.sink.writer) (drop self.old.sent self.old.bytes.items))
-            (append_known (W.contents self.new.sink.writer) (drop self.new.sent self.new.bytes.items))
+        ensures bytes { WriteAppends (console_contents W.contents self.old) (console_contents W.contents self.new)
             result piece.now }
         ensures counted { self.new.sink.failed ≡ self.old.sink.failed + failed_put result piece.now }
-        ensures sticks { OnErr result (self.new.stuck ≡ true) }
-        ensures stuck { self.old.stuck ≡ true → IsErr result × (self.new.sink.writer ≡ self.old.sink.writer) × (self.new.stuck ≡ true) }
+        ensures some { IfOk result (λ count. 0 < length piece.now → 0 < count) }
+        ensures waits { has_failed self.old ≡ false → length (console_waiting self.old) < PIECE_BYTES
+            → IsOk result × (console_writer self.new ≡ console_writer self.old) }
+        ensures stops { has_failed self.new ≡ is_err result }
+        ensures stopped { IsTrue (has_failed self.old)
+            → IsErr result × (console_writer self.new ≡ console_writer self.old) }
     {
-        if self.stuck {
+        if self.is_stopped {
             self.sink.fail();
             return Err(Failed);
         }
-        if self.bytes.len() == PIECE_BYTES && self.send().is_err() {
-            self.stuck = true;
-            return Err(Failed);
+        if self.bytes.len() == PIECE_BYTES {
+            self.send()?;
         }
         let count = piece.len().min(PIECE_BYTES - self.bytes.len());
         self.bytes.extend_from_slice(&piece[..count]).unwrap();
         Ok(count)
     }
 
+    /// Gives the writer what waits, and flushes it.
+    ///
+    /// Cost: as many calls of the writer as it wants for the bytes, and one more.
     fn settle(&mut self) -> Result<(), Failed>
-        ensures same { Keeps
-            (append_known (W.contents self.old.sink.writer) (drop self.old.sent self.old.bytes.items))
-            (append_known (W.contents self.new.sink.writer) (drop self.new.sent self.new.bytes.items)) }
-        ensures settled { OnOk result (drop self.new.sent self.new.bytes.items ≡ []) }
+        ensures same { Keeps (console_contents W.contents self.old) (console_contents W.contents self.new) }
+        ensures settled { OnOk result (console_waiting self.new ≡ []) }
         ensures counted { self.new.sink.failed ≡ self.old.sink.failed + failed_settle result }
-        ensures sticks { OnErr result (self.new.stuck ≡ true) }
-        ensures stuck { self.old.stuck ≡ true → IsErr result × (self.new.sink.writer ≡ self.old.sink.writer) × (self.new.stuck ≡ true) }
+        ensures stops { has_failed self.new ≡ is_err result }
+        ensures stopped { IsTrue (has_failed self.old)
+            → IsErr result × (console_writer self.new ≡ console_writer self.old) }
     {
-        if self.stuck {
+        if self.is_stopped {
             self.sink.fail();
             return Err(Failed);
         }
-        self.stuck = true;
         self.send()?;
-        self.sink.settle()?;
-        self.stuck = false;
-        Ok(())
+        let flushed = self.sink.settle();
+        self.is_stopped = flushed.is_err();
+        flushed
     }
 }

@@ -9,20 +9,19 @@ pub struct Failed;
 
 /// Where bytes come from.
 ///
-/// Contracts see what remains, where the source tells it, how many calls failed so far, and a number
-/// that falls with each call that gives bytes. A call fails where it answers an error. An answer of 0 to
-/// a piece that isn't empty is the end of the input.
+/// Contracts see what remains, where the source shows it, how many calls failed so far, and at most how many more calls
+/// give bytes. A call fails where it returns an error. A count of 0 for a piece that isn't empty is the end of the input.
 pub trait Source {
-    /// The bytes that are still to come, where the source tells them.
+    /// The bytes that are still to come, where the source shows them.
     ghost remaining: { Self → Option (List ℕ) };
 
     /// How many calls failed so far.
     ghost failures: { Self → ℕ };
 
-    /// At most how many more calls give bytes.
+    /// At most how many more calls give bytes. It never rises.
     ghost left: { Self → ℕ };
 
-    /// Puts the next bytes at the front of the piece and answers how many.
+    /// Puts the next bytes at the front of the piece and returns how many.
     fn take(&mut self, piece: &mut [u8]) -> Result<usize, Failed>
         ensures within { IfOk result (λ count. count ≤ length piece.new) }
         ensures bytes { ReadConsumes (remaining self.old) (remaining self.new) result piece.new }
@@ -33,10 +32,10 @@ pub trait Source {
 
 /// Where bytes go.
 ///
-/// Contracts see what was put so far, where the sink tells it, which of it still waits to be handed on, and how many
-/// calls failed so far. A call fails where it answers an error, or takes none of a piece that isn't empty.
+/// Contracts see what was put so far, where the sink shows it, which of it still waits to be handed on, and how many
+/// calls failed so far. A call fails where it returns an error, or takes none of a piece that isn't empty.
 pub trait Sink {
-    /// The bytes put so far, where the sink tells them; those that wait are the last of them.
+    /// The bytes put so far, where the sink shows them; those that wait are the last of them.
     ghost contents: { Self → Option (List ℕ) };
 
     /// The bytes that wait to be handed on.
@@ -45,21 +44,22 @@ pub trait Sink {
     /// How many calls failed so far.
     ghost failures: { Self → ℕ };
 
-    /// Writes bytes from the front of the piece and answers how many.
+    /// Takes bytes from the front of the piece and returns how many.
     fn put(&mut self, piece: &[u8]) -> Result<usize, Failed>
         ensures within { IfOk result (λ count. count ≤ length piece.now) }
         ensures bytes { WriteAppends (contents self.old) (contents self.new) result piece.now }
         ensures counted { failures self.new ≡ failures self.old + failed_put result piece.now };
 
-    /// Hands on all that waits.
+    /// Hands on all that waits. Nothing that was put is lost by it, also where it fails.
     fn settle(&mut self) -> Result<(), Failed>
         ensures same { Keeps (contents self.old) (contents self.new) }
         ensures settled { OnOk result (waiting self.new ≡ []) }
         ensures counted { failures self.new ≡ failures self.old + failed_settle result };
 }
 
-/// Writes all of these bytes, or those before a failure of the sink. O(n), in as many calls as the sink
-/// wants.
+/// Puts all of these bytes, or those before a failure of the sink.
+///
+/// Cost: O(n) in the bytes, in as many calls as the sink wants.
 pub fn put_all<K: Sink>(sink: &mut K, bytes: &[u8]) -> Result<(), Failed>
     ensures sent { Sends (K.contents sink.old) (K.contents sink.new) result bytes.now }
     ensures calm { OnOk result (K.failures sink.new ≡ K.failures sink.old) }

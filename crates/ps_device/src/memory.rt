@@ -15,7 +15,9 @@ pub struct MemorySource<'a> {
 }
 
 impl<'a> MemorySource<'a> {
-    /// A source of these bytes. O(1).
+    /// A source of these bytes.
+    ///
+    /// Cost: O(1).
     pub fn new(bytes: &'a [u8]) -> MemorySource<'a>
         ensures { result.rest.now ≡ bytes.now }
     {
@@ -40,17 +42,19 @@ impl Source for MemorySource<'_> {
     }
 }
 
-/// A sink that keeps what is written. It fails where memory is refused, and then keeps what it had.
+/// A sink that keeps what is put. It fails out of memory, and then keeps what it had.
 #[derive(Drop)]
 pub struct MemorySink<L: Ledger> {
-    /// The bytes written so far.
+    /// The bytes put so far.
     pub bytes: Vec<u8>,
     /// How many calls failed.
     pub failed: Count<L>,
 }
 
 impl<L: Ledger> MemorySink<L> {
-    /// A sink with nothing in it. O(1).
+    /// A sink with nothing in it.
+    ///
+    /// Cost: O(1), no memory.
     pub fn new(alloc: Global, blank: Blank) -> MemorySink<L>
         requires { IsBlankOf blank L.name L.parts }
         ensures empty { result.bytes.items ≡ [] }

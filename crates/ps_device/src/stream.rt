@@ -1,5 +1,6 @@
 //! Devices over the readers and writers of std: standard input and output, files, TCP streams.
 ghost use Rattle.std.specs.Prelude.{◌≡◌, ◌+◌, []};
+ghost use Rattle.ps_device.specs.Stream.{writer_of};
 ghost use Rattle.ps_grid.specs.Blanks.{IsBlankOf};
 
 use crate::device::{Failed, Sink, Source};
@@ -17,7 +18,9 @@ pub struct Reading<R: Read + Drop, L: Ledger> {
 }
 
 impl<R: Read + Drop, L: Ledger> Reading<R, L> {
-    /// A source over this reader. It gives up, as a failure, after 2^64 - 1 reads. O(1).
+    /// A source over this reader. It gives up, as a failure, after 2^64 - 1 reads.
+    ///
+    /// Cost: O(1), no memory.
     pub fn new(reader: R, blank: Blank) -> Reading<R, L>
         requires { IsBlankOf blank L.name L.parts }
         ensures calm { ⟦<Reading<R, L> as Source>⟧.failures result ≡ 0 }
@@ -55,20 +58,24 @@ impl<R: Read + Drop, L: Ledger> Source for Reading<R, L> {
     }
 }
 
-/// A sink over a writer. A write that a signal interrupted is tried again and is no failure.
+/// A sink over a writer: nothing waits. A write or a flush that a signal interrupted is tried again and is no failure;
+/// a write that takes none of a piece that isn't empty is one.
 #[derive(Drop)]
 pub struct Writing<W: Write + Drop, L: Ledger> {
     writer: W,
-    // how many more writes are made before the sink fails for good
+    // how many more writes and flushes are made before the sink fails for good
     tries: u64,
     failed: Count<L>,
 }
 
 impl<W: Write + Drop, L: Ledger> Writing<W, L> {
-    /// A sink over this writer. It gives up, as a failure, after 2^64 - 1 writes. O(1).
+    /// A sink over this writer. It gives up, as a failure, after 2^64 - 1 writes and flushes.
+    ///
+    /// Cost: O(1), no memory.
     pub fn new(writer: W, blank: Blank) -> Writing<W, L>
         requires { IsBlankOf blank L.name L.parts }
         ensures calm { ⟦<Writing<W, L> as Sink>⟧.failures result ≡ 0 }
+        ensures writer { writer_of result ≡ writer }
         ensures contents { ⟦<Writing<W, L> as Sink>⟧.contents result ≡ W.contents writer }
     {
         Writing {
@@ -79,14 +86,16 @@ impl<W: Write + Drop, L: Ledger> Writing<W, L> {
     }
 
     /// The writer.
+    ///
+    /// Cost: O(1).
     pub fn into_writer(self) -> W
-        ensures { result ≡ self.writer }
+        ensures { result ≡ writer_of self }
     {
         let Writing { writer, .. } = self;
         writer
     }
 
-    /// Counts a failure that came before the write.
+    /// Counts a call that failed with no call of the writer.
     pub(crate) fn fail(&mut self)
         ensures writer { self.new.writer ≡ self.old.writer }
         ensures counted { self.new.failed ≡ self.old.failed + 1 }

@@ -7,5 +7,5 @@ loop-self-preserved g c = record {
   same = Keeps-handed _ _ _ c.loop-self.self.bytes.items c.loop-self.self.sent c.in_ok-count.count c.loop-self.invariant.same
       (rw c.deref.ensures.value at c.in_ok-count.ensures.bytes);
   calm = calm_put Failed _ _ _ c.in_ok-count.count _ c.if-count-eq0.false c.in_ok-count.ensures.counted c.loop-self.invariant.calm;
-  stuck = c.loop-self.invariant.stuck;
+  stopped = c.loop-self.invariant.stopped;
 }

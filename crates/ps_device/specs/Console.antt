@@ -1,0 +1,22 @@
+-- What a clause reads of a console's output.
+use Rattle.std.specs.Prelude.{ℕ, Bool, List, Option, drop}
+use Rattle.std.specs.Io.KnownBytes.{append_known}
+use Rattle.std.specs.declared.io.traits.Write.{Ghosts}
+use Rattle.ps_device.specs.declared.console.ConsoleOutput.{ConsoleOutput}
+
+-- the writer
+abbrev pub console_writer : {W L : Type 0} {G : Ghosts W} → ConsoleOutput W L G → W
+console_writer output = output.sink.writer
+
+-- what was put and the writer was not given
+abbrev pub console_waiting : {W L : Type 0} {G : Ghosts W} → ConsoleOutput W L G → List ℕ
+console_waiting output = drop output.sent output.bytes.items
+
+-- what the writer has, where it shows that, and then what waits
+abbrev pub console_contents : {W L : Type 0} {G : Ghosts W} → (W → Option (List ℕ)) → ConsoleOutput W L G
+    → Option (List ℕ)
+console_contents contents output = append_known (contents (console_writer output)) (console_waiting output)
+
+-- a call failed, so nothing more is written
+abbrev pub has_failed : {W L : Type 0} {G : Ghosts W} → ConsoleOutput W L G → Bool
+has_failed output = output.is_stopped
