@@ -1,4 +1,4 @@
-//! The ground of the sheet: its size, its cells and rectangles, the refusals of all its calls,
+//! The ground of the sheet: its size, its cells and rectangles, how many take part, the refusals of all its calls,
 //! and what "a chain of references" means.
 //!
 //! It is not the sheet: it knows no values, no formulas and no edits.
@@ -12,6 +12,7 @@
 mod cell;
 mod count;
 mod laws;
+mod parties;
 mod rect;
 mod refusal;
 mod size;
@@ -20,6 +21,7 @@ mod twin;
 pub use cell::Cell;
 pub use count::Count;
 pub use laws::{long_chains_repeat, refusal_numbers_differ};
+pub use parties::{REPLICAS, SEATS, WORKERS};
 pub use rect::{Cells, Rect};
 pub use refusal::Refusal;
 pub use size::{CELLS, COLUMNS, ROWS};
