@@ -5,4 +5,3 @@ pub mod ModuloLemmas
 pub mod Ranges
 pub mod SummaryLemmas
 pub mod TotalLemmas
-pub mod WalkLemmas

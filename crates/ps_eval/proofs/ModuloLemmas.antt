@@ -1,33 +1,11 @@
 -- The remainder that is cut towards zero, and the one with the sign of the divisor.
-use Rattle.std.proofs.Common.{◌≡◌, ℕ, suc, zero, ◌+◌, ◌*◌, ◌/◌, ◌%◌, ◌<◌, ◌≤◌, ◌⊎◌, ⊎_elim, inl, inr, ℤ, pos}
-use Rattle.std.proofs.Common.{negsuc, ◌+ℤ◌, ◌-ℤ◌, ◌*ℤ◌, ◌<ℤ◌, ◌≤ℤ◌, ap, ◌∙◌, arith}
+use Rattle.std.proofs.Common.{◌≡◌, suc, zero, ⊎_elim, ℤ, pos}
+use Rattle.std.proofs.Common.{negsuc, ◌+ℤ◌, ◌-ℤ◌, ◌*ℤ◌, ◌<ℤ◌, ◌≤ℤ◌, arith}
 use Rattle.std.specs.Prelude.{int_rem}
 use Rattle.std.proofs.lemmas.Int.{ints}
-use Rattle.std.proofs.lemmas.Nat.{div-mul-add, mod-mul-add, div-add-mod', mod_below}
-use Rattle.std.proofs.lemmas.Bool.{cases_lt}
+use Rattle.std.proofs.lemmas.Nat.{div-add-mod'}
+use Rattle.ps_grid.proofs.WalkLemmas.{next_rest}
 use Rattle.ps_eval.specs.Number.{floored}
-
--- one more: the remainder is one more, or begins again
-pub next_rest : (n m : ℕ) → 0 < m →
-    ((suc n % m ≡ n % m + 1) × (suc n / m ≡ n / m)) ⊎ ((n % m + 1 ≡ m) × (suc n % m ≡ 0) × (suc n / m ≡ n / m + 1))
-next_rest n m h =
-    let whole = div-add-mod' n m in
-    let below = mod_below n m h in
-    ⊎_elim
-    (λ (lt : n % m + 1 < m). let e : suc n ≡ n / m * m + (n % m + 1) = omega (arith, whole) in
-    inl (
-      ap (λ k. k % m) e ∙ mod-mul-add (n / m) m (n % m + 1) lt,
-      ap (λ k. k / m) e
-          ∙ div-mul-add (n / m) m (n % m + 1) lt,
-    ))
-    (λ (ge : m ≤ n % m + 1). let e : suc n ≡ (n / m + 1) * m + 0 = omega (arith, whole) in
-    inr (
-      omega arith,
-      ap (λ k. k % m) e ∙ mod-mul-add (n / m + 1) m 0 h,
-      ap (λ k. k / m) e
-          ∙ div-mul-add (n / m + 1) m 0 h,
-    ))
-    (cases_lt (n % m + 1) m)
 
 pub rest_low : (a b : ℤ) → pos 0 <ℤ b → int_rem a b <ℤ pos 0 → int_rem a b +ℤ b ≡ a -ℤ b *ℤ floored a b
 rest_low (pos n) (pos b) above low = omega (arith, ints)

@@ -3,4 +3,3 @@ pub mod Items
 pub mod Value
 pub mod Laws
 pub mod Summarized
-pub mod Walked

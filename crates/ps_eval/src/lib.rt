@@ -21,7 +21,6 @@ mod summary;
 mod tests;
 mod total;
 mod tree;
-mod walk;
 
 pub use laws::{cycle_comes_from_references, depends_on_references_alone};
 pub use look::Look;

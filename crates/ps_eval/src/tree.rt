@@ -13,7 +13,6 @@ use crate::arithmetic::{absolute, modulo, operation, prefixed, quotient, truth};
 use crate::look::Look;
 use crate::meter::Meter;
 use crate::summary::Summary;
-use crate::walk::Walk;
 use ps_formula::{Argument, Expr, Formula};
 use ps_grid::{Cell, Rect};
 use ps_tokens::Function;
@@ -250,9 +249,7 @@ fn take_range<K: Look>(summary: &mut Summary, rect: Rect, look: &K)
         → Summarizes (items ++ range_items (K.value_at look.now) rect) summary.new }
     ensures count { summary.new.count ≤ summary.old.count + CELLS }
 {
-    let mut walk = Walk::new(rect);
-    for k in 0..rect.area() {
-        summary.take_cell(look.at(walk.cell()));
-        walk.step();
+    for cell in rect.cells() {
+        summary.take_cell(look.at(cell));
     }
 }

@@ -1,15 +1,17 @@
 -- The cells of a rectangle, by their number and by their column and row.
 use Rattle.std.proofs.Common.{◌≡◌, ◌≢◌, ℕ, suc, zero, ◌+◌, ◌-◌, ◌*◌, ◌/◌, ◌%◌, ◌<◌, ◌≤◌, true, false}
-use Rattle.std.proofs.Common.{List, ◌∷◌, map, sym, ap, ◌∙◌, arith, ⊎_elim, eqb}
+use Rattle.std.proofs.Common.{List, ◌∷◌, length, map, refl, sym, ap, ◌∙◌, arith, ⊎_elim, eqb}
 use Rattle.std.proofs.Common.{subst}
 use Rattle.std.proofs.lemmas.Grind.{common_steps}
 use Rattle.std.proofs.lemmas.Nat.{div-mul-add, mod-mul-add, mul-add-lt, mod_below, div-add-mod', rows}
-use Rattle.std.proofs.lemmas.Bool.{cases_eq}
+use Rattle.std.proofs.Math.Nat.{mul-le-mul_left, mul-le-mul_right}
+use Rattle.std.proofs.lemmas.Bool.{cases_eq, cond-true}
+use Rattle.std.proofs.lemmas.List.FromFn.{length-map-range_with_len}
 use Rattle.std.proofs.lemmas.Map.Keys.{IsDistinct-cons}
-use Rattle.std.specs.List.{list_any, range_with_len, IsDistinct}
-use Rattle.ps_grid.specs.declared.size.TheConstants.{COLUMNS, CELLS}
+use Rattle.std.specs.List.{filter, list_any, range_with_len, IsDistinct}
+use Rattle.ps_grid.specs.declared.size.TheConstants.{COLUMNS, CELLS, ROWS}
 use Rattle.ps_grid.specs.Chains.{In}
-use Rattle.ps_grid.specs.Rectangle.{Area, area, nth_cell, cells_from, cells_of, place_of, is_inside, IsInGrid}
+use Rattle.ps_grid.specs.Rectangle.{Area, area, nth_cell, cells_of, place_of, is_inside, IsInGrid}
 use Rattle.ps_grid.proofs.ChainLemmas.{apart, bool_cases, In-self, In-more, In-cases}
 
 -- a cell lies in the rectangle by its column and its row
@@ -136,11 +138,11 @@ number_from_In a (suc n) k c h =
 pub In-cells_of : (a : Area) (c : ℕ) → is_inside a c ≡ true → In (cells_of a) c
 In-cells_of a c h =
     subst (In (cells_of a)) (nth_cell-place_of a c h)
-    (In-from_number a (area a - 0) 0 (place_of a c) (omega arith) (let b = place_of-below a c h in omega arith))
+    (In-from_number a (area a) 0 (place_of a c) (omega arith) (let b = place_of-below a c h in omega arith))
 
 pub is_inside-In : (a : Area) (c : ℕ) → IsInGrid a → In (cells_of a) c → is_inside a c ≡ true
 is_inside-In a c g h =
-    let m = number_from_In a (area a - 0) 0 c h in
+    let m = number_from_In a (area a) 0 c h in
     let high = m.2 in
     subst (λ d. is_inside a d ≡ true) (sym m.3) (is_inside-nth_cell a m.0 g (omega arith))
 
@@ -175,10 +177,30 @@ distinct_from a (suc n) k g fits =
 
 -- each once
 pub IsDistinct-cells_of : (a : Area) → IsInGrid a → IsDistinct eqb (cells_of a)
-IsDistinct-cells_of a g = distinct_from a (area a - 0) 0 g (omega arith)
+IsDistinct-cells_of a g = distinct_from a (area a) 0 g (omega arith)
 
--- a walk that is not at its end has a first cell
-pub cells_from-cons : (a : Area) (k : ℕ) → k < area a → cells_from a k ≡ nth_cell a k ∷ cells_from a (k + 1)
-cells_from-cons a k h =
-    let more : area a - k ≡ suc (area a - (k + 1)) = omega arith in
-    ap (λ n. map (nth_cell a) (range_with_len k n)) more
+-- as many as the area
+pub length-cells_of : (a : Area) → length (cells_of a) ≡ area a
+length-cells_of a = length-map-range_with_len (nth_cell a) 0 (area a)
+
+-- which is no more than the grid has
+pub area-le : (a : Area) → IsInGrid a → area a ≤ CELLS
+area-le a g =
+    let columns = g.within_columns in
+    let rows = g.within_rows in
+    let wide : a.width ≤ COLUMNS = omega arith in
+    let high : a.height ≤ ROWS = omega arith in
+    grind (arith, mul-le-mul_right a.height wide, mul-le-mul_left COLUMNS high)
+
+all_inside : (a : Area) (k n : ℕ) → IsInGrid a → k + n ≤ area a
+    → filter (is_inside a) (map (nth_cell a) (range_with_len k n)) ≡ map (nth_cell a) (range_with_len k n)
+all_inside a k zero g within = refl
+all_inside a k (suc n) g within =
+    let rest = map (nth_cell a) (range_with_len (k + 1) n) in
+    cond-true (is_inside a (nth_cell a k)) (nth_cell a k ∷ filter (is_inside a) rest)
+    (filter (is_inside a) rest) (is_inside-nth_cell a k g (omega arith))
+    ∙ ap (λ cs. nth_cell a k ∷ cs) (all_inside a (k + 1) n g (omega arith))
+
+-- none of them lies outside
+pub filter-cells_of : (a : Area) → IsInGrid a → filter (is_inside a) (cells_of a) ≡ cells_of a
+filter-cells_of a g = all_inside a 0 (area a) g (omega arith)

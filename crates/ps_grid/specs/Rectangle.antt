@@ -10,21 +10,28 @@ pub record Area : Type 0 where
   pub width : ℕ
   pub height : ℕ
 
+-- at least one cell, and none outside the grid
+pub record IsInGrid (a : Area) : Type 0 where
+  pub some_width : 1 ≤ a.width
+  pub some_height : 1 ≤ a.height
+  pub within_columns : a.left + a.width ≤ COLUMNS
+  pub within_rows : a.top + a.height ≤ ROWS
+
 -- how many cells
 abbrev pub area : Area → ℕ
 area a = a.width * a.height
 
+-- the cell so many columns from the left side and so many rows from the upper side
+abbrev pub cell_within : Area → ℕ → ℕ → ℕ
+cell_within a across down = (a.top + down) * COLUMNS + (a.left + across)
+
 -- the k-th cell, from 0, row by row
 abbrev pub nth_cell : Area → ℕ → ℕ
-nth_cell a k = (a.top + k / a.width) * COLUMNS + (a.left + k % a.width)
-
--- its cells from the k-th on, row by row
-abbrev pub cells_from : Area → ℕ → List ℕ
-cells_from a k = map (nth_cell a) (range_with_len k (area a - k))
+nth_cell a k = cell_within a (k % a.width) (k / a.width)
 
 -- its cells, row by row
 abbrev pub cells_of : Area → List ℕ
-cells_of a = cells_from a 0
+cells_of a = map (nth_cell a) (range_with_len 0 (area a))
 
 -- the number of a cell among its cells, from 0, row by row
 abbrev pub place_of : Area → ℕ → ℕ
@@ -34,13 +41,6 @@ place_of a c = (c / COLUMNS - a.top) * a.width + (c % COLUMNS - a.left)
 abbrev pub is_inside : Area → ℕ → Bool
 is_inside a c = nat_le a.left (c % COLUMNS) && nat_lt (c % COLUMNS) (a.left + a.width)
     && nat_le a.top (c / COLUMNS) && nat_lt (c / COLUMNS) (a.top + a.height)
-
--- at least one cell, and none outside the grid
-pub record IsInGrid (a : Area) : Type 0 where
-  pub some_width : 1 ≤ a.width
-  pub some_height : 1 ≤ a.height
-  pub within_columns : a.left + a.width ≤ COLUMNS
-  pub within_rows : a.top + a.height ≤ ROWS
 
 -- the cell at the top left, and the one at the bottom right
 abbrev pub first_cell : Area → ℕ

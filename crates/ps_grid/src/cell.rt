@@ -72,11 +72,19 @@ impl Cell {
         ensures { SomeIff result (index < CELLS) index }
     {
         if index < CELLS {
-            Some(Cell {
-                place: index as u32,
-            })
+            Some(Cell::with_index(index))
         } else {
             None
+        }
+    }
+
+    // The cell at an index of the grid.
+    pub(crate) fn with_index(index: usize) -> Cell
+        requires { index < CELLS }
+        ensures { result ≡ index }
+    {
+        Cell {
+            place: index as u32,
         }
     }
 

@@ -1,13 +1,13 @@
 //! Rectangles of cells.
 
 ghost use Rattle.std.specs.Prelude.{◌≡◌, ℕ, ◌<◌, ◌≤◌, nat_eq};
-ghost use Rattle.ps_grid.specs.Rectangle.{area, cells_of, first_cell, IsInGrid, is_inside, last_cell};
-ghost use Rattle.ps_grid.specs.Rectangle.{nth_cell, spanned};
+ghost use Rattle.ps_grid.specs.Rectangle.{area, cell_within, cells_of, first_cell, IsInGrid, is_inside};
+ghost use Rattle.ps_grid.specs.Rectangle.{last_cell, nth_cell, spanned};
 ghost use Rattle.std.specs.Iterator.{YieldsFirst, item_count};
 ghost use Rattle.std.specs.List.{IsDistinct, list_any};
 
 use crate::cell::Cell;
-use crate::size::COLUMNS;
+use crate::size::{COLUMNS, ROWS};
 use std::marker::Model;
 
 /// A rectangle of cells, at least one. A contract sees it as its `Area`.
@@ -65,6 +65,28 @@ impl Rect {
             && row < self.top + self.height
     }
 
+    /// How many columns the rectangle has.
+    ///
+    /// Cost: constant.
+    pub fn width(self) -> usize
+        ensures width { result ≡ self.width }
+        ensures some { 1 ≤ result }
+        ensures in_grid { result ≤ COLUMNS }
+    {
+        self.width as usize
+    }
+
+    /// How many rows the rectangle has.
+    ///
+    /// Cost: constant.
+    pub fn height(self) -> usize
+        ensures height { result ≡ self.height }
+        ensures some { 1 ≤ result }
+        ensures in_grid { result ≤ ROWS }
+    {
+        self.height as usize
+    }
+
     /// How many cells the rectangle has.
     ///
     /// Cost: constant.
@@ -97,17 +119,30 @@ impl Rect {
 
     /// The cells of the rectangle, row by row: just those that it contains, each once.
     ///
-    /// Cost: constant, and constant for each cell that the walk gives.
+    /// Cost: constant, and constant for each cell that the walk gives, without a division.
     pub fn cells(self) -> Cells
         ensures cells { result ≡ cells_of self }
         ensures inside { (c : ℕ) → list_any (nat_eq c) result ≡ is_inside self c }
         ensures once { IsDistinct nat_eq result }
+        ensures in_grid { IsInGrid self }
     {
         Cells {
             rect: self,
-            next: 0,
-            count: self.area(),
+            left: self.area(),
+            place: self.top_left().index(),
+            across: 0,
         }
+    }
+
+    /// The cell that lies so many columns from the left side and so many rows from the upper side.
+    ///
+    /// Cost: constant.
+    pub fn at(self, across: usize, down: usize) -> Cell
+        requires across { across < self.width }
+        requires down { down < self.height }
+        ensures { result ≡ cell_within self across down }
+    {
+        Cell::at(self.left as usize + across, self.top as usize + down)
     }
 
     /// The k-th cell of the rectangle, counted from 0, row by row.
@@ -117,9 +152,7 @@ impl Rect {
         requires { k < area self }
         ensures { result ≡ nth_cell self k }
     {
-        let column = self.left as usize + k % self.width as usize;
-        let row = self.top as usize + k / self.width as usize;
-        Cell::at(column, row)
+        self.at(k % self.width as usize, k / self.width as usize)
     }
 }
 
@@ -127,20 +160,22 @@ impl Rect {
 #[derive(Drop)]
 pub struct Cells {
     rect: Rect,
-    // the number of the next cell, and how many cells there are
-    next: usize,
-    count: usize,
+    // how many cells are still to come
+    left: usize,
+    // the index of the next of them, and how many cells of its row come before it
+    place: usize,
+    across: usize,
 }
 
 impl Model for Cells {
-    ghost use Rattle.std.specs.Prelude.{◌≡◌, List, ℕ, ◌≤◌};
-    ghost use Rattle.ps_grid.specs.Rectangle.{area, cells_from};
+    ghost use Rattle.std.specs.Prelude.{List, ℕ};
+    ghost use Rattle.ps_grid.specs.Inside.Walking.{IsAt, last_cells};
 
     ghost Value = { List ℕ };
 
-    ghost view = { λ w. cells_from w.rect w.next };
+    ghost view = { λ w. last_cells w.rect w.left };
 
-    ghost invariant = { λ w. (w.next ≤ w.count) × (w.count ≡ area w.rect) };
+    ghost invariant = { λ w. IsAt w.rect w.left w.place w.across };
 }
 
 impl Iterator for Cells {
@@ -151,11 +186,17 @@ impl Iterator for Cells {
     ghost remaining = { item_count (λ rest. rest) };
 
     fn next(&mut self) -> Option<Cell> {
-        if self.next == self.count {
+        if self.left == 0 {
             return None;
         }
-        let cell = self.rect.nth(self.next);
-        self.next += 1;
+        let cell = Cell::with_index(self.place);
+        self.left -= 1;
+        self.place += 1;
+        self.across += 1;
+        if self.across == self.rect.width() {
+            self.across = 0;
+            self.place += COLUMNS - self.rect.width();
+        }
         Some(cell)
     }
 }

@@ -89,7 +89,11 @@ fn rectangles_are_walked_row_by_row(rt: HostRuntime) -> Result<(), Fail> {
     let lower = Cell::read(b"A3").ok_or("a cell")?;
     let rect = Rect::new(right, lower);
     assert_eq!(rt; rect, Rect::new(lower, right));
+    assert_eq!(rt; rect.width(), 2);
+    assert_eq!(rt; rect.height(), 3);
     assert_eq!(rt; rect.area(), 6);
+    assert_eq!(rt; rect.at(1, 0), right);
+    assert_eq!(rt; rect.at(0, 2), lower);
     assert_eq!(rt; rect.top_left().index(), 0);
     assert_eq!(rt; rect.bottom_right().index(), 209);
     let mut walked = [CELLS; 8];

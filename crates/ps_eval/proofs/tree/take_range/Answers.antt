@@ -1,58 +1,36 @@
-use Rattle.std.proofs.Common.{◌≡◌, ◌<◌, ◌+◌, ◌++◌, ap, sym, ◌∙◌, subst, arith, append_assoc}
-use Rattle.ps_grid.specs.Rectangle.{area, nth_cell}
-use Rattle.ps_grid.proofs.AreaLemmas.{nth_cell-below}
-use Rattle.std.proofs.lemmas.Nat.{mod_below}
-use Rattle.ps_eval.specs.Items.{cell_items}
+use Rattle.std.proofs.Common.{◌≡◌, ◌++◌, ap, sym, ◌∙◌, subst, arith}
+use Rattle.std.proofs.lemmas.Iterator.Consumers.{YieldsList-from_first, YieldsList-turn, YieldsList-end}
+use Rattle.std.proofs.lemmas.List.{map-id}
+use Rattle.ps_grid.specs.Rectangle.{cells_of}
+use Rattle.ps_grid.proofs.AreaLemmas.{area-le, length-cells_of}
 use Rattle.ps_eval.specs.Summarized.{Summarizes}
-use Rattle.ps_eval.proofs.Ranges.{items_before, items_before_more, range_items_are}
+use Rattle.ps_eval.proofs.Ranges.{items_at, range_items_are}
 use Rattle.ps_eval.proofs.tree.take_range.Goals as goal
 
-pub cell-requires : goal.cell-requires
-cell-requires g c =
-    let at = c.loop-k.invariant.2 in
-    let p = at.place in
-    let inside : c.loop-k.k < area c.args.rect = omega (arith, c.area-k-end.ensures.area) in
-    let below = nth_cell-below c.args.rect c.loop-k.k c.area-k-end.ensures.in_grid inside in
-    omega (arith, p, below)
-
-pub step-requires-clause-across : goal.step-requires-clause-across
-step-requires-clause-across g c =
-    let at = c.loop-k.invariant.2 in
-    let w = at.width in
-    let x = at.across in
-    let below = mod_below c.loop-k.k c.args.rect.width c.area-k-end.ensures.in_grid.some_width in
-    omega (arith, w, x, below)
-
-pub step-requires-clause-width : goal.step-requires-clause-width
-step-requires-clause-width g c =
-    let w = c.loop-k.invariant.2.width in
-    let fits = c.area-k-end.ensures.in_grid.within_columns in
-    omega (arith, w, fits)
-
-pub loop-k-preserved : goal.loop-k-preserved
-loop-k-preserved g c =
-    let v = g.K.Look.value_at c.args.look.now in
+pub take_cell-requires : goal.take_cell-requires
+take_cell-requires g c =
     let a = c.args.rect in
-    let k = c.loop-k.k in
-    let before = items_before v a k in
-    let at = c.loop-k.invariant.2 in
-    let shown : c.at.result ≡ v (nth_cell a k) = c.at.ensures ∙ ap v (c.cell.ensures ∙ at.place) in
-    let last : before ++ cell_items c.at.result ≡ items_before v a (k + 1) =
-    ap (λ x. before ++ cell_items x) shown ∙ sym (items_before_more v a k) in
-    let more = c.take_cell.ensures.count in
-    let most = c.loop-k.invariant.1 in (
-      λ items s.
-          subst (λ ns. Summarizes ns c.take_cell.new.self)
-          (append_assoc items before (cell_items c.at.result) ∙ ap (λ ns. items ++ ns) last)
-          (c.take_cell.ensures.items (items ++ before) (c.loop-k.invariant.0 items s)),
-      omega arith,
-      c.step.ensures a k c.area-k-end.ensures.in_grid at,
-    )
+    let road = YieldsList-from_first (λ x. x) (λ rest. rest) (cells_of a)
+    (c.into_iter-cell-iterator.ensures.into_iter_gives ∙ c.cells-cell-items.ensures.cells) in
+    let turn = YieldsList-turn road c.loop-cell.yielded _ c.loop-cell.yielded_by _ _ c.in-Some.cell c.in-Some.is
+    c.next.ensures.steps in
+    omega (arith, c.loop-cell.invariant.1, turn.0, length-cells_of a, area-le a c.cells-cell-items.ensures.in_grid)
 
 pub returns-clause-items : goal.returns-clause-items
 returns-clause-items g c = λ items s.
-    let v = g.K.Look.value_at c.args.look.now in
     let a = c.args.rect in
-    let end : c.loop-k.k ≡ area a = omega (arith, c.area-k-end.ensures.area) in
-    let whole = ap (items_before v a) end ∙ sym (range_items_are v a c.area-k-end.ensures.in_grid) in
-    subst (λ ns. Summarizes (items ++ ns) c.loop-k.summary) whole (c.loop-k.invariant.0 items s)
+    let v = g.K.Look.value_at c.args.look.now in
+    let road = YieldsList-from_first (λ x. x) (λ rest. rest) (cells_of a)
+    (c.into_iter-cell-iterator.ensures.into_iter_gives ∙ c.cells-cell-items.ensures.cells) in
+    let end = YieldsList-end road c.loop-cell.yielded _ c.loop-cell.yielded_by _ _ c.in-None.is c.next.ensures.steps in
+    let all : c.loop-cell.yielded ≡ cells_of a = sym (map-id c.loop-cell.yielded) ∙ end.0 in
+    let whole = ap (items_at v) all ∙ sym (range_items_are v a c.cells-cell-items.ensures.in_grid) in
+    subst (λ ns. Summarizes (items ++ ns) c.loop-cell.summary) whole (c.loop-cell.invariant.0 items s)
+
+pub returns-clause-count : goal.returns-clause-count
+returns-clause-count g c =
+    let a = c.args.rect in
+    let road = YieldsList-from_first (λ x. x) (λ rest. rest) (cells_of a)
+    (c.into_iter-cell-iterator.ensures.into_iter_gives ∙ c.cells-cell-items.ensures.cells) in
+    let end = YieldsList-end road c.loop-cell.yielded _ c.loop-cell.yielded_by _ _ c.in-None.is c.next.ensures.steps in
+    omega (arith, c.loop-cell.invariant.1, end.1, length-cells_of a, area-le a c.cells-cell-items.ensures.in_grid)

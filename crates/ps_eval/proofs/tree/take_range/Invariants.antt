@@ -1,13 +1,12 @@
-use Rattle.std.proofs.Common.{◌+◌, ◌≤◌, List, ◌++◌}
+use Rattle.std.proofs.Common.{◌+◌, ◌≤◌, List, ◌++◌, length}
 use Rattle.ps_eval.specs.Number.{Number}
 use Rattle.ps_eval.specs.Summarized.{Summarizes}
-use Rattle.ps_eval.specs.Walked.{IsAt}
-use Rattle.ps_eval.proofs.Ranges.{items_before}
+use Rattle.ps_eval.proofs.Ranges.{items_at}
 use Rattle.ps_eval.proofs.tree.take_range.Given as goal
 
-abbrev pub invariant-loop-k : goal.invariant-loop-k
-invariant-loop-k g l =
+-- the summary has the items of the cells so far
+abbrev pub invariant-loop-cell : goal.invariant-loop-cell
+invariant-loop-cell g l =
     ((items : List Number) → Summarizes items l.fn.summary
-    → Summarizes (items ++ items_before (g.K.Look.value_at l.look) l.fn.rect l.k) l.summary)
-    × (l.summary.count ≤ l.fn.summary.count + l.k)
-    × IsAt l.fn.rect l.k l.walk
+    → Summarizes (items ++ items_at (g.K.Look.value_at l.look) l.yielded) l.summary)
+    × (l.summary.count ≤ l.fn.summary.count + length l.yielded)

@@ -1,17 +1,19 @@
-use Rattle.std.proofs.Common.{◌<◌, ◌+◌, ◌∷◌, length, sym, ap, ◌∙◌, arith}
-use Rattle.ps_grid.specs.Rectangle.{area, cells_from}
-use Rattle.ps_grid.proofs.AreaLemmas.{cells_from-cons}
+use Rattle.std.proofs.Common.{◌+◌, ◌-◌, subst, sym, ◌∙◌, arith}
+use Rattle.ps_grid.specs.declared.size.TheConstants.{COLUMNS}
+use Rattle.ps_grid.specs.Inside.Walking.{IsAt}
+use Rattle.ps_grid.proofs.WalkLemmas.{along_row, to_next_row}
 use Rattle.ps_grid.proofs.rect.CellsIterator.next.Goals as goal
 
--- what is left loses its first cell
-pub returns-clause-steps : goal.returns-clause-steps
-returns-clause-steps c =
-    let within : c.self.inside.next < area c.self.inside.rect = omega (arith, c.self.invariant, c.if-self.false) in
-    sym c.self.view_is
-    ∙ cells_from-cons c.self.inside.rect c.self.inside.next within
-    ∙ ap (λ q. q ∷ cells_from c.self.inside.rect (c.self.inside.next + 1)) (sym c.nth-cell.ensures)
+pub invariant_of-self : goal.invariant_of-self
+invariant_of-self c =
+    let w = c.self.inside in
+    let is = c.width.ensures.width in
+    subst (λ n. IsAt w.rect (w.left - 1) (w.place + 1 + (COLUMNS - n)) 0) (sym c.width-then-self-width.ensures.width)
+    (to_next_row w.rect w.left w.place w.across c.self.invariant (omega arith) (omega arith))
 
-pub returns-clause-goes : goal.returns-clause-goes
-returns-clause-goes c =
-    let steps = returns-clause-steps c in
-    record { on = λ fin. (tt, fin, omega (arith, ap length steps)); keeps = tt; rests = λ fin. tt }
+pub invariant_of-self-else-self-width : goal.invariant_of-self-else-self-width
+invariant_of-self-else-self-width c =
+    let w = c.self.inside in
+    let is = c.width.ensures.width in
+    along_row w.rect w.left w.place w.across c.self.invariant (omega arith)
+    (λ full. c.if-self-width.false (full ∙ sym is))
