@@ -1,5 +1,5 @@
 -- The laws of the join of cell states, part by part.
-use Rattle.std.specs.Prelude.{◌≡◌, ◌||◌, None, refl}
+use Rattle.std.specs.Prelude.{◌≡◌, ◌||◌, List, [], ◌∷◌, None, refl}
 use Rattle.std.specs.Ordering.{nat_cmp}
 use Rattle.std.specs.declared.cmp.Ordering.{Ordering}
 use Rattle.std.specs.Cmp.{IsTotalOrder, nat_cmp_total}
@@ -17,7 +17,7 @@ use Rattle.ps_lattice.specs.ChoiceLaws.{choices_is_join, pairs_total, pairs_apar
 use Rattle.ps_content.specs.Order.{content_cmp}
 use Rattle.ps_content.specs.OrderLaws.{content_cmp-total, content_cmp-IsAntisymmetric}
 use Rattle.ps_delta.specs.declared.cell_state.CellState.{CellState}
-use Rattle.ps_delta.specs.State.{empty_cell, joined_cell}
+use Rattle.ps_delta.specs.State.{empty_cell, joined_cell, joined_cells}
 
 -- cell states with equal parts are equal
 pub by_parts : {s t : CellState} → s.register ≡ t.register → s.tally ≡ t.tally → s.choice ≡ t.choice → s ≡ t
@@ -86,3 +86,23 @@ joined_cell-tally s t = refl
 pub joined_cell-choice : (s t : CellState) → (joined_cell s t).choice ≡ joined_choices s.choice t.choice
 unfolding joined_cell
 joined_cell-choice s t = refl
+
+pub joined_cells-comm : (xs ys : List CellState) → joined_cells xs ys ≡ joined_cells ys xs
+unfolding joined_cells
+joined_cells-comm [] [] = refl
+joined_cells-comm [] (y ∷ ys) = refl
+joined_cells-comm (x ∷ xs) [] = refl
+joined_cells-comm (x ∷ xs) (y ∷ ys) = λ i. joined_cell-comm x y i ∷ joined_cells-comm xs ys i
+
+pub joined_cells-assoc : (xs ys zs : List CellState) → joined_cells (joined_cells xs ys) zs
+    ≡ joined_cells xs (joined_cells ys zs)
+unfolding joined_cells
+joined_cells-assoc [] ys zs = refl
+joined_cells-assoc (x ∷ xs) [] zs = refl
+joined_cells-assoc (x ∷ xs) (y ∷ ys) [] = refl
+joined_cells-assoc (x ∷ xs) (y ∷ ys) (z ∷ zs) = λ i. joined_cell-assoc x y z i ∷ joined_cells-assoc xs ys zs i
+
+pub joined_cells-idem : (xs : List CellState) → joined_cells xs xs ≡ xs
+unfolding joined_cells
+joined_cells-idem [] = refl
+joined_cells-idem (x ∷ xs) = λ i. joined_cell-idem x i ∷ joined_cells-idem xs i

@@ -1,5 +1,5 @@
 -- A state gives each cell a register, a counter and a set. States are joined cell by cell.
-use Rattle.std.specs.Prelude.{◌≡◌, ◌≢◌, ◌≤◌, ℕ, ◌==◌, if◌then◌else◌, List, slice_index_or, None}
+use Rattle.std.specs.Prelude.{◌≡◌, ◌≢◌, ◌≤◌, ℕ, ◌==◌, if◌then◌else◌, List, [], ◌∷◌, slice_index_or, None}
 use Rattle.std.specs.List.Sorted.{IsStrictlyIncreasing}
 use Rattle.std.specs.FinMap as map
 use Rattle.ps_grid.specs.declared.size.TheConstants.{CELLS}
@@ -49,6 +49,12 @@ IsInGrid s = (c : ℕ) → CELLS ≤ c → s c ≡ empty_cell
 -- what the cells of a list hold, each at its index, and nothing past its end
 unfoldable pub state_at : List CellState → State
 state_at cells c = slice_index_or cells c empty_cell
+
+-- two lists of cell states joined, place by place; past the end of one of them the other one's stay
+unfoldable pub joined_cells : List CellState → List CellState → List CellState
+joined_cells [] ys = ys
+joined_cells (x ∷ xs) [] = x ∷ xs
+joined_cells (x ∷ xs) (y ∷ ys) = joined_cell x y ∷ joined_cells xs ys
 
 -- the list has exactly the cells at which two states differ, in order
 pub record AreTouched (before after : State) (cells : List ℕ) : Type 0 where

@@ -1,8 +1,9 @@
 //! The state of a sheet.
 
-ghost use Rattle.std.specs.Prelude.{◌≡◌, ◌↔◌, IsTrue, IfOk, IfErr, OnOk, OnErr};
+ghost use Rattle.std.specs.Prelude.{◌≡◌, ◌↔◌, IsTrue, IfOk, IfErr, OnOk, OnErr, length};
 ghost use Rattle.ps_grid.specs.declared.refusal.Refusal.{Refusal};
-ghost use Rattle.ps_delta.specs.State.{AreTouched, empty_state, IsBelow, IsInGrid, joined_state, state_at, with_cell};
+ghost use Rattle.ps_delta.specs.State.{AreTouched, empty_state, IsBelow, IsInGrid, joined_cells, joined_state};
+ghost use Rattle.ps_delta.specs.State.{state_at, with_cell};
 ghost use Rattle.ps_delta.specs.Deltas.{overlaid, state_of};
 
 use crate::cell_state::CellState;
@@ -145,4 +146,64 @@ impl Grid {
             self.swap(cell, &mut state);
         }
     }
+}
+
+/// A grid joined with another one: what two replicas hold, cell by cell.
+impl Join for Grid {
+    ghost use Rattle.ps_delta.specs.State.{joined_cells};
+    ghost use Rattle.ps_delta.specs.CellLaws.{joined_cells-comm, joined_cells-assoc, joined_cells-idem};
+
+    ghost joined = { joined_cells };
+
+    fn join(&mut self, alloc: Global, other: &Grid) -> Result<(), Refusal>
+        ensures ok { OnOk result (self.new ≡ joined_cells self.old other.now) }
+        ensures cells { OnOk result (state_at self.new ≡ joined_state (state_at self.old) (state_at other.now)) }
+        ensures err { OnErr result (self.new ≡ self.old) }
+        ensures memory { IfErr result (λ e. e ≡ Refusal.Memory) }
+    {
+        self.cells = joined(alloc, &self.cells, &other.cells)?;
+        Ok(())
+    }
+
+    fn below(&self, other: &Grid) -> bool {
+        are_below(&self.cells, &other.cells)
+    }
+
+    ghost associative = { joined_cells-assoc };
+
+    ghost commutative = { joined_cells-comm };
+
+    ghost idempotent = { joined_cells-idem };
+}
+
+// The states of both lists, joined place by place.
+fn joined(
+    alloc: Global,
+    mine: &[CellState],
+    theirs: &[CellState],
+) -> Result<Vec<CellState>, Refusal>
+    requires { length mine.now ≡ length theirs.now }
+    ensures ok { IfOk result (λ v. v.items ≡ joined_cells mine.now theirs.now) }
+    ensures memory { IfErr result (λ e. e ≡ Refusal.Memory) }
+{
+    let mut all = Vec::with_capacity(alloc, mine.len())?;
+    for (i, state) in mine.iter().enumerate() {
+        let mut both = state.twin(alloc)?;
+        both.join(alloc, &theirs[i])?;
+        all.push(both)?;
+    }
+    Ok(all)
+}
+
+// Whether each state of the first list is below that at its place in the second one.
+fn are_below(mine: &[CellState], theirs: &[CellState]) -> bool
+    requires { length mine.now ≡ length theirs.now }
+    ensures { IsTrue result ↔ (joined_cells theirs.now mine.now ≡ theirs.now) }
+{
+    for (i, state) in mine.iter().enumerate() {
+        if !state.below(&theirs[i]) {
+            return false;
+        }
+    }
+    true
 }

@@ -211,7 +211,7 @@ fn a_group_joins_as_its_deltas(rt: HostRuntime) -> Result<(), Refusal> {
 
 /// With one stamp at a cell the greater content stays, whichever comes first; the smaller one is then covered.
 #[test]
-fn row_12(rt: HostRuntime) -> Result<(), Refusal> {
+fn of_one_stamp_the_greater_content_stays(rt: HostRuntime) -> Result<(), Refusal> {
     let three = delta_of(&rt, rt.alloc(), &[(0, Assigned(1, 1, 3))])?;
     for (first, second) in [(3, 4), (4, 3)] {
         let mut grid = Grid::new(rt.alloc())?;
@@ -270,6 +270,28 @@ fn hidden_parts_are_touched(rt: HostRuntime) -> Result<(), Refusal> {
     join(&rt, rt.alloc(), &mut grid, &late)?;
     touch(&rt, rt.alloc(), &grid, &mut touched, &late, &[])?;
     assert_eq!(rt; number_at(&grid, cell(&rt, 3)), Some(8));
+    Ok(())
+}
+
+// Joins a state into another one and says whether it is below it then, by the trait alone.
+fn is_joined<J: Join>(alloc: Global, state: &mut J, other: &J) -> Result<bool, Refusal> {
+    state.join(alloc, other)?;
+    Ok(other.below(state))
+}
+
+/// Two grids join as their deltas do: the six deltas, three in each grid.
+#[test]
+fn two_grids_join_cell_by_cell(rt: HostRuntime) -> Result<(), Refusal> {
+    let deltas = six(&rt, rt.alloc())?;
+    let mut left = Grid::new(rt.alloc())?;
+    let mut right = Grid::new(rt.alloc())?;
+    for (n, delta) in deltas.iter().enumerate() {
+        let grid = if n % 2 == 0 { &mut left } else { &mut right };
+        grid.join(rt.alloc(), delta)?;
+    }
+    assert!(rt; !right.below(&left));
+    assert!(rt; is_joined(rt.alloc(), &mut left, &right)?);
+    take_six(&rt, rt.alloc(), &mut left);
     Ok(())
 }
 
