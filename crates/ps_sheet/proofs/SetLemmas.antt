@@ -27,6 +27,12 @@ use Rattle.ps_sheet.specs.Edits.{assigned, is_clock_full, delta_of_batch, refuse
 use Rattle.ps_sheet.proofs.EditLemmas.{new_at, new_register}
 
 -- a full clock among the cells refuses the batch
+pub any_full_refuses : (r : ℕ) (s : State) (cells : List (ℕ × Content))
+    → list_any (λ e. is_clock_full (s e.0)) cells ≡ true → delta_of_batch r s cells ≡ Err ClockFull
+any_full_refuses r s cells full =
+    ap (λ (b : Bool). refused_if b ClockFull
+    (Ok (map (λ (q : ℕ × Content). (q.0, assigned r (s q.0) q.1)) cells))) full
+
 pub full_refuses : (r : ℕ) (s : State) (cells : List (ℕ × Content)) (k : ℕ) (e : ℕ × Content) → k < length cells
     → e ≡ get_or cells k e
     → is_clock_full (s e.0) ≡ true → delta_of_batch r s cells ≡ Err ClockFull
@@ -36,8 +42,7 @@ full_refuses r s cells k e lt is full =
     (IsPermutation-remove cells k e lt is)
     ∙ first_any (is_clock_full (s e.0))
     (list_any (λ (q : ℕ × Content). is_clock_full (s q.0)) (remove cells k)) full in
-    ap (λ (b : Bool). refused_if b ClockFull
-    (Ok (map (λ (q : ℕ × Content). (q.0, assigned r (s q.0) q.1)) cells))) there
+    any_full_refuses r s cells there
   where
     first_any : (a b : Bool) → a ≡ true → Rattle.std.specs.Prelude.◌||◌ a b ≡ true
     first_any true b h = refl

@@ -1,6 +1,8 @@
 //! The delta of an edit.
 
 ghost use Rattle.std.specs.Prelude.{◌≡◌, ◌≢◌, ◌⊎◌, ◌≤◌, [], ◌∷◌, Ok, Err, IfOk, IfErr, if◌then◌else◌, nat_le};
+ghost use Rattle.std.specs.Prelude.{IsOk, IsErrOf};
+ghost use Rattle.std.specs.List.{list_any};
 ghost use Rattle.std.specs.FinMap as map;
 ghost use Rattle.ps_grid.specs.declared.refusal.Refusal.{Refusal};
 ghost use Rattle.ps_delta.specs.State.{IsBelow, empty_cell, state_at};
@@ -9,8 +11,9 @@ ghost use Rattle.ps_lattice.specs.Tally.{is_amount};
 ghost use Rattle.ps_sheet.specs.Settled.{content_of};
 ghost use Rattle.ps_sheet.specs.Batches.{IsBatch};
 ghost use Rattle.ps_sheet.specs.Edits.{counted, paired, registered, delta_of_batch, delta_of_edit};
-ghost use Rattle.ps_sheet.specs.Edits.{holds_choice, holds_tally};
+ghost use Rattle.ps_sheet.specs.Edits.{holds_choice, holds_tally, is_clock_full};
 
+use crate::contents::is_clock_full;
 use crate::edit::Edit;
 use ps_content::Content;
 use ps_delta::{CellState, Delta, Grid};
@@ -30,14 +33,11 @@ pub(crate) fn delta_of(
     ensures fresh { IfOk result (λ d. ¬ IsBelow (state_of d) (state_at grid.now)) }
     ensures refused { IfErr result (λ e. (e ≡ Refusal.Memory)
         ⊎ (delta_of_edit replica (state_at grid.now) edit ≡ Err e)) }
+    ensures asked { IsErrOf result Refusal.Memory → IsOk (delta_of_edit replica (state_at grid.now) edit) }
 {
     match edit {
-        Edit::Set(cell, content) => {
-            let mut cells = Vec::new(alloc);
-            cells.push((cell, content))?;
-            assigned(alloc, grid, replica, cells)
-        }
-        Edit::SetAll(batch) => assigned(alloc, grid, replica, batch.into_cells()),
+        Edit::Set(cell, content) => assigned(alloc, grid, replica, cell, content),
+        Edit::SetAll(batch) => all_assigned(alloc, grid, replica, batch.into_cells()),
         Edit::Add(cell, amount) => added(alloc, grid, replica, cell, amount),
         Edit::Sub(cell, amount) => subtracted(alloc, grid, replica, cell, amount),
         Edit::Choose(cell, option) => chosen(alloc, grid, replica, cell, option),
@@ -45,8 +45,29 @@ pub(crate) fn delta_of(
     }
 }
 
-// The delta of giving cells their contents.
+// The delta of giving a cell a content.
 fn assigned(
+    alloc: Global,
+    grid: &Grid,
+    replica: u8,
+    cell: Cell,
+    content: Content,
+) -> Result<Delta, Refusal>
+    requires { (1 ≤ replica) × (replica ≤ REPLICAS) }
+    ensures made { IfOk result (λ d. delta_of_edit replica (state_at grid.now) (Edit.Set cell content) ≡ Ok d) }
+    ensures fresh { IfOk result (λ d. ¬ IsBelow (state_of d) (state_at grid.now)) }
+    ensures refused { IfErr result (λ e. (e ≡ Refusal.Memory)
+        ⊎ (delta_of_edit replica (state_at grid.now) (Edit.Set cell content) ≡ Err e)) }
+    ensures asked { IsErrOf result Refusal.Memory
+        → IsOk (delta_of_edit replica (state_at grid.now) (Edit.Set cell content)) }
+{
+    let state = grid.at(cell);
+    let register = state.register.assign(replica, content)?;
+    of_cell(alloc, cell, with_register(alloc, register))
+}
+
+// The delta of giving cells their contents. All clocks are looked at before anything is allocated.
+fn all_assigned(
     alloc: Global,
     grid: &Grid,
     replica: u8,
@@ -58,7 +79,11 @@ fn assigned(
     ensures fresh { IfOk result (λ d. ¬ IsBelow (state_of d) (state_at grid.now)) }
     ensures refused { IfErr result (λ e. (e ≡ Refusal.Memory)
         ⊎ (delta_of_batch replica (state_at grid.now) cells.items ≡ Err e)) }
+    ensures asked { IsErrOf result Refusal.Memory → IsOk (delta_of_batch replica (state_at grid.now) cells.items) }
 {
+    if is_any_full(grid, &cells) {
+        return Err(Refusal::ClockFull);
+    }
     let mut entries = Vec::new(alloc);
     for (cell, content) in cells {
         let register = grid.at(cell).register.assign(replica, content)?;
@@ -68,6 +93,13 @@ fn assigned(
         Some(delta) => Ok(delta),
         None => unreachable!(),
     }
+}
+
+// Whether the register of one of the cells has the last time.
+fn is_any_full(grid: &Grid, cells: &[(Cell, Content)]) -> bool
+    ensures { result ≡ list_any (λ e. is_clock_full (state_at grid.now e.0)) cells.now }
+{
+    cells.iter().any(|entry| is_clock_full(grid.at(entry.0)))
 }
 
 // A cell with nothing but a register.
@@ -88,6 +120,8 @@ fn added(alloc: Global, grid: &Grid, replica: u8, cell: Cell, amount: u64) -> Re
     ensures fresh { IfOk result (λ d. ¬ IsBelow (state_of d) (state_at grid.now)) }
     ensures refused { IfErr result (λ e. (e ≡ Refusal.Memory)
         ⊎ (delta_of_edit replica (state_at grid.now) (Edit.Add cell amount) ≡ Err e)) }
+    ensures asked { IsErrOf result Refusal.Memory
+        → IsOk (delta_of_edit replica (state_at grid.now) (Edit.Add cell amount)) }
 {
     let state = grid.at(cell);
     check_amount(amount)?;
@@ -109,6 +143,8 @@ fn subtracted(
     ensures fresh { IfOk result (λ d. ¬ IsBelow (state_of d) (state_at grid.now)) }
     ensures refused { IfErr result (λ e. (e ≡ Refusal.Memory)
         ⊎ (delta_of_edit replica (state_at grid.now) (Edit.Sub cell amount) ≡ Err e)) }
+    ensures asked { IsErrOf result Refusal.Memory
+        → IsOk (delta_of_edit replica (state_at grid.now) (Edit.Sub cell amount)) }
 {
     let state = grid.at(cell);
     check_amount(amount)?;
@@ -130,6 +166,8 @@ fn chosen(
     ensures fresh { IfOk result (λ d. ¬ IsBelow (state_of d) (state_at grid.now)) }
     ensures refused { IfErr result (λ e. (e ≡ Refusal.Memory)
         ⊎ (delta_of_edit replica (state_at grid.now) (Edit.Choose cell option) ≡ Err e)) }
+    ensures asked { IsErrOf result Refusal.Memory
+        → IsOk (delta_of_edit replica (state_at grid.now) (Edit.Choose cell option)) }
 {
     let state = grid.at(cell);
     check_option(option)?;
@@ -151,6 +189,8 @@ fn unchosen(
     ensures fresh { IfOk result (λ d. ¬ IsBelow (state_of d) (state_at grid.now)) }
     ensures refused { IfErr result (λ e. (e ≡ Refusal.Memory)
         ⊎ (delta_of_edit replica (state_at grid.now) (Edit.Unchoose cell option) ≡ Err e)) }
+    ensures asked { IsErrOf result Refusal.Memory
+        → IsOk (delta_of_edit replica (state_at grid.now) (Edit.Unchoose cell option)) }
 {
     let state = grid.at(cell);
     check_option(option)?;

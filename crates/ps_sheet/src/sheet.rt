@@ -1,7 +1,7 @@
 //! The sheet of one replica.
 
 ghost use Rattle.std.specs.Prelude.{◌≡◌, ◌+◌, ◌<◌, ◌≤◌, ◌⊎◌, ◌↔◌, ℕ, List, [], ◌∷◌, ◌++◌, length, map};
-ghost use Rattle.std.specs.Prelude.{IfOk, IfErr, IsOkAnd, OnOk, OnErr, vec_len, vec_capacity};
+ghost use Rattle.std.specs.Prelude.{IfOk, IfErr, IsOk, IsOkAnd, IsErrOf, OnOk, OnErr, vec_len, vec_capacity};
 ghost use Rattle.std.specs.Arc.{arc_value};
 ghost use Rattle.ps_delta.specs.State.{IsBelow, joined_state};
 ghost use Rattle.ps_delta.specs.Deltas.{joined_history, state_of};
@@ -107,7 +107,7 @@ impl Sheet {
     ///
     /// Refused by the first of these that holds: the amount or the option is out of range; the cell holds no counter or
     /// no set; the count is full, the sequences are used up, the option isn't in the set, or a register has the last
-    /// time. For lack of memory in place of any of them. Then nothing is changed.
+    /// time. Where none of them holds, only for lack of memory. Then nothing is changed.
     ///
     /// Cost: that of the delta, and of the rounds over all formulas.
     pub fn edit<L: Ledger>(
@@ -120,6 +120,8 @@ impl Sheet {
             (λ d. self.new.history ≡ self.old.history ++ d ∷ [])) }
         ensures refused { IfErr result (λ e. (e ≡ Refusal.Memory)
             ⊎ (delta_of_edit self.old.replica (joined_history self.old.history) edit ≡ Err e)) }
+        ensures asked { IsErrOf result Refusal.Memory
+            → IsOk (delta_of_edit self.old.replica (joined_history self.old.history) edit) }
         ensures version { IfOk result (λ r. r.version ≡ length self.new.history) }
         ensures replica { self.new.replica ≡ self.old.replica }
         ensures sheet { IsSheet self.new }
@@ -133,7 +135,7 @@ impl Sheet {
 
     /// Accepts a delta made elsewhere: appends it to the history, unless it is below the state already.
     ///
-    /// Refused only for lack of memory, and then nothing is changed.
+    /// Refused only where it would be appended, for lack of memory, and then nothing is changed.
     ///
     /// Cost: that of joining the delta, and where it is appended, of the rounds over all formulas.
     pub fn receive<L: Ledger>(
@@ -145,6 +147,8 @@ impl Sheet {
         ensures taken { OnOk result (Takes (arc_value delta) self.old.history self.new.history) }
         ensures joined { OnOk result (joined_history self.new.history
             ≡ joined_state (joined_history self.old.history) (state_of (arc_value delta))) }
+        ensures below { IsBelow (state_of (arc_value delta)) (joined_history self.old.history)
+            → IsOk result × (self.new ≡ self.old) × (meter.new ≡ meter.old) }
         ensures version { IfOk result (λ r. r.version ≡ length self.new.history) }
         ensures replica { self.new.replica ≡ self.old.replica }
         ensures sheet { IsSheet self.new }

@@ -1,60 +1,18 @@
-use Rattle.std.proofs.Common.{◌≡◌, ℕ, true, length, map, Err, inr, sym, ap, ◌∙◌}
-use Rattle.std.proofs.Common.{subst, eq-eqb}
-use Rattle.std.proofs.lemmas.List.{map-id}
-use Rattle.std.proofs.lemmas.Result.{err_from_is_err_and}
-use Rattle.std.proofs.lemmas.Iterator.Consumers.{YieldsList-turn, YieldsList-end}
-use Rattle.std.proofs.lemmas.Iterator.Adapters.{YieldsList-from_vec}
-use Rattle.ps_lattice.specs.Register.{time_of}
-use Rattle.ps_lattice.specs.declared.limits.TheConstants.{LAST_TIME}
-use Rattle.ps_content.specs.declared.content.Content.{Content}
-use Rattle.ps_delta.specs.declared.cell_state.CellState.{CellState}
-use Rattle.ps_delta.specs.State.{IsBelow, state_at}
-use Rattle.ps_delta.specs.Deltas.{Entries, IsDelta, state_of}
-use Rattle.ps_sheet.specs.Edits.{assigned, is_clock_full}
-use Rattle.ps_sheet.proofs.SetLemmas.{full_refuses, batch_is_delta, batch_new}
+use Rattle.std.proofs.Common.{sym, ◌∙◌}
+use Rattle.ps_delta.specs.State.{state_at}
+use Rattle.ps_sheet.specs.Edits.{registered}
+use Rattle.ps_sheet.proofs.EditLemmas.{answer_new, new_register, none_new}
 use Rattle.ps_sheet.proofs.made.assigned.Goals as goal
 
-pub returns-in_err-register-clause-refused : goal.returns-in_err-register-clause-refused
-returns-in_err-register-clause-refused c =
-    let p = err_from_is_err_and c.from_residual.result c.from_residual.ensures.1 in
-    let i = c.into_iter-cell-iterator.ensures.into_iter_gives in
-    let t = YieldsList-turn
-    (YieldsList-from_vec c.args.cells.items i.0
-    (i.1 ∙ c.args.cells.ok.0)) c.loop-cell.yielded c.loop-cell.cell-iterator c.loop-cell.yielded_by
-    c.next.result c.next.new.self (c.in-Some.cell, c.in-Some.content) c.in-Some.is c.next.ensures.steps in
-    let full : is_clock_full (state_at c.args.grid.now c.in-Some.cell) ≡ true =
-    eq-eqb (time_of (state_at c.args.grid.now c.in-Some.cell).register) LAST_TIME
-    (ap (λ (x : CellState). time_of x.register) (sym c.at.ensures.value)
-    ∙ c.in_err-register.ensures.full.0 (ap Err c.in_err-register.ensures.only_full)) in
-    let answer = full_refuses c.args.replica (state_at c.args.grid.now) c.args.cells.items
-    (length c.loop-cell.yielded)
-    (c.in-Some.cell, c.in-Some.content) t.0 t.1 full in
-    rw (p.1, p.2) (inr (answer ∙ ap Err (sym c.in_err-register.ensures.only_full)))
-
-pub unreachable-requires : goal.unreachable-requires
-unreachable-requires c =
-    let i = c.into_iter-cell-iterator.ensures.into_iter_gives in
-    let e = YieldsList-end
-    (YieldsList-from_vec c.args.cells.items i.0
-    (i.1 ∙ c.args.cells.ok.0)) c.loop-cell.yielded c.loop-cell.cell-iterator c.loop-cell.yielded_by
-    c.next.result c.next.new.self c.in-None.is c.next.ensures.steps in
-    let all : c.loop-cell.yielded ≡ c.args.cells.items = sym (map-id c.loop-cell.yielded) ∙ e.0 in
-    c.in-None-new.ensures (subst IsDelta (sym (c.loop-cell.invariant.entries
-    ∙ ap (map (λ (q : ℕ × Content). (q.0, assigned c.args.replica (state_at c.args.grid.now q.0) q.1))) all))
-    (batch_is_delta c.args.replica (state_at c.args.grid.now) c.args.cells.items c.requires.batch))
+pub of_cell-requires : goal.of_cell-requires
+of_cell-requires c is =
+    none_new c.at-state.result.now (registered c.in_ok-register.register)
+    (new_register c.at-state.result.now c.in_ok-register.register c.in_ok-register.ensures.fresh)
+    (sym c.with_register.ensures ∙ is)
 
 pub returns-clause-fresh : goal.returns-clause-fresh
 returns-clause-fresh c =
-    let i = c.into_iter-cell-iterator.ensures.into_iter_gives in
-    let e = YieldsList-end
-    (YieldsList-from_vec c.args.cells.items i.0
-    (i.1 ∙ c.args.cells.ok.0)) c.loop-cell.yielded c.loop-cell.cell-iterator c.loop-cell.yielded_by
-    c.next.result c.next.new.self c.in-None.is c.next.ensures.steps in
-    let all : c.loop-cell.yielded ≡ c.args.cells.items = sym (map-id c.loop-cell.yielded) ∙ e.0 in
-    let is : c.in-Some-new.delta ≡ map
-    (λ (q : ℕ × Content).
-    (q.0, assigned c.args.replica (state_at c.args.grid.now q.0) q.1)) c.args.cells.items =
-    c.in-Some-new.ensures.1 ∙ (c.loop-cell.invariant.entries
-    ∙ ap (map (λ (q : ℕ × Content). (q.0, assigned c.args.replica (state_at c.args.grid.now q.0) q.1))) all) in
-    subst (λ (d : Entries). ¬ IsBelow (state_of d) (state_at c.args.grid.now)) (sym is)
-    (batch_new c.args.replica (state_at c.args.grid.now) c.args.cells.items c.requires.batch)
+    answer_new c.of_cell.result (state_at c.args.grid.now) c.args.cell c.with_register.result
+    c.at-state.result.now c.of_cell.ensures.made c.at-state.ensures.value
+    (rw (c.with_register.ensures)
+    (new_register c.at-state.result.now c.in_ok-register.register c.in_ok-register.ensures.fresh))
