@@ -1,8 +1,6 @@
 -- The delta of an edit is new: it isn't below the state that it was made over.
-use Rattle.std.proofs.Common.{◌≡◌, ◌≢◌, ℕ, [], ◌∷◌, Result, Ok, Err, IfOk, Option, refl, sym, ap, ◌∙◌}
-use Rattle.std.proofs.Common.{subst}
+use Rattle.std.proofs.Common.{◌≡◌, ◌≢◌, ℕ, [], ◌∷◌, Option, refl, sym, ap, ◌∙◌}
 use Rattle.std.specs.FinMap as map
-use Rattle.ps_grid.specs.declared.refusal.Refusal.{Refusal}
 use Rattle.ps_lattice.specs.declared.register.Assignment.{Assignment}
 use Rattle.ps_lattice.specs.Register.{joined_registers}
 use Rattle.ps_lattice.specs.Tally.{Counts, joined_tallies}
@@ -69,11 +67,3 @@ tally_not_empty x some is = some (ap (λ (z : CellState). z.tally) is)
 pub choice_not_empty : (x : CellState) → x.choice ≢ map.empty → x ≢ empty_cell
 unfolding empty_cell
 choice_not_empty x some is = some (ap (λ (z : CellState). z.choice) is)
-
--- the answer's delta is new where its one cell changes
-pub answer_new : (r : Result Entries Refusal) (s : State) (c : ℕ) (x y : CellState) → IfOk r (λ d. d ≡ (c, x) ∷ [])
-    → y ≡ s c → ¬ (joined_cell y x ≡ y) → IfOk r (λ d. ¬ IsBelow (state_of d) s)
-answer_new (Ok d) s c x y made is new =
-    subst (λ (e : Entries). ¬ IsBelow (state_of e) s) (sym made)
-    (new_one s c x (subst (λ (z : CellState). ¬ (joined_cell z x ≡ z)) is new))
-answer_new (Err e) s c x y made is new = tt

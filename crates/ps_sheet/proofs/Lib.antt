@@ -2,6 +2,7 @@ pub mod AcceptLemmas
 pub mod BatchLemmas
 pub mod BitLemmas
 pub mod EditLemmas
+pub mod FreshEdits
 pub mod ExistsLemmas
 pub mod ListedLemmas
 pub mod ReadyLemmas

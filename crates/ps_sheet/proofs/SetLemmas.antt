@@ -92,10 +92,10 @@ new_assignment (Some a) r content is =
     omega (arith, t)
 
 -- the delta of a batch is new
-pub batch_new : (r : ℕ) (s : State) (cells : List (ℕ × Content)) → IsBatch cells
+pub batch_new : (r : ℕ) (s : State) (cells : List (ℕ × Content)) → 0 < length cells
     → ¬ IsBelow (state_of (map (λ e. (e.0, assigned r (s e.0) e.1)) cells)) s
-batch_new r s [] batch = absurd (let h = batch.some in omega (arith, h))
-batch_new r s (e ∷ es) batch =
+batch_new r s [] some = absurd (omega (arith, some))
+batch_new r s (e ∷ es) some =
     new_at s (map (λ (q : ℕ × Content). (q.0, assigned r (s q.0) q.1)) (e ∷ es)) e.0 (assigned r (s e.0) e.1)
     (state_of-here (e.0, assigned r (s e.0) e.1)
     (map (λ (q : ℕ × Content). (q.0, assigned r (s q.0) q.1)) es) e.0 refl)

@@ -1,5 +1,5 @@
 -- What an edit at a replica makes of a state: its delta, or the first refusal that holds.
-use Rattle.std.specs.Prelude.{ℕ, ◌+◌, Bool, true, false, not, ◌==◌, nat_lt, nat_le, List, [], ◌∷◌}
+use Rattle.std.specs.Prelude.{◌≡◌, ℕ, ◌+◌, Bool, true, false, not, ◌==◌, nat_lt, nat_le, List, [], ◌∷◌}
 use Rattle.std.specs.Prelude.{map as each, Option, Some, None, Result, Ok, Err}
 use Rattle.std.specs.List.{list_any}
 use Rattle.std.specs.FinMap as map
@@ -14,8 +14,8 @@ use Rattle.ps_lattice.specs.Choice.{Pairs, is_chosen, last_sequence, with_pair, 
 use Rattle.ps_content.specs.declared.content.Content.{Content}
 use Rattle.ps_content.specs.declared.content.Content.TheVariants.{Tally, Choice}
 use Rattle.ps_delta.specs.declared.cell_state.CellState.{CellState}
-use Rattle.ps_delta.specs.State.{State}
-use Rattle.ps_delta.specs.Deltas.{Entries}
+use Rattle.ps_delta.specs.State.{State, IsBelow}
+use Rattle.ps_delta.specs.Deltas.{Entries, IsDelta, state_of}
 use Rattle.ps_sheet.specs.Settled.{content_of}
 use Rattle.ps_sheet.specs.declared.edit.Edit.{Edit}
 use Rattle.ps_sheet.specs.declared.edit.Edit.TheVariants.{Set, SetAll, Add, Sub, Choose, Unchoose}
@@ -81,3 +81,9 @@ delta_of_edit r s (Unchoose c option) =
     (refused_if (not (holds_choice (content_of (s c)))) NotChoice
     (refused_if (not (is_chosen (s c).choice option)) NotChosen
     (Ok ((c, paired (withdrawn (s c).choice option)) ∷ []))))
+
+-- LAW: a delta that an edit makes over a state is not below it
+abbrev pub EditsAreFresh : Type 0
+EditsAreFresh =
+    (r : ℕ) (s : State) (e : Edit) (d : Entries) → IsDelta d → delta_of_edit r s e ≡ Ok d
+    → ¬ IsBelow (state_of d) s

@@ -1,7 +1,7 @@
 //! What a cell holds, as the sheet reads it.
 
 ghost use Rattle.std.specs.Prelude.{◌≡◌, false, IfSome, IfNone};
-ghost use Rattle.std.specs.Option.{option_copied};
+ghost use Rattle.std.specs.Option.{option_copied, option_map};
 ghost use Rattle.ps_sheet.specs.Settled.{content_of, options_of};
 ghost use Rattle.ps_sheet.specs.Rounds.{first_by, first_value, is_formula};
 ghost use Rattle.ps_sheet.specs.Edits.{is_clock_full};
@@ -12,14 +12,20 @@ use ps_formula::Formula;
 use ps_lattice::{Choice, LAST_TIME};
 use ps_value::{Fault, Value};
 
+/// The content of a cell's register, where something was assigned to it.
+pub(crate) fn content(state: &CellState) -> Option<&Content>
+    ensures { option_copied result ≡ option_map (λ a. a.content) state.now.register }
+{
+    Some(&state.register.parts()?.content)
+}
+
 /// The formula of a cell, if its content is one.
 pub(crate) fn formula_of(state: &CellState) -> Option<&Formula>
     ensures some { IfSome (option_copied result) (λ tree. content_of state.now ≡ Content.Formula tree) }
     ensures none { IfNone result (is_formula (content_of state.now) ≡ false) }
 {
-    let assigned = state.register.parts()?;
-    match &assigned.content {
-        Content::Formula(shared) => Some(shared.formula()),
+    match content(state) {
+        Some(Content::Formula(shared)) => Some(shared.formula()),
         _ => None,
     }
 }
@@ -28,20 +34,7 @@ pub(crate) fn formula_of(state: &CellState) -> Option<&Formula>
 pub(crate) fn holds_formula(state: &CellState) -> bool
     ensures { result ≡ is_formula (content_of state.now) }
 {
-    match state.register.parts() {
-        None => false,
-        Some(assigned) => is_formula(&assigned.content),
-    }
-}
-
-// Whether the content is a formula.
-fn is_formula(content: &Content) -> bool
-    ensures { result ≡ is_formula content.now }
-{
-    match content {
-        Content::Formula(_) => true,
-        _ => false,
-    }
+    formula_of(state).is_some()
 }
 
 /// Whether the register of a cell has the last time.
@@ -58,9 +51,9 @@ pub(crate) fn is_clock_full(state: &CellState) -> bool
 pub(crate) fn first_of(state: &CellState) -> Value
     ensures { result ≡ first_value state.now }
 {
-    match state.register.parts() {
+    match content(state) {
         None => Value::Empty,
-        Some(assigned) => first_by(&assigned.content, state),
+        Some(content) => first_by(content, state),
     }
 }
 

@@ -2,6 +2,7 @@
 
 ghost use Rattle.std.specs.Prelude.{◌≡◌};
 ghost use Rattle.ps_delta.specs.Deltas.{joined_history};
+ghost use Rattle.ps_sheet.specs.Edits.{EditsAreFresh};
 ghost use Rattle.ps_sheet.specs.Sheet.{AcceptedDeltasJoin, TookTheSame};
 ghost use Rattle.ps_sheet.specs.Settled.{SettledAtLeastOnce, SettledAtMostOnce};
 
@@ -15,6 +16,11 @@ pub fn settled_at_most_once()
 /// A state of the grid has a settled assignment of values to cells.
 pub fn settled_at_least_once()
     ensures { SettledAtLeastOnce }
+{}
+
+/// A delta that an edit makes over a state is not below it: an edit that isn't refused always changes the state.
+pub fn edits_are_fresh()
+    ensures { EditsAreFresh }
 {}
 
 /// A run of accepted deltas joins to the joined history, whether each was appended or was below the state.

@@ -118,6 +118,10 @@ impl Sheet {
     ) -> Result<Report, Refusal>
         ensures made { OnOk result (IsOkAnd (delta_of_edit self.old.replica (joined_history self.old.history) edit)
             (λ d. self.new.history ≡ self.old.history ++ d ∷ [])) }
+        ensures taken { OnOk result (IsOkAnd (delta_of_edit self.old.replica (joined_history self.old.history) edit)
+            (λ d. Takes d self.old.history self.new.history)) }
+        ensures joined { OnOk result (IsOkAnd (delta_of_edit self.old.replica (joined_history self.old.history) edit)
+            (λ d. joined_history self.new.history ≡ joined_state (joined_history self.old.history) (state_of d))) }
         ensures refused { IfErr result (λ e. (e ≡ Refusal.Memory)
             ⊎ (delta_of_edit self.old.replica (joined_history self.old.history) edit ≡ Err e)) }
         ensures asked { IsErrOf result Refusal.Memory
@@ -171,6 +175,7 @@ impl Sheet {
     ) -> Result<Report, Refusal>
         requires fresh { ¬ IsBelow (state_of (arc_value delta)) (joined_history self.old.history) }
         ensures appended { OnOk result (self.new.history ≡ self.old.history ++ arc_value delta ∷ []) }
+        ensures taken { OnOk result (Takes (arc_value delta) self.old.history self.new.history) }
         ensures joined { OnOk result (joined_history self.new.history
             ≡ joined_state (joined_history self.old.history) (state_of (arc_value delta))) }
         ensures version { IfOk result (λ r. r.version ≡ length self.new.history) }

@@ -9,10 +9,10 @@ use Rattle.ps_lattice.specs.Register.{time_of}
 use Rattle.ps_lattice.specs.declared.limits.TheConstants.{LAST_TIME}
 use Rattle.ps_content.specs.declared.content.Content.{Content}
 use Rattle.ps_delta.specs.declared.cell_state.CellState.{CellState}
-use Rattle.ps_delta.specs.State.{State, IsBelow, state_at}
-use Rattle.ps_delta.specs.Deltas.{Entries, IsDelta, state_of}
+use Rattle.ps_delta.specs.State.{State, state_at}
+use Rattle.ps_delta.specs.Deltas.{IsDelta}
 use Rattle.ps_sheet.specs.Edits.{assigned, is_clock_full}
-use Rattle.ps_sheet.proofs.SetLemmas.{any_full_refuses, full_refuses, batch_is_delta, batch_new}
+use Rattle.ps_sheet.proofs.SetLemmas.{any_full_refuses, full_refuses, batch_is_delta}
 use Rattle.ps_sheet.proofs.made.all_assigned.Goals as goal
 
 pub returns-in_err-register-clause-refused : goal.returns-in_err-register-clause-refused
@@ -43,22 +43,6 @@ unreachable-requires c =
     c.in-None-new.ensures (subst IsDelta (sym (c.loop-cell.invariant.entries
     ∙ ap (map (λ (q : ℕ × Content). (q.0, assigned c.args.replica (state_at c.args.grid.now q.0) q.1))) all))
     (batch_is_delta c.args.replica (state_at c.args.grid.now) c.args.cells.items c.requires.batch))
-
-pub returns-clause-fresh : goal.returns-clause-fresh
-returns-clause-fresh c =
-    let i = c.into_iter-cell-iterator.ensures.into_iter_gives in
-    let e = YieldsList-end
-    (YieldsList-from_vec c.args.cells.items i.0
-    (i.1 ∙ c.args.cells.ok.0)) c.loop-cell.yielded c.loop-cell.cell-iterator c.loop-cell.yielded_by
-    c.next.result c.next.new.self c.in-None.is c.next.ensures.steps in
-    let all : c.loop-cell.yielded ≡ c.args.cells.items = sym (map-id c.loop-cell.yielded) ∙ e.0 in
-    let is : c.in-Some-new.delta ≡ map
-    (λ (q : ℕ × Content).
-    (q.0, assigned c.args.replica (state_at c.args.grid.now q.0) q.1)) c.args.cells.items =
-    c.in-Some-new.ensures.1 ∙ (c.loop-cell.invariant.entries
-    ∙ ap (map (λ (q : ℕ × Content). (q.0, assigned c.args.replica (state_at c.args.grid.now q.0) q.1))) all) in
-    subst (λ (d : Entries). ¬ IsBelow (state_of d) (state_at c.args.grid.now)) (sym is)
-    (batch_new c.args.replica (state_at c.args.grid.now) c.args.cells.items c.requires.batch)
 
 pub returns-then-is_any_full-clause-refused : goal.returns-then-is_any_full-clause-refused
 returns-then-is_any_full-clause-refused c =

@@ -1,0 +1,82 @@
+-- A delta that an edit makes over a state is not below it.
+use Rattle.std.proofs.Common.{◌≡◌, ℕ, ◌<◌, ◌≤◌, Bool, true, false, not, List, [], ◌∷◌, length, map, Result, Ok}
+use Rattle.std.proofs.Common.{refl, sym, arith, subst}
+use Rattle.std.specs.List.{list_any}
+use Rattle.std.proofs.lemmas.Grind.{common_steps}
+use Rattle.std.proofs.lemmas.List.{length-map}
+use Rattle.ps_grid.specs.declared.refusal.Refusal.{Refusal}
+use Rattle.ps_grid.specs.declared.refusal.Refusal.TheVariants.{NotTally, NotChoice, Amount, OptionRange, TallyFull}
+use Rattle.ps_grid.specs.declared.refusal.Refusal.TheVariants.{ChoiceFull, NotChosen, ClockFull}
+use Rattle.ps_lattice.specs.Tally.{is_amount}
+use Rattle.ps_lattice.specs.Choice.{is_chosen}
+use Rattle.ps_lattice.proofs.TallyLemmas.{added_is_fresh, subtracted_is_fresh}
+use Rattle.ps_lattice.proofs.ChoiceLemmas.{chosen_is_fresh, withdrawn_is_fresh}
+use Rattle.ps_content.specs.declared.content.Content.{Content}
+use Rattle.ps_delta.specs.declared.cell_state.CellState.{CellState}
+use Rattle.ps_delta.specs.State.{State, IsBelow, joined_cell}
+use Rattle.ps_delta.specs.Deltas.{Entries, IsDelta, state_of}
+use Rattle.ps_sheet.specs.declared.edit.Edit.TheVariants.{Set, SetAll, Add, Sub, Choose, Unchoose}
+use Rattle.ps_sheet.specs.Edits.{assigned, delta_of_batch, is_clock_full, refused_if, EditsAreFresh}
+use Rattle.ps_sheet.proofs.EditLemmas.{new_one, new_tally, new_choice}
+use Rattle.ps_sheet.proofs.SetLemmas.{batch_new}
+
+-- an answer that isn't refused
+passed : (b : Bool) (refusal : Refusal) (answer : Result Entries Refusal) (d : Entries)
+    → refused_if b refusal answer ≡ Ok d → (b ≡ false) × (answer ≡ Ok d)
+passed true refusal answer d h = absurd (cc)
+passed false refusal answer d h = (refl, h)
+
+not_false : (b : Bool) → not b ≡ false → b ≡ true
+not_false true h = refl
+not_false false h = absurd (let x : true ≡ false = h in cc)
+
+amount_some : (amount : ℕ) → not (is_amount amount) ≡ false → 1 ≤ amount
+amount_some amount h =
+    let is : is_amount amount ≡ true = not_false (is_amount amount) h in
+    grind (arith, common_steps)
+
+-- the delta of one cell that changes
+one_fresh : (s : State) (c : ℕ) (x : CellState) (d : Entries)
+    → ◌≡◌ {A = Result Entries Refusal} (Ok ((c, x) ∷ [])) (Ok d)
+    → ¬ (joined_cell (s c) x ≡ s c) → ¬ IsBelow (state_of d) s
+one_fresh s c x d made new =
+    let is : (c, x) ∷ [] ≡ d = cc in
+    subst (λ (e : Entries). ¬ IsBelow (state_of e) s) is (new_one s c x new)
+
+batch_fresh : (r : ℕ) (s : State) (cells : List (ℕ × Content)) (d : Entries) → IsDelta d
+    → delta_of_batch r s cells ≡ Ok d → ¬ IsBelow (state_of d) s
+batch_fresh r s cells d delta h =
+    let make : ℕ × Content → ℕ × CellState = λ e. (e.0, assigned r (s e.0) e.1) in
+    let made = passed (list_any (λ e. is_clock_full (s e.0)) cells) ClockFull (Ok (map make cells)) d h in
+    let is : map make cells ≡ d = let m = made.1 in cc in
+    let some : 0 < length cells =
+    subst (λ n. 0 < n) (length-map cells make) (subst (λ (e : Entries). 0 < length e) (sym is) delta.some) in
+    subst (λ (e : Entries). ¬ IsBelow (state_of e) s) is (batch_new r s cells some)
+
+pub edits_are_fresh : EditsAreFresh
+edits_are_fresh r s (Set c content) d delta h = batch_fresh r s ((c, content) ∷ []) d delta h
+edits_are_fresh r s (SetAll cells) d delta h = batch_fresh r s cells d delta h
+edits_are_fresh r s (Add c amount) d delta h =
+    let in_range = passed _ Amount _ d h in
+    let tally = passed _ NotTally _ d in_range.1 in
+    let made = passed _ TallyFull _ d tally.1 in
+    one_fresh s c _ d made.1
+    (new_tally (s c) _ (added_is_fresh (s c).tally r amount (amount_some amount in_range.0)))
+edits_are_fresh r s (Sub c amount) d delta h =
+    let in_range = passed _ Amount _ d h in
+    let tally = passed _ NotTally _ d in_range.1 in
+    let made = passed _ TallyFull _ d tally.1 in
+    one_fresh s c _ d made.1
+    (new_tally (s c) _ (subtracted_is_fresh (s c).tally r amount (amount_some amount in_range.0)))
+edits_are_fresh r s (Choose c option) d delta h =
+    let in_range = passed _ OptionRange _ d h in
+    let choice = passed _ NotChoice _ d in_range.1 in
+    let made = passed _ ChoiceFull _ d choice.1 in
+    one_fresh s c _ d made.1 (new_choice (s c) _ (chosen_is_fresh (s c).choice option r))
+edits_are_fresh r s (Unchoose c option) d delta h =
+    let in_range = passed _ OptionRange _ d h in
+    let choice = passed _ NotChoice _ d in_range.1 in
+    let chosen = passed _ NotChosen _ d choice.1 in
+    one_fresh s c _ d chosen.1
+    (new_choice (s c) _
+    (withdrawn_is_fresh (s c).choice option (not_false (is_chosen (s c).choice option) chosen.0)))
