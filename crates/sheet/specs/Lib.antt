@@ -1,3 +1,4 @@
 pub mod Words
 pub mod Status
+pub mod Sessions
 pub mod Tables

@@ -11,6 +11,7 @@ use Rattle.ps_csv.specs.Exports.{exported}
 use Rattle.ps_csv.specs.Imports.{TakesIn}
 use Rattle.ps_csv.specs.Records.{TableFault}
 use Rattle.ps_csv.specs.Sources.{TooManyBytes}
+use Rattle.sheet.specs.Sessions.{IsOpened}
 use Rattle.ps_csv.specs.declared.bytes.TheConstants.{LONGEST_TABLE}
 
 -- so many rows and columns from A1 on
@@ -28,8 +29,7 @@ pub record IsTableOf (bytes text : List ℕ) : Type 0 where
   pub fields : ℕ
   pub empty : SheetView
   pub filled : SheetView
-  pub replica : empty.replica ≡ 1
-  pub history : empty.history ≡ []
+  pub opened : IsOpened 1 empty
   pub taken : TakesIn bytes records fields empty filled
   pub settled : IsSheet filled
   pub shown : text ≡ table_of records fields filled

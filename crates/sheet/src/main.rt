@@ -7,23 +7,28 @@
 //! status: 0 where all went well, 1 where a device failed, 2 for a command line that is none, 3 for any other refusal.
 #![tactic(auto)]
 
-mod commands;
+ghost use Rattle.std.specs.Prelude.{◌≡◌, ◌<◌};
+ghost use Rattle.ps_grid.specs.Blanks.{IsBlankOf};
+
 mod fault;
 mod help;
 mod options;
+mod session;
 mod table;
 mod words;
 
 use clap::Error;
 use clap::error::ErrorKind;
-pub use commands::{answer_lines, fill_table};
 pub use fault::{ProgramFault, status_of};
 pub use options::{Options, RunOptions, TableOptions};
+use ps_device::{ConsoleOutput, Reading, Writing};
+use ps_eval::Meter;
 use ps_grid::Refusal;
+pub use session::{answer_lines, open_sheet};
 use std::io;
 use std::marker::Brand;
 use std::process::ExitCode;
-use std::sync::ledger::Blank;
+use std::sync::ledger::{Blank, Ledger};
 pub use table::table_on;
 pub use words::read_words;
 
@@ -79,10 +84,33 @@ fn tell(rt: &HostRuntime, error: &Error) -> Result<ExitCode, ProgramFault> {
 
 /// The command `run`, on standard input and output.
 fn run_command(rt: &HostRuntime, options: RunOptions) -> Result<ExitCode, ProgramFault> {
-    answer_lines::<_, _, Brand, Brand, Brand>(
-        rt.alloc(),
-        rt.reader(),
-        rt.stdout(),
+    run_standard::<Brand, Brand, Brand>(rt, Blank::new(1), Blank::new(1), Blank::new(1), options)?;
+    Ok(ExitCode::SUCCESS)
+}
+
+/// The replies wait in memory and are written before the next read, so a batch of lines costs one write a piece of the
+/// input, and a peer that waits for a reply has it.
+fn run_standard<I: Ledger, O: Ledger, M: Ledger>(
+    rt: &HostRuntime,
+    input: Blank,
+    output: Blank,
+    count: Blank,
+    options: RunOptions,
+) -> Result<(), ProgramFault>
+    requires input { IsBlankOf input I.name I.parts }
+    requires output { IsBlankOf output O.name O.parts }
+    requires count { IsBlankOf count M.name M.parts }
+{
+    let mut source = Reading::<_, I>::new(rt.reader(), input);
+    let mut sink = ConsoleOutput::<_, O>::new(rt.alloc(), rt.stdout(), output)?;
+    let mut meter = Meter::<M>::new(count);
+    answer_lines(rt.alloc(), &mut source, &mut sink, &mut meter, options)
+}
+
+/// The command `table`, on standard input and output.
+fn table_command(rt: &HostRuntime, options: TableOptions) -> Result<ExitCode, ProgramFault> {
+    table_standard::<Brand, Brand, Brand>(
+        rt,
         Blank::new(1),
         Blank::new(1),
         Blank::new(1),
@@ -91,18 +119,27 @@ fn run_command(rt: &HostRuntime, options: RunOptions) -> Result<ExitCode, Progra
     Ok(ExitCode::SUCCESS)
 }
 
-/// The command `table`, on standard input and output.
-fn table_command(rt: &HostRuntime, options: TableOptions) -> Result<ExitCode, ProgramFault> {
-    fill_table::<_, _, Brand, Brand, Brand>(
+fn table_standard<I: Ledger, O: Ledger, M: Ledger>(
+    rt: &HostRuntime,
+    input: Blank,
+    output: Blank,
+    count: Blank,
+    options: TableOptions,
+) -> Result<(), ProgramFault>
+    requires input { IsBlankOf input I.name I.parts }
+    requires output { IsBlankOf output O.name O.parts }
+    requires count { IsBlankOf count M.name M.parts }
+{
+    let mut source = Reading::<_, I>::new(rt.reader(), input);
+    let mut sink = Writing::<_, O>::new(rt.stdout(), output);
+    let mut meter = Meter::<M>::new(count);
+    table_on(
         rt.alloc(),
-        rt.reader(),
-        rt.stdout(),
-        Blank::new(1),
-        Blank::new(1),
-        Blank::new(1),
-        options,
-    )?;
-    Ok(ExitCode::SUCCESS)
+        &mut source,
+        &mut sink,
+        &mut meter,
+        options.workers,
+    )
 }
 
 #[cfg(test)]

@@ -1,9 +1,9 @@
 //! The command `table`: a table of entries in, the table of its settled values out.
-ghost use Rattle.std.specs.Prelude.{◌≡◌, ◌≢◌, ◌<◌, ◌≤◌, ◌⊎◌, ℕ, List, IfErr, OnOk};
+ghost use Rattle.std.specs.Prelude.{◌≡◌, ◌≢◌, ◌<◌, ◌≤◌, ◌⊎◌, ℕ, List, [], IfErr, IfOk, OnOk, Err, take};
 ghost use Rattle.std.specs.Io.KnownBytes.{Appends, Consumes, IsAtEnd};
 ghost use Rattle.std.specs.Option.{SomeIff};
 ghost use Rattle.ps_grid.specs.declared.size.TheConstants.{COLUMNS, ROWS};
-ghost use Rattle.sheet.specs.Tables.{IsCauseOf, IsTableOf, from_first};
+ghost use Rattle.sheet.specs.Tables.{IsCauseOf, IsTableOf, from_first, table_of};
 ghost use Rattle.sheet.specs.declared.fault.ProgramFault.TheVariants.{Refused};
 
 use crate::fault::ProgramFault;
@@ -16,11 +16,13 @@ use std::alloc::Global;
 use std::sync::ledger::Ledger;
 
 /// Takes a table of entries into an empty sheet of replica 1, and writes the shown values from A1 to the last record
-/// and the most fields that a record has; nothing where there is no record. The workers are 1 to 16.
+/// and the most fields that a record has; nothing where there is no record. The workers are 1 to 16. At the end all
+/// that was written is handed on.
 ///
 /// Refused as an import or an export is: `Device` where one of the two fails, `Csv` where the source has too many
-/// bytes, and for the first fault of the table in reading order, or as `Csv` where `csv`'s reader fails; for lack of
-/// memory in place of any of them. Nothing is written before the whole table is taken in.
+/// bytes, and for the first fault of the table in reading order, or as `Csv` where `csv`'s reader fails; out of memory
+/// in place of any of them. Nothing is written before the whole table is taken in: where the source failed nothing was
+/// written, where the sink failed a beginning of the due text.
 ///
 /// Cost: that of an import and an export.
 pub fn table_on<S: Source, K: Sink, L: Ledger>(
@@ -38,8 +40,12 @@ pub fn table_on<S: Source, K: Sink, L: Ledger>(
         × (K.failures sink.new ≡ K.failures sink.old)) }
     ensures refused { IfErr result (λ f. (e : Refusal) × (f ≡ Refused e)
         × IsCauseOf (S.remaining source.old) (S.remaining source.new) e) }
-    ensures device { IfErr result (λ f. f ≡ Refused Refusal.Device
-        → (S.failures source.old < S.failures source.new) ⊎ (K.failures sink.old < K.failures sink.new)) }
+    ensures settled { OnOk result (K.waiting sink.new ≡ []) }
+    ensures device { result ≡ Err (Refused Refusal.Device)
+        → ((S.failures source.old < S.failures source.new) × (sink.new ≡ sink.old))
+        ⊎ ((K.failures sink.old < K.failures sink.new) × (bytes : List ℕ) × (text : List ℕ) × (count : ℕ)
+        × Consumes (S.remaining source.old) (S.remaining source.new) bytes × IsAtEnd (S.remaining source.new)
+        × IsTableOf bytes text × Appends (K.contents sink.old) (K.contents sink.new) (take count text)) }
     ensures unwritten { IfErr result (λ f. f ≢ Refused Refusal.Device → sink.new ≡ sink.old) }
 {
     let mut sheet = match Sheet::open(alloc, 1, usize::from(workers)) {
@@ -50,12 +56,39 @@ pub fn table_on<S: Source, K: Sink, L: Ledger>(
         Ok(imported) => imported,
         Err(fault) => return Err(ProgramFault::Refused(fault.refusal)),
     };
-    let Some(rect) = extent(imported) else {
-        return Ok(());
-    };
-    match export(alloc, &sheet, rect, sink) {
+    match put_table(alloc, &sheet, imported, sink) {
+        Ok(()) => {}
+        Err(refusal) => return Err(ProgramFault::Refused(refusal)),
+    }
+    match sink.settle() {
         Ok(()) => Ok(()),
-        Err(refusal) => Err(ProgramFault::Refused(refusal)),
+        Err(_) => Err(ProgramFault::Refused(Refusal::Device)),
+    }
+}
+
+/// Writes the table of what the sheet shows from A1 to the last record and the most fields.
+fn put_table<K: Sink>(
+    alloc: Global,
+    sheet: &Sheet,
+    imported: Imported,
+    sink: &mut K,
+) -> Result<(), Refusal>
+    requires records { imported.records ≤ ROWS }
+    requires fields { imported.fields ≤ COLUMNS }
+    requires some { 0 < imported.records → 0 < imported.fields }
+    ensures written { OnOk result (Appends (K.contents sink.old) (K.contents sink.new)
+        (table_of imported.records imported.fields sheet.now)) }
+    ensures calm { OnOk result (K.failures sink.new ≡ K.failures sink.old) }
+    ensures device { IfErr result (λ e. e ≡ Refusal.Device → (count : ℕ)
+        × Appends (K.contents sink.old) (K.contents sink.new)
+        (take count (table_of imported.records imported.fields sheet.now))) }
+    ensures failed { IfErr result (λ e. e ≡ Refusal.Device → K.failures sink.old < K.failures sink.new) }
+    ensures memory { IfErr result (λ e. e ≡ Refusal.Memory → sink.new ≡ sink.old) }
+    ensures refused { IfErr result (λ e. (e ≡ Refusal.Memory) ⊎ (e ≡ Refusal.Device)) }
+{
+    match extent(imported) {
+        Some(rect) => export(alloc, sheet, rect, sink),
+        None => Ok(()),
     }
 }
 

@@ -1,31 +1,84 @@
-use Rattle.std.proofs.Common.{rules, ◌≡◌, ℕ, [], refl, zero, suc}
-use Rattle.ps_sheet.specs.Sheet.{SheetView}
-use Rattle.ps_device.proofs.DeviceLemmas.{Appends-nil}
-use Rattle.sheet.specs.Tables.{table_of}
+use Rattle.std.proofs.Common.{rules, ◌≡◌, ℕ, List, Option, inr, length, take, refl, sym, ap, subst}
+use Rattle.std.proofs.Common.{Result, Ok, Err}
+use Rattle.std.specs.Io.KnownBytes.{Appends}
+use Rattle.std.proofs.Math.Seq.{take-length}
+use Rattle.ps_grid.specs.declared.refusal.Refusal.{Refusal}
+use Rattle.ps_sheet.specs.Sheet.{IsSheet, SheetView}
+use Rattle.ps_csv.specs.Imports.{TakesIn}
+use Rattle.ps_device.proofs.DeviceLemmas.{Appends-keeps}
+use Rattle.sheet.specs.Sessions.{IsOpened}
+use Rattle.sheet.specs.Tables.{IsTableOf, table_of}
+use Rattle.sheet.specs.declared.fault.ProgramFault.{ProgramFault}
+use Rattle.sheet.specs.declared.fault.ProgramFault.TheVariants.{Refused}
 use Rattle.sheet.proofs.table.table_on.Goals as goal
 
--- no records, no text
-no_table : (records fields : ℕ) (sheet : SheetView) → records ≡ 0 → [] ≡ table_of records fields sheet
-no_table zero fields sheet is = refl
-no_table (suc n) fields sheet is = search rules
+-- the refusal that a result has, or this one
+abbrev refusal_in : Refusal → Result (Unit {0}) ProgramFault → Refusal
+refusal_in other (Ok done) = other
+refusal_in other (Err (Refused e)) = e
 
-pub returns-in_default-clause-done : goal.returns-in_default-clause-done
-returns-in_default-clause-done g c =
+same_refusal : (e wanted : Refusal) → ◌≡◌ {A = Result (Unit {0}) ProgramFault} (Err (Refused e)) (Err (Refused wanted))
+    → e ≡ wanted
+same_refusal e wanted is = ap (refusal_in e) is
+
+-- the text of the table that was taken in
+filled_table : (bytes : List ℕ) (records fields : ℕ) (empty filled : SheetView) → IsOpened 1 empty
+    → TakesIn bytes records fields empty filled → IsSheet filled → IsTableOf bytes (table_of records fields filled)
+filled_table bytes records fields empty filled opened taken settled = record {
+  records = records;
+  fields = fields;
+  empty = empty;
+  filled = filled;
+  opened = opened;
+  taken = taken;
+  settled = settled;
+  shown = refl;
+}
+
+-- all of a text is its beginning too
+whole : (old new : Option (List ℕ)) (text : List ℕ) → Appends old new text → Appends old new (take (length text) text)
+whole old new text appends = subst (λ t. Appends old new t) (sym (take-length text)) appends
+
+pub returns-in-Ok-settle-clause-done : goal.returns-in-Ok-settle-clause-done
+returns-in-Ok-settle-clause-done g c =
     let imported = c.in-Ok-import.ensures.imported in (
       imported.0,
-      [],
+      table_of c.in-Ok-import.imported.records c.in-Ok-import.imported.fields c.import.new.sheet,
       imported.1,
       imported.2,
-      record {
-        records = c.in-Ok-import.imported.records;
-        fields = c.in-Ok-import.imported.fields;
-        empty = c.in-Ok.sheet;
-        filled = c.import.new.sheet;
-        replica = search rules;
-        history = search rules;
-        taken = imported.3;
-        settled = search rules;
-        shown = no_table _ _ c.import.new.sheet (search rules);
-      },
-      Appends-nil _,
+      filled_table imported.0 c.in-Ok-import.imported.records c.in-Ok-import.imported.fields c.in-Ok.sheet
+          c.import.new.sheet (search rules) imported.3 (search rules),
+      Appends-keeps _ _ _ _ c.in-Ok-put_table.ensures.written c.in-Ok-settle.ensures.same,
+    )
+
+pub returns-in-Err-put_table-clause-device : goal.returns-in-Err-put_table-clause-device
+returns-in-Err-put_table-clause-device g c told =
+    let is = same_refusal c.in-Err-put_table.refusal _ told in
+    let imported = c.in-Ok-import.ensures.imported in
+    let written = c.in-Err-put_table.ensures.device is in
+    inr (
+      c.in-Err-put_table.ensures.failed is,
+      imported.0,
+      _,
+      written.0,
+      imported.1,
+      imported.2,
+      filled_table imported.0 c.in-Ok-import.imported.records c.in-Ok-import.imported.fields c.in-Ok.sheet
+          c.import.new.sheet (search rules) imported.3 (search rules),
+      written.1,
+    )
+
+pub returns-clause-device : goal.returns-clause-device
+returns-clause-device g c told =
+    let imported = c.in-Ok-import.ensures.imported in
+    inr (
+      search rules,
+      imported.0,
+      _,
+      _,
+      imported.1,
+      imported.2,
+      filled_table imported.0 c.in-Ok-import.imported.records c.in-Ok-import.imported.fields c.in-Ok.sheet
+          c.import.new.sheet (search rules) imported.3 (search rules),
+      whole _ _ _ (Appends-keeps _ _ _ _ c.in-Ok-put_table.ensures.written c.in-Err-settle.ensures.same),
     )
