@@ -1,8 +1,9 @@
 -- What is left of an import once its parts are known.
 use Rattle.std.proofs.Common.{◌≡◌, ◌⊎◌, ◌≤◌, ◌∷◌, ◌∙◌, [], ℕ, List, length, Bool, true, false, if◌then◌else◌}
-use Rattle.std.proofs.Common.{inl, inr, Result, Ok, Err, IfErr}
+use Rattle.std.proofs.Common.{inl, inr, Result, Ok, Err, IfErr, Option, Some, None, IfSome, IfNone}
+use Rattle.csv.specs.declared.error.Error.{Error}
 use Rattle.ps_grid.specs.declared.refusal.Refusal.{Refusal}
-use Rattle.ps_grid.specs.declared.refusal.Refusal.TheVariants.{Device, Memory, Text}
+use Rattle.ps_grid.specs.declared.refusal.Refusal.TheVariants.{Csv, Device, Memory, Text}
 use Rattle.ps_content.specs.declared.content.Content.{Content}
 use Rattle.ps_content.specs.Entry.{Kind, Reads, too_long, empty, formula, tally, choice, number, text}
 use Rattle.ps_delta.specs.State.{State}
@@ -10,7 +11,9 @@ use Rattle.ps_delta.specs.Deltas.{joined_history}
 use Rattle.ps_sheet.specs.Sheet.{SheetView}
 use Rattle.ps_csv.specs.declared.bytes.TheConstants.{LONGEST_TABLE}
 use Rattle.ps_csv.specs.declared.table.Table.{Table}
-use Rattle.ps_csv.specs.Records.{EntryFault, FirstFault, IsTable, Record, RecordFault, TableFault}
+use Rattle.ps_csv.specs.declared.fault.ImportFault.{ImportFault}
+use Rattle.ps_csv.specs.Faults.{EntryFault, FirstFault, ReaderFails, RecordFault}
+use Rattle.ps_csv.specs.Records.{IsTable, Record}
 use Rattle.ps_csv.specs.Imports.{Assigned, TakesIn}
 use Rattle.ps_csv.specs.Tables.{HasRead, cells_of_each}
 use Rattle.ps_csv.proofs.TableLemmas.{length-read}
@@ -54,12 +57,19 @@ first_fault_refusal s bytes e first device =
     ]
 
 -- so none of a table is
-pub no_device : (r : Result Table Refusal) (t : State) (bytes : List ℕ) (P : Type 0)
-    → IfErr r (λ e. (e ≡ Memory) ⊎ TableFault t bytes e) → IfErr r (λ e. e ≡ Device → P)
-no_device (Ok x) t bytes P fault = tt
-no_device (Err e) t bytes P (inl memory) = λ device. cc
-no_device (Err e) t bytes P (inr (inl first)) = λ device. absurd (first_fault_refusal t bytes e first device)
-no_device (Err e) t bytes P (inr (inr fails)) = λ device. let is = fails.0 in cc
+no_device_of : (own : Option Error) (t : State) (bytes : List ℕ) (e : Refusal) (P : Type 0)
+    → IfNone own ((e ≡ Memory) ⊎ FirstFault t bytes e) → IfSome own (λ error. (e ≡ Csv) × ReaderFails t bytes error)
+    → e ≡ Device → P
+no_device_of (Some error) t bytes e P fault reader device = let is = reader.0 in cc
+no_device_of None t bytes e P (inl memory) reader device = cc
+no_device_of None t bytes e P (inr first) reader device = absurd (first_fault_refusal t bytes e first device)
+
+pub no_device : (r : Result Table ImportFault) (t : State) (bytes : List ℕ) (P : Type 0)
+    → IfErr r (λ f. IfNone f.reader_error ((f.refusal ≡ Memory) ⊎ FirstFault t bytes f.refusal))
+    → IfErr r (λ f. IfSome f.reader_error (λ error. (f.refusal ≡ Csv) × ReaderFails t bytes error))
+    → IfErr r (λ f. f.refusal ≡ Device → P)
+no_device (Ok x) t bytes P fault reader = tt
+no_device (Err f) t bytes P fault reader = no_device_of f.reader_error t bytes f.refusal P fault reader
 
 -- a table that was read and assigned was taken in
 pub takes_in : (bytes : List ℕ) (table : List Record) (t : Table) (records fields : ℕ) (old new : SheetView)

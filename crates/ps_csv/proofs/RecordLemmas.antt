@@ -18,7 +18,8 @@ use Rattle.ps_delta.specs.State.{State}
 use Rattle.ps_delta.specs.Order.{Rising, Under}
 use Rattle.ps_delta.proofs.CellLists.{Rising-weaker, increasing_from_rising}
 use Rattle.ps_sheet.specs.Edits.{is_clock_full}
-use Rattle.ps_csv.specs.Records.{Cells, EntryFault, FieldFault, FieldSays, FieldsSay, Record, RecordFault, place}
+use Rattle.ps_csv.specs.Faults.{EntryFault, FieldFault, RecordFault}
+use Rattle.ps_csv.specs.Records.{Cells, FieldSays, FieldsSay, Record, place}
 
 -- a refusal is for want of memory, or for another cause
 pub for_memory : (e : Refusal) → (e ≡ Memory) ⊎ (e ≢ Memory)

@@ -1,12 +1,12 @@
 -- What the records of a table say, record by record, as `csv` gives them.
 use Rattle.std.proofs.Common.{◌≡◌, ◌⊎◌, ◌+◌, ◌<◌, ◌≤◌, ◌∷◌, ◌++◌, ◌∙◌, [], ℕ, List, length, max}
 use Rattle.std.proofs.Common.{refl, ap, sym, subst, inl, inr, arith, true, false, Option, Some, None}
-use Rattle.std.proofs.Common.{Result, Ok, Err, Bor}
+use Rattle.std.proofs.Common.{Result, Ok, Err, Bor, IfSome, IfNone}
 use Rattle.std.proofs.lemmas.Bool.{false≢true}
 use Rattle.std.proofs.lemmas.List.{length-map, map-append}
 use Rattle.std.proofs.lemmas.List.Sums.{fold-append}
 use Rattle.std.specs.Global.{Vec}
-use Rattle.csv.specs.Reading.{ExplainsRead, FlexibleStep, Reached, Ready, RowStep, default_config, error_kind}
+use Rattle.csv.specs.Reading.{ExplainsRead, FlexibleStep, Reached, Ready, RowStep, default_config, error_kind, is_io}
 use Rattle.csv.specs.Reading.{is_flexible, owned_rows_left, owned_rows_reader}
 use Rattle.csv.specs.Reading.{reader_config, reader_state, reader_trim, source_of, strip_bom}
 use Rattle.csv.specs.Records.{Row, fields_of}
@@ -24,8 +24,9 @@ use Rattle.ps_grid.specs.declared.size.TheConstants.{ROWS}
 use Rattle.ps_content.specs.declared.content.Content.{Content}
 use Rattle.ps_delta.specs.State.{State}
 use Rattle.ps_csv.specs.declared.table.Table.{Table}
-use Rattle.ps_csv.specs.Records.{Cells, FieldsSay, IsTable, NextFault, Record, RecordFault}
-use Rattle.ps_csv.specs.Records.{RecordsSay, TableFault, most_fields, refusal_of_kind}
+use Rattle.ps_csv.specs.declared.fault.ImportFault.{ImportFault}
+use Rattle.ps_csv.specs.Faults.{FirstFault, NextFault, ReaderFails, RecordFault, fault_of_kind}
+use Rattle.ps_csv.specs.Records.{Cells, FieldsSay, IsTable, Record, RecordsSay, most_fields}
 use Rattle.ps_csv.specs.Tables.{HasRead, IsFresh, cells_of_each}
 
 -- one more record
@@ -176,52 +177,63 @@ pub reading_stops : (s : State) (bytes : List ℕ) (a b : ByteRecordsIntoIter (B
     (row : Row) (e : Refusal)
     → IsReading s bytes a t → Gave a b (Some (Ok row))
     → ((before : List Record) → HasRead s before t → (e ≡ Memory) ⊎ NextFault s (length before) (fields_of row) e)
-    → (e ≡ Memory) ⊎ TableFault s bytes e
+    → (e ≡ Memory) ⊎ FirstFault s bytes e
 reading_stops s bytes a b t row e on gave fault =
     let m = rows-more (λ (r : Bor (List ℕ)). Some r.now) (owned_rows_reader a) (owned_rows_reader b)
     (fields_of row) default_config
     states.StartRecord (strip_bom bytes) on.rest on.table on.config on.source on.reached gave.0 in
     elim (fault on.table on.read) [
       | inl memory ↦ inl memory
-      | inr next ↦ inr (inl (record {
+      | inr next ↦ inr (record {
         before = on.table;
         here = fields_of row;
         batches = cells_of_each t.batches.items;
         read = (reader_state (owned_rows_reader b), m.0, m.2);
         said = on.read.said;
         fault = next;
-      }))
+      })
     ]
+
+-- what is said of the fault of a text that `csv` gave no record of: memory, or that its reader failed
+pub record IsOfCsv (s : State) (bytes : List ℕ) (f : ImportFault) : Type 0 where
+  pub fault : IfNone f.reader_error ((f.refusal ≡ Memory) ⊎ FirstFault s bytes f.refusal)
+  pub reader : IfSome f.reader_error (λ error. (f.refusal ≡ Csv) × ReaderFails s bytes error)
+  pub none : f.applied ≡ 0
 
 -- an error of `csv` that isn't of memory says that what it reads from failed
 explained : (s : State) (bytes : List ℕ) (a b : ByteRecordsIntoIter (Bor (List ℕ))) (t : Table) (kind : ErrorKind)
+    (error : Error)
+    → error_kind error ≡ kind
     → IsReading s bytes a t
     → ExplainsRead (λ (r : Bor (List ℕ)). Some r.now) (owned_rows_reader a) (owned_rows_reader b) false kind
-    → (refusal_of_kind kind ≡ Memory) ⊎ TableFault s bytes (refusal_of_kind kind)
-explained s bytes a b t kinds.OutOfMemory on why = inl refl
-explained s bytes a b t (kinds.Io e) on why = inr (inr (
-  refl,
-  record {
-    before = on.table;
-    batches = cells_of_each t.batches.items;
-    read = (reader_state (owned_rows_reader a), on.rest, on.reached);
-    said = on.read.said;
-    error = kinds.Io e;
-    of_source = refl;
-  },
-))
-explained s bytes a b t (kinds.UnequalLengths pos expected len) on why =
+    → IsOfCsv s bytes (fault_of_kind kind error)
+explained s bytes a b t kinds.OutOfMemory error is on why = record { fault = inl refl; reader = tt; none = refl }
+explained s bytes a b t (kinds.Io e) error is on why = record {
+  fault = tt;
+  reader = (
+    refl,
+    record {
+      before = on.table;
+      batches = cells_of_each t.batches.items;
+      read = (reader_state (owned_rows_reader a), on.rest, on.reached);
+      said = on.read.said;
+      of_source = ap is_io is;
+    },
+  );
+  none = refl;
+}
+explained s bytes a b t (kinds.UnequalLengths pos expected len) error is on why =
     absurd (false≢true (sym why.0 ∙ on.flexible))
-explained s bytes a b t (kinds.Utf8 pos err) on why = absurd (false≢true why.0)
-explained s bytes a b t (kinds.Serialize text) on why = absurd why
-explained s bytes a b t (kinds.Deserialize pos err) on why = absurd why
+explained s bytes a b t (kinds.Utf8 pos err) error is on why = absurd (false≢true why.0)
+explained s bytes a b t (kinds.Serialize text) error is on why = absurd why
+explained s bytes a b t (kinds.Deserialize pos err) error is on why = absurd why
 
 pub reading_fails : (s : State) (bytes : List ℕ) (a b : ByteRecordsIntoIter (Bor (List ℕ))) (t : Table)
-    (error : Error) (e : Refusal)
-    → IsReading s bytes a t → Gave a b (Some (Err error)) → e ≡ refusal_of_kind (error_kind error)
-    → (e ≡ Memory) ⊎ TableFault s bytes e
-reading_fails s bytes a b t error e on gave is =
-    rw is (explained s bytes a b t (error_kind error) on gave)
+    (error : Error) (f : ImportFault)
+    → IsReading s bytes a t → Gave a b (Some (Err error)) → f ≡ fault_of_kind (error_kind error) error
+    → IsOfCsv s bytes f
+reading_fails s bytes a b t error f on gave is =
+    subst (λ (x : ImportFault). IsOfCsv s bytes x) (sym is) (explained s bytes a b t (error_kind error) error refl on gave)
 
 pub reading_ends : (s : State) (bytes : List ℕ) (a b : ByteRecordsIntoIter (Bor (List ℕ))) (t : Table)
     → IsReading s bytes a t → Gave a b None → (table : List Record) × IsTable bytes table × HasRead s table t

@@ -1,6 +1,6 @@
 pub mod Exports
+pub mod Faults
 pub mod Imports
 pub mod Records
-pub mod Sources
 pub mod Tables
 pub mod Writers

@@ -1,13 +1,8 @@
 -- What the records of a table say: field j of record n, both counted from 0, is an entry for its cell.
-use Rattle.std.specs.Prelude.{◌≡◌, ◌≢◌, ◌⊎◌, ℕ, ◌+◌, ◌*◌, ◌<◌, ◌≤◌, true, false, List, [], ◌∷◌, ◌++◌, length, max}
-use Rattle.std.specs.Prelude.{Ok, Err, fold}
-use Rattle.csv.specs.Reading.{AreRecords, Reached, default_config, is_io, strip_bom}
-use Rattle.csv.specs.declared.error.ErrorKind.{ErrorKind}
-use Rattle.csv.specs.declared.error.ErrorKind.TheVariants as kinds
+use Rattle.std.specs.Prelude.{◌≡◌, ℕ, ◌+◌, ◌*◌, ◌<◌, false, List, [], ◌∷◌, ◌++◌, length, max, Ok, fold}
+use Rattle.csv.specs.Reading.{AreRecords, Reached, default_config, strip_bom}
 use Rattle.csv.specs.declared.parser.State.{State as ReaderState}
 use Rattle.csv.specs.declared.parser.State.TheVariants as reader
-use Rattle.ps_grid.specs.declared.refusal.Refusal.{Refusal}
-use Rattle.ps_grid.specs.declared.refusal.Refusal.TheVariants.{ClockFull, Csv, Memory}
 use Rattle.ps_grid.specs.declared.size.TheConstants.{COLUMNS, ROWS}
 use Rattle.ps_content.specs.declared.content.Content.{Content}
 use Rattle.ps_content.specs.Entry.{Reads, kind_of}
@@ -45,28 +40,6 @@ RecordsSay s n [] batches = batches ≡ []
 RecordsSay s n (record_n ∷ table) batches = (here : Cells) × (others : List Cells) × (n < ROWS)
     × FieldsSay s n 0 record_n here × RecordsSay s (n + 1) table others × (batches ≡ here ∷ others)
 
--- the refusal of a field for the cell c: that of its entry, or else the register's, where that has the last time
-unfoldable pub EntryFault : State → ℕ → List ℕ → Refusal → Type 0
-EntryFault s c [] e = ⊥
-EntryFault s c (b ∷ bs) e =
-    (Reads (kind_of (b ∷ bs)) (b ∷ bs) (Err e) × (e ≢ Memory))
-    ⊎ ((content : Content) × Reads (kind_of (b ∷ bs)) (b ∷ bs) (Ok content) × (is_clock_full (s c) ≡ true)
-    × (e ≡ ClockFull))
-
--- the refusal of field j of record n; one past the last column is refused whatever it holds
-abbrev pub FieldFault : State → ℕ → ℕ → List ℕ → Refusal → Type 0
-FieldFault s n j field e = ((COLUMNS ≤ j) × (e ≡ Csv)) ⊎ ((j < COLUMNS) × EntryFault s (place n j) field e)
-
--- the first fault of record n: its field's, behind fields that have none
-pub record RecordFault (s : State) (n : ℕ) (fields : Record) (e : Refusal) : Type 0 where
-  pub before : Record
-  pub field : List ℕ
-  pub after : Record
-  pub cells : Cells
-  pub split : fields ≡ before ++ field ∷ after
-  pub said : FieldsSay s n 0 before cells
-  pub fault : FieldFault s n (length before) field e
-
 -- these are all the records of a text, as `csv` reads them with no header row
 abbrev pub IsTable : List ℕ → List Record → Type 0
 IsTable bytes table = AreRecords default_config reader.StartRecord (strip_bom bytes) table
@@ -76,38 +49,6 @@ abbrev pub BeginsTable : List ℕ → List Record → Type 0
 BeginsTable bytes table =
     (state : ReaderState) × (rest : List ℕ) × Reached default_config reader.StartRecord (strip_bom bytes) table
     state rest
-
--- the first fault of a record behind others; one past the last row is refused whatever its fields hold
-abbrev pub NextFault : State → ℕ → Record → Refusal → Type 0
-NextFault s n here e = ((ROWS ≤ n) × (e ≡ Csv)) ⊎ ((n < ROWS) × RecordFault s n here e)
-
--- FIRST FAULT of a text, in reading order: that of a record behind records that have none
-pub record FirstFault (s : State) (bytes : List ℕ) (e : Refusal) : Type 0 where
-  pub before : List Record
-  pub here : Record
-  pub batches : List Cells
-  pub read : BeginsTable bytes (before ++ here ∷ [])
-  pub said : RecordsSay s 0 before batches
-  pub fault : NextFault s (length before) here e
-
--- the refusal of an error of `csv`
-abbrev pub refusal_of_kind : ErrorKind → Refusal
-refusal_of_kind kinds.OutOfMemory = Memory
-refusal_of_kind _ = Csv
-
--- `csv`'s reader gives no record behind the first ones, which have no fault: it says that what it reads from failed.
--- No word of `csv` rules that out of bytes in memory; it rules out each of its other errors, but that of memory
-pub record ReaderFails (s : State) (bytes : List ℕ) : Type 0 where
-  pub before : List Record
-  pub batches : List Cells
-  pub read : BeginsTable bytes before
-  pub said : RecordsSay s 0 before batches
-  pub error : ErrorKind
-  pub of_source : is_io error ≡ true
-
--- WHY A TEXT ISN'T TAKEN IN: for its first fault, or since `csv`'s reader fails
-abbrev pub TableFault : State → List ℕ → Refusal → Type 0
-TableFault s bytes e = FirstFault s bytes e ⊎ ((e ≡ Csv) × ReaderFails s bytes)
 
 -- the greatest number of fields in a record
 abbrev pub most_fields : List Record → ℕ

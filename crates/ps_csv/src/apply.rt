@@ -1,6 +1,6 @@
 //! The contents of a table, assigned to a sheet.
 
-ghost use Rattle.std.specs.Prelude.{◌≡◌, ◌⊎◌, ◌<◌, ◌∷◌, [], List, length, map, take, IfErr, OnOk, OnErr};
+ghost use Rattle.std.specs.Prelude.{◌≡◌, ◌⊎◌, ◌<◌, ◌∷◌, [], List, None, length, map, take, IfErr, OnOk, OnErr};
 ghost use Rattle.std.specs.List.Sorted.{IsStrictlyIncreasing};
 ghost use Rattle.ps_delta.specs.Deltas.{joined_history};
 ghost use Rattle.ps_sheet.specs.Edits.{delta_of_edit};
@@ -10,21 +10,13 @@ ghost use Rattle.ps_csv.specs.Records.{Record, RecordsSay};
 ghost use Rattle.ps_csv.specs.Tables.{cells_of_each};
 ghost use Rattle.ps_csv.specs.Imports.{Assigned};
 
+use crate::fault::ImportFault;
 use ps_content::Content;
 use ps_eval::Meter;
 use ps_grid::{Cell, Refusal};
 use ps_sheet::{Batch, Edit, Sheet};
 use std::alloc::Global;
 use std::sync::ledger::Ledger;
-
-/// Why a table wasn't taken in, and how many of its records were.
-#[derive(Clone, Copy, Debug, PartialEq, Eq)]
-pub struct ImportFault {
-    /// Why.
-    pub refusal: Refusal,
-    /// How many records were taken in, and stand; above 0 only for lack of memory.
-    pub applied: usize,
-}
 
 // Assigns the contents of each record, one record after another.
 pub(crate) fn apply<L: Ledger>(
@@ -41,7 +33,7 @@ pub(crate) fn apply<L: Ledger>(
     ensures stopped { IfErr result (λ f. Assigned sheet.old.replica sheet.old.history
         (take f.applied (cells_of_each batches.items)) sheet.new.history) }
     ensures short { IfErr result (λ f. f.applied < length batches.items) }
-    ensures memory { IfErr result (λ f. f.refusal ≡ Refusal.Memory) }
+    ensures memory { IfErr result (λ f. (f.refusal ≡ Refusal.Memory) × (f.reader_error ≡ None)) }
     ensures none { IfErr result (λ f. f.applied ≡ 0 → (sheet.new ≡ sheet.old) × (meter.new ≡ meter.old)) }
     ensures replica { sheet.new.replica ≡ sheet.old.replica }
     ensures sheet { IsSheet sheet.new }
@@ -50,7 +42,13 @@ pub(crate) fn apply<L: Ledger>(
     for cells in batches {
         match assign(alloc, cells, sheet, meter) {
             Ok(()) => {}
-            Err(refusal) => return Err(ImportFault { refusal, applied }),
+            Err(refusal) => {
+                return Err(ImportFault {
+                    refusal,
+                    applied,
+                    reader_error: None,
+                });
+            }
         }
         applied += 1;
     }

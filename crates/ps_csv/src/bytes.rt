@@ -2,7 +2,7 @@
 
 ghost use Rattle.std.specs.Prelude.{◌≡◌, ◌≢◌, ◌⊎◌, ◌<◌, ◌≤◌, length, IfOk, IfErr, OnOk};
 ghost use Rattle.std.specs.Io.KnownBytes.{Consumes, IsAtEnd};
-ghost use Rattle.ps_csv.specs.Sources.{TooManyBytes};
+ghost use Rattle.ps_csv.specs.Faults.{TooManyBytes};
 
 use ps_device::Source;
 use ps_grid::{CELLS, Refusal};

@@ -5,7 +5,8 @@ ghost use Rattle.std.specs.Option.{SomeIff};
 ghost use Rattle.csv.specs.Records.{fields_of};
 ghost use Rattle.ps_grid.specs.declared.size.TheConstants.{COLUMNS, ROWS};
 ghost use Rattle.ps_delta.specs.Deltas.{joined_history};
-ghost use Rattle.ps_csv.specs.Records.{Cells, EntryFault, FieldSays, FieldsSay, RecordFault, place};
+ghost use Rattle.ps_csv.specs.Faults.{EntryFault, RecordFault};
+ghost use Rattle.ps_csv.specs.Records.{Cells, FieldSays, FieldsSay, place};
 
 use csv::ByteRecord;
 use ps_content::{Content, read_entry};

@@ -1,18 +1,19 @@
 //! A table of entries into a sheet.
 
-ghost use Rattle.std.specs.Prelude.{◌≡◌, ◌≢◌, ◌⊎◌, ◌<◌, ◌≤◌, ℕ, List, length, IfOk, IfErr, OnOk};
+ghost use Rattle.std.specs.Prelude.{◌≡◌, ◌≢◌, ◌⊎◌, ◌<◌, ◌≤◌, ℕ, List, length, IfOk, IfErr, IfNone, IfSome, OnOk};
 ghost use Rattle.std.specs.Io.KnownBytes.{Consumes, IsAtEnd};
 ghost use Rattle.ps_grid.specs.declared.size.TheConstants.{COLUMNS, ROWS};
 ghost use Rattle.ps_delta.specs.Deltas.{joined_history};
 ghost use Rattle.ps_sheet.specs.Sheet.{IsSheet};
-ghost use Rattle.ps_csv.specs.Records.{IsTable, Record, TableFault};
-ghost use Rattle.ps_csv.specs.Sources.{TooManyBytes};
+ghost use Rattle.ps_csv.specs.Faults.{FirstFault, ReaderFails, TooManyBytes};
+ghost use Rattle.ps_csv.specs.Records.{IsTable, Record};
 ghost use Rattle.ps_csv.specs.Tables.{HasRead};
 ghost use Rattle.ps_csv.specs.Imports.{StopsAfter, TakesIn};
 ghost use Rattle.ps_csv.specs.declared.bytes.TheConstants.{LONGEST_TABLE};
 
-use crate::apply::{ImportFault, apply};
+use crate::apply::apply;
 use crate::bytes::read_all;
+use crate::fault::ImportFault;
 use crate::table::{Table, read_table};
 use ps_device::Source;
 use ps_eval::Meter;
@@ -36,9 +37,10 @@ pub struct Imported {
 /// The source is read to its end, and all fields are checked before anything is assigned. Refused for the first of
 /// these: `Device` where the source failed, `Csv` where it has more than `LONGEST_TABLE` bytes; then, for the first
 /// field or record at fault in reading order, `Csv` for a record past the last row or a field past the last column,
-/// what `read_entry` refuses, and `ClockFull` where the cell's register has the last time; and `Csv` where `csv`'s
-/// reader fails, though it reads bytes in memory. For lack of memory in place of any of them. Then nothing is
-/// assigned, but that where memory ends between two edits the records before stand.
+/// what `read_entry` refuses, and `ClockFull` where the cell's register has the last time. Where `csv`'s own reader
+/// fails, which its contract leaves open even over bytes in memory, `Csv` with its error as `reader_error`, and in no
+/// other case has a fault that. Out of memory in place of any of them. Then nothing is assigned, but that where
+/// memory runs out between two edits the records before stand.
 ///
 /// Cost: the bytes of the source, and an edit for each record.
 pub fn import<S: Source, L: Ledger>(
@@ -53,11 +55,16 @@ pub fn import<S: Source, L: Ledger>(
     // the records and their fields lie in the grid, and a record has a field
     ensures extent { IfOk result (λ i. (i.records ≤ ROWS) × (i.fields ≤ COLUMNS) × (0 < i.records → 0 < i.fields)) }
     ensures calm { OnOk result (S.failures source.new ≡ S.failures source.old) }
-    ensures refused { IfErr result (λ f. (f.refusal ≡ Refusal.Memory) ⊎ (f.refusal ≡ Refusal.Device)
+    ensures refused { IfErr result (λ f. IfNone f.reader_error
+        ((f.refusal ≡ Refusal.Memory) ⊎ (f.refusal ≡ Refusal.Device)
         ⊎ ((f.refusal ≡ Refusal.Csv) × TooManyBytes (S.remaining source.old) (S.remaining source.new))
         ⊎ ((bytes : List ℕ)
         × Consumes (S.remaining source.old) (S.remaining source.new) bytes × IsAtEnd (S.remaining source.new)
-        × (length bytes ≤ LONGEST_TABLE) × TableFault (joined_history sheet.old.history) bytes f.refusal)) }
+        × (length bytes ≤ LONGEST_TABLE) × FirstFault (joined_history sheet.old.history) bytes f.refusal))) }
+    ensures reader { IfErr result (λ f. IfSome f.reader_error (λ error. (f.refusal ≡ Refusal.Csv)
+        × (bytes : List ℕ)
+        × Consumes (S.remaining source.old) (S.remaining source.new) bytes × IsAtEnd (S.remaining source.new)
+        × (length bytes ≤ LONGEST_TABLE) × ReaderFails (joined_history sheet.old.history) bytes error)) }
     ensures device { IfErr result (λ f. f.refusal ≡ Refusal.Device → S.failures source.old < S.failures source.new) }
     ensures steady { IfErr result (λ f. f.refusal ≢ Refusal.Device
         → S.failures source.new ≡ S.failures source.old) }
@@ -71,12 +78,7 @@ pub fn import<S: Source, L: Ledger>(
 {
     let table = match checked(alloc, source, sheet) {
         Ok(table) => table,
-        Err(refusal) => {
-            return Err(ImportFault {
-                refusal,
-                applied: 0,
-            });
-        }
+        Err(fault) => return Err(fault),
     };
     let Table { batches, fields } = table;
     let records = batches.len();
@@ -87,25 +89,32 @@ pub fn import<S: Source, L: Ledger>(
 }
 
 // What the source's table says, where nothing of it is at fault.
-fn checked<S: Source>(alloc: Global, source: &mut S, sheet: &Sheet) -> Result<Table, Refusal>
+fn checked<S: Source>(alloc: Global, source: &mut S, sheet: &Sheet) -> Result<Table, ImportFault>
     ensures read { IfOk result (λ t. (bytes : List ℕ) × (table : List Record)
         × Consumes (S.remaining source.old) (S.remaining source.new) bytes × IsAtEnd (S.remaining source.new)
         × (length bytes ≤ LONGEST_TABLE) × IsTable bytes table
         × HasRead (joined_history sheet.now.history) table t) }
     ensures calm { OnOk result (S.failures source.new ≡ S.failures source.old) }
-    ensures refused { IfErr result (λ e. (e ≡ Refusal.Memory) ⊎ (e ≡ Refusal.Device)
-        ⊎ ((e ≡ Refusal.Csv) × TooManyBytes (S.remaining source.old) (S.remaining source.new))
+    ensures refused { IfErr result (λ f. IfNone f.reader_error
+        ((f.refusal ≡ Refusal.Memory) ⊎ (f.refusal ≡ Refusal.Device)
+        ⊎ ((f.refusal ≡ Refusal.Csv) × TooManyBytes (S.remaining source.old) (S.remaining source.new))
         ⊎ ((bytes : List ℕ)
         × Consumes (S.remaining source.old) (S.remaining source.new) bytes × IsAtEnd (S.remaining source.new)
-        × (length bytes ≤ LONGEST_TABLE) × TableFault (joined_history sheet.now.history) bytes e)) }
-    ensures device { IfErr result (λ e. e ≡ Refusal.Device → S.failures source.old < S.failures source.new) }
-    ensures steady { IfErr result (λ e. e ≢ Refusal.Device → S.failures source.new ≡ S.failures source.old) }
+        × (length bytes ≤ LONGEST_TABLE) × FirstFault (joined_history sheet.now.history) bytes f.refusal))) }
+    ensures reader { IfErr result (λ f. IfSome f.reader_error (λ error. (f.refusal ≡ Refusal.Csv)
+        × (bytes : List ℕ)
+        × Consumes (S.remaining source.old) (S.remaining source.new) bytes × IsAtEnd (S.remaining source.new)
+        × (length bytes ≤ LONGEST_TABLE) × ReaderFails (joined_history sheet.now.history) bytes error)) }
+    ensures none { IfErr result (λ f. f.applied ≡ 0) }
+    ensures device { IfErr result (λ f. f.refusal ≡ Refusal.Device → S.failures source.old < S.failures source.new) }
+    ensures steady { IfErr result (λ f. f.refusal ≢ Refusal.Device
+        → S.failures source.new ≡ S.failures source.old) }
     ensures sheet { IsSheet sheet.now }
 {
     let _ = sheet.version();
     let bytes = match read_all(alloc, source) {
         Ok(bytes) => bytes,
-        Err(refusal) => return Err(refusal),
+        Err(refusal) => return Err(refusal.into()),
     };
     read_table(alloc, sheet, &bytes)
 }

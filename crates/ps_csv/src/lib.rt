@@ -11,13 +11,14 @@
 
 mod apply;
 mod bytes;
+mod fault;
 mod fields;
 mod incoming;
 mod shown;
 mod table;
 
-pub use apply::ImportFault;
 pub use bytes::LONGEST_TABLE;
+pub use fault::ImportFault;
 pub use incoming::{Imported, import};
 pub use shown::{export, exported_text};
 

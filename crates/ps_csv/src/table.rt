@@ -1,14 +1,15 @@
 //! The records of a table.
 
-ghost use Rattle.std.specs.Prelude.{◌≡◌, ◌⊎◌, ◌∷◌, ◌++◌, [], List, length, IfOk, IfErr, OnOk};
-ghost use Rattle.csv.specs.Reading.{error_kind};
+ghost use Rattle.std.specs.Prelude.{◌≡◌, ◌⊎◌, ◌∷◌, ◌++◌, [], List, length, IfOk, IfErr, IfNone, IfSome, OnOk};
 ghost use Rattle.csv.specs.Records.{fields_of};
 ghost use Rattle.ps_delta.specs.Deltas.{joined_history};
-ghost use Rattle.ps_csv.specs.Records.{IsTable, NextFault, Record, TableFault, refusal_of_kind};
+ghost use Rattle.ps_csv.specs.Faults.{FirstFault, NextFault, ReaderFails};
+ghost use Rattle.ps_csv.specs.Records.{IsTable, Record};
 ghost use Rattle.ps_csv.specs.Tables.{HasRead, IsFresh};
 
+use crate::fault::{ImportFault, fault_of};
 use crate::fields::read_record;
-use csv::{ByteRecord, Error, ErrorKind, Reader, ReaderBuilder};
+use csv::{ByteRecord, Reader, ReaderBuilder};
 use ps_content::Content;
 use ps_grid::{Cell, ROWS, Refusal};
 use ps_sheet::Sheet;
@@ -24,11 +25,14 @@ pub(crate) struct Table {
 }
 
 // What the records of a text say for the cells of the sheet.
-pub(crate) fn read_table(alloc: Global, sheet: &Sheet, bytes: &[u8]) -> Result<Table, Refusal>
+pub(crate) fn read_table(alloc: Global, sheet: &Sheet, bytes: &[u8]) -> Result<Table, ImportFault>
     ensures read { IfOk result (λ t. (table : List Record) × IsTable bytes.now table
         × HasRead (joined_history sheet.now.history) table t) }
-    ensures fault { IfErr result (λ e.
-        (e ≡ Refusal.Memory) ⊎ TableFault (joined_history sheet.now.history) bytes.now e) }
+    ensures fault { IfErr result (λ f. IfNone f.reader_error
+        ((f.refusal ≡ Refusal.Memory) ⊎ FirstFault (joined_history sheet.now.history) bytes.now f.refusal)) }
+    ensures reader { IfErr result (λ f. IfSome f.reader_error (λ error. (f.refusal ≡ Refusal.Csv)
+        × ReaderFails (joined_history sheet.now.history) bytes.now error)) }
+    ensures none { IfErr result (λ f. f.applied ≡ 0) }
 {
     let mut table = Table {
         batches: Vec::new(alloc),
@@ -37,7 +41,7 @@ pub(crate) fn read_table(alloc: Global, sheet: &Sheet, bytes: &[u8]) -> Result<T
     for row in new_reader(alloc, bytes).into_byte_records() {
         match row {
             Ok(row) => take_record(alloc, sheet, &row, &mut table)?,
-            Err(error) => return Err(refusal_of(&error)),
+            Err(error) => return Err(fault_of(error)),
         }
     }
     Ok(table)
@@ -75,14 +79,4 @@ fn take_record(
     table.batches.push(cells)?;
     table.fields = table.fields.max(fields.len());
     Ok(())
-}
-
-// The refusal of an error of `csv`.
-fn refusal_of(error: &Error) -> Refusal
-    ensures { result ≡ refusal_of_kind (error_kind error.now) }
-{
-    match error.kind() {
-        ErrorKind::OutOfMemory => Refusal::Memory,
-        _ => Refusal::Csv,
-    }
 }

@@ -27,7 +27,7 @@ assign-requires-clause-ascending g c =
 pub returns-in-Err-clause-memory : goal.returns-in-Err-clause-memory
 returns-in-Err-clause-memory g c =
     elim c.in-Err.ensures.refused [
-      | inl memory ↦ memory
+      | inl memory ↦ (memory, refl)
       | inr full ↦ absurd (next_is_free _ _ _ _ _ _ _ c.in-Some.cells.items c.in-Err.refusal
           (applying_next _ _ _ _ _ _ _ c.in-Some.cells c.in-Some.ensures.steps.0 c.loop-cells.invariant.2) full)
     ]

@@ -27,11 +27,24 @@ returns-in_err-take_record-in-Ok-clause-fault c =
 
 pub returns-in-Err-clause-fault : goal.returns-in-Err-clause-fault
 returns-in-Err-clause-fault c =
-    let s = joined_history c.args.sheet.now.history in
     let inv = c.loop-row.invariant in
     let gave = rw (c.in-Some.is, c.in-Err.is) at ((c.next.ensures.steps inv.left inv.trim).0 inv.ready) in
-    reading_fails s c.args.bytes.now c.loop-row.row-iterator c.next.new.self
-    c.loop-row.table c.in-Err.error c.refusal_of.result inv gave c.refusal_of.ensures
+    (reading_fails (joined_history c.args.sheet.now.history) c.args.bytes.now c.loop-row.row-iterator c.next.new.self
+    c.loop-row.table c.in-Err.error c.fault_of.result inv gave c.fault_of.ensures).fault
+
+pub returns-in-Err-clause-reader : goal.returns-in-Err-clause-reader
+returns-in-Err-clause-reader c =
+    let inv = c.loop-row.invariant in
+    let gave = rw (c.in-Some.is, c.in-Err.is) at ((c.next.ensures.steps inv.left inv.trim).0 inv.ready) in
+    (reading_fails (joined_history c.args.sheet.now.history) c.args.bytes.now c.loop-row.row-iterator c.next.new.self
+    c.loop-row.table c.in-Err.error c.fault_of.result inv gave c.fault_of.ensures).reader
+
+pub returns-in-Err-clause-none : goal.returns-in-Err-clause-none
+returns-in-Err-clause-none c =
+    let inv = c.loop-row.invariant in
+    let gave = rw (c.in-Some.is, c.in-Err.is) at ((c.next.ensures.steps inv.left inv.trim).0 inv.ready) in
+    (reading_fails (joined_history c.args.sheet.now.history) c.args.bytes.now c.loop-row.row-iterator c.next.new.self
+    c.loop-row.table c.in-Err.error c.fault_of.result inv gave c.fault_of.ensures).none
 
 pub loop-row-preserved : goal.loop-row-preserved
 loop-row-preserved c =

@@ -4,7 +4,8 @@ use Rattle.csv.specs.Records.{fields_of}
 use Rattle.ps_grid.specs.declared.size.TheConstants.{ROWS}
 use Rattle.ps_grid.specs.declared.refusal.Refusal.TheVariants.{Memory}
 use Rattle.ps_delta.specs.Deltas.{joined_history}
-use Rattle.ps_csv.specs.Records.{FieldsSay, RecordFault}
+use Rattle.ps_csv.specs.Faults.{RecordFault}
+use Rattle.ps_csv.specs.Records.{FieldsSay}
 use Rattle.ps_csv.proofs.TableLemmas.{fault_past, fault_within, has_read-more}
 use Rattle.ps_csv.proofs.table.take_record.Goals as goal
 

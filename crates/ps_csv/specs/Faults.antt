@@ -1,0 +1,76 @@
+-- Why a table isn't taken in.
+use Rattle.std.specs.Prelude.{◌≡◌, ◌≢◌, ◌⊎◌, ℕ, ◌<◌, ◌≤◌, true, List, [], ◌∷◌, ◌++◌, length, Option, Some, None, Ok, Err}
+use Rattle.std.specs.Io.KnownBytes.{Consumes}
+use Rattle.csv.specs.Reading.{error_kind, is_io}
+use Rattle.csv.specs.declared.error.Error.{Error}
+use Rattle.csv.specs.declared.error.ErrorKind.{ErrorKind}
+use Rattle.csv.specs.declared.error.ErrorKind.TheVariants as kinds
+use Rattle.ps_grid.specs.declared.refusal.Refusal.{Refusal}
+use Rattle.ps_grid.specs.declared.refusal.Refusal.TheVariants.{ClockFull, Csv, Memory}
+use Rattle.ps_grid.specs.declared.size.TheConstants.{COLUMNS, ROWS}
+use Rattle.ps_content.specs.declared.content.Content.{Content}
+use Rattle.ps_content.specs.Entry.{Reads, kind_of}
+use Rattle.ps_delta.specs.State.{State}
+use Rattle.ps_sheet.specs.Edits.{is_clock_full}
+use Rattle.ps_csv.specs.declared.bytes.TheConstants.{LONGEST_TABLE}
+use Rattle.ps_csv.specs.declared.fault.ImportFault.{ImportFault}
+use Rattle.ps_csv.specs.Records.{BeginsTable, Cells, FieldsSay, Record, RecordsSay, place}
+
+-- TOO MANY BYTES: those that were taken out of the source so far are more than a table may have
+pub record TooManyBytes (old new : Option (List ℕ)) : Type 0 where
+  pub bytes : List ℕ
+  pub consumed : Consumes old new bytes
+  pub beyond : LONGEST_TABLE < length bytes
+
+-- the refusal of a field for the cell c: that of its entry, or else the register's, where that has the last time
+unfoldable pub EntryFault : State → ℕ → List ℕ → Refusal → Type 0
+EntryFault s c [] e = ⊥
+EntryFault s c (b ∷ bs) e =
+    (Reads (kind_of (b ∷ bs)) (b ∷ bs) (Err e) × (e ≢ Memory))
+    ⊎ ((content : Content) × Reads (kind_of (b ∷ bs)) (b ∷ bs) (Ok content) × (is_clock_full (s c) ≡ true)
+    × (e ≡ ClockFull))
+
+-- the refusal of field j of record n; one past the last column is refused whatever it holds
+abbrev pub FieldFault : State → ℕ → ℕ → List ℕ → Refusal → Type 0
+FieldFault s n j field e = ((COLUMNS ≤ j) × (e ≡ Csv)) ⊎ ((j < COLUMNS) × EntryFault s (place n j) field e)
+
+-- the first fault of record n: its field's, after fields that have none
+pub record RecordFault (s : State) (n : ℕ) (fields : Record) (e : Refusal) : Type 0 where
+  pub before : Record
+  pub field : List ℕ
+  pub after : Record
+  pub cells : Cells
+  pub split : fields ≡ before ++ field ∷ after
+  pub said : FieldsSay s n 0 before cells
+  pub fault : FieldFault s n (length before) field e
+
+-- the first fault of a record after others; one past the last row is refused whatever its fields hold
+abbrev pub NextFault : State → ℕ → Record → Refusal → Type 0
+NextFault s n here e = ((ROWS ≤ n) × (e ≡ Csv)) ⊎ ((n < ROWS) × RecordFault s n here e)
+
+-- FIRST FAULT of a text, in reading order: that of a record after records that have none
+pub record FirstFault (s : State) (bytes : List ℕ) (e : Refusal) : Type 0 where
+  pub before : List Record
+  pub here : Record
+  pub batches : List Cells
+  pub read : BeginsTable bytes (before ++ here ∷ [])
+  pub said : RecordsSay s 0 before batches
+  pub fault : NextFault s (length before) here e
+
+-- CSV'S OWN READER FAILED with this error after the first records, which have no fault: it says that what it reads from
+-- failed. No word of `csv` rules that out of bytes in memory; it rules out each of its other errors, but that of memory
+pub record ReaderFails (s : State) (bytes : List ℕ) (error : Error) : Type 0 where
+  pub before : List Record
+  pub batches : List Cells
+  pub read : BeginsTable bytes before
+  pub said : RecordsSay s 0 before batches
+  pub of_source : is_io (error_kind error) ≡ true
+
+-- the fault of a refusal with nothing taken in
+abbrev pub refused_as : Refusal → ImportFault
+refused_as refusal = record { refusal = refusal; applied = 0; reader_error = None }
+
+-- the fault of an error of `csv` of this kind
+abbrev pub fault_of_kind : ErrorKind → Error → ImportFault
+fault_of_kind kinds.OutOfMemory error = refused_as Memory
+fault_of_kind _ error = record { refusal = Csv; applied = 0; reader_error = Some error }

@@ -1,0 +1,45 @@
+//! Why a table isn't taken in.
+
+ghost use Rattle.std.specs.Prelude.{◌≡◌};
+ghost use Rattle.csv.specs.Reading.{error_kind};
+ghost use Rattle.ps_csv.specs.Faults.{fault_of_kind, refused_as};
+
+use csv::{Error, ErrorKind};
+use ps_grid::Refusal;
+
+/// Why a table wasn't taken in, and how many of its records were.
+#[derive(Debug, Drop)]
+pub struct ImportFault {
+    /// Why.
+    pub refusal: Refusal,
+    /// How many records were taken in, and stand: above 0 only where memory ran out.
+    pub applied: usize,
+    /// Where `csv`'s own reader failed, and no fault of the table is why: its error, which only `csv` can make.
+    pub reader_error: Option<Error>,
+}
+
+impl From<Refusal> for ImportFault {
+    ghost from_gives = { λ refusal fault. fault ≡ refused_as refusal };
+
+    fn from(refusal: Refusal) -> ImportFault {
+        ImportFault {
+            refusal,
+            applied: 0,
+            reader_error: None,
+        }
+    }
+}
+
+/// The fault that an error of `csv` is: memory, or its reader failed.
+pub(crate) fn fault_of(error: Error) -> ImportFault
+    ensures { result ≡ fault_of_kind (error_kind error) error }
+{
+    match error.kind() {
+        ErrorKind::OutOfMemory => ImportFault::from(Refusal::Memory),
+        _ => ImportFault {
+            refusal: Refusal::Csv,
+            applied: 0,
+            reader_error: Some(error),
+        },
+    }
+}
