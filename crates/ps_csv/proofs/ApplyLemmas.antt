@@ -23,7 +23,7 @@ use Rattle.ps_sheet.specs.Edits.{assigned, delta_of_edit, is_clock_full, refused
 use Rattle.ps_sheet.specs.declared.edit.Edit.TheVariants.{SetAll}
 use Rattle.ps_csv.specs.Imports.{Assigned}
 use Rattle.ps_csv.specs.Records.{Cells, FieldsSay, Record, RecordsSay, place}
-use Rattle.ps_csv.specs.Tables.{cells_of_each}
+use Rattle.ps_csv.specs.Inside.{cells_of_each}
 use Rattle.ps_csv.proofs.RecordLemmas.{clocks_free, fields_say-ascending, fields_say-under}
 
 -- the value of an answer
@@ -68,13 +68,13 @@ pub under_batch : (r : ℕ) (s : State) (n : ℕ) (cells : Cells) → Under n (m
 under_batch r s n [] under = tt
 under_batch r s n (c ∷ cs) under = (under.0, under_batch r s n cs under.1)
 
--- nothing changes behind a record
-pub unchanged_behind : (r n : ℕ) (h k : List Entries) (cells : Cells) → Under n (map (λ e. e.0) cells)
+-- nothing changes after a record
+pub unchanged_after : (r n : ℕ) (h k : List Entries) (cells : Cells) → Under n (map (λ e. e.0) cells)
     → Assigned r h (cells ∷ []) k
     → (c : ℕ) → n ≤ c → joined_history k c ≡ joined_history h c
 unfolding Assigned
-unchanged_behind r n h k [] under one c le = ap (λ (g : List Entries). joined_history g c) one
-unchanged_behind r n h k (e ∷ es) under one c le =
+unchanged_after r n h k [] under one c le = ap (λ (g : List Entries). joined_history g c) one
+unchanged_after r n h k (e ∷ es) under one c le =
     let delta = map (λ (x : ℕ × Content). (x.0, assigned r (joined_history h x.0) x.1)) (e ∷ es) in
     let is : delta ≡ one.0 = not_refused (list_any (λ x. is_clock_full (joined_history h x.0)) (e ∷ es))
     ClockFull one.0 delta one.1 in
@@ -94,7 +94,7 @@ pub record IsApplying (r : ℕ) (h : List Entries) (all : List Cells) (n : ℕ) 
   pub table : List Record
   pub said : RecordsSay (joined_history h) n table rest
   pub so_far : Assigned r h (take n all) k
-  pub behind : drop n all ≡ rest
+  pub left : drop n all ≡ rest
   pub untouched : (c : ℕ) → place n 0 ≤ c → joined_history k c ≡ joined_history h c
 
 pub assigned-nothing : (r : ℕ) (h : List Entries) (all : List Cells) → Assigned r h (take 0 all) h
@@ -113,7 +113,7 @@ applying_starts r h all table said = record {
   table = table;
   said = said;
   so_far = assigned-nothing r h all;
-  behind = drop_none all;
+  left = drop_none all;
   untouched = λ c le. refl;
 }
 
@@ -152,7 +152,7 @@ pub next_is_there : (r : ℕ) (h k : List Entries) (all rest : List Cells) (n : 
     → IsApplying r h all n (cells ∷ rest) k
     → n < length all
 next_is_there r h k all rest n cells on =
-    let size = ap (λ (xs : List Cells). length xs) on.behind in
+    let size = ap (λ (xs : List Cells). length xs) on.left in
     omega (arith, size, length-drop n all)
 
 pub applying_goes_on : (r : ℕ) (h k m : List Entries) (all rest : List Cells) (n : ℕ) (cells : Cells)
@@ -160,7 +160,7 @@ pub applying_goes_on : (r : ℕ) (h k m : List Entries) (all rest : List Cells) 
 applying_goes_on r h k m all rest n cells on one =
     let next = next_says (joined_history h) n on.table cells rest on.said in
     let there = next_is_there r h k all rest n cells on in
-    let split : get_or all n [] ∷ drop (n + 1) all ≡ cells ∷ rest = sym (drop_more all n [] there) ∙ on.behind in
+    let split : get_or all n [] ∷ drop (n + 1) all ≡ cells ∷ rest = sym (drop_more all n [] there) ∙ on.left in
     let head : get_or all n [] ≡ cells = cc in
     let tail : drop (n + 1) all ≡ rest = cc in
     let front : take (n + 1) all ≡ take n all ++ cells ∷ []
@@ -171,8 +171,8 @@ applying_goes_on r h k m all rest n cells on one =
       said = next.3;
       so_far = subst (λ (xs : List Cells). Assigned r h xs m) (sym front)
           (assigned-push r h k m (take n all) cells on.so_far one);
-      behind = tail;
-      untouched = λ c le. unchanged_behind r (place (n + 1) 0) k m cells under one c le
+      left = tail;
+      untouched = λ c le. unchanged_after r (place (n + 1) 0) k m cells under one c le
           ∙ on.untouched c (omega (arith, le));
     }
 
@@ -180,7 +180,7 @@ pub applying_ends : (r : ℕ) (h k : List Entries) (all : List Cells) (n : ℕ) 
     → Assigned r h all k
 applying_ends r h k all n on =
     let whole : take n all ≡ all
-    = sym (append-nil (take n all)) ∙ ap (λ (xs : List Cells). take n all ++ xs) (sym on.behind)
+    = sym (append-nil (take n all)) ∙ ap (λ (xs : List Cells). take n all ++ xs) (sym on.left)
     ∙ take-append-drop n all in
     subst (λ (xs : List Cells). Assigned r h xs k) whole on.so_far
 

@@ -12,7 +12,7 @@ use Rattle.ps_grid.specs.Rectangle.{Area}
 use Rattle.ps_value.specs.Shown.{shown_text}
 use Rattle.ps_eval.specs.Items.{Assignment}
 use Rattle.ps_csv.specs.Exports.{cell_in, shown_record, shown_records, table_text}
-use Rattle.ps_csv.specs.Writers.{HasWritten}
+use Rattle.ps_csv.specs.Inside.{HasWritten}
 
 -- the first fields of a row's record
 abbrev pub first_fields : Assignment → Area → ℕ → ℕ → List (List ℕ)

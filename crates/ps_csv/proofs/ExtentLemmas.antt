@@ -15,7 +15,7 @@ use Rattle.ps_grid.specs.declared.size.TheConstants.{COLUMNS, ROWS}
 use Rattle.ps_delta.specs.State.{State}
 use Rattle.ps_csv.specs.declared.table.Table.{Table}
 use Rattle.ps_csv.specs.Records.{Cells, FieldsSay, IsTable, Record, RecordsSay, most_fields}
-use Rattle.ps_csv.specs.Tables.{HasRead, cells_of_each}
+use Rattle.ps_csv.specs.Inside.{HasRead, cells_of_each}
 use Rattle.ps_csv.proofs.TableLemmas.{length-read}
 
 fields_within : (s : State) (n j : ℕ) (fields : Record) (cells : Cells) → j ≤ COLUMNS → FieldsSay s n j fields cells

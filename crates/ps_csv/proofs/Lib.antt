@@ -1,6 +1,6 @@
 pub mod ApplyLemmas
 pub mod ExportLemmas
 pub mod ExtentLemmas
-pub mod ImportLemmas
+pub mod FaultLemmas
 pub mod RecordLemmas
 pub mod TableLemmas

@@ -21,7 +21,7 @@ use Rattle.ps_sheet.specs.Edits.{is_clock_full}
 use Rattle.ps_csv.specs.Faults.{EntryFault, FieldFault, RecordFault}
 use Rattle.ps_csv.specs.Records.{Cells, FieldSays, FieldsSay, Record, place}
 
--- a refusal is for want of memory, or for another cause
+-- a refusal is out of memory, or has another cause
 pub for_memory : (e : Refusal) → (e ≡ Memory) ⊎ (e ≢ Memory)
 for_memory Memory = inl refl
 for_memory _ = inr (λ p. cc)
@@ -73,8 +73,8 @@ fields_say-push s n j [] field cells here said lt says =
       ap (λ (xs : Cells). xs ++ here) said ∙ sym (append-nil here),
     )
 fields_say-push s n j (f ∷ fields) field cells here said lt says =
-    let behind : j + length (f ∷ fields) ≡ (j + 1) + length fields = omega arith in
-    let says_there = subst (λ (k : ℕ). FieldSays s (place n k) field here) behind says in (
+    let next : j + length (f ∷ fields) ≡ (j + 1) + length fields = omega arith in
+    let says_there = subst (λ (k : ℕ). FieldSays s (place n k) field here) next says in (
       said.0,
       said.1 ++ here,
       said.2,
@@ -113,7 +113,7 @@ fields_say-more s n j fields field cells here lt is said column says =
     let more = fields_say-push s n 0 (take j fields) field cells here said (omega arith) says_there in
     rw (take_more fields j [] lt, is) more
 
--- a field at fault behind fields that have no fault
+-- a field at fault after fields that have no fault
 pub record_fault : (s : State) (n j : ℕ) (fields : Record) (field : List ℕ) (cells : Cells) (e : Refusal)
     → j < length fields
     → get_or fields j [] ≡ field → FieldsSay s n 0 (take j fields) cells → FieldFault s n j field e

@@ -22,12 +22,16 @@ use Rattle.ps_grid.specs.declared.refusal.Refusal.{Refusal}
 use Rattle.ps_grid.specs.declared.refusal.Refusal.TheVariants.{Csv, Memory}
 use Rattle.ps_grid.specs.declared.size.TheConstants.{ROWS}
 use Rattle.ps_content.specs.declared.content.Content.{Content}
+use Rattle.ps_delta.specs.Deltas.{joined_history}
 use Rattle.ps_delta.specs.State.{State}
+use Rattle.ps_sheet.specs.Sheet.{SheetView}
+use Rattle.ps_csv.specs.declared.bytes.TheConstants.{LONGEST_TABLE}
 use Rattle.ps_csv.specs.declared.table.Table.{Table}
 use Rattle.ps_csv.specs.declared.fault.ImportFault.{ImportFault}
-use Rattle.ps_csv.specs.Faults.{FirstFault, NextFault, ReaderFails, RecordFault, fault_of_kind}
+use Rattle.ps_csv.specs.Faults.{FirstFault, NextFault, ReaderFails, RecordFault}
+use Rattle.ps_csv.specs.Imports.{Assigned, ImportsTable}
 use Rattle.ps_csv.specs.Records.{Cells, FieldsSay, IsTable, Record, RecordsSay, most_fields}
-use Rattle.ps_csv.specs.Tables.{HasRead, IsFresh, cells_of_each}
+use Rattle.ps_csv.specs.Inside.{HasRead, HasReadNothing, cells_of_each, fault_of_kind}
 
 -- one more record
 pub records_say-push : (s : State) (n : ℕ) (table : List Record) (fields : Record) (batches : List Cells)
@@ -45,8 +49,8 @@ records_say-push s n [] fields batches here said lt says =
       ap (λ (xs : List Cells). xs ++ here ∷ []) said,
     )
 records_say-push s n (r ∷ table) fields batches here said lt says =
-    let behind : n + length (r ∷ table) ≡ (n + 1) + length table = omega arith in
-    let says_there = subst (λ (k : ℕ). FieldsSay s k 0 fields here) behind says in (
+    let next : n + length (r ∷ table) ≡ (n + 1) + length table = omega arith in
+    let says_there = subst (λ (k : ℕ). FieldsSay s k 0 fields here) next says in (
       said.0,
       said.1 ++ here ∷ [],
       said.2,
@@ -133,7 +137,7 @@ Gave a b r = RowStep (λ (x : Bor (List ℕ)). Some x.now) (owned_rows_reader a)
 
 pub reading_starts : (s : State) (bytes : List ℕ) (reader : Reader (Bor (List ℕ)))
     (it : ByteRecordsIntoIter (Bor (List ℕ))) (t : Table)
-    → IsFresh bytes reader → owned_rows_reader it ≡ reader → 0 < owned_rows_left it → t.batches.items ≡ []
+    → HasReadNothing bytes reader → owned_rows_reader it ≡ reader → 0 < owned_rows_left it → t.batches.items ≡ []
     → t.fields ≡ 0
     → IsReading s bytes it t
 unfolding Reached RecordsSay
@@ -248,3 +252,19 @@ reading_ends s bytes a b t on gave = (
   ),
   on.read,
 )
+
+-- a table that was read and assigned was imported
+pub imports_table : (bytes : List ℕ) (table : List Record) (t : Table) (records fields : ℕ) (old new : SheetView)
+    → length bytes ≤ LONGEST_TABLE → IsTable bytes table → HasRead (joined_history old.history) table t
+    → Assigned old.replica old.history (cells_of_each t.batches.items) new.history → records ≡ length t.batches.items
+    → fields ≡ t.fields → ImportsTable bytes records fields old new
+imports_table bytes table t records fields old new within is has assigned size most = record {
+  table = table;
+  batches = cells_of_each t.batches.items;
+  within = within;
+  read = is;
+  said = has.said;
+  assigned = assigned;
+  records_are = size ∙ length-read (joined_history old.history) table t has;
+  fields_are = most ∙ has.most;
+}

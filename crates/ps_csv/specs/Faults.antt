@@ -1,10 +1,8 @@
 -- Why a table isn't taken in.
-use Rattle.std.specs.Prelude.{◌≡◌, ◌≢◌, ◌⊎◌, ℕ, ◌<◌, ◌≤◌, true, List, [], ◌∷◌, ◌++◌, length, Option, Some, None, Ok, Err}
+use Rattle.std.specs.Prelude.{◌≡◌, ◌≢◌, ◌⊎◌, ℕ, ◌<◌, ◌≤◌, true, List, [], ◌∷◌, ◌++◌, length, Option, None, Ok, Err}
 use Rattle.std.specs.Io.KnownBytes.{Consumes}
 use Rattle.csv.specs.Reading.{error_kind, is_io}
 use Rattle.csv.specs.declared.error.Error.{Error}
-use Rattle.csv.specs.declared.error.ErrorKind.{ErrorKind}
-use Rattle.csv.specs.declared.error.ErrorKind.TheVariants as kinds
 use Rattle.ps_grid.specs.declared.refusal.Refusal.{Refusal}
 use Rattle.ps_grid.specs.declared.refusal.Refusal.TheVariants.{ClockFull, Csv, Memory}
 use Rattle.ps_grid.specs.declared.size.TheConstants.{COLUMNS, ROWS}
@@ -69,8 +67,3 @@ pub record ReaderFails (s : State) (bytes : List ℕ) (error : Error) : Type 0 w
 -- the fault of a refusal with nothing taken in
 abbrev pub refused_as : Refusal → ImportFault
 refused_as refusal = record { refusal = refusal; applied = 0; reader_error = None }
-
--- the fault of an error of `csv` of this kind
-abbrev pub fault_of_kind : ErrorKind → Error → ImportFault
-fault_of_kind kinds.OutOfMemory error = refused_as Memory
-fault_of_kind _ error = record { refusal = Csv; applied = 0; reader_error = Some error }

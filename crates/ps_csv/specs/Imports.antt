@@ -16,15 +16,15 @@ Assigned r h ((cell ∷ cells) ∷ batches) k = (delta : Entries)
     × (delta_of_edit r (joined_history h) (SetAll (cell ∷ cells)) ≡ Ok delta) × Assigned r (h ++ delta ∷ []) batches k
 
 -- the table of the bytes was taken in, with this number of records and at most this many fields in one
-pub record TakesIn (bytes : List ℕ) (records fields : ℕ) (old new : SheetView) : Type 0 where
+pub record ImportsTable (bytes : List ℕ) (records fields : ℕ) (old new : SheetView) : Type 0 where
   pub table : List Record
   pub batches : List Cells
   pub within : length bytes ≤ LONGEST_TABLE
   pub read : IsTable bytes table
   pub said : RecordsSay (joined_history old.history) 0 table batches
   pub assigned : Assigned old.replica old.history batches new.history
-  pub records_told : records ≡ length table
-  pub fields_told : fields ≡ most_fields table
+  pub records_are : records ≡ length table
+  pub fields_are : fields ≡ most_fields table
 
 -- only the first records of the table were taken in, this many
 pub record StopsAfter (bytes : List ℕ) (applied : ℕ) (old new : SheetView) : Type 0 where

@@ -1,6 +1,5 @@
 pub mod Exports
 pub mod Faults
 pub mod Imports
+pub mod Inside
 pub mod Records
-pub mod Tables
-pub mod Writers

@@ -7,7 +7,7 @@ ghost use Rattle.ps_sheet.specs.Edits.{delta_of_edit};
 ghost use Rattle.ps_sheet.specs.Sheet.{IsSheet};
 ghost use Rattle.ps_sheet.specs.declared.edit.Edit.TheVariants.{SetAll};
 ghost use Rattle.ps_csv.specs.Records.{Record, RecordsSay};
-ghost use Rattle.ps_csv.specs.Tables.{cells_of_each};
+ghost use Rattle.ps_csv.specs.Inside.{cells_of_each};
 ghost use Rattle.ps_csv.specs.Imports.{Assigned};
 
 use crate::fault::ImportFault;
@@ -18,7 +18,7 @@ use ps_sheet::{Batch, Edit, Sheet};
 use std::alloc::Global;
 use std::sync::ledger::Ledger;
 
-// Assigns the contents of each record, one record after another.
+/// Assigns the contents of each record, one record after another.
 pub(crate) fn apply<L: Ledger>(
     alloc: Global,
     batches: Vec<Vec<(Cell, Content)>>,
@@ -55,7 +55,7 @@ pub(crate) fn apply<L: Ledger>(
     Ok(())
 }
 
-// Assigns the contents of one record by one edit, if it has any.
+/// Assigns the contents of one record by one edit, if it has any.
 fn assign<L: Ledger>(
     alloc: Global,
     cells: Vec<(Cell, Content)>,

@@ -8,13 +8,16 @@ use ps_device::Source;
 use ps_grid::{CELLS, Refusal};
 use std::alloc::Global;
 
-/// The most bytes of a table: 640 for each cell of the grid.
-pub const LONGEST_TABLE: usize = 640 * CELLS;
+/// How many bytes of a table fall to a cell: an entry has at most 512, and what is left is for quotes and a comma.
+const BYTES_PER_CELL: usize = 640;
 
-// How many bytes are read at once.
+/// The most bytes of a table: 68,157,440. It hangs on the size of the grid alone, and no other limit hangs on it.
+pub const LONGEST_TABLE: usize = BYTES_PER_CELL * CELLS;
+
+/// How many bytes are taken from the source at once. No limit hangs on it.
 const PIECE: usize = 65_536;
 
-// The bytes of the source, to its end. No more are taken out once they are too many.
+/// The bytes of the source, to its end. No more are taken out once they are too many.
 pub(crate) fn read_all<S: Source>(alloc: Global, source: &mut S) -> Result<Vec<u8>, Refusal>
     ensures read { IfOk result (λ bytes.
         Consumes (S.remaining source.old) (S.remaining source.new) bytes.items × IsAtEnd (S.remaining source.new)) }

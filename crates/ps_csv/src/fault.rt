@@ -2,7 +2,8 @@
 
 ghost use Rattle.std.specs.Prelude.{◌≡◌};
 ghost use Rattle.csv.specs.Reading.{error_kind};
-ghost use Rattle.ps_csv.specs.Faults.{fault_of_kind, refused_as};
+ghost use Rattle.ps_csv.specs.Faults.{refused_as};
+ghost use Rattle.ps_csv.specs.Inside.{fault_of_kind};
 
 use csv::{Error, ErrorKind};
 use ps_grid::Refusal;
@@ -30,7 +31,7 @@ impl From<Refusal> for ImportFault {
     }
 }
 
-/// The fault that an error of `csv` is: memory, or its reader failed.
+/// The fault of an error of `csv`: memory ran out, or its reader failed.
 pub(crate) fn fault_of(error: Error) -> ImportFault
     ensures { result ≡ fault_of_kind (error_kind error) error }
 {

@@ -14,7 +14,7 @@ use ps_grid::{COLUMNS, Cell, Refusal};
 use ps_sheet::Sheet;
 use std::alloc::Global;
 
-// The contents that the fields of record n say for their cells, in order.
+/// The contents that the fields of record n say for their cells, in order.
 pub(crate) fn read_record(
     alloc: Global,
     sheet: &Sheet,
@@ -38,7 +38,7 @@ pub(crate) fn read_record(
     Ok(cells)
 }
 
-// Appends the content that a field says for its cell, if it isn't empty.
+/// Appends the content that a field says for its cell, if it isn't empty.
 fn take_field(
     alloc: Global,
     sheet: &Sheet,
@@ -62,7 +62,7 @@ fn take_field(
     Ok(())
 }
 
-// The cell of field j of record n; none past the last column.
+/// The cell of field j of record n; none past the last column.
 fn cell_of(n: usize, j: usize) -> Option<Cell>
     requires { n < ROWS }
     ensures { SomeIff result (j < COLUMNS) (place n j) }

@@ -7,8 +7,8 @@ ghost use Rattle.ps_delta.specs.Deltas.{joined_history};
 ghost use Rattle.ps_sheet.specs.Sheet.{IsSheet};
 ghost use Rattle.ps_csv.specs.Faults.{FirstFault, ReaderFails, TooManyBytes};
 ghost use Rattle.ps_csv.specs.Records.{IsTable, Record};
-ghost use Rattle.ps_csv.specs.Tables.{HasRead};
-ghost use Rattle.ps_csv.specs.Imports.{StopsAfter, TakesIn};
+ghost use Rattle.ps_csv.specs.Inside.{HasRead};
+ghost use Rattle.ps_csv.specs.Imports.{StopsAfter, ImportsTable};
 ghost use Rattle.ps_csv.specs.declared.bytes.TheConstants.{LONGEST_TABLE};
 
 use crate::apply::apply;
@@ -35,14 +35,17 @@ pub struct Imported {
 /// empty field leaves its cell as it is. Each record with a field that isn't empty is one edit.
 ///
 /// The source is read to its end, and all fields are checked before anything is assigned. Refused for the first of
-/// these: `Device` where the source failed, `Csv` where it has more than `LONGEST_TABLE` bytes; then, for the first
+/// these: `Device` where the source failed; `Csv` where it has more than `LONGEST_TABLE` bytes; then, for the first
 /// field or record at fault in reading order, `Csv` for a record past the last row or a field past the last column,
-/// what `read_entry` refuses, and `ClockFull` where the cell's register has the last time. Where `csv`'s own reader
-/// fails, which its contract leaves open even over bytes in memory, `Csv` with its error as `reader_error`, and in no
-/// other case has a fault that. Out of memory in place of any of them. Then nothing is assigned, but that where
-/// memory runs out between two edits the records before stand.
+/// what `read_entry` refuses, and `ClockFull` where the cell's register has the last time. In place of any of them
+/// `Memory` where memory ran out. Nothing is assigned then, but where memory ran out between two edits: then the
+/// records before stand, `applied` of them.
 ///
-/// Cost: the bytes of the source, and an edit for each record.
+/// What `csv` leaves open: its own reader may fail, even over bytes in memory. That is `Csv` too, with the error as
+/// `reader_error`, which no other fault has.
+///
+/// Cost: b + e, for b bytes of the source and the cost e of an edit for each record with a field that isn't empty;
+/// memory for b bytes and their contents.
 pub fn import<S: Source, L: Ledger>(
     alloc: Global,
     source: &mut S,
@@ -51,8 +54,8 @@ pub fn import<S: Source, L: Ledger>(
 ) -> Result<Imported, ImportFault>
     ensures imported { IfOk result (λ i. (bytes : List ℕ)
         × Consumes (S.remaining source.old) (S.remaining source.new) bytes × IsAtEnd (S.remaining source.new)
-        × TakesIn bytes i.records i.fields sheet.old sheet.new) }
-    // the records and their fields lie in the grid, and a record has a field
+        × ImportsTable bytes i.records i.fields sheet.old sheet.new) }
+    // the records and their fields lie in the grid, and each record has a field
     ensures extent { IfOk result (λ i. (i.records ≤ ROWS) × (i.fields ≤ COLUMNS) × (0 < i.records → 0 < i.fields)) }
     ensures calm { OnOk result (S.failures source.new ≡ S.failures source.old) }
     ensures refused { IfErr result (λ f. IfNone f.reader_error
@@ -88,7 +91,7 @@ pub fn import<S: Source, L: Ledger>(
     }
 }
 
-// What the source's table says, where nothing of it is at fault.
+/// What the source's table says, where nothing of it is at fault.
 fn checked<S: Source>(alloc: Global, source: &mut S, sheet: &Sheet) -> Result<Table, ImportFault>
     ensures read { IfOk result (λ t. (bytes : List ℕ) × (table : List Record)
         × Consumes (S.remaining source.old) (S.remaining source.new) bytes × IsAtEnd (S.remaining source.new)
@@ -111,6 +114,7 @@ fn checked<S: Source>(alloc: Global, source: &mut S, sheet: &Sheet) -> Result<Ta
         → S.failures source.new ≡ S.failures source.old) }
     ensures sheet { IsSheet sheet.now }
 {
+    // for the fact that the sheet is one (`IsSheet`), which `version` says of it
     let _ = sheet.version();
     let bytes = match read_all(alloc, source) {
         Ok(bytes) => bytes,

@@ -2,11 +2,18 @@
 //!
 //! It is not a session: it knows no lines and no replies. What a table's text is, it leaves to `csv`.
 //!
+//! The contract to use: where [`import`] is Ok, the sheet's history grew by one edit for each record with a field that
+//! isn't empty, in order, and by nothing else. Where it is refused, that is out of memory, a device, too many bytes, or
+//! exactly the first fault of the table in reading order, and nothing is assigned; but where memory runs out between
+//! two edits, the records before stand, and the fault counts them. An error of `csv`'s own reader stands apart
+//! ([`ImportFault`]). [`export`] writes what the cells show as `csv` writes it, or a beginning of that where the sink
+//! fails.
+//!
 //! The table of `2,=[.A1]*3` and `"x,y",@tally` gives A1 the number 2, B1 the formula, A2 the text `x,y` and B2 a
 //! counter, by two edits. The rectangle from A1 to B2 is then written as `2,6` and `"x,y",0`.
 //!
-//! Cost: linear in the bytes of the text, which is in memory as a whole on either way; an import makes an edit for
-//! each record.
+//! Cost: linear in the bytes of the text, which is in memory as a whole either way; an import makes an edit for each
+//! record.
 #![tactic(auto)]
 
 mod apply;

@@ -6,7 +6,7 @@ ghost use Rattle.csv.specs.Records.{fields_of, partial_of};
 ghost use Rattle.ps_value.specs.Shown.{shown_text};
 ghost use Rattle.csv.specs.Writing.{default_writer, row_text};
 ghost use Rattle.ps_csv.specs.Exports.{cell_in, exported, shown_record};
-ghost use Rattle.ps_csv.specs.Writers.{HasWritten};
+ghost use Rattle.ps_csv.specs.Inside.{HasWritten};
 
 use csv::{ByteRecord, Writer, WriterBuilder};
 use ps_device::{MemorySink, Sink, put_all};
@@ -19,10 +19,10 @@ use std::sync::ledger::{Blank, Ledger};
 
 /// Writes the shown values of a rectangle: a record for each row, a field for each cell, each record ended by LF.
 ///
-/// Refused for lack of memory, and then nothing was written; and where the sink failed, and then a beginning of the
-/// text was written.
+/// `Memory` where memory ran out, and then nothing was written; `Device` where the sink failed, and then a beginning of
+/// the text was written.
 ///
-/// Cost: the cells of the rectangle and the bytes of the text, which is built before it is written.
+/// Cost: c + b, for c cells of the rectangle and b bytes of the text, which is built in memory before it is written.
 pub fn export<G: Look, K: Sink>(
     alloc: Global,
     look: &G,
@@ -48,9 +48,9 @@ pub fn export<G: Look, K: Sink>(
 
 /// The text that `export` writes, for a caller that has to have it before it writes anything.
 ///
-/// Refused only for lack of memory.
+/// Refused only where memory ran out.
 ///
-/// Cost: the cells of the rectangle and the bytes of the text.
+/// Cost: c + b, for c cells of the rectangle and b bytes of the text, and memory for b bytes.
 pub fn exported_text<G: Look>(alloc: Global, look: &G, rect: Rect) -> Result<Vec<u8>, Refusal>
     ensures text { IfOk result (λ t. t.items ≡ exported (G.value_at look.now) rect) }
     ensures memory { IfErr result (λ e. e ≡ Refusal.Memory) }
@@ -58,7 +58,7 @@ pub fn exported_text<G: Look>(alloc: Global, look: &G, rect: Rect) -> Result<Vec
     text_with::<G, Brand>(Blank::new(1), alloc, look, rect)
 }
 
-// The text, with a ledger for the sink that the fields are put into.
+/// The text, with a ledger for the sink that the fields are put into.
 fn text_with<G: Look, L: Ledger>(
     blank: Blank,
     alloc: Global,
@@ -81,14 +81,14 @@ fn text_with<G: Look, L: Ledger>(
     finish(writer)
 }
 
-// A writer that has written nothing.
+/// A writer that has written nothing.
 fn new_writer(alloc: Global) -> Writer<Vec<u8>>
     ensures { HasWritten result [] }
 {
     WriterBuilder::new().from_writer(Vec::new(alloc))
 }
 
-// Writes a record.
+/// Writes a record.
 fn put_record(row: &ByteRecord, writer: &mut Writer<Vec<u8>>) -> Result<(), Refusal>
     ensures written { OnOk result ((text : List ℕ) → HasWritten writer.old text
         → HasWritten writer.new (text ++ row_text default_writer (fields_of row.now))) }
@@ -100,7 +100,7 @@ fn put_record(row: &ByteRecord, writer: &mut Writer<Vec<u8>>) -> Result<(), Refu
     }
 }
 
-// The text that was written.
+/// The text that was written.
 fn finish(writer: Writer<Vec<u8>>) -> Result<Vec<u8>, Refusal>
     ensures text { IfOk result (λ t. (text : List ℕ) → HasWritten writer text → t.items ≡ text) }
     ensures memory { IfErr result (λ e. e ≡ Refusal.Memory) }
@@ -111,7 +111,7 @@ fn finish(writer: Writer<Vec<u8>>) -> Result<Vec<u8>, Refusal>
     }
 }
 
-// Makes the record of what the cells of the k-th row show.
+/// Makes the record of what the cells of the k-th row show.
 fn fill<G: Look, L: Ledger>(
     look: &G,
     rect: Rect,
@@ -131,7 +131,7 @@ fn fill<G: Look, L: Ledger>(
     Ok(())
 }
 
-// Appends what is shown as a field.
+/// Appends what is shown as a field.
 fn push_shown<L: Ledger>(
     value: Value,
     shown: &mut MemorySink<L>,
@@ -151,7 +151,7 @@ fn push_shown<L: Ledger>(
     Ok(())
 }
 
-// How many columns the rectangle has.
+/// How many columns the rectangle has.
 fn width(rect: Rect) -> usize
     ensures { result ≡ rect.width }
 {
@@ -160,7 +160,7 @@ fn width(rect: Rect) -> usize
     right - left + 1
 }
 
-// How many rows the rectangle has.
+/// How many rows the rectangle has.
 fn height(rect: Rect) -> usize
     ensures { result ≡ rect.height }
 {
@@ -169,7 +169,7 @@ fn height(rect: Rect) -> usize
     lower - upper + 1
 }
 
-// The cell at the j-th column and the k-th row of the rectangle.
+/// The cell at the j-th column and the k-th row of the rectangle.
 fn cell_of(rect: Rect, j: usize, k: usize) -> Cell
     requires column { j < rect.width }
     requires row { k < rect.height }

@@ -5,7 +5,7 @@ ghost use Rattle.csv.specs.Records.{fields_of};
 ghost use Rattle.ps_delta.specs.Deltas.{joined_history};
 ghost use Rattle.ps_csv.specs.Faults.{FirstFault, NextFault, ReaderFails};
 ghost use Rattle.ps_csv.specs.Records.{IsTable, Record};
-ghost use Rattle.ps_csv.specs.Tables.{HasRead, IsFresh};
+ghost use Rattle.ps_csv.specs.Inside.{HasRead, HasReadNothing};
 
 use crate::fault::{ImportFault, fault_of};
 use crate::fields::read_record;
@@ -15,16 +15,16 @@ use ps_grid::{Cell, ROWS, Refusal};
 use ps_sheet::Sheet;
 use std::alloc::Global;
 
-// What the records of a table say.
+/// What the records of a table say.
 #[derive(Drop)]
 pub(crate) struct Table {
-    // the contents of each record
+    /// The contents of each record, for its cells.
     pub(crate) batches: Vec<Vec<(Cell, Content)>>,
-    // the most fields of one
+    /// The most fields of one.
     pub(crate) fields: usize,
 }
 
-// What the records of a text say for the cells of the sheet.
+/// What the records of a text say for the cells of the sheet.
 pub(crate) fn read_table(alloc: Global, sheet: &Sheet, bytes: &[u8]) -> Result<Table, ImportFault>
     ensures read { IfOk result (λ t. (table : List Record) × IsTable bytes.now table
         × HasRead (joined_history sheet.now.history) table t) }
@@ -47,9 +47,9 @@ pub(crate) fn read_table(alloc: Global, sheet: &Sheet, bytes: &[u8]) -> Result<T
     Ok(table)
 }
 
-// A reader of the text's records, with no header row; records may differ in length.
+/// A reader of the text's records, with no header row; records may differ in length.
 fn new_reader(alloc: Global, bytes: &[u8]) -> Reader<&[u8]>
-    ensures { IsFresh bytes.now result }
+    ensures { HasReadNothing bytes.now result }
 {
     ReaderBuilder::new()
         .has_headers(false)
@@ -57,7 +57,7 @@ fn new_reader(alloc: Global, bytes: &[u8]) -> Reader<&[u8]>
         .from_reader(alloc, bytes)
 }
 
-// Takes one more record into the table.
+/// Takes one more record into the table.
 fn take_record(
     alloc: Global,
     sheet: &Sheet,

@@ -13,7 +13,7 @@ use std::marker::Brand;
 use std::sync::ledger::{Blank, Ledger};
 use std::test::Fail;
 
-// So many line feeds.
+/// So many line feeds.
 #[derive(Drop)]
 struct LineFeeds {
     left: usize,
@@ -35,14 +35,14 @@ impl Source for LineFeeds {
     }
 }
 
-// The bytes of a text, and then a failure.
+/// The bytes of a text, and then a failure.
 #[derive(Drop)]
-struct FailsBehind<'a> {
+struct FailsAfter<'a> {
     rest: &'a [u8],
     failed: bool,
 }
 
-impl Source for FailsBehind<'_> {
+impl Source for FailsAfter<'_> {
     ghost remaining = { λ source. None };
 
     ghost failures = { λ source. (if source.failed then 1 else 0) };
@@ -63,7 +63,7 @@ impl Source for FailsBehind<'_> {
     }
 }
 
-// Takes a table in, with a meter of its own.
+/// Takes a table in, with a meter of its own.
 fn taken<S: Source, L: Ledger>(
     blank: Blank,
     alloc: Global,
@@ -91,7 +91,7 @@ fn take(alloc: Global, text: &[u8], sheet: &mut Sheet) -> Result<Imported, Impor
     take_from(alloc, &mut source, sheet)
 }
 
-// The table that a text gives, as the sheet shows it from A1 to a cell.
+/// The table that a text gives, as the sheet shows it from A1 to a cell.
 fn shown(alloc: Global, text: &[u8], last: &str) -> Result<Vec<u8>, Fail> {
     let mut sheet = Sheet::open(alloc, 1, 1)?;
     let _ = take(alloc, text, &mut sheet)?;
@@ -100,7 +100,7 @@ fn shown(alloc: Global, text: &[u8], last: &str) -> Result<Vec<u8>, Fail> {
     Ok(exported_text(alloc, &sheet, Rect::new(first, last))?)
 }
 
-// Whether a source's table is refused so, with nothing assigned.
+/// Whether a source's table is refused so, with nothing assigned.
 fn is_refused_from<S: Source>(
     alloc: Global,
     source: &mut S,
@@ -120,7 +120,7 @@ fn is_refused(alloc: Global, text: &[u8], refusal: Refusal) -> Result<bool, Fail
 
 /// Fields are entries, and a value with a comma is quoted on the way out.
 #[test]
-fn row_17(rt: HostRuntime) -> Result<(), Fail> {
+fn fields_are_entries(rt: HostRuntime) -> Result<(), Fail> {
     let text = shown(rt.alloc(), b"2,=[.A1]*3\n\"x,y\",@tally\n", "B2")?;
     assert!(rt; text.as_slice() == b"2,6\n\"x,y\",0\n".as_slice());
     Ok(())
@@ -128,7 +128,7 @@ fn row_17(rt: HostRuntime) -> Result<(), Fail> {
 
 /// An empty field leaves its cell, and a record of empty fields is a row, but no edit.
 #[test]
-fn empty_fields(rt: HostRuntime) -> Result<(), Fail> {
+fn an_empty_field_leaves_its_cell(rt: HostRuntime) -> Result<(), Fail> {
     let alloc = rt.alloc();
     let mut sheet = Sheet::open(alloc, 1, 1)?;
     let imported = take(alloc, b"1,,3\n,,\n=[.A1]+[.C1]\n", &mut sheet)?;
@@ -142,7 +142,7 @@ fn empty_fields(rt: HostRuntime) -> Result<(), Fail> {
 /// writes: with its default dialect of the entries, and with `lineterminator="\n"` of the values. Then a byte order
 /// mark, each end of a line with empty lines between, a record of one empty field, and a quote that never closes.
 #[test]
-fn tables_of_others(rt: HostRuntime) -> Result<(), Fail> {
+fn tables_of_other_programs(rt: HostRuntime) -> Result<(), Fail> {
     let alloc = rt.alloc();
     for (text, last, want) in [
         (
@@ -165,11 +165,11 @@ fn tables_of_others(rt: HostRuntime) -> Result<(), Fail> {
     Ok(())
 }
 
-/// A fault anywhere leaves the sheet as it was: a formula outside the grammar, also behind a thousand good records; a
+/// A fault anywhere leaves the sheet as it was: a formula outside the grammar, also after a thousand good records; a
 /// text with a byte that is no UTF-8, with a NUL, or with a line feed, as where a quote never closes; a field of 513
 /// bytes, where one of 512 is taken; a 105th field, where 104 are taken; a 1,025th record, where 1,024 are taken.
 #[test]
-fn faults(rt: HostRuntime) -> Result<(), Fail> {
+fn a_fault_anywhere_leaves_the_sheet(rt: HostRuntime) -> Result<(), Fail> {
     let alloc = rt.alloc();
     for text in [b"\xff\n".as_slice(), b"1,a\0b\n", b"\"1\n2\n"] {
         assert!(rt; is_refused(alloc, text, Refusal::Text)?);
@@ -203,9 +203,9 @@ fn faults(rt: HostRuntime) -> Result<(), Fail> {
 /// A source that fails in mid-file is `Device`, whatever came before; one byte past the greatest number is `Csv`, and
 /// so many bytes are not too many: 68,157,440 line feeds are a table with no record.
 #[test]
-fn sources(rt: HostRuntime) -> Result<(), Fail> {
+fn sources_that_fail_or_never_end(rt: HostRuntime) -> Result<(), Fail> {
     let alloc = rt.alloc();
-    let mut fails = FailsBehind {
+    let mut fails = FailsAfter {
         rest: b"1,2\n=bad,",
         failed: false,
     };

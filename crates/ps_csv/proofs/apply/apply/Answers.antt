@@ -1,7 +1,7 @@
 use Rattle.std.proofs.Common.{◌∷◌, ◌∙◌, [], refl, subst, arith, inl, inr, ℕ}
 use Rattle.std.specs.Vec.Iter.{into_iter_items}
 use Rattle.ps_csv.specs.Imports.{Assigned}
-use Rattle.ps_csv.specs.Tables.{cells_of_each}
+use Rattle.ps_csv.specs.Inside.{cells_of_each}
 use Rattle.ps_csv.proofs.ApplyLemmas.{applying_from, applying_goes_on, applying_next, next_ascends, next_is_free}
 use Rattle.ps_csv.proofs.apply.apply.Goals as goal
 

@@ -1,7 +1,7 @@
 use Rattle.std.proofs.Common.{◌≡◌}
 use Rattle.std.specs.Vec.Iter.{into_iter_items}
 use Rattle.ps_sheet.specs.Sheet.{IsSheet}
-use Rattle.ps_csv.specs.Tables.{cells_of_each}
+use Rattle.ps_csv.specs.Inside.{cells_of_each}
 use Rattle.ps_csv.proofs.ApplyLemmas.{IsApplying}
 use Rattle.ps_csv.proofs.apply.apply.Given as goal
 

@@ -1,4 +1,4 @@
-use Rattle.ps_csv.proofs.ImportLemmas.{no_device}
+use Rattle.ps_csv.proofs.FaultLemmas.{no_device}
 use Rattle.ps_csv.proofs.incoming.checked.Goals as goal
 
 pub returns-clause-device : goal.returns-clause-device

@@ -1,7 +1,7 @@
 use Rattle.std.proofs.Common.{◌≡◌, length, refl, rules}
 use Rattle.ps_delta.specs.Deltas.{joined_history}
 use Rattle.ps_csv.proofs.ExtentLemmas.{extent}
-use Rattle.ps_csv.proofs.ImportLemmas.{takes_in}
+use Rattle.ps_csv.proofs.TableLemmas.{imports_table}
 use Rattle.ps_csv.proofs.incoming.import.Goals as goal
 
 pub returns-in-Ok-apply-clause-imported : goal.returns-in-Ok-apply-clause-imported
@@ -11,7 +11,7 @@ returns-in-Ok-apply-clause-imported g c =
       read.0,
       read.2,
       read.3,
-      takes_in read.0 read.1 c.in-Ok.table _ _ c.args.sheet.now c.apply.new.sheet read.4 read.5 read.6
+      imports_table read.0 read.1 c.in-Ok.table _ _ c.args.sheet.now c.apply.new.sheet read.4 read.5 read.6
           c.in-Ok-apply.ensures.assigned size
           refl,
     )

@@ -1,4 +1,4 @@
-use Rattle.ps_csv.specs.Writers.{HasWritten}
+use Rattle.ps_csv.specs.Inside.{HasWritten}
 use Rattle.ps_csv.proofs.ExportLemmas.{first_records}
 use Rattle.ps_csv.proofs.shown.text_with.Given as goal
 

@@ -1,5 +1,5 @@
--- What is left of an import once its parts are known.
-use Rattle.std.proofs.Common.{◌≡◌, ◌⊎◌, ◌≤◌, ◌∷◌, ◌∙◌, [], ℕ, List, length, Bool, true, false, if◌then◌else◌}
+-- No fault of a table is a device's.
+use Rattle.std.proofs.Common.{◌≡◌, ◌⊎◌, ◌∷◌, [], ℕ, List, Bool, true, false, if◌then◌else◌}
 use Rattle.std.proofs.Common.{inl, inr, Result, Ok, Err, IfErr, Option, Some, None, IfSome, IfNone}
 use Rattle.csv.specs.declared.error.Error.{Error}
 use Rattle.ps_grid.specs.declared.refusal.Refusal.{Refusal}
@@ -7,16 +7,10 @@ use Rattle.ps_grid.specs.declared.refusal.Refusal.TheVariants.{Csv, Device, Memo
 use Rattle.ps_content.specs.declared.content.Content.{Content}
 use Rattle.ps_content.specs.Entry.{Kind, Reads, too_long, empty, formula, tally, choice, number, text}
 use Rattle.ps_delta.specs.State.{State}
-use Rattle.ps_delta.specs.Deltas.{joined_history}
-use Rattle.ps_sheet.specs.Sheet.{SheetView}
-use Rattle.ps_csv.specs.declared.bytes.TheConstants.{LONGEST_TABLE}
 use Rattle.ps_csv.specs.declared.table.Table.{Table}
 use Rattle.ps_csv.specs.declared.fault.ImportFault.{ImportFault}
 use Rattle.ps_csv.specs.Faults.{EntryFault, FirstFault, ReaderFails, RecordFault}
-use Rattle.ps_csv.specs.Records.{IsTable, Record}
-use Rattle.ps_csv.specs.Imports.{Assigned, TakesIn}
-use Rattle.ps_csv.specs.Tables.{HasRead, cells_of_each}
-use Rattle.ps_csv.proofs.TableLemmas.{length-read}
+use Rattle.ps_csv.specs.Records.{Record}
 
 -- no field's refusal is a device's
 text_refusal : (b : Bool) (x : Content) (e : Refusal) → Err e ≡ (if b then Ok x else Err Text) → e ≡ Device → ⊥
@@ -70,19 +64,3 @@ pub no_device : (r : Result Table ImportFault) (t : State) (bytes : List ℕ) (P
     → IfErr r (λ f. f.refusal ≡ Device → P)
 no_device (Ok x) t bytes P fault reader = tt
 no_device (Err f) t bytes P fault reader = no_device_of f.reader_error t bytes f.refusal P fault reader
-
--- a table that was read and assigned was taken in
-pub takes_in : (bytes : List ℕ) (table : List Record) (t : Table) (records fields : ℕ) (old new : SheetView)
-    → length bytes ≤ LONGEST_TABLE → IsTable bytes table → HasRead (joined_history old.history) table t
-    → Assigned old.replica old.history (cells_of_each t.batches.items) new.history → records ≡ length t.batches.items
-    → fields ≡ t.fields → TakesIn bytes records fields old new
-takes_in bytes table t records fields old new within is has assigned size most = record {
-  table = table;
-  batches = cells_of_each t.batches.items;
-  within = within;
-  read = is;
-  said = has.said;
-  assigned = assigned;
-  records_told = size ∙ length-read (joined_history old.history) table t has;
-  fields_told = most ∙ has.most;
-}
