@@ -1,0 +1,124 @@
+"""The whole test of the repository: the merge gate, and then the tests of the program in this folder.
+
+`./test` runs both, `./test --program` the latter alone, and `./test --program TEXT` those whose name has the text. The
+last line is `N passed, M failed` over everything that ran, and the exit status is 0 only where nothing failed.
+"""
+import re
+import subprocess
+import sys
+import traceback
+import unittest
+from typing import NamedTuple
+
+from program import TOP
+
+
+class Tally(NamedTuple):
+    """How many passed, and how many failed."""
+
+    passed: int
+    failed: int
+
+    def and_also(self, other):
+        """The sum of both."""
+        return Tally(self.passed + other.passed, self.failed + other.failed)
+
+
+class Shown(unittest.TestResult):
+    """Shows each test once it has ended, below what went wrong in it, and counts.
+
+    A test that is skipped or expected to fail counts as failed, so that none is left out.
+    """
+
+    def __init__(self):
+        super().__init__()
+        self.tally = Tally(0, 0)
+        self.faults = []
+
+    def stopTest(self, test):
+        super().stopTest(test)
+        self.end(test)
+
+    def end(self, test):
+        """Counts and shows the test."""
+        is_well = not self.faults
+        self.tally = self.tally.and_also(Tally(int(is_well), int(not is_well)))
+        print(*self.faults, f"{test.id()}: {'ok' if is_well else 'FAILED'}", sep="\n", flush=True)
+        self.faults = []
+
+    def addError(self, test, err):
+        self.faults.append("".join(traceback.format_exception(*err)))
+        # what fails before the first test of a class or a file isn't followed by an end
+        if not isinstance(test, unittest.TestCase):
+            self.end(test)
+
+    def addFailure(self, test, err):
+        self.addError(test, err)
+
+    def addSubTest(self, test, subtest, err):
+        if err is not None:
+            self.faults.append(f"{subtest.id()}\n{''.join(traceback.format_exception(*err))}")
+
+    def addSkip(self, test, reason):
+        self.faults.append(f"skipped: {reason}")
+
+    def addExpectedFailure(self, test, err):
+        self.faults.append("expected to fail, and does")
+
+    def addUnexpectedSuccess(self, test):
+        self.faults.append("expected to fail, and doesn't")
+
+
+def failed(why):
+    """One failure, which is shown."""
+    print(f"test: {why}", flush=True)
+    return Tally(0, 1)
+
+
+def gate():
+    """Runs the merge gate, whose lines are shown as they come, and reads the counts off its last one."""
+    try:
+        ran = subprocess.Popen(["rt", "ci"], cwd=TOP, stdin=subprocess.DEVNULL, stdout=subprocess.PIPE)
+    except OSError as error:
+        return failed(f"rt ci can't be run: {error}")
+    last = b""
+    for last in ran.stdout:
+        sys.stdout.buffer.write(last)
+        sys.stdout.buffer.flush()
+    status = ran.wait()
+    counts = re.fullmatch(rb"(\d+) passed, (\d+) failed\n?", last)
+    if counts is None:
+        return failed(f"rt ci ended with status {status}, and its last line has no counts")
+    tally = Tally(int(counts[1]), int(counts[2]))
+    if status != 0 and tally.failed == 0:
+        return tally.and_also(failed(f"rt ci ended with status {status}, though it counts no failure"))
+    return tally
+
+
+def program(text):
+    """Builds the program, and runs the tests of this folder whose names have the text."""
+    if subprocess.run([TOP / "build"], stdin=subprocess.DEVNULL).returncode != 0:
+        return failed("the program isn't built, so it wasn't tested")
+    loader = unittest.TestLoader()
+    loader.testNamePatterns = [f"*{text}*"]
+    tests = loader.discover(str(TOP / "tests"))
+    if tests.countTestCases() == 0:
+        return failed("there is no such test of the program")
+    shown = Shown()
+    tests.run(shown)
+    return shown.tally
+
+
+def main(words):
+    """Runs what the words ask for, and returns the exit status."""
+    if words[:1] not in ([], ["--program"]) or len(words) > 2:
+        print("usage: ./test, or ./test --program [TEXT]", file=sys.stderr)
+        return 2
+    tally = Tally(0, 0) if words else gate()
+    tally = tally.and_also(program("".join(words[1:])))
+    print(f"{tally.passed} passed, {tally.failed} failed")
+    return 1 if tally.failed else 0
+
+
+if __name__ == "__main__":
+    sys.exit(main(sys.argv[1:]))

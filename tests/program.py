@@ -1,0 +1,79 @@
+"""What the tests share: they start the program as a user does, by `./sheet`, and compare the whole of how it ends."""
+import contextlib
+import os
+import signal
+import subprocess
+import tempfile
+import unittest
+from pathlib import Path
+from typing import NamedTuple
+
+TOP = Path(__file__).resolve().parent.parent
+SHEET = str(TOP / "sheet")
+# The longest wait for anything, in seconds.
+LIMIT = 60
+DEVICE_FAILED = b"err 20 device\n"
+
+
+class Ended(NamedTuple):
+    """How a program ended: its exit status, and all that it wrote."""
+
+    status: int
+    output: bytes = b""
+    error: bytes = b""
+
+
+@contextlib.contextmanager
+def started(*words, **files):
+    """`./sheet` with these words and standard files, of which nothing runs on once the block is left."""
+    session = subprocess.Popen([SHEET, *words], stderr=subprocess.PIPE, start_new_session=True, **files)
+    try:
+        yield session
+    finally:
+        if session.poll() is None:
+            os.killpg(session.pid, signal.SIGKILL)
+        session.communicate(timeout=LIMIT)
+
+
+def run(*words, given=b"", stdin=subprocess.PIPE, stdout=subprocess.PIPE):
+    """Runs `./sheet` with these words to its end. `given` is its standard input, unless there is another `stdin`."""
+    with started(*words, stdin=stdin, stdout=stdout) as session:
+        output, error = session.communicate(given if stdin == subprocess.PIPE else None, timeout=LIMIT)
+        return Ended(session.returncode, output or b"", error)
+
+
+def lines(*texts):
+    """The bytes of these texts, each with a line feed after it."""
+    return "".join(f"{text}\n" for text in texts).encode()
+
+
+class ProgramTest(unittest.TestCase):
+    """A test of the program."""
+
+    maxDiff = 2000
+
+    def file_of(self, content):
+        """A file of these bytes, open for reading, which is gone after the test."""
+        file = tempfile.TemporaryFile()
+        self.addCleanup(file.close)
+        file.write(content)
+        file.seek(0)
+        return file
+
+    def folder(self):
+        """The path of a folder of the test's own, which is gone after the test."""
+        folder = tempfile.TemporaryDirectory(prefix="sheet-test-")
+        self.addCleanup(folder.cleanup)
+        return Path(folder.name)
+
+    def assert_session(self, given, replies, *words):
+        """`./sheet run` with these further words answers these lines by these replies, and ends well."""
+        self.assertEqual(run("run", *words, given=given), Ended(0, replies))
+
+    def assert_table(self, given, shown, *words):
+        """`./sheet table` with these further words writes this table for the given one, and ends well."""
+        self.assertEqual(run("table", *words, given=given), Ended(0, shown))
+
+    def assert_refused_table(self, given, refusal):
+        """`./sheet table` refuses the given table by this number and name, and writes nothing."""
+        self.assertEqual(run("table", given=given), Ended(3, b"", lines(f"err {refusal}")))

@@ -1,0 +1,100 @@
+"""The whole test: what `./test` counts and how it ends, with a stand-in for the merge gate and for the tests it runs."""
+import os
+import shutil
+import stat
+import subprocess
+
+from program import LIMIT, TOP, Ended, ProgramTest
+
+TESTS = """\
+import unittest
+
+
+class Stand(unittest.TestCase):
+    def test_in(self):
+        {}
+"""
+PASSED = "test_stand.Stand.test_in: ok\n"
+
+
+class Whole(ProgramTest):
+    def setUp(self):
+        self.top = self.folder()
+        (self.top / "tests").mkdir()
+        shutil.copy(TOP / "test", self.top)
+        for file in ("__main__.py", "program.py"):
+            shutil.copy(TOP / "tests" / file, self.top / "tests")
+        self.use("rt", "echo gate $*", "echo 7 passed, 0 failed")
+        self.use("build")
+        self.use_test("self.assertEqual(1, 1)")
+
+    def use(self, name, *commands):
+        """Has these commands stand in for a tool."""
+        file = self.top / name
+        file.write_text("\n".join(["#!/bin/sh", *commands]) + "\n")
+        file.chmod(stat.S_IRWXU)
+
+    def use_test(self, statement):
+        """Has this statement be the one test of the program."""
+        (self.top / "tests/test_stand.py").write_text(TESTS.format(statement))
+
+    def start(self, *words):
+        """Runs the whole test, or what these words ask for, to its end."""
+        how = {"stdin": subprocess.DEVNULL, "capture_output": True, "text": True, "timeout": LIMIT}
+        how["env"] = {**os.environ, "PATH": f"{self.top}:{os.environ['PATH']}"}
+        ran = subprocess.run([self.top / "test", *words], **how)
+        return Ended(ran.returncode, ran.stdout, ran.stderr)
+
+    def assert_fails(self, last, *words):
+        """It ends with status 1 and this last line."""
+        ended = self.start(*words)
+        self.assertEqual((ended.status, ended.output.splitlines()[-1]), (1, last))
+
+    def test_all_passes(self):
+        self.assertEqual(self.start(), Ended(0, f"gate ci\n7 passed, 0 failed\n{PASSED}8 passed, 0 failed\n", ""))
+
+    def test_the_program_alone(self):
+        self.assertEqual(self.start("--program"), Ended(0, f"{PASSED}1 passed, 0 failed\n", ""))
+        self.assertEqual(self.start("--program", "Stand"), Ended(0, f"{PASSED}1 passed, 0 failed\n", ""))
+
+    def test_what_the_gate_counts_as_failed_is_counted(self):
+        self.use("rt", "echo 7 passed, 2 failed", "exit 1")
+        self.assert_fails("8 passed, 2 failed")
+
+    def test_a_gate_without_counts_is_a_failure(self):
+        self.use("rt", "echo 7 passed, 0 failed", "echo and more")
+        self.assert_fails("1 passed, 1 failed")
+        self.use("rt")
+        self.assert_fails("1 passed, 1 failed")
+
+    def test_a_gate_that_ends_badly_is_a_failure(self):
+        self.use("rt", "echo 7 passed, 0 failed", "exit 3")
+        self.assert_fails("8 passed, 1 failed")
+
+    def test_a_program_that_is_not_built_is_a_failure(self):
+        self.use("build", "exit 4")
+        self.assert_fails("7 passed, 1 failed")
+
+    def test_a_test_of_the_program_that_fails_is_a_failure(self):
+        for statement in (
+            "self.assertEqual(1, 2)",
+            "raise OSError",
+            "self.skipTest('later')",
+            "import missing",
+            "with self.subTest(): self.fail()",
+        ):
+            with self.subTest(statement=statement):
+                self.use_test(statement)
+                self.assert_fails("7 passed, 1 failed")
+
+    def test_a_file_of_tests_that_cannot_be_read_is_a_failure(self):
+        (self.top / "tests/test_stand.py").write_text("class\n")
+        self.assert_fails("0 passed, 1 failed", "--program")
+
+    def test_no_test_of_that_name_is_a_failure(self):
+        self.assert_fails("0 passed, 1 failed", "--program", "nonsense")
+
+    def test_other_words_are_refused(self):
+        for words in (["program"], ["--program", "a", "b"]):
+            with self.subTest(words=words):
+                self.assertEqual(self.start(*words), Ended(2, "", "usage: ./test, or ./test --program [TEXT]\n"))
