@@ -1,0 +1,94 @@
+"""Starting the program: the first example, the launcher, and the help."""
+import os
+import subprocess
+
+from program import LIMIT, SHEET, TOP, Ended, ProgramTest, lines, run
+
+FIRST_EXAMPLE = r"printf 'set A1 5\nset B1 =[.A1]*2\nget B1\n' | ./sheet run"
+TWO_REPLICAS = r"""
+printf 'set A1 apples\nset B1 @tally\nadd B1 3\npull 0 16\n' | ./sheet run --replica 1 > one
+printf 'set A1 pears\nset B1 @tally\nadd B1 4\npull 0 16\n' | ./sheet run --replica 2 > two
+sed -n 's/^delta [0-9]* /push /p' one two > lines
+(cat lines; printf 'get A1\nget B1\n') | ./sheet run --replica 1
+(tac lines; cat lines; printf 'get A1\nget B1\n') | ./sheet run --replica 2
+"""
+TABLE_EXAMPLE = r"""printf '2,=[.A1]*3\n"x,y",@tally\n' | ./sheet table"""
+
+
+def shell(command, folder=TOP):
+    """Runs a command of the shell in this folder to its end."""
+    how = {"cwd": folder, "stdin": subprocess.DEVNULL, "capture_output": True, "timeout": LIMIT}
+    ran = subprocess.run(["sh", "-c", command], **how)
+    return Ended(ran.returncode, ran.stdout, ran.stderr)
+
+
+class Examples(ProgramTest):
+    def test_the_first_example_of_the_readme(self):
+        self.assertIn(FIRST_EXAMPLE, (TOP / "README.md").read_text())
+        self.assertEqual(shell(FIRST_EXAMPLE), Ended(0, lines("ok 1", "ok 2", "val 10")))
+
+    def test_the_table_of_the_readme(self):
+        self.assertIn(TABLE_EXAMPLE, (TOP / "README.md").read_text())
+        self.assertEqual(shell(TABLE_EXAMPLE), Ended(0, lines("2,6", '"x,y",0')))
+
+    def test_two_replicas_that_edit_apart_and_meet(self):
+        folder = self.folder()
+        os.symlink(SHEET, folder / "sheet")
+        first, second = ["ok 1", "ok 2"], ["ok 1", "ok 2", "ok 2", "ok 2"]
+        shown = ["val pears", "val 7"]
+        self.assertEqual(shell(TWO_REPLICAS, folder), Ended(0, lines(*first, *shown, *second, *shown)))
+
+    def test_each_command_of_the_page_on_replicas_writes_the_block_after_it(self):
+        blocks = (TOP / "docs/REPLICAS.md").read_text().split("```")[1::2]
+        pairs = list(zip(blocks[::2], blocks[1::2]))
+        self.assertEqual(len(pairs), 4)
+        for command, shown in pairs:
+            with self.subTest(command=command):
+                self.assertTrue(command.startswith("sh\n./sheet run"))
+                self.assertTrue(shown.startswith("text\n"))
+                shown = shown.removeprefix("text\n").encode()
+                self.assertEqual(shell(command.removeprefix("sh\n")), Ended(0, shown))
+
+    def test_the_lines_of_the_help_have_the_replies_that_it_tells(self):
+        given = lines(
+            "set A1 5", "set B1 =[.A1]*2", "get B1", "set C1 @tally", "add C1 4", "sub C1 1", "set D1 @choice",
+            "choose D1 7", "unchoose D1 7", "rows A1:B1",
+        )
+        replies = lines("ok 1", "ok 2", "val 10", "ok 3", "ok 4", "ok 5", "ok 6", "ok 7", "ok 8", "rows 1", "5,10")
+        self.assert_session(given, replies)
+
+
+class Launcher(ProgramTest):
+    def test_it_can_be_started_from_another_folder(self):
+        self.assertEqual(shell(f"echo get A1 | '{SHEET}' run", folder="/"), Ended(0, lines("val ")))
+
+    def test_it_can_be_started_by_a_link(self):
+        link = self.folder() / "spreadsheet"
+        os.symlink(SHEET, link)
+        self.assertEqual(shell(f"echo get A1 | '{link}' run", folder="/"), Ended(0, lines("val ")))
+
+
+class Help(ProgramTest):
+    def assert_tells(self, words, *told):
+        """The program started with these words tells all of this on standard output, and ends well."""
+        ended = run(*words)
+        self.assertEqual((ended.status, ended.error), (0, b""))
+        for text in told:
+            self.assertIn(text, ended.output.decode())
+
+    def test_help_names_the_commands(self):
+        self.assert_tells(["--help"], "Usage: sheet <COMMAND>", "run", "table")
+
+    def test_help_of_run_names_its_options_and_each_line(self):
+        verbs = ["set", "add", "sub", "get", "choose", "unchoose", "rows", "pull", "push"]
+        self.assert_tells(["run", "--help"], "Usage: sheet run", "--workers", "--replica", *(f"{it} " for it in verbs))
+
+    def test_help_of_table_names_its_option(self):
+        self.assert_tells(["table", "--help"], "Usage: sheet table", "--workers")
+
+    def test_the_short_option_and_the_command_help_tell_the_same(self):
+        for words in ([], ["run"], ["table"]):
+            with self.subTest(words=words):
+                told = run(*words, "--help").output
+                self.assertEqual(run(*words, "-h"), Ended(0, told))
+                self.assertEqual(run("help", *words), Ended(0, told))
