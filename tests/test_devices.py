@@ -1,0 +1,74 @@
+"""Devices that fail: `err 20 device` on standard error, status 1, and of the output a beginning of what was due."""
+import os
+
+import peers
+from program import DEVICE_FAILED, Ended, ProgramTest, run
+
+FAILED = Ended(1, b"", DEVICE_FAILED)
+
+
+class Input(ProgramTest):
+    def test_an_input_that_is_a_folder(self):
+        folder = os.open(self.folder(), os.O_RDONLY)
+        self.addCleanup(os.close, folder)
+        self.assertEqual(run("run", stdin=folder), FAILED)
+        self.assertEqual(run("table", stdin=folder), FAILED)
+
+
+class FullOutput(ProgramTest):
+    def setUp(self):
+        self.full = open("/dev/full", "wb")
+        self.addCleanup(self.full.close)
+
+    def test_replies(self):
+        self.assertEqual(run("run", given=b"set A1 5\nget A1\n", stdout=self.full), FAILED)
+
+    def test_the_reply_to_a_last_line_without_line_feed(self):
+        self.assertEqual(run("run", given=b"get A1", stdout=self.full), FAILED)
+
+    def test_more_replies_than_wait_in_memory(self):
+        self.assertEqual(run("run", given=b"rows A1:CZ1024\n" * 3, stdout=self.full), FAILED)
+
+    def test_a_table(self):
+        self.assertEqual(run("table", given=b"1,2\n", stdout=self.full), FAILED)
+
+    def test_the_help(self):
+        self.assertEqual(run("--help", stdout=self.full), FAILED)
+        self.assertEqual(run("run", "--help", stdout=self.full), FAILED)
+
+    def test_nothing_to_write_is_no_failure(self):
+        self.assertEqual(run("run", given=b"\n\n", stdout=self.full), Ended(0))
+        self.assertEqual(run("table", given=b"\n\n", stdout=self.full), Ended(0))
+
+    def test_a_refused_table_is_refused_all_the_same(self):
+        self.assertEqual(run("table", given=b"=bad\n", stdout=self.full), Ended(3, b"", b"err 3 formula\n"))
+
+
+class ClosedOutput(ProgramTest):
+    def test_a_reader_that_closes_before_the_first_reply(self):
+        with peers.on_pipes("run") as peer:
+            peer.stop_receiving()
+            peer.send(b"get A1\n")
+            self.assertEqual(peer.ended(), FAILED)
+
+    def test_a_reader_that_closes_after_the_first_reply(self):
+        with peers.on_pipes("run") as peer:
+            self.assertEqual(peer.ask("set A1 5"), "ok 1")
+            peer.stop_receiving()
+            peer.send(b"get A1\n")
+            self.assertEqual(peer.ended(), FAILED)
+
+    def test_a_reader_that_closes_amid_a_long_reply(self):
+        with peers.on_pipes("run") as peer:
+            self.assertEqual(peer.ask("rows A1:CZ1024"), "rows 1024")
+            peer.stop_receiving()
+            self.assertEqual(peer.ended()._replace(output=b""), FAILED)
+
+    def test_a_reader_that_closes_amid_a_table(self):
+        # a table of 100 KB, too
+        with peers.on_pipes("table") as peer:
+            peer.send(b"," * 103 + b"\n" + b"1\n" * 1023)
+            peer.stop_sending()
+            self.assertEqual(peer.reply(), "," * 103)
+            peer.stop_receiving()
+            self.assertEqual(peer.ended()._replace(output=b""), FAILED)
