@@ -86,7 +86,8 @@ Keeps-handed (Some x) (Some y) None bytes start count p q = absurd q
 Keeps-handed (Some x) (Some y) (Some z) bytes start count p q =
     let given : z ≡ y ++ take count (drop start bytes) = q ∙ ap (λ l. y ++ take count l) (rest-range bytes start) in
     let rest : drop start bytes ≡ take count (drop start bytes) ++ drop (start + count) bytes =
-    sym (take-append-drop count (drop start bytes)) ∙ ap (λ l. take count (drop start bytes) ++ l) (drop-drop count start bytes) in
+    sym (take-append-drop count (drop start bytes))
+    ∙ ap (λ l. take count (drop start bytes) ++ l) (drop-drop count start bytes) in
     ap (λ l. l ++ drop (start + count) bytes) given
     ∙ append_assoc y (take count (drop start bytes)) (drop (start + count) bytes)
     ∙ ap (λ l. y ++ l) (sym rest)

@@ -2,19 +2,19 @@
 use Rattle.std.specs.Prelude.{ℕ, zero, suc, ◌<◌, List, [], ◌∷◌, length, take, Option, Result, Ok, Err, MatchResult}
 use Rattle.std.specs.Io.KnownBytes.{Appends}
 
--- how many failures a read was: an error answer
+-- how many failures a read was: one where it returned an error
 abbrev pub failed_take : {E : Type 0} → Result ℕ E → ℕ
 failed_take (Ok count) = 0
 failed_take (Err error) = 1
 
--- how many failures a write was: an error answer, or none taken of a piece that isn't empty
+-- how many failures a write was: one where it returned an error, or took none of a piece that isn't empty
 abbrev pub failed_put : {E : Type 0} → Result ℕ E → List ℕ → ℕ
 failed_put (Err error) piece = 1
 failed_put (Ok zero) [] = 0
 failed_put (Ok zero) (b ∷ bs) = 1
 failed_put (Ok (suc count)) piece = 0
 
--- how many failures a handing on was: an error answer
+-- how many failures a handing on was: one where it returned an error
 abbrev pub failed_settle : {E : Type 0} → Result (Unit {0}) E → ℕ
 failed_settle (Ok done) = 0
 failed_settle (Err error) = 1

@@ -1,9 +1,9 @@
 //! A console's output: bytes that wait in memory until they are handed on.
 //!
-//! A batch of lines costs one write a piece of input, and a peer that waits for a reply has it, as a session settles its
-//! sink before each read.
-ghost use Rattle.std.specs.Prelude.{◌≡◌, ◌<◌, ◌≤◌, ◌+◌, [], IfErr, IfOk, IsErr, IsOk, IsTrue, OnOk, drop, false, is_err};
-ghost use Rattle.std.specs.Prelude.{length, vec_capacity, vec_len};
+//! A batch of lines costs one write a piece of input, and a peer that waits for a reply has it, as a session settles
+//! its sink before each read.
+ghost use Rattle.std.specs.Prelude.{◌≡◌, ◌<◌, ◌≤◌, ◌+◌, [], IfErr, IfOk, IsErr, IsOk, IsTrue, OnOk, drop, false};
+ghost use Rattle.std.specs.Prelude.{is_err, length, vec_capacity, vec_len};
 ghost use Rattle.std.specs.Io.KnownBytes.{Keeps, WriteAppends, append_known};
 ghost use Rattle.ps_device.specs.Device.{failed_put, failed_settle};
 ghost use Rattle.ps_device.specs.declared.TheConstants.{PIECE_BYTES};

@@ -10,7 +10,8 @@ pub struct Failed;
 /// Where bytes come from.
 ///
 /// Contracts see what remains, where the source shows it, how many calls failed so far, and at most how many more calls
-/// give bytes. A call fails where it returns an error. A count of 0 for a piece that isn't empty is the end of the input.
+/// give bytes. A call fails where it returns an error. A count of 0 for a piece that isn't empty is the end of the
+/// input.
 pub trait Source {
     /// The bytes that are still to come, where the source shows them.
     ghost remaining: { Self → Option (List ℕ) };

@@ -4,16 +4,20 @@
 //! reader or writer that it is given.
 //!
 //! The contract to use is that of the two traits. A call of a device either moves bytes or fails, and each failure is
-//! counted; so who is lent a device can say that a refusal as `Device` comes just where its count rose. What was put on a
-//! sink is what it has handed on, in order and whole, and then what waits; after a `settle` that is Ok nothing waits.
+//! counted; so who is lent a device can say that a refusal as `Device` comes just where its count rose. What was put on
+//! a sink is what it has handed on, in order and whole, and then what waits; after a `settle` that is Ok nothing waits.
 //!
 //! The devices: over memory (`MemorySource`, `MemorySink`), over the readers and writers of std (`Reading`, `Writing`),
-//! and the console (`ConsoleOutput`), which keeps what is put until it is settled. Over a `ConsoleOutput` on standard
-//! output, two `put_all` of `b"ok 1\n"` and `b"ok 2\n"` write nothing; the `settle` after them is one write of ten bytes.
-//! Where that write fails, `settle` is the error, the count of failures is 1, and no later call writes anything.
+//! and the console (`ConsoleOutput`), which keeps what is put until it is settled. On a console over standard output,
+//! `put_all` of `ok 1` and of `ok 2`, each with its line feed, writes nothing; the `settle` after them is one write of
+//! ten bytes. Where that write fails, `settle` returns the error, one failure is counted, and no later call writes
+//! anything.
 //!
-//! Cost: a call is one call of its reader or writer, more where a signal interrupts; a console has 65,536 bytes of
-//! memory, the others none.
+//! No clause shows what a flush of a writer does, since std's `Write` says nothing of it: that a settled byte has left
+//! the writer's own memory is only tested.
+//!
+//! Cost: a call is one call of its reader or writer, more where a signal interrupts or a writer takes a part; a console
+//! has 65,536 bytes of memory, a sink over memory what was put, the others none.
 #![tactic(auto)]
 
 mod console;

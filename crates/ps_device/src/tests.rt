@@ -56,6 +56,7 @@ impl Write for Peer {
     }
 }
 
+/// What three reads of a peer give.
 fn takes<L: Ledger>(peer: Peer, blank: Blank) -> [Option<usize>; 3]
     requires { IsBlankOf blank L.name L.parts }
 {
@@ -67,6 +68,7 @@ fn takes<L: Ledger>(peer: Peer, blank: Blank) -> [Option<usize>; 3]
     [first, second, third]
 }
 
+/// Whether a peer takes all of the bytes.
 fn puts<L: Ledger>(peer: Peer, bytes: &[u8], blank: Blank) -> bool
     requires { IsBlankOf blank L.name L.parts }
 {
@@ -132,6 +134,7 @@ impl Write for HoldsBack {
     }
 }
 
+/// What a writer has given on after the bytes were put on a console and settled.
 fn given_on<L: Ledger>(alloc: Global, bytes: &[u8], blank: Blank) -> Result<Vec<u8>, Refusal>
     requires { IsBlankOf blank L.name L.parts }
 {
@@ -188,6 +191,7 @@ impl Write for FailsOnce {
     }
 }
 
+/// A writer of which the call after so many fails.
 fn failing(alloc: Global, most: usize, fails_at: usize) -> FailsOnce {
     FailsOnce {
         kept: Vec::new(alloc),
@@ -278,7 +282,7 @@ fn a_writer_takes_none(rt: HostRuntime) -> Result<(), Fail> {
     Ok(())
 }
 
-/// How many bytes of a piece each of three puts takes, and what the writer has after each settles.
+/// How many bytes three puts take, of a piece, of its rest and of four more; and the writer after a settle.
 fn taken_of<L: Ledger>(
     alloc: Global,
     piece: &[u8],
@@ -308,6 +312,7 @@ fn a_piece_larger_than_the_room(rt: HostRuntime) -> Result<(), Fail> {
     Ok(())
 }
 
+/// A reply put so many times, then settled.
 fn replied<L: Ledger>(
     alloc: Global,
     reply: &[u8],
