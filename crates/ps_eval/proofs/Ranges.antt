@@ -1,8 +1,6 @@
 -- The items of a range, cell by cell.
-use Rattle.std.proofs.Common.{◌≡◌, ℕ, List, [], ◌∷◌, ◌++◌, ap, ◌∙◌}
+use Rattle.std.proofs.Common.{◌≡◌, ℕ, List, ap}
 use Rattle.std.specs.List.{flat_map}
-use Rattle.std.proofs.lemmas.List.Concat.{flat_map-append}
-use Rattle.std.proofs.lemmas.List.{append-nil}
 use Rattle.ps_grid.specs.Rectangle.{Area, IsInGrid, cells_of}
 use Rattle.ps_grid.proofs.AreaLemmas.{filter-cells_of}
 use Rattle.ps_eval.specs.Number.{Number}
@@ -11,12 +9,6 @@ use Rattle.ps_eval.specs.Items.{Assignment, cell_items, range_items}
 -- the items of cells, one after another
 abbrev pub items_at : Assignment → List ℕ → List Number
 items_at v cells = flat_map (λ c. cell_items (v c)) cells
-
-pub items_at-push : (v : Assignment) (cells : List ℕ) (c : ℕ)
-    → items_at v (cells ++ c ∷ []) ≡ items_at v cells ++ cell_items (v c)
-items_at-push v cells c =
-    flat_map-append (λ d. cell_items (v d)) cells (c ∷ [])
-    ∙ ap (λ ns. items_at v cells ++ ns) (append-nil (cell_items (v c)))
 
 pub range_items_are : (v : Assignment) (a : Area) → IsInGrid a → range_items v a ≡ items_at v (cells_of a)
 range_items_are v a g = ap (items_at v) (filter-cells_of a g)

@@ -75,9 +75,6 @@ is_inside-below a c g h =
     let w = g.within_rows in
     omega arith
 
-pub nth_cell-below : (a : Area) (k : ℕ) → IsInGrid a → k < area a → nth_cell a k < CELLS
-nth_cell-below a k g h = is_inside-below a (nth_cell a k) g (is_inside-nth_cell a k g h)
-
 -- a cell in the rectangle has a number there
 pub place_of-below : (a : Area) (c : ℕ) → is_inside a c ≡ true → place_of a c < area a
 place_of-below a c h =

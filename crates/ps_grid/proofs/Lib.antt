@@ -1,5 +1,6 @@
 pub mod AreaLemmas
 pub mod ChainLemmas
+pub mod ColumnLemmas
 pub mod CycleLemmas
 pub mod DecisionLemmas
 pub mod DepthLemmas

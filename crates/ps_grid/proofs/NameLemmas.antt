@@ -3,20 +3,20 @@ use Rattle.std.proofs.Common.{◌≡◌, ℕ, ◌+◌, ◌-◌, ◌/◌, ◌%◌
 use Rattle.std.proofs.Common.{refl, ap, ◌∙◌}
 use Rattle.std.proofs.Common.{arith, length-append}
 use Rattle.std.proofs.lemmas.Grind.{common_steps}
-use Rattle.std.proofs.Common.{◌*◌, ◌++◌, drop, take_while, cond, true, false, sym, ⊎_elim, length-drop}
-use Rattle.std.proofs.lemmas.Bool.{cases_lt}
-use Rattle.std.proofs.Common.{Option, Some, None, unwrap_or}
-use Rattle.std.specs.Option.{SomeIff}
+use Rattle.std.proofs.Common.{◌*◌, ◌++◌, drop, take_while, cond, true, false, sym, ⊎_elim}
+use Rattle.std.specs.List.{list_all}
+use Rattle.std.proofs.lemmas.Bool.{and_from, cases_lt}
 use Rattle.std.specs.Char.{is_ascii_uppercase}
 use Rattle.std.specs.Str.Parse.{AllDigits}
 use Rattle.std.proofs.lemmas.Str.Parse.{digit_from_value}
 use Rattle.std.proofs.lemmas.List.Sums.{take_while-cons}
 use Rattle.std.proofs.Math.Seq.{take-append_seam, drop-append_seam}
-use Rattle.std.proofs.lemmas.List.{take_all}
 use Rattle.std.specs.Fmt.{decimal}
+use Rattle.std.proofs.lemmas.Fmt.{length-decimal-le}
+use Rattle.std.proofs.Common.{◌⊎◌, inl, inr}
 use Rattle.std.proofs.lemmas.Fmt.{decimal_injective, decimal_is_IsNumeral, decimal_digit, decimal_step}
-use Rattle.ps_grid.specs.declared.size.TheConstants.{CELLS, COLUMNS, LETTERS, ROWS}
-use Rattle.ps_grid.specs.Place.{letter_of, column_name, cell_at, cell_name, column_of, row_of}
+use Rattle.ps_grid.specs.declared.size.TheConstants.{CELLS, COLUMNS, LETTERS, NAME_BYTES, ROWS}
+use Rattle.ps_grid.specs.Place.{letter_of, column_name, cell_name, column_of, row_of}
 
 pub length-decimal-one : (n : ℕ) → n < 10 → length (decimal n) ≡ 1
 length-decimal-one n h = ap length (decimal_digit n h)
@@ -37,8 +37,67 @@ column_name-two column h = grind (arith, common_steps)
 pub column_name-one : (column : ℕ) → column < LETTERS → column_name column ≡ letter_of column ∷ []
 column_name-one column h = grind (arith, common_steps)
 
+-- what one letter names, and what two do
+module _ (a b k : ℕ) where
+  pub one_letter : b ∷ [] ≡ column_name k → (k < LETTERS) × (b ≡ letter_of k)
+  one_letter e =
+      ⊎_elim
+      (λ (one : k < LETTERS). (one, let f = e ∙ column_name-one k one in cc))
+      (λ (two : LETTERS ≤ k). absurd (let f = e ∙ column_name-two k two in cc))
+      (cases_lt k LETTERS)
+
+  pub two_letters : a ∷ b ∷ [] ≡ column_name k
+      → (LETTERS ≤ k) × (a ≡ letter_of (k / LETTERS - 1)) × (b ≡ letter_of (k % LETTERS))
+  two_letters e =
+      ⊎_elim
+      (λ (one : k < LETTERS). absurd (let f = e ∙ column_name-one k one in cc))
+      (λ (two : LETTERS ≤ k). let f = e ∙ column_name-two k two in (two, cc, cc))
+      (cases_lt k LETTERS)
+
+-- the names of columns have one letter or two
+pub length-column_name : (k : ℕ) → (length (column_name k) ≡ 1) ⊎ (length (column_name k) ≡ 2)
+length-column_name k =
+    ⊎_elim
+    (λ one. inl (ap length (column_name-one k one)))
+    (λ two. inr (ap length (column_name-two k two)))
+    (cases_lt k LETTERS)
+
+pub named_by_one : (b k : ℕ) → k < LETTERS → b ≡ letter_of k → b ∷ [] ≡ column_name k
+named_by_one b k small is = ap (λ x. x ∷ []) is ∙ sym (column_name-one k small)
+
+pub named_by_two : (a b m n : ℕ) → m < LETTERS → n < LETTERS → a ≡ letter_of m → b ≡ letter_of n
+    → a ∷ b ∷ [] ≡ column_name ((m + 1) * LETTERS + n)
+named_by_two a b m n ml nl first last =
+    let over : m ≡ ((m + 1) * LETTERS + n) / LETTERS - 1 = omega arith in
+    let rest : n ≡ ((m + 1) * LETTERS + n) % LETTERS = omega arith in
+    (λ i. (first ∙ ap letter_of over) i ∷ (last ∙ ap letter_of rest) i ∷ [])
+    ∙ sym (column_name-two ((m + 1) * LETTERS + n) (omega arith))
+
+-- how long a cell's name is
+pub length-cell_name : (c : ℕ) → c < CELLS → length (cell_name c) ≤ NAME_BYTES
+length-cell_name c below =
+    let letters = length-column_name (column_of c) in
+    let digits = length-decimal-le 4 (row_of c) (omega arith) (omega arith) (omega arith) in
+    let both = length-append (column_name (column_of c)) (decimal (row_of c)) in
+    ⊎_elim (λ one. omega (arith, one, digits, both)) (λ two. omega (arith, two, digits, both)) letters
+
 is_letter : (k : ℕ) → k < LETTERS → is_ascii_uppercase (letter_of k) ≡ true
 is_letter k h = grind (arith, common_steps)
+
+-- the names of columns have letters alone, and at least one
+pub some_letter : (k : ℕ) → 0 < length (column_name k)
+some_letter k = ⊎_elim (λ one. omega (arith, one)) (λ two. omega (arith, two)) (length-column_name k)
+
+pub all_letters : (k : ℕ) → k < COLUMNS → list_all is_ascii_uppercase (column_name k) ≡ true
+all_letters k below =
+    ⊎_elim
+    (λ (one : k < LETTERS).
+    ap (list_all is_ascii_uppercase) (column_name-one k one) ∙ and_from _ _ (is_letter k one) refl)
+    (λ (two : LETTERS ≤ k).
+    ap (list_all is_ascii_uppercase) (column_name-two k two)
+    ∙ and_from _ _ (is_letter (k / LETTERS - 1) (omega arith))
+    (and_from _ _ (is_letter (k % LETTERS) (omega arith)) refl))
+    (cases_lt k LETTERS)
 
 -- digits are no letters
 take_while-digits : (ds : List ℕ) → AllDigits 10 ds → take_while is_ascii_uppercase ds ≡ []
@@ -112,23 +171,10 @@ module _ (c : ℕ) (below : c < CELLS) (text : List ℕ) (is : text ≡ cell_nam
   letters_are =
       (λ i. take (letters_long i) (is i)) ∙ take-append_seam (column_name (column_of c)) (decimal (row_of c))
 
-  pub digits_are : take (length text - n) (drop n text) ≡ decimal (row_of c)
+  pub digits_are : drop n text ≡ decimal (row_of c)
   digits_are =
-      take_all (length text - n) (drop n text) (omega (arith, length-drop n text))
-      ∙ (λ i. drop (letters_long i) (is i))
+      (λ i. drop (letters_long i) (is i))
       ∙ drop-append_seam (column_name (column_of c)) (decimal (row_of c))
-
--- the cell of a cell's column and row is that cell
-pub named_is : (r : Option ℕ) (x y c : ℕ) → c < CELLS → Some x ≡ Some (column_of c) → Some y ≡ Some (row_of c)
-    → SomeIff r ((x < COLUMNS) × (1 ≤ y) × (y ≤ ROWS)) (cell_at x y) → r ≡ Some c
-named_is r x y c below column row made =
-    let across = ap (λ o. unwrap_or o 0) column in
-    let down = ap (λ o. unwrap_or o 0) row in
-    found r made (omega arith, omega arith, omega arith) (omega (arith, across, down))
-  where
-    found : (r : Option ℕ) {P : Type 0} {v w : ℕ} → SomeIff r P v → P → v ≡ w → r ≡ Some w
-    found None made p e = absurd (made p)
-    found (Some z) made p e = ap Some (made.1 ∙ e)
 
 -- no two cells have one name
 pub cell_name-injective : (c d : ℕ) → c < CELLS → d < CELLS → cell_name c ≡ cell_name d → c ≡ d

@@ -1,12 +1,12 @@
 //! The cells of the grid.
 
-ghost use Rattle.std.specs.Prelude.{◌≡◌, ◌↔◌, ℕ, ◌+◌, ◌*◌, ◌<◌, ◌≤◌, ◌++◌, drop, length, take, take_while};
+ghost use Rattle.std.specs.Prelude.{◌≡◌, ◌↔◌, ℕ, ◌+◌, ◌*◌, ◌<◌, ◌≤◌, ◌++◌, drop, length, take, take_while, IfSome};
 ghost use Rattle.std.specs.Char.{is_ascii_uppercase};
 ghost use Rattle.std.specs.Fmt.{decimal};
 ghost use Rattle.std.specs.Option.{SomeIff};
 ghost use Rattle.ps_grid.specs.Place.{cell_at, cell_name, column_name, column_of, letter_of, row_of};
 
-use crate::size::{CELLS, COLUMNS, LETTERS, ROWS};
+use crate::size::{CELLS, COLUMNS, LETTERS, NAME_BYTES, ROWS};
 use std::marker::Model;
 
 /// A cell of the grid. A contract sees it as its index, below `CELLS`: row by row, each row from column 0 on.
@@ -44,7 +44,7 @@ impl Cell {
         }
     }
 
-    // The cell of a column and a row, both counted from 0.
+    /// The cell of a column and a row, both counted from 0.
     pub(crate) fn at(column: usize, row: usize) -> Cell
         requires column { column < COLUMNS }
         requires row { row < ROWS }
@@ -78,7 +78,7 @@ impl Cell {
         }
     }
 
-    // The cell at an index of the grid.
+    /// The cell at an index of the grid.
     pub(crate) fn with_index(index: usize) -> Cell
         requires { index < CELLS }
         ensures { result ≡ index }
@@ -91,29 +91,39 @@ impl Cell {
     /// The cell that a text names: the letters of its column, A to CZ, and its row, 1 to 1024, with no zero in
     /// front and nothing else; none where the text names no cell.
     ///
-    /// Cost: constant but for the search of the first byte that is no letter.
+    /// Cost: constant, for a text of more than `NAME_BYTES` bytes is refused unread.
     pub fn read(text: &[u8]) -> Option<Cell>
         ensures { (c : ℕ) → (result ≡ Some c) ↔ ((c < CELLS) × (text.now ≡ cell_name c)) }
     {
-        let cell = candidate(text)?;
-        let mut name = [0; 6];
-        let len = cell.write(&mut name);
-        if &name[..len] == text {
-            Some(cell)
-        } else {
-            None
+        if text.len() > NAME_BYTES {
+            return None;
         }
+        let (letters, digits) = text.split_at(letter_count(text));
+        Cell::named(letters, digits)
     }
 
-    /// Writes the name of the cell at the front of `out`, leaves the bytes behind it as they are, and answers
-    /// how long the name is: the letters of the column, A to CZ, and the row in decimal, 1 to 1024.
+    /// The cell whose column has this name and whose row these digits, with no zero in front; none where the grid
+    /// has no such cell.
+    ///
+    /// Cost: constant, for more digits than a name has are refused unread.
+    pub fn named(letters: &[u8], digits: &[u8]) -> Option<Cell>
+        ensures { (c : ℕ) → (result ≡ Some c)
+            ↔ ((c < CELLS) × (letters.now ≡ column_name (column_of c)) × (digits.now ≡ decimal (row_of c))) }
+    {
+        let column = column_named(letters)?;
+        let row = row_named(digits)?;
+        Cell::new(column, row)
+    }
+
+    /// Writes the name of the cell at the front of `out`, leaves the bytes after it as they are, and returns how
+    /// long the name is: the letters of the column, A to CZ, and the row in decimal, 1 to 1024.
     ///
     /// Cost: constant.
-    pub fn write(self, out: &mut [u8; 6]) -> usize
+    pub fn write(self, out: &mut [u8; NAME_BYTES]) -> usize
         ensures name { take result out.new ≡ cell_name self }
         ensures rest { drop result out.new ≡ drop result out.old }
         ensures length { result ≡ length (cell_name self) }
-        ensures fits { result ≤ 6 }
+        ensures fits { result ≤ NAME_BYTES }
     {
         let column = self.column() as usize;
         let row = self.row();
@@ -149,17 +159,7 @@ impl Cell {
     }
 }
 
-// The cell that a text names, if it names one.
-fn candidate(text: &[u8]) -> Option<Cell>
-    ensures { (c : ℕ) → c < CELLS → text.now ≡ cell_name c → result ≡ Some c }
-{
-    let letters = letter_count(text);
-    let column = column_named(&text[..letters])?;
-    let row = row_named(&text[letters..])?;
-    Cell::new(column, row)
-}
-
-// How many upper-case letters a text begins with.
+/// How many upper-case letters a text begins with.
 fn letter_count(text: &[u8]) -> usize
     ensures counted { result ≡ length (take_while is_ascii_uppercase text.now) }
     ensures within { result ≤ length text.now }
@@ -167,21 +167,65 @@ fn letter_count(text: &[u8]) -> usize
     text.iter().take_while(|b| b.is_ascii_uppercase()).count()
 }
 
-// The column that letters name, if they name one.
+/// The column that letters name, if the grid has it.
 fn column_named(letters: &[u8]) -> Option<u8>
-    ensures { (column : ℕ) → column < COLUMNS → letters.now ≡ column_name column → result ≡ Some column }
+    ensures { (column : ℕ) → (result ≡ Some column) ↔ ((column < COLUMNS) × (letters.now ≡ column_name column)) }
+{
+    let column = column_number(letters)?;
+    if column < COLUMNS {
+        Some(column as u8)
+    } else {
+        None
+    }
+}
+
+/// The column that one or two letters name, whether the grid has it or not.
+fn column_number(letters: &[u8]) -> Option<usize>
+    ensures { (column : ℕ) → (result ≡ Some column)
+        ↔ ((column < LETTERS + LETTERS * LETTERS) × (letters.now ≡ column_name column)) }
 {
     match *letters {
-        [last] => last.checked_sub(b'A'),
-        [first, last] if (b'A'..=b'D').contains(&first) => {
-            ((first - b'A' + 1) * LETTERS as u8).checked_add(last.checked_sub(b'A')?)
+        [only] => letter_number(only),
+        [first, last] => {
+            let first = letter_number(first)?;
+            let last = letter_number(last)?;
+            Some((first + 1) * LETTERS + last)
         }
         _ => None,
     }
 }
 
-// The row that digits name, if they name one.
+/// The number of a letter: 0 for A, to 25 for Z.
+fn letter_number(letter: u8) -> Option<usize>
+    ensures number { (number : ℕ) → (result ≡ Some number) ↔ ((number < LETTERS) × (letter ≡ letter_of number)) }
+    ensures below { IfSome result (λ number. number < LETTERS) }
+{
+    let number = usize::from(letter.checked_sub(b'A')?);
+    if number < LETTERS { Some(number) } else { None }
+}
+
+/// The row that digits write, if the grid has it.
 fn row_named(digits: &[u8]) -> Option<u16>
+    ensures { (row : ℕ) → (result ≡ Some row) ↔ ((1 ≤ row) × (row ≤ ROWS) × (digits.now ≡ decimal row)) }
+{
+    if digits.len() > NAME_BYTES {
+        return None;
+    }
+    let row = number_written(digits)?;
+    if row < 1 || row as usize > ROWS {
+        return None;
+    }
+    let mut text = [0; NAME_BYTES];
+    let len = put_decimal(&mut text, 0, row);
+    if &text[..len] == digits {
+        Some(row)
+    } else {
+        None
+    }
+}
+
+/// The number that digits write; other texts may give a number too.
+fn number_written(digits: &[u8]) -> Option<u16>
     ensures { (row : ℕ) → row ≤ ROWS → digits.now ≡ decimal row → result ≡ Some row }
 {
     match str::from_utf8(digits) {
@@ -190,7 +234,7 @@ fn row_named(digits: &[u8]) -> Option<u16>
     }
 }
 
-// The letter of a number: A for 0, to Z for 25.
+/// The letter of a number: A for 0, to Z for 25.
 fn letter(number: usize) -> u8
     requires { number < LETTERS }
     ensures { result ≡ letter_of number }
@@ -198,9 +242,9 @@ fn letter(number: usize) -> u8
     b'A' + number as u8
 }
 
-// Writes a row in decimal at a place of `out`, and answers the place behind it.
-fn put_decimal(out: &mut [u8; 6], place: usize, row: u16) -> usize
-    requires { place + length (decimal row) ≤ 6 }
+/// Writes a row in decimal at a place of `out`, and returns the place after it.
+fn put_decimal(out: &mut [u8; NAME_BYTES], place: usize, row: u16) -> usize
+    requires { place + length (decimal row) ≤ NAME_BYTES }
     ensures digits { take result out.new ≡ take place out.old ++ decimal row }
     ensures rest { drop result out.new ≡ drop result out.old }
     ensures length { result ≡ place + length (decimal row) }

@@ -24,7 +24,7 @@ pub use laws::{long_chains_repeat, refusal_numbers_differ};
 pub use parties::{REPLICAS, SEATS, WORKERS};
 pub use rect::{Cells, Rect};
 pub use refusal::Refusal;
-pub use size::{CELLS, COLUMNS, ROWS};
+pub use size::{CELLS, COLUMNS, NAME_BYTES, ROWS};
 pub use twin::Twin;
 
 #[cfg(test)]

@@ -11,3 +11,6 @@ pub const CELLS: usize = ROWS * COLUMNS;
 
 /// The letters that name columns: A to Z.
 pub const LETTERS: usize = 26;
+
+/// The most bytes of a cell's name: two letters and four digits.
+pub const NAME_BYTES: usize = 6;

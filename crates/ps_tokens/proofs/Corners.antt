@@ -1,50 +1,33 @@
 -- A corner is read from a text exactly where one stands at its front.
-use Rattle.std.proofs.Common.{◌≡◌, ℕ, ◌+◌, ◌-◌, ◌/◌, ◌%◌, ◌<◌, ◌≤◌, ◌^◌, ◌==◌, nat_lt, cond, Bool, true, false}
+use Rattle.std.proofs.Common.{◌≡◌, ℕ, ◌<◌, ◌^◌, ◌==◌, Bool, true, false}
 use Rattle.std.proofs.Common.{Option, Some, List, [], ◌∷◌, ◌++◌, length, take, drop, refl, sym, ap, subst, ◌∙◌}
 use Rattle.std.proofs.Common.{append_assoc, arith}
 use Rattle.std.specs.Char.{is_ascii_digit, is_ascii_uppercase}
 use Rattle.std.specs.Fmt.{decimal}
 use Rattle.std.specs.Int.{IsInRange}
 use Rattle.std.specs.List.{list_all}
-use Rattle.std.specs.Option.{option_map, option_and_then}
+use Rattle.std.specs.Option.{option_map}
 use Rattle.std.specs.Str.Parse.{AllDigits, IsNumeral}
 use Rattle.std.proofs.lemmas.Bool.{and_from, and_parts}
 use Rattle.std.proofs.lemmas.Bool.Decides.{nat_tests}
 use Rattle.std.proofs.lemmas.Fmt.{decimal_is_IsNumeral}
 use Rattle.std.proofs.lemmas.List.{take-append-drop}
-use Rattle.std.proofs.lemmas.Option.{option_and_then_some}
 use Rattle.std.proofs.lemmas.Str.Parse.{digit_from_value}
 use Rattle.ps_grid.specs.Place.{column_name, column_of, row_of}
-use Rattle.ps_grid.specs.declared.size.TheConstants.{CELLS, ROWS}
-use Rattle.ps_tokens.specs.Lexing.{capitals_at, cell_if, cell_in, column_in, corner_at, digits_at, row_in, unmarked}
+use Rattle.ps_grid.specs.declared.size.TheConstants.{CELLS, COLUMNS}
+use Rattle.ps_grid.proofs.NameLemmas.{all_letters, some_letter}
+use Rattle.ps_tokens.specs.Lexing.{capitals_at, cell_in, corner_at, digits_at, unmarked}
 use Rattle.ps_tokens.specs.Text.{mark, IsCorner}
 use Rattle.ps_tokens.proofs.Choices.{option_map_from}
-use Rattle.ps_tokens.proofs.Marks.{cell_if-cell, cell_if-some, column_in-some, column_name_is, row_in-decimal}
-use Rattle.ps_tokens.proofs.Marks.{row_in-some, unmarked-mark, unmarked_text}
-use Rattle.ps_tokens.proofs.Runs.{Stops, AllDigits-digits_at, drop-run, list_all-run, take-run}
+use Rattle.ps_tokens.proofs.Marks.{unmarked-mark, unmarked_text}
+use Rattle.ps_tokens.proofs.NamedCells.{cell_in-name, cell_in-some}
+use Rattle.ps_tokens.proofs.Runs.{Stops, drop-run, take-run}
 
 -- the front of s is a corner of the cell, and r stands behind it
 pub record TakesCorner (s : List ℕ) (c : ℕ) (r : List ℕ) : Type 0 where
   pub word : List ℕ
   pub is_corner : IsCorner word c
   pub text : s ≡ word ++ r
-
--- letters and digits with a cell are the name of it
-cell_in-some : (letters digits : List ℕ) (c : ℕ) → list_all is_ascii_uppercase letters ≡ true → AllDigits 10 digits
-    → cell_in letters digits ≡ Some c
-    → (letters ≡ column_name (column_of c)) × (digits ≡ decimal (row_of c)) × (c < CELLS)
-unfolding cell_in
-cell_in-some letters digits c capitals are_digits e =
-    option_and_then_some _ (column_in letters) c e
-    (λ k is_column e1.
-    option_and_then_some _ (row_in digits) c e1
-    (λ n is_row e2.
-    let found = cell_if-some k n c e2 in (
-      column_in-some letters k capitals is_column
-          ∙ ap column_name found.0,
-      row_in-some digits n are_digits found.3 is_row ∙ ap decimal found.1,
-      found.2,
-    )))
 
 -- the pieces of a corner, put together
 pieces : (a b l d r : List ℕ) → a ++ (l ++ (b ++ (d ++ r))) ≡ (a ++ (l ++ (b ++ d))) ++ r
@@ -63,7 +46,7 @@ corner_at-some s c r e =
     (λ k found same.
     let cell : k ≡ c = ap (λ p. p.0) same in
     let rest : drop (digits_at u) u ≡ r = ap (λ p. p.1) same in
-    let named = cell_in-some front back k (list_all-run is_ascii_uppercase t) (AllDigits-digits_at u) found in
+    let named = cell_in-some front back k found in
     let split_u : u ≡ back ++ r = sym (take-append-drop (digits_at u) u) ∙ ap (λ v. back ++ v) rest in
     let split_t : t ≡ front ++ (mark second.0 ++ (back ++ r)) =
     sym (take-append-drop (capitals_at t) t)
@@ -112,25 +95,6 @@ capitals_stop : (w s : List ℕ) → 0 < length w → list_all is_ascii_uppercas
 capitals_stop [] s some h = absurd (omega arith)
 capitals_stop (c ∷ w) s some h = capital_is_other c (and_parts _ _ h).0
 
-column_some : (k : ℕ) → 0 < length (column_name k)
-column_some k = elim (nat_lt k 26) as
-    (λ b. 0 < length (cond b ((65 + k) ∷ []) ((65 + (k / 26 - 1)) ∷ (65 + k % 26) ∷ []))) [
-      | true ↦ omega arith
-      | false ↦ omega arith
-    ]
-
--- the letters and the digits of a cell give the cell
-cell_in-name : (c : ℕ) → c < CELLS → cell_in (column_name (column_of c)) (decimal (row_of c)) ≡ Some c
-unfolding cell_in
-cell_in-name c h =
-    let cell = cell_if-cell c h in
-    let column = (column_name_is (column_of c) cell.0).1 in
-    let row = row_in-decimal (row_of c) cell.1 cell.2 in
-    ap (λ o. option_and_then (λ column. option_and_then (λ row. cell_if column row) (row_in (decimal (row_of c))))
-    o) column
-    ∙ ap (λ o. option_and_then (λ row. cell_if (column_of c) row) o) row
-    ∙ cell.3
-
 -- a corner that stands at the front is read, if no digit stands behind it
 pub corner_at-corner : (w : List ℕ) (c : ℕ) (s : List ℕ) → IsCorner w c → Stops is_ascii_digit s
     → corner_at (w ++ s) ≡ Some (c, s)
@@ -138,9 +102,9 @@ unfolding corner_at
 corner_at-corner w c s corner stop =
     let letters = column_name (column_of c) in
     let digits = decimal (row_of c) in
-    let cell = cell_if-cell c corner.in_grid in
-    let numeral = (decimal_is_IsNumeral (row_of c) (row_small c cell.2)).0 in
-    let capitals = (column_name_is (column_of c) cell.0).0 in
+    let numeral = (decimal_is_IsNumeral (row_of c) (row_small c corner.in_grid)).0 in
+    let column = column_below c corner.in_grid in
+    let capitals = all_letters (column_of c) column in
     let last = digits ++ s in
     let middle = mark corner.row_fixed ++ last in
     let whole = letters ++ middle in
@@ -152,7 +116,7 @@ corner_at-corner w c s corner stop =
     let read_letters : unmarked (w ++ s) ≡ whole =
     ap unmarked text
     ∙ unmarked-mark corner.column_fixed whole
-    (capitals_stop letters middle (column_some (column_of c)) capitals) in
+    (capitals_stop letters middle (some_letter (column_of c)) capitals) in
     let read_digits : unmarked middle ≡ last = unmarked-mark corner.row_fixed last stops.1 in
     let result : List ℕ → List ℕ → Option (ℕ × List ℕ) = λ l u. option_map (λ (k : ℕ). (k, drop (digits_at u) u))
     (cell_in l (take (digits_at u) u)) in
@@ -166,5 +130,8 @@ corner_at-corner w c s corner stop =
     ∙ ap (λ o. option_map (λ (k : ℕ). (k, drop (digits_at last) last)) o) (cell_in-name c corner.in_grid)
     ∙ ap (λ v. Some (c, v)) (drop-run is_ascii_digit digits s (all_digits digits numeral.1) stop)
   where
-    row_small : (k : ℕ) → row_of k ≤ ROWS → row_of k < 2 ^ 64
+    row_small : (k : ℕ) → k < CELLS → row_of k < 2 ^ 64
     row_small k h = omega arith
+
+    column_below : (k : ℕ) → k < CELLS → column_of k < COLUMNS
+    column_below k h = omega arith

@@ -4,6 +4,7 @@ pub mod Corners
 pub mod Heads
 pub mod Marks
 pub mod NameLemmas
+pub mod NamedCells
 pub mod Runs
 pub mod Signs
 pub mod Spelling

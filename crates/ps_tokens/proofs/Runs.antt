@@ -1,13 +1,13 @@
 -- The longest front of a text whose bytes pass a test.
 use Rattle.std.proofs.Common.{◌≡◌, ℕ, ◌+◌, ◌<◌, Bool, true, false, cond, ◌&&◌, List, [], ◌∷◌, ◌++◌, length, take}
 use Rattle.std.proofs.Common.{drop, refl, sym, ap, ◌∙◌, arith}
-use Rattle.std.specs.Char.{is_ascii_digit, is_ascii_uppercase, digit_value}
-use Rattle.std.specs.List.{prefix_len, list_all, AllPass}
+use Rattle.std.specs.Char.{is_ascii_digit, digit_value}
+use Rattle.std.specs.List.{prefix_len, list_all}
 use Rattle.std.specs.Str.Parse.{AllDigits}
 use Rattle.std.proofs.lemmas.Bool.Decides.{nat_tests}
 use Rattle.std.proofs.lemmas.List.{take_at, drop_at}
-use Rattle.std.proofs.lemmas.List.Sums.{take_while-cons, AllPass-from_list_all}
-use Rattle.ps_tokens.specs.Lexing.{capitals_at, digits_at}
+use Rattle.std.proofs.lemmas.List.Sums.{take_while-cons}
+use Rattle.ps_tokens.specs.Lexing.{digits_at}
 
 -- a text that does not go on with a byte that passes
 abbrev pub Stops : (ℕ → Bool) → List ℕ → Type 0
@@ -63,6 +63,3 @@ AllDigits-from_test (c ∷ w) h =
 -- what the code knows of the runs that it cut off
 pub AllDigits-digits_at : (s : List ℕ) → AllDigits 10 (take (digits_at s) s)
 AllDigits-digits_at s = AllDigits-from_test _ (list_all-run is_ascii_digit s)
-
-pub AllPass-capitals_at : (s : List ℕ) → AllPass is_ascii_uppercase (take (capitals_at s) s)
-AllPass-capitals_at s = AllPass-from_list_all is_ascii_uppercase _ (list_all-run is_ascii_uppercase s)

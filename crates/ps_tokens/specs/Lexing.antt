@@ -1,15 +1,16 @@
 -- Reading the token at the front of a text, as long as it gets. This is no part of what a token is (that is
 -- `Text`): the code is proved equal to it, and laws in proofs/ tie it to `IsToken` on both sides.
-use Rattle.std.specs.Prelude.{ℕ, ◌+◌, ◌-◌, ◌*◌, ◌^◌, ◌&&◌, ◌==◌, List, [], ◌∷◌, Option, Some, None, pos, nat_lt}
-use Rattle.std.specs.Prelude.{nat_le, take, drop, slice_index, option_and_then, if◌then◌else◌}
+use Rattle.std.specs.Prelude.{ℕ, ◌^◌, ◌&&◌, ◌==◌, List, Option, Some, None, pos, nat_lt}
+use Rattle.std.specs.Prelude.{take, drop, slice_index, option_and_then, if◌then◌else◌}
 use Rattle.std.specs.Char.{is_ascii_digit, is_ascii_uppercase, is_ascii_alphabetic}
-use Rattle.std.specs.List.{find, prefix_len}
+use Rattle.std.specs.Fmt.{decimal}
+use Rattle.std.specs.List.{find, prefix_len, range_with_len}
 use Rattle.std.specs.Option.{option_map, option_or}
-use Rattle.std.specs.Str.{str_eq_ignore_ascii_case}
+use Rattle.std.specs.Str.{bytes_eq, str_eq_ignore_ascii_case}
 use Rattle.std.specs.Str.Parse.{digits_value}
-use Rattle.ps_grid.specs.Place.{cell_at}
+use Rattle.ps_grid.specs.Place.{column_name, column_of, row_of}
 use Rattle.ps_grid.specs.Rectangle.{spanned}
-use Rattle.ps_grid.specs.declared.size.TheConstants.{COLUMNS, ROWS}
+use Rattle.ps_grid.specs.declared.size.TheConstants.{CELLS}
 use Rattle.ps_tokens.specs.Names.{function_name}
 use Rattle.ps_tokens.specs.declared.token.TheConstants.{FUNCTIONS}
 use Rattle.ps_tokens.specs.declared.token.Function.{Function}
@@ -42,26 +43,15 @@ letters_at s = prefix_len is_ascii_alphabetic s
 unfoldable pub number_in : List ℕ → Option ℕ
 number_in w = if nat_lt (digits_value 10 w) (2 ^ 63) then Some (digits_value 10 w) else None
 
--- the column of one or two capital letters
-unfoldable pub column_in : List ℕ → Option ℕ
-column_in [] = None
-column_in (a ∷ []) = Some (a - 65)
-column_in (a ∷ b ∷ []) = Some ((a - 64) * 26 + (b - 65))
-column_in (a ∷ b ∷ c ∷ s) = None
+-- the first cell below n whose column has these letters and whose row has these digits
+unfoldable pub cell_below : ℕ → List ℕ → List ℕ → Option ℕ
+cell_below n letters digits =
+    find (λ c. bytes_eq letters (column_name (column_of c)) && bytes_eq digits (decimal (row_of c)))
+    (range_with_len 0 n)
 
--- the row of digits, of which the first is not 0
-unfoldable pub row_in : List ℕ → Option ℕ
-row_in w = if slice_index w 0 == 48 then None else number_in w
-
--- the cell of a column and a row, if the grid has it
-unfoldable pub cell_if : ℕ → ℕ → Option ℕ
-cell_if column row =
-    if (nat_lt column COLUMNS && nat_le 1 row) && nat_le row ROWS then Some (cell_at column row) else None
-
--- the cell of letters and digits
+-- the cell of the grid that letters and digits name
 unfoldable pub cell_in : List ℕ → List ℕ → Option ℕ
-cell_in letters digits =
-    option_and_then (λ column. option_and_then (λ row. cell_if column row) (row_in digits)) (column_in letters)
+cell_in letters digits = cell_below CELLS letters digits
 
 -- the corner at the front, and what stands behind it
 unfoldable pub corner_at : List ℕ → Option (ℕ × List ℕ)

@@ -1,13 +1,11 @@
 //! The token at the front of a text. Each function answers what it found and the text behind it.
 
 ghost use Rattle.std.specs.Prelude.{◌≡◌, ◌<◌, ◌≤◌, ◌^◌, drop, length, slice_index, IfSome, pos};
-ghost use Rattle.std.specs.Char.{is_ascii_uppercase};
-ghost use Rattle.std.specs.List.{AllPass};
 ghost use Rattle.std.specs.Option.{option_map};
 ghost use Rattle.std.specs.Str.Parse.{AllDigits};
-ghost use Rattle.ps_tokens.specs.Lexing.{after, bracketed_at, capitals_at, cell_if, cell_in, column_in, corner_at};
-ghost use Rattle.ps_tokens.specs.Lexing.{digits_at, function_of, letters_at, name_at, number_in, numeral_at};
-ghost use Rattle.ps_tokens.specs.Lexing.{operator_of_two, range_at, reference_at, row_in, sign_at, token_at};
+ghost use Rattle.ps_tokens.specs.Lexing.{after, bracketed_at, capitals_at, corner_at, digits_at, function_of};
+ghost use Rattle.ps_tokens.specs.Lexing.{letters_at, name_at, number_in, numeral_at, operator_of_two, range_at};
+ghost use Rattle.ps_tokens.specs.Lexing.{reference_at, sign_at, token_at};
 ghost use Rattle.ps_tokens.specs.Lexing.{token_of_one, unmarked};
 
 use crate::token::{FUNCTIONS, Function, Operator, Token};
@@ -115,51 +113,6 @@ fn number(digits: &[u8]) -> Option<u64>
     Some(value)
 }
 
-// The column, counted from 0, that one or two capital letters name. The grid may lack it.
-#[tactic(auto, unfolding(crate::specs::Lexing::column_in))]
-fn column(letters: &[u8]) -> Option<u16>
-    requires { AllPass is_ascii_uppercase letters.now }
-    ensures { result ≡ column_in letters.now }
-{
-    match letters {
-        [a] => Some(u16::from(*a - b'A')),
-        [a, b] => Some(u16::from(*a - b'@') * 26 + u16::from(*b - b'A')),
-        _ => None,
-    }
-}
-
-// The row that digits write without a leading zero. The grid may lack it.
-#[tactic(auto, unfolding(crate::specs::Lexing::row_in))]
-fn row(digits: &[u8]) -> Option<u64>
-    requires { AllDigits 10 digits.now }
-    ensures { result ≡ row_in digits.now }
-{
-    if byte_at(digits, 0) == b'0' {
-        return None;
-    }
-    number(digits)
-}
-
-// The cell of a column, counted from 0, and a row, counted from 1, if the grid has it.
-#[tactic(auto, unfolding(crate::specs::Lexing::cell_if))]
-fn cell_if(column: u16, row: u64) -> Option<Cell>
-    ensures { result ≡ cell_if column row }
-{
-    Cell::new(u8::try_from(column).ok()?, u16::try_from(row).ok()?)
-}
-
-// The cell of a column's letters and a row's digits.
-#[tactic(auto, unfolding(crate::specs::Lexing::cell_in))]
-fn cell(letters: &[u8], digits: &[u8]) -> Option<Cell>
-    requires capitals { AllPass is_ascii_uppercase letters.now }
-    requires digits { AllDigits 10 digits.now }
-    ensures { result ≡ cell_in letters.now digits.now }
-{
-    let column = column(letters)?;
-    let row = row(digits)?;
-    cell_if(column, row)
-}
-
 // The corner at the front. Its `$` are read and not kept.
 #[tactic(auto, unfolding(crate::specs::Lexing::corner_at))]
 fn corner(text: &[u8]) -> Option<(Cell, &[u8])>
@@ -169,7 +122,7 @@ fn corner(text: &[u8]) -> Option<(Cell, &[u8])>
     let (letters, text) = text.split_at(capitals_at(text));
     let text = unmarked(text);
     let (digits, rest) = text.split_at(digits_at(text));
-    let cell = cell(letters, digits)?;
+    let cell = Cell::named(letters, digits)?;
     Some((cell, rest))
 }
 

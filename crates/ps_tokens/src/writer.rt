@@ -8,7 +8,7 @@ ghost use Rattle.ps_tokens.specs.Text.{token_text};
 
 use crate::token::Token;
 use itoa::Buffer;
-use ps_grid::{Cell, Rect, Refusal};
+use ps_grid::{Cell, NAME_BYTES, Rect, Refusal};
 
 // Writes the bytes, or nothing where it is refused.
 fn put(out: &mut Vec<u8>, text: &[u8]) -> Result<(), Refusal>
@@ -26,7 +26,7 @@ fn put_cell(out: &mut Vec<u8>, cell: Cell) -> Result<(), Refusal>
     ensures err { OnErr result (out.new.items ≡ out.old.items) }
     ensures memory { IfErr result (λ e. e ≡ Memory) }
 {
-    let mut name = [0; 6];
+    let mut name = [0; NAME_BYTES];
     let length = cell.write(&mut name);
     put(out, &name[..length])
 }

@@ -1,20 +1,18 @@
-use Rattle.std.proofs.Common.{sym, ap, subst, ◌∙◌, arith}
-use Rattle.std.specs.Str.{IsUtf8}
-use Rattle.std.specs.Result.{result_ok}
-use Rattle.std.specs.Fmt.{decimal}
-use Rattle.std.proofs.lemmas.Str.{IsUtf8-from_ascii}
-use Rattle.std.proofs.lemmas.Fmt.{IsAscii-decimal, parse-decimal}
+use Rattle.std.proofs.Common.{ap, arith}
+use Rattle.std.proofs.Common.{length}
+use Rattle.std.proofs.lemmas.Fmt.{length-decimal-le}
 use Rattle.ps_grid.proofs.cell.row_named.Goals as goal
 
-pub returns-in-Ok : goal.returns-in-Ok
-returns-in-Ok c = λ row small is.
-    c.ok.ensures.value
-    ∙ ap result_ok
-    (parse-decimal 16 row c.in-Ok.text.now c.from_str_radix.result (omega (arith, small)) (omega (arith, small))
-    (c.in-Ok.ensures.cases.0 ∙ is) c.from_str_radix.ensures.value)
+-- more digits than a row has
+pub returns-then-digits-gt-NAME_BYTES : goal.returns-then-digits-gt-NAME_BYTES
+returns-then-digits-gt-NAME_BYTES c = λ row. (
+  λ e. absurd (cc),
+  λ h.
+      let high = h.1 in
+      let short = length-decimal-le 4 row (omega arith) (omega arith) (omega arith) in
+      absurd (omega (arith, short, ap length h.2)),
+)
 
--- digits are text
-pub returns-in-Err : goal.returns-in-Err
-returns-in-Err c = λ row small is.
-    absurd (c.in-Err.ensures.cases.0
-    (subst IsUtf8 (sym is) (IsUtf8-from_ascii (decimal row) (IsAscii-decimal row (omega (arith, small))))))
+pub put_decimal-len-requires : goal.put_decimal-len-requires
+put_decimal-len-requires c =
+    omega (arith, length-decimal-le 4 c.in_ok-row.row (omega arith) (omega arith) (omega arith))

@@ -1,18 +1,22 @@
-use Rattle.std.proofs.Common.{take, sym, ap, subst, ◌∙◌}
-use Rattle.std.specs.Char.{is_ascii_uppercase}
-use Rattle.std.specs.List.{AllPass}
-use Rattle.std.specs.Str.Parse.{AllDigits}
-use Rattle.ps_tokens.proofs.Runs.{AllDigits-digits_at, AllPass-capitals_at}
+use Rattle.std.proofs.Common.{◌≡◌, Some, None, sym, ◌∙◌, arith}
+use Rattle.std.proofs.lemmas.Grind.{common_steps}
+use Rattle.ps_tokens.specs.Lexing.{cell_in, corner_at}
+use Rattle.ps_tokens.proofs.NamedCells.{named_is}
 use Rattle.ps_tokens.proofs.front.corner.Goals as goal
 
-pub cell-requires-clause-capitals : goal.cell-requires-clause-capitals
-cell-requires-clause-capitals c =
-    let s = c.unmarked-text.result.now in
-    let cut = c.split_at.ensures.front ∙ ap (λ n. take n s) c.capitals_at.ensures.count in
-    subst (AllPass is_ascii_uppercase) (sym cut) (AllPass-capitals_at s)
+pub returns-in_err-cell : goal.returns-in_err-cell
+unfolding corner_at
+returns-in_err-cell c =
+    let found : c.named.result ≡ cell_in c.split_at.result.0.now c.split_at-2.result.0.now =
+    named_is c.named.result _ _ c.named.ensures in
+    let none : cell_in c.split_at.result.0.now c.split_at-2.result.0.now ≡ None = sym found ∙ c.in_err-cell.was in
+    grind (arith, common_steps)
 
-pub cell-requires-clause-digits : goal.cell-requires-clause-digits
-cell-requires-clause-digits c =
-    let s = c.unmarked-text-2.result.now in
-    let cut = c.split_at-2.ensures.front ∙ ap (λ n. take n s) c.digits_at.ensures.count in
-    subst (AllDigits 10) (sym cut) (AllDigits-digits_at s)
+pub returns : goal.returns
+unfolding corner_at
+returns c =
+    let found : c.named.result ≡ cell_in c.split_at.result.0.now c.split_at-2.result.0.now =
+    named_is c.named.result _ _ c.named.ensures in
+    let some : cell_in c.split_at.result.0.now c.split_at-2.result.0.now ≡ Some c.in_ok-cell.cell =
+    sym found ∙ c.in_ok-cell.was in
+    grind (arith, common_steps)
