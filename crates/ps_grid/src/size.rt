@@ -1,4 +1,14 @@
-//! The size of the grid.
+//! The size of the grid, and what hangs on it.
+//!
+//! - `COLUMNS`: a column is a `u8`, and so is a rectangle's width, so they stay below 256. A column's name has one
+//!   letter or two, so there are at most `LETTERS + LETTERS * LETTERS` of them, which is 702.
+//! - `ROWS`: a row is a `u16`, and so is a rectangle's height. In a name its digits follow two letters, so rows stay
+//!   below 10,000 while `NAME_BYTES` is 6.
+//! - `CELLS`: an index is kept in a `u32`. A list with a place for each cell is made when a sheet is opened, and the
+//!   bytes of the largest table that is read in grow with it.
+//! - `NAME_BYTES`: every buffer that a name is written into has as many.
+//!
+//! So the columns can double and nothing else changes here; with 10,000 rows names get longer.
 
 /// The columns of the grid: A to CZ.
 pub const COLUMNS: usize = 104;
@@ -14,3 +24,9 @@ pub const LETTERS: usize = 26;
 
 /// The most bytes of a cell's name: two letters and four digits.
 pub const NAME_BYTES: usize = 6;
+
+const _: () = prove!(COLUMNS <= LETTERS + LETTERS * LETTERS);
+
+const _: () = prove!(COLUMNS < 256);
+
+const _: () = prove!(ROWS < 10_000);
