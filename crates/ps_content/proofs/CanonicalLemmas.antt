@@ -15,7 +15,7 @@ use Rattle.ps_formula.specs.declared.formula.TheConstants.{LONGEST_ENTRY}
 use Rattle.ps_tokens.specs.Text.{tokens_text}
 use Rattle.ps_formula.specs.Canonical.{tokens_of}
 use Rattle.ps_content.specs.Content.{canonical_text, IsContent}
-use Rattle.ps_content.specs.Entry.{formula, number, text, kind_of, word_of, is_number, is_formula, Reads}
+use Rattle.ps_content.specs.Entry.{formula, number, text, kind_of, word_of, is_number, begins_formula, Reads}
 use Rattle.ps_content.specs.declared.content.Content.{Content}
 use Rattle.ps_content.specs.declared.content.Content.TheVariants.{Blank, Number, Text, Formula, Tally, Choice}
 use Rattle.ps_content.proofs.NumberLemmas.{is_number-from, is_number-to}
@@ -66,17 +66,17 @@ unfolding is_number
 not_number-61 bytes = middle_fails _ _
 
 kind_of_quoted : (bytes : List ℕ) → IsLabel bytes → kind_of (39 ∷ bytes) ≡ text bytes
-unfolding is_formula word_of
+unfolding begins_formula word_of
 kind_of_quoted bytes label =
     let short : length bytes ≤ 64 = IsLabel-short bytes label in
     kind_of-word (39 ∷ bytes) (omega arith) (is_filled-test (39 ∷ bytes) (omega arith)) (not_number-39 bytes) refl
 
 kind_of_equals : (bytes : List ℕ) → length (61 ∷ bytes) ≤ 256 → kind_of (61 ∷ bytes) ≡ formula
-unfolding is_formula
+unfolding begins_formula
 kind_of_equals bytes short = kind_of-formula (61 ∷ bytes) (omega arith)
     (is_filled-test (61 ∷ bytes) (omega arith)) (not_number-61 bytes) refl
 
--- what is read of the canonical text of a content is that content, but for lack of memory
+-- what is read of the canonical text of a content is that content, unless memory runs out
 abbrev pub ReadsBack : Content → Result Content Refusal → Type 0
 ReadsBack c result = MatchResult result (λ d. d ≡ c) (λ e. e ≡ Memory)
 
@@ -85,7 +85,7 @@ from_ok c result e = rw e refl
 
 pub reads_canonical : (c : Content) (result : Result Content Refusal) → IsContent c
     → Reads (kind_of (canonical_text c)) (canonical_text c) result → ReadsBack c result
-unfolding kind_of word_of is_number is_formula
+unfolding kind_of word_of is_number begins_formula
 reads_canonical Blank result is reads = from_ok Blank result reads
 reads_canonical (Number z) result is reads = from_ok (Number z) result (rw (kind_of_decimal z is) at reads)
 reads_canonical (Text t) result is reads =

@@ -6,7 +6,7 @@ use Rattle.std.specs.List.{starts_with}
 use Rattle.std.proofs.lemmas.Bool.{lt-ltb, le-ltb}
 use Rattle.ps_formula.specs.declared.formula.TheConstants.{LONGEST_ENTRY}
 use Rattle.ps_content.specs.Entry.{too_long, empty, tally, choice, formula, number, text, kind_of, word_of}
-use Rattle.ps_content.specs.Entry.{is_number, is_formula}
+use Rattle.ps_content.specs.Entry.{is_number, begins_formula}
 use Rattle.std.specs.Str.Parse.{signed_digits_value}
 
 pub kind_of-too_long : (bytes : List ℕ) → LONGEST_ENTRY < length bytes → kind_of bytes ≡ too_long
@@ -24,12 +24,12 @@ unfolding kind_of
 kind_of-number bytes short some is = rw (le-ltb LONGEST_ENTRY (length bytes) short, some, is) refl
 
 pub kind_of-formula : (bytes : List ℕ) → length bytes ≤ LONGEST_ENTRY → (length bytes == 0) ≡ false
-    → is_number bytes ≡ false → is_formula bytes ≡ true → kind_of bytes ≡ formula
+    → is_number bytes ≡ false → begins_formula bytes ≡ true → kind_of bytes ≡ formula
 unfolding kind_of
 kind_of-formula bytes short some other is = rw (le-ltb LONGEST_ENTRY (length bytes) short, some, other, is) refl
 
 pub kind_of-word : (bytes : List ℕ) → length bytes ≤ LONGEST_ENTRY → (length bytes == 0) ≡ false
-    → is_number bytes ≡ false → is_formula bytes ≡ false → kind_of bytes ≡ word_of bytes
+    → is_number bytes ≡ false → begins_formula bytes ≡ false → kind_of bytes ≡ word_of bytes
 unfolding kind_of
 kind_of-word bytes short some other plain = rw (le-ltb LONGEST_ENTRY (length bytes) short, some, other, plain) refl
 
@@ -54,15 +54,15 @@ pub word_of-text : (bytes : List ℕ) → bytes_eq bytes (codes "@tally") ≡ fa
 unfolding word_of
 word_of-text bytes other another plain = rw (other, another, plain) refl
 
-pub is_formula-short : (bytes : List ℕ) → starts_with nat_eq bytes (codes "=") ≡ true → is_formula bytes ≡ true
-unfolding is_formula
-is_formula-short bytes is = rw is refl
+pub begins_formula-short : (bytes : List ℕ) → starts_with nat_eq bytes (codes "=") ≡ true → begins_formula bytes ≡ true
+unfolding begins_formula
+begins_formula-short bytes is = rw is refl
 
-pub is_formula-long : (bytes : List ℕ) → starts_with nat_eq bytes (codes "=") ≡ false
-    → is_formula bytes ≡ starts_with nat_eq bytes (codes "of:=")
-unfolding is_formula
-is_formula-long bytes other = rw other refl
+pub begins_formula-long : (bytes : List ℕ) → starts_with nat_eq bytes (codes "=") ≡ false
+    → begins_formula bytes ≡ starts_with nat_eq bytes (codes "of:=")
+unfolding begins_formula
+begins_formula-long bytes other = rw other refl
 
--- the bytes behind the first, as the code takes them
+-- the bytes after the first, as the code takes them
 pub rest-range : (bytes : List ℕ) → take (length bytes - 1) (drop 1 bytes) ≡ drop 1 bytes
 rest-range bytes = rw (← length-drop 1 bytes) (take-length (drop 1 bytes))

@@ -74,7 +74,7 @@ pub number_of-none : (bytes : List ℕ) → is_number bytes ≡ false → number
 unfolding number_of
 number_of-none bytes test = rw test refl
 
--- what `parse` answers is the number
+-- what `parse` returns is the number
 pub number_of-parsed : (E : Type 0) (bytes : List ℕ) (r : Result ℤ E) → ParsesSigned w64 10 bytes r
     → result_ok r ≡ number_of bytes
 number_of-parsed E bytes (Ok z) parses = ap Some parses.1 ∙ sym

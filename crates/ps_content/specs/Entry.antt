@@ -20,15 +20,15 @@ abbrev pub fits_64 : ℤ → Bool
 fits_64 (pos n) = nat_lt n (2 ^ 63)
 fits_64 (negsuc n) = nat_lt n (2 ^ 63)
 
--- one or more digits, perhaps behind a sign, whose number has 64 bits
+-- one or more digits, perhaps after a sign, whose number has 64 bits
 unfoldable pub is_number : List ℕ → Bool
 is_number bytes =
     let digits = without_leading_sign bytes in
     nat_lt 0 (length digits) && all_ascii_digits digits && fits_64 (signed_digits_value 10 bytes)
 
 -- the sign of a formula stands first
-unfoldable pub is_formula : List ℕ → Bool
-is_formula bytes = starts_with nat_eq bytes (codes "=") || starts_with nat_eq bytes (codes "of:=")
+unfoldable pub begins_formula : List ℕ → Bool
+begins_formula bytes = starts_with nat_eq bytes (codes "=") || starts_with nat_eq bytes (codes "of:=")
 
 -- the kinds of entries
 pub data Kind : Type 0 where
@@ -54,7 +54,7 @@ kind_of bytes =
     if nat_lt LONGEST_ENTRY (length bytes) then too_long
     else if length bytes == 0 then empty
     else if is_number bytes then number (signed_digits_value 10 bytes)
-    else if is_formula bytes then formula
+    else if begins_formula bytes then formula
     else word_of bytes
 
 -- a formula entry is the formula that it has by the grammar; it is refused where it has none, and where the

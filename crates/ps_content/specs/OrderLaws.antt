@@ -80,9 +80,9 @@ content_cmp-IsAntisymmetric c d e =
     let texts = slice_cmp nat_cmp (text_in c) (text_in d) in
     let formulas = option_cmp tree_cmp (formula_in c) (formula_in d) in
     let within = second_tied kinds (ordering_then numbers (ordering_then texts formulas)) e in
-    let behind = second_tied numbers (ordering_then texts formulas) within in
+    let after = second_tied numbers (ordering_then texts formulas) within in
     same_parts c d
     (nat_cmp-IsAntisymmetric (kind_place c) (kind_place d) (first_tied kinds _ e))
     (int_cmp-IsAntisymmetric (number_in c) (number_in d) (first_tied numbers _ within))
-    (slice_cmp-IsAntisymmetric nat_cmp-IsAntisymmetric (text_in c) (text_in d) (first_tied texts _ behind))
-    (options_untied (formula_in c) (formula_in d) (second_tied texts formulas behind))
+    (slice_cmp-IsAntisymmetric nat_cmp-IsAntisymmetric (text_in c) (text_in d) (first_tied texts _ after))
+    (options_untied (formula_in c) (formula_in d) (second_tied texts formulas after))

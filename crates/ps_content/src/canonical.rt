@@ -12,7 +12,7 @@ use itoa::Buffer;
 use ps_grid::Refusal;
 use std::alloc::Global;
 
-/// The content whose canonical text the bytes are, and none for any other bytes. Refused only for lack of memory.
+/// The content whose canonical text the bytes are, and none for any other bytes. Refused only when out of memory.
 ///
 /// Cost: linear in the bytes; only a formula takes memory.
 pub fn read_canonical(alloc: Global, bytes: &[u8]) -> Result<Option<Content>, Refusal>
@@ -56,6 +56,7 @@ impl Content {
     }
 }
 
+/// Whether the bytes are the digits of the number, with a minus before them where it is negative.
 fn is_decimal(number: i64, bytes: &[u8]) -> bool
     ensures { result ≡ bytes_eq bytes.now (signed_decimal number) }
 {
@@ -63,6 +64,7 @@ fn is_decimal(number: i64, bytes: &[u8]) -> bool
     bytes == buffer.format(number).as_bytes()
 }
 
+/// Whether the bytes are an apostrophe and then the text.
 fn is_quoted(text: &[u8], bytes: &[u8]) -> bool
     ensures { result ≡ bytes_eq bytes.now (codes "'" ++ text.now) }
 {

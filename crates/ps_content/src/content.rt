@@ -1,11 +1,13 @@
 //! What a cell's register holds.
 ghost use Rattle.std.specs.Prelude.{◌≡◌, ◌++◌, codes, OnOk, OnErr, IfErr};
 ghost use Rattle.std.specs.Fmt.{signed_decimal};
+ghost use Rattle.std.specs.Option.{option_copied};
 ghost use Rattle.ps_value.specs.Label.{IsLabel};
 ghost use Rattle.ps_grid.specs.declared.refusal.Refusal.TheVariants.{Memory};
 
 use crate::shared::SharedFormula;
 use itoa::Buffer;
+use ps_formula::Formula;
 use ps_grid::{Refusal, Twin};
 use ps_value::Label;
 use std::alloc::Global;
@@ -42,8 +44,21 @@ impl Twin for Content {
 
 impl Content {
     ghost use Rattle.ps_content.specs.Content.{canonical_text, IsContent};
+    ghost use Rattle.ps_content.specs.Order.{formula_in};
 
-    /// Appends the canonical text of the content. Refused only for lack of memory, and then the text is as before.
+    /// The formula that the content is, if it is one.
+    ///
+    /// Cost: constant.
+    pub fn formula(&self) -> Option<&Formula>
+        ensures { option_copied result ≡ formula_in self.now }
+    {
+        match self {
+            Content::Formula(shared) => Some(shared.formula()),
+            _ => None,
+        }
+    }
+
+    /// Appends the canonical text of the content. Refused only when out of memory, and then the text is as before.
     ///
     /// Cost: linear in the text that is appended.
     pub fn canonical(&self, out: &mut Vec<u8>) -> Result<(), Refusal>
@@ -63,6 +78,7 @@ impl Content {
     }
 }
 
+/// Appends the bytes, or leaves the text as it was.
 fn append(bytes: &[u8], out: &mut Vec<u8>) -> Result<(), Refusal>
     ensures appended { OnOk result (out.new.items ≡ out.old.items ++ bytes.now) }
     ensures kept { OnErr result (out.new.items ≡ out.old.items) }
@@ -72,6 +88,7 @@ fn append(bytes: &[u8], out: &mut Vec<u8>) -> Result<(), Refusal>
     Ok(())
 }
 
+/// Appends the digits of a number, with a minus before them where it is negative.
 fn append_number(number: i64, out: &mut Vec<u8>) -> Result<(), Refusal>
     ensures appended { OnOk result (out.new.items ≡ out.old.items ++ signed_decimal number) }
     ensures kept { OnErr result (out.new.items ≡ out.old.items) }
@@ -81,6 +98,7 @@ fn append_number(number: i64, out: &mut Vec<u8>) -> Result<(), Refusal>
     append(buffer.format(number).as_bytes(), out)
 }
 
+/// Appends an apostrophe and the bytes of the label: both or neither.
 fn append_text(label: &Label, out: &mut Vec<u8>) -> Result<(), Refusal>
     ensures appended { OnOk result (out.new.items ≡ out.old.items ++ codes "'" ++ label.now) }
     ensures label { IsLabel label.now }

@@ -3,7 +3,7 @@
 ghost use Rattle.std.specs.Prelude.{◌≡◌, ◌≤◌, Ok, Err, length, if◌then◌else◌};
 ghost use Rattle.ps_value.specs.Label.{is_label};
 ghost use Rattle.ps_formula.specs.declared.formula.TheConstants.{LONGEST_ENTRY};
-ghost use Rattle.ps_content.specs.Entry.{is_formula, kind_of, number_of, word_of, Reads, ReadsFormula};
+ghost use Rattle.ps_content.specs.Entry.{begins_formula, kind_of, number_of, word_of, Reads, ReadsFormula};
 
 use crate::content::Content;
 use crate::shared::SharedFormula;
@@ -16,14 +16,14 @@ use std::alloc::Global;
 ///
 /// - longer than 512 bytes: refused as `TooLong`;
 /// - empty: blank;
-/// - digits, perhaps behind a sign, of a number of 64 bits: that number;
+/// - digits, perhaps after a sign, of a number of 64 bits: that number;
 /// - beginning with `=` or `of:=`: the formula that it has by the grammar; refused as `Formula` where it has none, and
 ///   as `TooLong` where the canonical text would pass 256 bytes;
 /// - `@tally` and `@choice`: those;
-/// - beginning with an apostrophe: the text behind it, refused as `Text` where that is no label;
+/// - beginning with an apostrophe: the text after it, refused as `Text` where that is no label;
 /// - anything else: that text, refused as `Text` where it is no label.
 ///
-/// A formula may be refused for lack of memory, and nothing else.
+/// Only a formula takes memory: nothing else is refused as out of memory.
 ///
 /// Cost: linear in the bytes; only a formula takes memory.
 pub fn read_entry(alloc: Global, bytes: &[u8]) -> Result<Content, Refusal>
@@ -44,6 +44,7 @@ pub fn read_entry(alloc: Global, bytes: &[u8]) -> Result<Content, Refusal>
     read_word(bytes)
 }
 
+/// The number that the entry writes, if it writes one.
 fn read_number(bytes: &[u8]) -> Option<i64>
     ensures { result ≡ number_of bytes.now }
 {
@@ -53,12 +54,14 @@ fn read_number(bytes: &[u8]) -> Option<i64>
     }
 }
 
+/// Whether the sign of a formula stands first.
 fn begins_formula(bytes: &[u8]) -> bool
-    ensures { result ≡ is_formula bytes.now }
+    ensures { result ≡ begins_formula bytes.now }
 {
     bytes.starts_with(b"=") || bytes.starts_with(b"of:=")
 }
 
+/// The formula that the entry is, with one owner.
 fn read_formula(alloc: Global, bytes: &[u8]) -> Result<Content, Refusal>
     requires { length bytes.now ≤ LONGEST_ENTRY }
     ensures { ReadsFormula bytes.now result }
@@ -68,6 +71,7 @@ fn read_formula(alloc: Global, bytes: &[u8]) -> Result<Content, Refusal>
     Ok(Content::Formula(shared))
 }
 
+/// The word or the text that an entry is which is no number and no formula.
 fn read_word(bytes: &[u8]) -> Result<Content, Refusal>
     ensures { Reads (word_of bytes.now) bytes.now result }
 {
@@ -83,6 +87,7 @@ fn read_word(bytes: &[u8]) -> Result<Content, Refusal>
     read_text(bytes)
 }
 
+/// The text of these bytes, where they are a label.
 fn read_text(bytes: &[u8]) -> Result<Content, Refusal>
     ensures { result ≡ (if is_label bytes.now then Ok (Content.Text bytes.now) else Err Refusal.Text) }
 {

@@ -2,29 +2,16 @@
 
 ghost use Rattle.std.specs.Prelude.{◌≡◌, refl};
 ghost use Rattle.std.specs.Cmp.{partial_equiv_from_equiv, partial_order_from_total};
-ghost use Rattle.std.specs.Option.{option_copied};
 ghost use Rattle.std.specs.Ordering.{as_partial_cmp, int_cmp};
-ghost use Rattle.ps_content.specs.Order.{content_cmp, content_eq, kind_place, number_in, text_in, formula_in};
+ghost use Rattle.ps_content.specs.Order.{content_cmp, content_eq, kind_place, number_in, text_in};
 ghost use Rattle.ps_content.specs.OrderLaws.{content_cmp-IsAntisymmetric, content_cmp-total, content_eq-equivalence};
 
 use crate::content::Content;
-use ps_formula::Formula;
 use ps_lattice::Linear;
 use std::cmp::Ordering;
 
 impl Content {
-    /// The formula that the content is, if it is one.
-    ///
-    /// Cost: constant.
-    pub fn formula(&self) -> Option<&Formula>
-        ensures { option_copied result ≡ formula_in self.now }
-    {
-        match self {
-            Content::Formula(shared) => Some(shared.formula()),
-            _ => None,
-        }
-    }
-
+    /// The number that the content is, and 0 for others.
     fn number(&self) -> i64
         ensures { result ≡ number_in self.now }
     {
@@ -34,6 +21,7 @@ impl Content {
         }
     }
 
+    /// The order of the numbers that the contents are.
     fn cmp_numbers(&self, other: &Content) -> Ordering
         ensures { result ≡ int_cmp (number_in self.now) (number_in other.now) }
     {
@@ -41,6 +29,7 @@ impl Content {
         number.cmp(&another)
     }
 
+    /// The bytes of the text that the content is, and none for others.
     fn text(&self) -> &[u8]
         ensures { result.now ≡ text_in self.now }
     {
@@ -50,6 +39,7 @@ impl Content {
         }
     }
 
+    /// The place of the content's kind among the kinds.
     fn kind_place(&self) -> u8
         ensures { result ≡ kind_place self.now }
     {

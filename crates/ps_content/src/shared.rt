@@ -28,7 +28,7 @@ impl Model for SharedFormula {
 }
 
 impl SharedFormula {
-    /// The formula, with one owner. Refused only for lack of memory.
+    /// The formula, with one owner. Refused only when out of memory.
     ///
     /// Cost: one allocation.
     pub fn new(alloc: Global, formula: Formula) -> Result<SharedFormula, Refusal>
