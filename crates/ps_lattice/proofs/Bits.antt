@@ -11,6 +11,7 @@ use Rattle.std.proofs.lemmas.Nat.Bits.{and_pow, bit_at_set_same, bit_at_set_othe
 use Rattle.std.proofs.lemmas.List.{take_more}
 use Rattle.std.proofs.lemmas.List.Folds.{list_any-append}
 use Rattle.ps_lattice.specs.declared.choice.Pair.{Pair}
+use Rattle.ps_lattice.specs.declared.limits.TheConstants.{OPTIONS}
 use Rattle.ps_lattice.specs.Choice.{is_live}
 
 -- a bit that is 1 is set, and one that is 0 isn't
@@ -42,7 +43,7 @@ removed_step n k e done h gone =
     never true = refl
     never false = refl
 
-live_step_by : (n k : ℕ) (e : Pair × Bool) (done : Bool) → k < 64 → e.0.option < 64 → bit_at n k ≡ cond done 1 0
+live_step_by : (n k : ℕ) (e : Pair × Bool) (done : Bool) → k < OPTIONS → e.0.option < OPTIONS → bit_at n k ≡ cond done 1 0
     → e.1 ≡ false
     → (same : Bool) → (e.0.option == k) ≡ same
     → bit_at (bit_or n (1 * 2 ^ e.0.option % 2 ^ 64)) k ≡ cond (done || (is_live k e || false)) 1 0
@@ -56,7 +57,7 @@ live_step_by n k e done low within h gone false is =
     ∙ ap (λ b. cond b 1 0) (sym (ap (λ b. done || (b || false)) (λ i. is i && not (gone i)) ∙ or_nothing done))
 
 -- one that isn't removed sets its own
-pub live_step : (n k : ℕ) (e : Pair × Bool) (done : Bool) → k < 64 → e.0.option < 64 → bit_at n k ≡ cond done 1 0
+pub live_step : (n k : ℕ) (e : Pair × Bool) (done : Bool) → k < OPTIONS → e.0.option < OPTIONS → bit_at n k ≡ cond done 1 0
     → e.1 ≡ false
     → bit_at (bit_or n (1 * 2 ^ e.0.option % 2 ^ 64)) k ≡ cond (done || (is_live k e || false)) 1 0
 live_step n k e done low within h gone = live_step_by n k e done low within h gone (e.0.option == k) refl

@@ -11,7 +11,8 @@ use Rattle.std.specs.FinMap as map
 use Rattle.std.specs.FinMap.{get-entries, get-from_entries, get-from_sorted, same_map}
 use Rattle.std.specs.FinMap.Entries.{below_all}
 use Rattle.ps_lattice.specs.declared.choice.Pair.{Pair}
-use Rattle.ps_lattice.specs.declared.limits.TheConstants.{OPTIONS, SEQUENCES, REPLICAS}
+use Rattle.ps_lattice.specs.declared.limits.TheConstants.{OPTIONS, SEQUENCES}
+use Rattle.ps_lattice.specs.Limits.{is_replica}
 use Rattle.ps_lattice.specs.Maps.{both_of, raised}
 use Rattle.ps_lattice.specs.MapLaws.{get-joined_maps}
 use Rattle.ps_lattice.specs.Choice.{Pairs, pair_cmp, pair_of, is_added, is_removed, is_live, is_chosen}
@@ -25,19 +26,14 @@ pub sequence_fits : (e : Pair × Bool) → is_pair e ≡ true → e.0.sequence �
 sequence_fits e h =
     leb-true e.0.sequence SEQUENCES
     (and_right
-    (((nat_lt e.0.option OPTIONS && nat_le 1 e.0.replica) && nat_le e.0.replica REPLICAS) && nat_le 1
-    e.0.sequence) _ h)
+    ((nat_lt e.0.option OPTIONS && is_replica e.0.replica) && nat_le 1 e.0.sequence) _ h)
 
 pub option_fits : (e : Pair × Bool) → is_pair e ≡ true → e.0.option < OPTIONS
 option_fits e h =
     ltb-true e.0.option OPTIONS
-    (and_left (nat_lt e.0.option OPTIONS) (nat_le 1 e.0.replica)
-    (and_left (nat_lt e.0.option OPTIONS && nat_le 1 e.0.replica) (nat_le e.0.replica REPLICAS)
-    (and_left ((nat_lt e.0.option OPTIONS && nat_le 1 e.0.replica) && nat_le e.0.replica REPLICAS)
-    (nat_le 1 e.0.sequence)
-    (and_left
-    (((nat_lt e.0.option OPTIONS && nat_le 1 e.0.replica) && nat_le e.0.replica REPLICAS) && nat_le 1
-    e.0.sequence) _ h))))
+    (and_left (nat_lt e.0.option OPTIONS) (is_replica e.0.replica)
+    (and_left (nat_lt e.0.option OPTIONS && is_replica e.0.replica) (nat_le 1 e.0.sequence)
+    (and_left ((nat_lt e.0.option OPTIONS && is_replica e.0.replica) && nat_le 1 e.0.sequence) _ h)))
 
 pub all_at : (es : List (Pair × Bool)) (i : ℕ) (d : Pair × Bool) → list_all is_pair es ≡ true → i < length es
     → is_pair (get_or es i d) ≡ true

@@ -1,5 +1,5 @@
 -- What edits of a counter do to it, and the bounds of its sums.
-use Rattle.std.proofs.Common.{◌≡◌, ℕ, ◌+◌, ◌*◌, ◌^◌, ◌<◌, ◌≤◌, max, suc, take, drop, drop-cons, get_or, length, true}
+use Rattle.std.proofs.Common.{◌≡◌, ℕ, ◌+◌, ◌*◌, ◌<◌, ◌≤◌, max, suc, take, drop, drop-cons, get_or, length, true}
 use Rattle.std.proofs.Common.{false, cond, ◌&&◌, ◌||◌, nat_le, List, [], ◌∷◌, Option, Some, None, unwrap_or, sum_by}
 use Rattle.std.proofs.Common.{refl, sym, ap, ◌∙◌, arith}
 use Rattle.std.specs.List.{list_all}
@@ -14,10 +14,10 @@ use Rattle.std.proofs.lemmas.List.Sums.{sum_by-cons, sum_by-take-drop}
 use borrow.Author.Tests.{leb-true, le-leb}
 use Rattle.std.proofs.Common.{lit≤}
 use Rattle.ps_lattice.specs.declared.tally.Count.{Count}
-use Rattle.ps_lattice.specs.declared.limits.TheConstants.{REPLICAS, COUNT_LIMIT}
+use Rattle.ps_lattice.specs.declared.limits.TheConstants.{REPLICAS, AMOUNT_LIMIT, COUNT_LIMIT}
 use Rattle.ps_lattice.specs.Maps.{raised}
 use Rattle.ps_lattice.specs.Tally.{Counts, added, subtracted, greater_counts, joined_tallies, with_counts, counts_of}
-use Rattle.ps_lattice.specs.Tally.{is_count, is_tally}
+use Rattle.ps_lattice.specs.Tally.{is_amount, is_count, is_tally}
 use Rattle.ps_lattice.proofs.Rising.{and_left, and_right, and_both, sorted_head, sorted_rest}
 use Rattle.ps_lattice.proofs.Views.{joined-one, get_set}
 
@@ -134,7 +134,7 @@ subtracted-unwrap_or (Some c) = refl
 less_is : (x y : ℕ) → is_lt (nat_cmp x y) ≡ true → x < y
 less_is x y h = grind (arith, nat_tests)
 
--- replicas from k + 1 on leave room for 32 - k entries
+-- replicas from k + 1 on leave room for all entries but k
 room : (k : ℕ) (es : List (ℕ × Count)) → k ≤ REPLICAS → below_all nat_cmp k es ≡ true → is_tally es ≡ true
     → length es + k ≤ REPLICAS
 room k [] low below h = omega arith
@@ -148,7 +148,7 @@ room k (e ∷ es) low below h =
     let ih = room e.0 es fits.high (sorted_head nat_cmp nat_cmp_total e es sorted) rest in
     omega arith
 
--- a counter has an entry for each of 32 replicas at most
+-- a counter has an entry for each replica at most
 pub length_fits : (es : List (ℕ × Count)) → is_tally es ≡ true → length es ≤ REPLICAS
 length_fits [] h = omega arith
 length_fits (e ∷ es) h =
@@ -179,17 +179,17 @@ partial_fits f es i d within =
     omega arith
 
 total_fits : (part : Count → ℕ) → ((e : ℕ × Count) → is_count e ≡ true → part e.1 ≤ COUNT_LIMIT)
-    → (es : List (ℕ × Count)) → is_tally es ≡ true → sum_by (λ e. part e.1) es ≤ 2 ^ 45
+    → (es : List (ℕ × Count)) → is_tally es ≡ true → sum_by (λ e. part e.1) es ≤ REPLICAS * COUNT_LIMIT
 total_fits part fits es h =
     let all = sum_fits part fits es (and_right (map.is_sorted nat_cmp es) (list_all is_count es) h) in
     let few = length_fits es h in
     omega arith
 
--- the sums of P and of N are at most 32 times 2^40
-pub added_total_fits : (es : List (ℕ × Count)) → is_tally es ≡ true → sum_by (λ e. e.1.added) es ≤ 2 ^ 45
+-- the sums of P and of N are at most a full count of each replica
+pub added_total_fits : (es : List (ℕ × Count)) → is_tally es ≡ true → sum_by (λ e. e.1.added) es ≤ REPLICAS * COUNT_LIMIT
 added_total_fits = total_fits (λ c. c.added) (λ e h. (count_fits e h).added)
 
-pub subtracted_total_fits : (es : List (ℕ × Count)) → is_tally es ≡ true → sum_by (λ e. e.1.subtracted) es ≤ 2 ^ 45
+pub subtracted_total_fits : (es : List (ℕ × Count)) → is_tally es ≡ true → sum_by (λ e. e.1.subtracted) es ≤ REPLICAS * COUNT_LIMIT
 subtracted_total_fits = total_fits (λ c. c.subtracted) (λ e h. (count_fits e h).subtracted)
 
 either_max : (a b c d : ℕ) → (nat_le 1 a || nat_le 1 b) ≡ true → (nat_le 1 (max a c) || nat_le 1 (max b d)) ≡ true
@@ -208,3 +208,7 @@ is_count-joined a b ha hb =
     (max_fits a.1.added b.1.added fa.added fb.added))
     (max_fits a.1.subtracted b.1.subtracted fa.subtracted fb.subtracted))
     (either_max a.1.added a.1.subtracted b.1.added b.1.subtracted fa.some)
+
+-- an amount is some
+pub some_amount : (n : ℕ) → is_amount n ≡ true → 1 ≤ n
+some_amount n h = leb-true 1 n (and_left (nat_le 1 n) (nat_le n AMOUNT_LIMIT) h)

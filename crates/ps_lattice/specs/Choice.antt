@@ -8,7 +8,8 @@ use Rattle.std.specs.declared.cmp.Ordering.{Ordering}
 use Rattle.std.specs.Ordering.{nat_cmp, on, then_cmp}
 use Rattle.std.specs.FinMap as map
 use Rattle.ps_lattice.specs.declared.choice.Pair.{Pair}
-use Rattle.ps_lattice.specs.declared.limits.TheConstants.{REPLICAS, OPTIONS, SEQUENCES}
+use Rattle.ps_lattice.specs.declared.limits.TheConstants.{OPTIONS, SEQUENCES}
+use Rattle.ps_lattice.specs.Limits.{is_replica}
 use Rattle.ps_lattice.specs.Maps.{joined_maps}
 
 -- by option, then by replica, then by sequence
@@ -63,11 +64,10 @@ with_pair c option replica sequence = map.insert c (pair_of option replica seque
 abbrev pub withdrawn : Pairs → ℕ → Pairs
 withdrawn c option = map.from_entries (each (λ e. (e.0, true)) (filter (is_live option) (map.entries c)))
 
--- an option of 0 to 63, a replica of 1 to 32 and a sequence of 1 to 256
+-- an option, a replica and a sequence, each in its range
 abbrev pub is_pair : Pair × Bool → Bool
 is_pair e =
-    nat_lt e.0.option OPTIONS && nat_le 1 e.0.replica && nat_le e.0.replica REPLICAS
-    && nat_le 1 e.0.sequence && nat_le e.0.sequence SEQUENCES
+    nat_lt e.0.option OPTIONS && is_replica e.0.replica && nat_le 1 e.0.sequence && nat_le e.0.sequence SEQUENCES
 
 -- the pairs of a choice: ascending by option, replica and sequence, and distinct, each in its ranges
 abbrev pub is_choice : List (Pair × Bool) → Bool

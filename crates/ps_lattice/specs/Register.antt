@@ -1,11 +1,12 @@
--- A register in which the last writer wins: nothing yet, or an assignment, which has a stamp (a time and a
+-- A last-writer register: nothing yet, or an assignment, which has a stamp (a time and a
 -- replica) and a content. The greater assignment stays, by stamp and then by the order of contents.
 use Rattle.std.specs.Prelude.{ℕ, Bool, ◌&&◌, true, nat_le, Option}
-use Rattle.std.specs.Option.{option_map_or, option_map}
+use Rattle.std.specs.Option.{option_map_or}
 use Rattle.std.specs.declared.cmp.Ordering.{Ordering}
 use Rattle.std.specs.Ordering.{nat_cmp, on, then_cmp}
 use Rattle.ps_lattice.specs.declared.register.Assignment.{Assignment}
-use Rattle.ps_lattice.specs.declared.limits.TheConstants.{LAST_TIME, REPLICAS}
+use Rattle.ps_lattice.specs.declared.limits.TheConstants.{LAST_TIME}
+use Rattle.ps_lattice.specs.Limits.{is_replica}
 use Rattle.ps_lattice.specs.Maps.{both_of}
 use Rattle.ps_lattice.specs.Orders.{larger}
 
@@ -23,21 +24,13 @@ abbrev pub joined_registers : {V : Type 0} → (V → V → Ordering) → Option
     → Option (Assignment V)
 joined_registers by_content = both_of (later by_content)
 
--- the stamp: time and replica
-abbrev pub stamp : {V : Type 0} → Assignment V → ℕ × ℕ
-stamp a = (a.time, a.replica)
-
 -- the time of the register, 0 where nothing is assigned
 abbrev pub time_of : {V : Type 0} → Option (Assignment V) → ℕ
 time_of r = option_map_or (λ a. a.time) r 0
 
--- what is assigned, if anything is
-abbrev pub content_of : {V : Type 0} → Option (Assignment V) → Option V
-content_of r = option_map (λ a. a.content) r
-
--- a time of 1 to 2^53 - 1 and a replica of 1 to 32
+-- a Lamport timestamp: a time of 1 to the last one, and a replica
 abbrev pub is_stamp : ℕ → ℕ → Bool
-is_stamp time replica = nat_le 1 time && nat_le time LAST_TIME && nat_le 1 replica && nat_le replica REPLICAS
+is_stamp time replica = nat_le 1 time && nat_le time LAST_TIME && is_replica replica
 
 abbrev pub is_register : {V : Type 0} → Option (Assignment V) → Bool
 is_register r = option_map_or (λ a. is_stamp a.time a.replica) r true

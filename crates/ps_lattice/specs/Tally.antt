@@ -6,7 +6,8 @@ use Rattle.std.specs.Option.{option_map_or}
 use Rattle.std.specs.Ordering.{nat_cmp}
 use Rattle.std.specs.FinMap as map
 use Rattle.ps_lattice.specs.declared.tally.Count.{Count}
-use Rattle.ps_lattice.specs.declared.limits.TheConstants.{REPLICAS, COUNT_LIMIT, AMOUNT_LIMIT}
+use Rattle.ps_lattice.specs.declared.limits.TheConstants.{COUNT_LIMIT, AMOUNT_LIMIT}
+use Rattle.ps_lattice.specs.Limits.{is_replica}
 use Rattle.ps_lattice.specs.Maps.{joined_maps}
 
 -- the replicas that changed the counter, each with its two counts
@@ -41,16 +42,16 @@ with_counts t replica p n = map.insert t replica (record { added = p; subtracted
 abbrev pub counts_of : ℕ → ℕ → ℕ → Counts
 counts_of replica p n = with_counts map.empty replica p n
 
--- a replica of 1 to 32, with counts of at most 2^40 that aren't both 0
+-- a replica, with counts of at most the limit that aren't both 0
 abbrev pub is_count : ℕ × Count → Bool
 is_count e =
-    nat_le 1 e.0 && nat_le e.0 REPLICAS && nat_le e.1.added COUNT_LIMIT && nat_le e.1.subtracted COUNT_LIMIT
+    is_replica e.0 && nat_le e.1.added COUNT_LIMIT && nat_le e.1.subtracted COUNT_LIMIT
     && (nat_le 1 e.1.added || nat_le 1 e.1.subtracted)
 
 -- the entries of a counter: ascending by replica and distinct, each in its ranges
 abbrev pub is_tally : List (ℕ × Count) → Bool
 is_tally es = map.is_sorted nat_cmp es && list_all is_count es
 
--- an amount of 1 to 1,000,000
+-- an amount of 1 to the limit
 abbrev pub is_amount : ℕ → Bool
 is_amount amount = nat_le 1 amount && nat_le amount AMOUNT_LIMIT

@@ -10,7 +10,7 @@ ghost use Rattle.ps_lattice.specs.Choice.{last_sequence, with_pair, withdrawn, j
 
 use crate::entries::{self, Merge};
 use crate::join::{Join, Linear};
-use crate::limits::{OPTIONS, REPLICAS, SEQUENCES};
+use crate::limits::{OPTIONS, REPLICAS, SEQUENCES, is_replica};
 use ps_grid::{Refusal, Twin};
 use std::alloc::{AllocError, Global};
 use std::cmp::Ordering;
@@ -223,14 +223,14 @@ impl Choice {
         })
     }
 
-    // Whether some pair of the option isn't removed.
+    /// Whether some pair of the option isn't removed.
     fn is_chosen(&self, option: u64) -> bool
         ensures { result ≡ is_chosen self.now option }
     {
         any_live(&self.pairs, option)
     }
 
-    // The greatest sequence of the replica, 0 without any.
+    /// The greatest sequence of the replica, 0 without any.
     fn last_sequence(&self, replica: u8) -> u16
         ensures value { result ≡ last_sequence self.now replica }
         ensures in_range { result ≤ SEQUENCES }
@@ -239,7 +239,7 @@ impl Choice {
     }
 }
 
-// Bit k for each option k with a pair that isn't removed.
+/// Bit k for each option k with a pair that isn't removed.
 fn options_of(pairs: &[(Pair, bool)]) -> u64
     requires { IsTrue (list_all is_pair pairs.now) }
     ensures { (k : ℕ) → k < OPTIONS → (IsBitSet result k ↔ IsTrue (list_any (is_live k) pairs.now)) }
@@ -253,7 +253,7 @@ fn options_of(pairs: &[(Pair, bool)]) -> u64
     options
 }
 
-// The greatest sequence of the replica, 0 without any.
+/// The greatest sequence of the replica, 0 without any.
 fn last_of(pairs: &[(Pair, bool)], replica: u8) -> u16
     ensures { result ≡ last_of replica pairs.now }
 {
@@ -266,14 +266,14 @@ fn last_of(pairs: &[(Pair, bool)], replica: u8) -> u16
     last
 }
 
-// Whether some pair of the option isn't removed.
+/// Whether some pair of the option isn't removed.
 fn any_live(pairs: &[(Pair, bool)], option: u64) -> bool
     ensures { result ≡ list_any (is_live option) pairs.now }
 {
     pairs.iter().any(|entry| is_live(option, entry))
 }
 
-// The pairs of the option that aren't removed, as removed.
+/// The pairs of the option that aren't removed, as removed.
 fn withdrawn_of(
     alloc: Global,
     pairs: &[(Pair, bool)],
@@ -288,33 +288,33 @@ fn withdrawn_of(
         .collect(alloc)
 }
 
-// Whether it is a pair of the option that isn't removed.
+/// Whether it is a pair of the option that isn't removed.
 fn is_live(option: u64, entry: &(Pair, bool)) -> bool
     ensures { result ≡ is_live option entry.now }
 {
     u64::from(entry.0.option) == option && !entry.1
 }
 
-// Whether the pairs ascend and are in range.
+/// Whether the pairs ascend and are in range.
 fn is_choice(parts: &[(Pair, bool)]) -> bool
     ensures { result ≡ is_choice parts.now }
 {
     entries::is_ascending(parts) && are_in_range(parts)
 }
 
-// Whether each pair is in range.
+/// Whether each pair is in range.
 fn are_in_range(parts: &[(Pair, bool)]) -> bool
     ensures { result ≡ list_all is_pair parts.now }
 {
     parts.iter().all(|entry| is_pair(entry))
 }
 
-// Whether the pair is in range.
+/// Whether the pair is in range.
 fn is_pair(entry: &(Pair, bool)) -> bool
     ensures { result ≡ is_pair entry.now }
 {
     let (pair, _) = *entry;
-    let named = u64::from(pair.option) < OPTIONS && pair.replica >= 1 && pair.replica <= REPLICAS;
+    let named = u64::from(pair.option) < OPTIONS && is_replica(pair.replica);
     named && pair.sequence >= 1 && pair.sequence <= SEQUENCES
 }
 

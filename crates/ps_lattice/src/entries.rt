@@ -23,8 +23,10 @@ pub(crate) trait Merge: Copy {
         ensures { IsTrue result ↔ (merged self other ≡ self) };
 }
 
-/// Whether the keys rise.
-pub(crate) fn is_ascending<K: Ord + Copy, X: Copy>(entries: &[(K, X)]) -> bool
+/// Whether the keys ascend, each once.
+///
+/// Cost: linear in the entries; it stops at the first that is out of order.
+pub fn is_ascending<K: Ord, X>(entries: &[(K, X)]) -> bool
     ensures { result ≡ map.is_sorted K.cmp entries.now }
 {
     for i in 1..entries.len() {
@@ -99,7 +101,7 @@ pub(crate) fn is_below<K: Linear + Copy, X: Merge>(mine: &[(K, X)], theirs: &[(K
     true
 }
 
-// Whether joining the value into what is there changes nothing.
+/// Whether joining the value into what is there changes nothing.
 fn covers_at<X: Merge>(there: Option<X>, value: X) -> bool
     ensures { IsTrue result ↔ (both_of X.merged there (Some value) ≡ there) }
 {

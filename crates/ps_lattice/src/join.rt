@@ -15,7 +15,7 @@ pub trait Join: Sized {
 
     /// Joins the other state into this one.
     ///
-    /// Refused only for lack of memory, and then nothing is changed.
+    /// Refused only when out of memory, and then nothing is changed.
     ///
     /// Cost: linear in the two states.
     fn join(&mut self, alloc: Global, other: &Self) -> Result<(), Refusal>

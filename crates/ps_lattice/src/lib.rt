@@ -24,6 +24,7 @@ mod tally;
 mod tests;
 
 pub use choice::{Choice, Pair};
+pub use entries::is_ascending;
 pub use join::{Join, Linear};
 pub use laws::{choices_join_by_union, empty_is_least, tallies_join_by_maximum};
 pub use limits::{AMOUNT_LIMIT, COUNT_LIMIT, LAST_TIME, OPTIONS, REPLICAS, SEQUENCES};

@@ -5,7 +5,7 @@ ghost use Rattle.std.specs.Option.{SomeIff, option_copied};
 ghost use Rattle.ps_lattice.specs.Register.{assignment_cmp, joined_registers, time_of, is_stamp};
 
 use crate::join::{Join, Linear};
-use crate::limits::{LAST_TIME, REPLICAS};
+use crate::limits::{LAST_TIME, REPLICAS, is_replica};
 use ps_grid::{Refusal, Twin};
 use std::alloc::Global;
 use std::cmp::Ordering;
@@ -78,7 +78,7 @@ impl<V> Register<V> {
         ensures { SomeIff result (IsTrue (is_stamp assignment.time assignment.replica)) (Some assignment) }
     {
         let time_fits = assignment.time >= 1 && assignment.time <= LAST_TIME;
-        if time_fits && assignment.replica >= 1 && assignment.replica <= REPLICAS {
+        if time_fits && is_replica(assignment.replica) {
             Some(Register {
                 held: Some(assignment),
             })
@@ -163,7 +163,7 @@ impl<V: Linear + Twin + Drop> Join for Register<V> {
 }
 
 impl<V: Ord> Assignment<V> {
-    // By time, then by replica, then by content.
+    /// By time, then by replica, then by content.
     fn compare(&self, other: &Assignment<V>) -> Ordering
         ensures { result ≡ assignment_cmp V.cmp self.now other.now }
     {

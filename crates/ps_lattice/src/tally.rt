@@ -1,6 +1,6 @@
 //! A counter that goes up and down.
 
-ghost use Rattle.std.specs.Prelude.{◌≡◌, ◌+◌, ◌<◌, ◌≤◌, ◌↔◌, not, [], ◌∷◌, ◌^◌, sum_by, Contains, IsTrue, IfOk};
+ghost use Rattle.std.specs.Prelude.{◌≡◌, ◌+◌, ◌<◌, ◌≤◌, ◌↔◌, not, [], ◌∷◌, ◌*◌, sum_by, Contains, IsTrue, IfOk};
 ghost use Rattle.std.specs.Prelude.{IfErr, IsErrOf};
 ghost use Rattle.std.specs.Option.{SomeIff};
 ghost use Rattle.std.specs.List.{list_all};
@@ -10,7 +10,7 @@ ghost use Rattle.ps_lattice.specs.Tally.{is_tally, is_count, is_amount};
 
 use crate::entries::{self, Merge};
 use crate::join::Join;
-use crate::limits::{AMOUNT_LIMIT, COUNT_LIMIT, REPLICAS};
+use crate::limits::{AMOUNT_LIMIT, COUNT_LIMIT, REPLICAS, is_replica};
 use ps_grid::{Refusal, Twin};
 use std::alloc::Global;
 use std::marker::Model;
@@ -134,7 +134,7 @@ impl Tally {
             ↔ (IsTrue (is_amount amount) × (COUNT_LIMIT < added self.now replica + amount)) }
         ensures only { IfErr result (λ e. Contains (Refusal.Amount ∷ Refusal.TallyFull ∷ Refusal.Memory ∷ []) e) }
     {
-        if amount < 1 || amount > AMOUNT_LIMIT {
+        if !is_amount(amount) {
             return Err(Refusal::Amount);
         }
         let before = self.count_of(replica);
@@ -147,6 +147,7 @@ impl Tally {
         };
         Tally::of_one(alloc, replica, count)
     }
+
     /// The delta of subtracting the amount at the replica: what it subtracted in all, raised by the amount.
     ///
     /// Refused where the amount isn't 1 to `AMOUNT_LIMIT`, and where the replica would have subtracted more than
@@ -164,7 +165,7 @@ impl Tally {
             ↔ (IsTrue (is_amount amount) × (COUNT_LIMIT < subtracted self.now replica + amount)) }
         ensures only { IfErr result (λ e. Contains (Refusal.Amount ∷ Refusal.TallyFull ∷ Refusal.Memory ∷ []) e) }
     {
-        if amount < 1 || amount > AMOUNT_LIMIT {
+        if !is_amount(amount) {
             return Err(Refusal::Amount);
         }
         let before = self.count_of(replica);
@@ -178,7 +179,7 @@ impl Tally {
         Tally::of_one(alloc, replica, count)
     }
 
-    // The counts of the replica, 0 where it changed nothing.
+    /// The counts of the replica, 0 where it changed nothing.
     fn count_of(&self, replica: u8) -> Count
         ensures added { result.added ≡ added self.now replica }
         ensures subtracted { result.subtracted ≡ subtracted self.now replica }
@@ -192,7 +193,7 @@ impl Tally {
         entries::value_at(&self.counts, replica).unwrap_or(none)
     }
 
-    // The counter of one replica's counts and nothing else.
+    /// The counter of one replica's counts and nothing else.
     fn of_one(alloc: Global, replica: u8, count: Count) -> Result<Tally, Refusal>
         requires { IsTrue (is_count (replica, count)) }
         ensures ok { IfOk result (λ d. d ≡ counts_of replica count.added count.subtracted) }
@@ -204,13 +205,13 @@ impl Tally {
     }
 }
 
-// The sums of what was added and of what was subtracted.
+/// The sums of what was added and of what was subtracted.
 fn totals(counts: &[(u8, Count)]) -> (u64, u64)
     requires { IsTrue (is_tally counts.now) }
     ensures added { result.0 ≡ sum_by (λ e. e.1.added) counts.now }
     ensures subtracted { result.1 ≡ sum_by (λ e. e.1.subtracted) counts.now }
-    ensures added_fits { result.0 ≤ 2 ^ 45 }
-    ensures subtracted_fits { result.1 ≤ 2 ^ 45 }
+    ensures added_fits { result.0 ≤ REPLICAS * COUNT_LIMIT }
+    ensures subtracted_fits { result.1 ≤ REPLICAS * COUNT_LIMIT }
 {
     let mut added = 0;
     let mut subtracted = 0;
@@ -221,30 +222,34 @@ fn totals(counts: &[(u8, Count)]) -> (u64, u64)
     (added, subtracted)
 }
 
-// Whether the replicas ascend, and they and their counts are in range.
+/// Whether the replicas ascend, and they and their counts are in range.
 fn is_tally(parts: &[(u8, Count)]) -> bool
     ensures { result ≡ is_tally parts.now }
 {
     entries::is_ascending(parts) && are_in_range(parts)
 }
 
-// Whether each replica and its counts are in range.
+/// Whether each replica and its counts are in range.
 fn are_in_range(parts: &[(u8, Count)]) -> bool
     ensures { result ≡ list_all is_count parts.now }
 {
     parts.iter().all(|entry| is_count(entry))
 }
 
-// Whether the replica and its counts are in range.
+/// Whether the replica and its counts are in range.
 fn is_count(entry: &(u8, Count)) -> bool
     ensures { result ≡ is_count entry.now }
 {
     let (replica, count) = *entry;
-    let in_range = replica >= 1
-        && replica <= REPLICAS
-        && count.added <= COUNT_LIMIT
-        && count.subtracted <= COUNT_LIMIT;
-    in_range && (count.added >= 1 || count.subtracted >= 1)
+    let in_range = count.added <= COUNT_LIMIT && count.subtracted <= COUNT_LIMIT;
+    is_replica(replica) && in_range && (count.added >= 1 || count.subtracted >= 1)
+}
+
+/// Whether an amount may be added or subtracted at once.
+fn is_amount(amount: u64) -> bool
+    ensures { result ≡ is_amount amount }
+{
+    amount >= 1 && amount <= AMOUNT_LIMIT
 }
 
 impl Twin for Tally {

@@ -48,7 +48,7 @@ fn written(time: u64, replica: u8, byte: u8) -> Result<Register<Letter>, Refusal
     .ok_or(Refusal::ClockFull)
 }
 
-// Joins what an edit answered into the state.
+// Joins what an edit made into the state.
 fn take_in<J: Join + Drop>(
     edit: Result<J, Refusal>,
     state: &mut J,
