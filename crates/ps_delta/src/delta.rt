@@ -11,7 +11,7 @@ ghost use Rattle.ps_delta.specs.Deltas.{AreEntries, AreInGrid, IsDelta, joined_h
 use crate::cell_state::CellState;
 use crate::merge;
 use ps_grid::{Cell, Refusal, Twin};
-use ps_lattice::Join;
+use ps_lattice::is_ascending;
 use std::alloc::Global;
 use std::marker::Model;
 use std::sync::Arc;
@@ -54,7 +54,7 @@ impl Delta {
 
     /// The join of the deltas.
     ///
-    /// Refused only for lack of memory.
+    /// Refused only when out of memory.
     ///
     /// Cost: the cells of all the deltas, with their counts and pairs, times the number of deltas.
     pub fn joined(alloc: Global, deltas: &[Arc<Delta>]) -> Result<Delta, Refusal>
@@ -81,19 +81,20 @@ impl Delta {
     }
 }
 
-// Whether the cells are ascending and distinct, and none has an empty state.
+/// Whether the cells are ascending and distinct, and none has an empty state.
 fn are_entries(cells: &[(Cell, CellState)]) -> bool
     ensures entries { IsTrue result ↔ AreEntries cells.now }
     ensures in_grid { OnTrue result (AreInGrid cells.now) }
 {
-    // The least index that the next cell may have.
-    let mut least = 0;
+    if !is_ascending(cells) {
+        return false;
+    }
     for entry in cells {
-        let index = entry.0.index();
-        if index < least || entry.1.is_empty() {
+        // for the fact that the cell is in the grid
+        let _ = entry.0.index();
+        if entry.1.is_empty() {
             return false;
         }
-        least = index + 1;
     }
     true
 }

@@ -41,7 +41,7 @@ impl Model for Grid {
 impl Grid {
     /// The grid where no cell holds anything.
     ///
-    /// Refused only for lack of memory.
+    /// Refused only when out of memory.
     ///
     /// Cost: the cells of the grid.
     pub fn new(alloc: Global) -> Result<Grid, Refusal>
@@ -77,7 +77,7 @@ impl Grid {
 
     /// Joins the delta into the grid.
     ///
-    /// Refused only for lack of memory, and then nothing is changed.
+    /// Refused only when out of memory, and then nothing is changed.
     ///
     /// Cost: the cells of the delta, and the counts and pairs that these have here and there.
     pub fn join(&mut self, alloc: Global, delta: &Delta) -> Result<(), Refusal>
@@ -121,7 +121,7 @@ impl Grid {
         }
     }
 
-    // The cells of the delta, each with what it holds here and there, joined.
+    /// The cells of the delta, each with what it holds here and there, joined.
     fn raised(&self, alloc: Global, delta: &Delta) -> Result<Vec<(Cell, CellState)>, Refusal>
         ensures ok { IfOk result (λ r. overlaid (state_at self.now) r.items
             ≡ joined_state (state_at self.now) (state_of delta.now)) }
@@ -137,7 +137,7 @@ impl Grid {
         Ok(raised)
     }
 
-    // Puts each state of the list in its cell's place.
+    /// Puts each state of the list in its cell's place.
     fn overlay(&mut self, cells: Vec<(Cell, CellState)>)
         ensures { state_at self.new ≡ overlaid (state_at self.old) cells.items }
     {
@@ -176,7 +176,7 @@ impl Join for Grid {
     ghost idempotent = { joined_cells-idem };
 }
 
-// The states of both lists, joined place by place.
+/// The states of both lists, joined place by place.
 fn joined(
     alloc: Global,
     mine: &[CellState],
@@ -195,7 +195,7 @@ fn joined(
     Ok(all)
 }
 
-// Whether each state of the first list is below that at its place in the second one.
+/// Whether each state of the first list is below that at its place in the second one.
 fn are_below(mine: &[CellState], theirs: &[CellState]) -> bool
     requires { length mine.now ≡ length theirs.now }
     ensures { IsTrue result ↔ (joined_cells theirs.now mine.now ≡ theirs.now) }

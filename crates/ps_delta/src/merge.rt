@@ -11,7 +11,7 @@ use ps_grid::{Cell, Refusal, Twin};
 use ps_lattice::Join;
 use std::alloc::Global;
 
-// A cell with its state, and how many entries of two lists it stands for.
+/// A cell with its state, and how many entries of two lists it stands for.
 #[derive(Drop)]
 struct First {
     entry: (Cell, CellState),
@@ -44,7 +44,7 @@ pub(crate) fn merged(
     Ok(all)
 }
 
-// The list without its first entries.
+/// The list without its first entries.
 fn rest(entries: &[(Cell, CellState)], count: usize) -> &[(Cell, CellState)]
     requires { count ≤ length entries.now }
     ensures { result.now ≡ drop count entries.now }
@@ -52,7 +52,7 @@ fn rest(entries: &[(Cell, CellState)], count: usize) -> &[(Cell, CellState)]
     &entries[count..]
 }
 
-// The first cell of two lists.
+/// The first cell of two lists.
 fn first_of(
     alloc: Global,
     left: &[(Cell, CellState)],

@@ -31,7 +31,7 @@ impl Model for Touched {
 impl Touched {
     /// An empty list, with room for the whole grid.
     ///
-    /// Refused only for lack of memory.
+    /// Refused only when out of memory.
     ///
     /// Cost: the cells of the grid, four bytes each.
     pub fn new(alloc: Global) -> Result<Touched, Refusal>
@@ -52,14 +52,14 @@ impl Touched {
         &self.cells
     }
 
-    // Leaves no cell.
+    /// Leaves no cell.
     pub(crate) fn clear(&mut self)
         ensures { self.new ≡ [] }
     {
         self.cells.clear();
     }
 
-    // Adds a cell that comes after all the others.
+    /// Adds a cell that comes after all the others.
     pub(crate) fn add(&mut self, cell: Cell)
         requires in_grid { cell < CELLS }
         requires above { All (λ c. c < cell) self.old }
@@ -69,7 +69,7 @@ impl Touched {
     }
 }
 
-// Adds a cell where there is room for it.
+/// Adds a cell where there is room for it.
 fn put(cells: &mut Vec<Cell>, cell: Cell)
     requires { length cells.old.items < vec_capacity cells.old }
     ensures items { cells.new.items ≡ cells.old.items ++ cell ∷ [] }
