@@ -18,6 +18,7 @@ use Rattle.ps_sheet.proofs.SettledLemmas.{bool_cases, true_not_false}
 use Rattle.ps_sheet.specs.Sheet.{IsSheet}
 use Rattle.ps_world.specs.World.{Numbers, WorldState, empty_world, picked, joined_of, with_delta, with_taken}
 use Rattle.ps_world.specs.World.{is_up_to, after, after_edit}
+use Rattle.ps_world.specs.declared.event.Event.{Event}
 use Rattle.ps_world.specs.declared.event.Event.TheVariants.{Edit, Deliver}
 use Rattle.ps_sheet.specs.declared.edit.Edit.{Edit as Change}
 use Rattle.ps_sheet.specs.Edits.{delta_of_edit}
@@ -242,22 +243,29 @@ module _ (w : WorldView) (i k : ℕ) (x y : ReplicaView) (d : Entries) (world : 
   pub taken_world : IsWorld view_after
   taken_world r z h = subst (λ (t : WorldState). IsReplica t r z) (sym taken_state) (taken_each r z h)
 
+-- the world v follows the world w, and is one
+pub record Goes (e : Event) (w v : WorldView) : Type 0 where
+  pub follows : Follows e w v
+  pub world : IsWorld v
+
 -- a delivery, one event further
 pub delivered : (w : WorldView) (r k i : ℕ) (x y : ReplicaView) (d : Entries) → IsWorld w → r ≡ suc i
     → slice_get w.replicas i ≡ Some x → 1 ≤ k → k ≤ length w.deltas → slice_get w.deltas (k - 1) ≡ Some d
     → joined_history y.sheet.history ≡ joined_state (joined_history x.sheet.history) (state_of d)
     → Updates nat_cmp x.taken y.taken k true → y.sheet.replica ≡ x.sheet.replica → IsSheet y.sheet
-    → Follows (Deliver r k) w (record { deltas = w.deltas; replicas = set w.replicas i y })
+    → Goes (Deliver r k) w (record { deltas = w.deltas; replicas = set w.replicas i y })
 delivered w r k i x y d world is at low high delta joined updates own sheet =
     let within : i < length w.replicas = slice_get_within w.replicas i x at in
     let tests : (is_up_to (length w.replicas) (suc i) && is_up_to (length w.deltas) k) ≡ true =
     ap (λ (b : Bool). b && is_up_to (length w.deltas) k) (up_to (length w.replicas) (suc i) (omega arith) (omega arith))
     ∙ up_to (length w.deltas) k low high in
-    subst (λ (n : ℕ). Follows (Deliver n k) w (record { deltas = w.deltas; replicas = set w.replicas i y })) (sym is)
+    subst (λ (n : ℕ). Goes (Deliver n k) w (record { deltas = w.deltas; replicas = set w.replicas i y })) (sym is)
     (record {
-      replicas = length-set w.replicas i y;
-      state = taken_state w i k x y d world at low high delta joined updates own sheet
-          ∙ ap (λ (b : Bool). cond b (with_taken (world_of w) (suc i) k) (world_of w)) (sym tests);
+      follows = record {
+        replicas = length-set w.replicas i y;
+        state = taken_state w i k x y d world at low high delta joined updates own sheet
+            ∙ ap (λ (b : Bool). cond b (with_taken (world_of w) (suc i) k) (world_of w)) (sym tests);
+      };
       world = taken_world w i k x y d world at low high delta joined updates own sheet;
     })
 
@@ -276,7 +284,7 @@ pub edited : (w : WorldView) (r k i : ℕ) (x y : ReplicaView) (e : Change) (d :
     → delta_of_edit x.sheet.replica (joined_history x.sheet.history) e ≡ Ok d
     → joined_history y.sheet.history ≡ joined_state (joined_history x.sheet.history) (state_of d)
     → Updates nat_cmp x.taken y.taken k true → y.sheet.replica ≡ x.sheet.replica → IsSheet y.sheet
-    → Follows (Edit r e) w (record { deltas = w.deltas ++ d ∷ []; replicas = set w.replicas i y })
+    → Goes (Edit r e) w (record { deltas = w.deltas ++ d ∷ []; replicas = set w.replicas i y })
 edited w r k i x y e d world is at last made joined updates own sheet =
     let more : WorldView = record { deltas = w.deltas ++ d ∷ []; replicas = w.replicas } in
     let long : length (w.deltas ++ d ∷ []) ≡ length w.deltas + 1 = length-append w.deltas (d ∷ []) in
@@ -288,14 +296,16 @@ edited w r k i x y e d world is at last made joined updates own sheet =
     ap (λ (s : State). delta_of_edit (suc i) s e) (sym was.joined)
     ∙ (ap (λ (n : ℕ). delta_of_edit n (joined_history x.sheet.history) e) (sym was.own) ∙ made) in
     subst
-    (λ (n : ℕ). Follows (Edit n e) w (record { deltas = w.deltas ++ d ∷ []; replicas = set w.replicas i y }))
+    (λ (n : ℕ). Goes (Edit n e) w (record { deltas = w.deltas ++ d ∷ []; replicas = set w.replicas i y }))
     (sym is)
     (record {
-      replicas = length-set w.replicas i y;
-      state = taken_state more i k x y d (added w d world) at (omega arith) (omega arith) end joined updates own sheet
-          ∙ (ap (λ (n : ℕ). with_taken (with_delta (world_of w) d) (suc i) n) last
-          ∙ (ap (after_edit (world_of w) (suc i)) (sym makes)
-          ∙ edit_known w i e within));
+      follows = record {
+        replicas = length-set w.replicas i y;
+        state = taken_state more i k x y d (added w d world) at (omega arith) (omega arith) end joined updates own sheet
+            ∙ (ap (λ (n : ℕ). with_taken (with_delta (world_of w) d) (suc i) n) last
+            ∙ (ap (after_edit (world_of w) (suc i)) (sym makes)
+            ∙ edit_known w i e within));
+      };
       world = taken_world more i k x y d (added w d world) at (omega arith) (omega arith) end joined updates own sheet;
     })
 
@@ -312,7 +322,7 @@ after_refused w r (Err e) h = refl
 -- a refused edit, one event further
 pub refused : (w : WorldView) (r i : ℕ) (x : ReplicaView) (e : Change) → IsWorld w → r ≡ suc i
     → slice_get w.replicas i ≡ Some x → IsErr (delta_of_edit x.sheet.replica (joined_history x.sheet.history) e)
-    → Follows (Edit r e) w (record { deltas = w.deltas; replicas = set w.replicas i x })
+    → Goes (Edit r e) w (record { deltas = w.deltas; replicas = set w.replicas i x })
 refused w r i x e world is at err =
     let within : i < length w.replicas = slice_get_within w.replicas i x at in
     let was : IsReplica (world_of w) (suc i) x = world (suc i) x at in
@@ -320,17 +330,18 @@ refused w r i x e world is at err =
     ≡ delta_of_edit (suc i) (joined_of (world_of w) (suc i)) e =
     ap (λ (n : ℕ). delta_of_edit n (joined_history x.sheet.history) e) was.own
     ∙ ap (λ (s : State). delta_of_edit (suc i) s e) was.joined in
-    let fails : IsErr (delta_of_edit (suc i) (joined_of (world_of w) (suc i)) e) =
-    subst (λ (m : Result Entries Refusal). IsErr m) same err in
-    let stays : Follows (Edit (suc i) e) w w = record {
-      replicas = refl;
-      state = sym (after_refused (world_of w) (suc i) (delta_of_edit (suc i) (joined_of (world_of w) (suc i)) e) fails)
-          ∙ edit_known w i e within;
+    let made : Result Entries Refusal = delta_of_edit (suc i) (joined_of (world_of w) (suc i)) e in
+    let fails : IsErr made = subst (λ (m : Result Entries Refusal). IsErr m) same err in
+    let stays : Goes (Edit (suc i) e) w w = record {
+      follows = record {
+        replicas = refl;
+        state = sym (after_refused (world_of w) (suc i) made fails) ∙ edit_known w i e within;
+      };
       world = world;
     } in
-    subst (λ (xs : List ReplicaView). Follows (Edit r e) w (record { deltas = w.deltas; replicas = xs }))
+    subst (λ (xs : List ReplicaView). Goes (Edit r e) w (record { deltas = w.deltas; replicas = xs }))
     (sym (set_back w.replicas i x at))
-    (subst (λ (n : ℕ). Follows (Edit n e) w w) (sym is) stays)
+    (subst (λ (n : ℕ). Goes (Edit n e) w w) (sym is) stays)
 
 -- what a world shows
 pub shows_settled : (w : WorldView) → IsWorld w → ShowsSettled w

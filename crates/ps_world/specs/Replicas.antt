@@ -48,7 +48,6 @@ IsWorld w = (r : ℕ) (x : ReplicaView) → replica_at w.replicas r ≡ Some x �
 pub record Follows (e : Event) (w v : WorldView) : Type 0 where
   pub replicas : length v.replicas ≡ length w.replicas
   pub state : world_of v ≡ after (length w.replicas) (world_of w) e
-  pub world : IsWorld v
 
 -- an empty sheet of replica r, where nothing was taken yet
 pub record IsNew (r : ℕ) (x : ReplicaView) : Type 0 where

@@ -9,7 +9,7 @@ use std::sync::Arc;
 pub enum Event {
     /// An edit at a replica. Its delta gets the next number and is taken there; a refused edit changes nothing.
     Edit(u8, Edit),
-    /// A stranger's delta, whatever its stamps. It gets the next number, and no replica takes it yet.
+    /// The delta of an untrusted peer, whatever its stamps. It gets the next number, and no replica takes it yet.
     Foreign(Arc<Delta>),
     /// A replica receives the delta with a number, whenever and however often.
     Deliver(u8, usize),

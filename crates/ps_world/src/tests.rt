@@ -147,7 +147,7 @@ fn each_counts_what_it_took(rt: HostRuntime) -> Result<(), Refusal> {
     check(&rt, &world, 3, &[1, 4], 2, Value::Num(1))
 }
 
-/// Two strangers' deltas with the same stamp, received in both orders.
+/// Two untrusted peers' deltas with the same stamp, received in both orders.
 #[test]
 fn equal_stamps_show_the_greater_content(rt: HostRuntime) -> Result<(), Refusal> {
     let steps = [

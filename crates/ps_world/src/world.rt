@@ -3,7 +3,7 @@
 ghost use Rattle.std.specs.Prelude.{◌≡◌, ◌⊎◌, ◌↔◌, ◌<◌, ◌≤◌, IfOk, IfErr, OnOk, length};
 ghost use Rattle.std.specs.Option.{option_map, option_copied};
 ghost use Rattle.ps_grid.specs.declared.refusal.Refusal.{Refusal};
-ghost use Rattle.ps_world.specs.Replicas.{AreNew, IsWorld, SameTakenShowTheSame, ShowsSettled, world_of};
+ghost use Rattle.ps_world.specs.Replicas.{AreNew, IsWorld, SameTakenShowTheSame, ShowsSettled, replica_at, world_of};
 ghost use Rattle.ps_world.specs.World.{played};
 
 use crate::event::Event;
@@ -19,7 +19,7 @@ use std::marker::Model;
 use std::sync::Arc;
 use std::sync::ledger::Ledger;
 
-/// Replicas of one sheet, and the deltas that they made or were sent by strangers.
+/// Replicas of one sheet, and the deltas that they made or were sent by untrusted peers.
 ///
 /// A contract sees it as its `WorldView`, and the world that a list of events makes as a `WorldState`.
 #[derive(Drop)]
@@ -41,11 +41,15 @@ impl Model for World {
     ghost coded = { world_code };
 
     ghost view = { λ w. record { deltas = map arc_value w.deltas.items; replicas = w.replicas.items } };
+
+    ghost use Rattle.ps_world.specs.Replicas.{IsWorld};
+
+    ghost invariant = { λ w. IsWorld (record { deltas = map arc_value w.deltas.items; replicas = w.replicas.items }) };
 }
 
 impl World {
     ghost use Rattle.ps_world.specs.World.{empty_world};
-    ghost use Rattle.ps_world.specs.Replicas.{Follows, replica_at};
+    ghost use Rattle.ps_world.specs.Replicas.{Follows};
 
     // Empty sheets of as many replicas, and no deltas.
     fn open(alloc: Global, replicas: u8) -> Result<World, Refusal>
@@ -65,15 +69,14 @@ impl World {
         })
     }
 
-    // One event further. Refused only for lack of memory.
-    fn apply<L: Ledger>(
-        &mut self,
+    // The world after an event. Refused only out of memory.
+    fn after<L: Ledger>(
+        self,
         alloc: Global,
         event: Event,
         meter: &mut Meter<L>,
-    ) -> Result<(), Refusal>
-        requires { IsWorld self.old }
-        ensures follows { OnOk result (Follows event self.old self.new) }
+    ) -> Result<World, Refusal>
+        ensures follows { IfOk result (Follows event self) }
         ensures memory { IfErr result (λ e. e ≡ Refusal.Memory) }
     {
         match event {
@@ -85,66 +88,79 @@ impl World {
 
     // Makes an edit at a replica.
     fn edit<L: Ledger>(
-        &mut self,
+        self,
         alloc: Global,
         replica: u8,
         edit: Edit,
         meter: &mut Meter<L>,
-    ) -> Result<(), Refusal>
-        requires { IsWorld self.old }
-        ensures follows { OnOk result (Follows (Event.Edit replica edit) self.old self.new) }
+    ) -> Result<World, Refusal>
+        ensures follows { IfOk result (Follows (Event.Edit replica edit) self) }
         ensures memory { IfErr result (λ e. e ≡ Refusal.Memory) }
     {
         if replica < 1 || usize::from(replica) > self.replicas.len() {
-            return Ok(());
+            return Ok(self);
         }
-        let number = self.deltas.len() + 1;
-        let maker = &mut self.replicas[usize::from(replica) - 1];
-        if let Some(made) = maker.make(alloc, number, edit, meter)? {
-            self.deltas.push(made)?;
+        let World {
+            mut deltas,
+            mut replicas,
+        } = self;
+        let number = deltas.len() + 1;
+        let maker = &mut replicas[usize::from(replica) - 1];
+        match maker.make(alloc, number, edit, meter)? {
+            None => Ok(World { deltas, replicas }),
+            Some(made) => {
+                deltas.push(made)?;
+                Ok(World { deltas, replicas })
+            }
         }
-        Ok(())
     }
 
-    // Adds a stranger's delta.
-    fn add(&mut self, delta: Arc<Delta>) -> Result<(), Refusal>
-        requires { IsWorld self.old }
-        ensures follows { OnOk result (Follows (Event.Foreign delta) self.old self.new) }
+    // Adds the delta of an untrusted peer.
+    fn add(self, delta: Arc<Delta>) -> Result<World, Refusal>
+        ensures follows { IfOk result (Follows (Event.Foreign delta) self) }
         ensures memory { IfErr result (λ e. e ≡ Refusal.Memory) }
     {
-        self.deltas.push(delta)?;
-        Ok(())
+        let World {
+            mut deltas,
+            replicas,
+        } = self;
+        deltas.push(delta)?;
+        Ok(World { deltas, replicas })
     }
 
     // Delivers a delta to a replica.
     fn deliver<L: Ledger>(
-        &mut self,
+        self,
         alloc: Global,
         replica: u8,
         number: usize,
         meter: &mut Meter<L>,
-    ) -> Result<(), Refusal>
-        requires { IsWorld self.old }
-        ensures follows { OnOk result (Follows (Event.Deliver replica number) self.old self.new) }
+    ) -> Result<World, Refusal>
+        ensures follows { IfOk result (Follows (Event.Deliver replica number) self) }
         ensures memory { IfErr result (λ e. e ≡ Refusal.Memory) }
     {
         if replica < 1 || usize::from(replica) > self.replicas.len() {
-            return Ok(());
+            return Ok(self);
         }
         if number < 1 || number > self.deltas.len() {
-            return Ok(());
+            return Ok(self);
         }
-        let delta = self.deltas[number - 1].clone()?;
-        let taker = &mut self.replicas[usize::from(replica) - 1];
+        let World {
+            deltas,
+            mut replicas,
+        } = self;
+        let delta = deltas[number - 1].clone()?;
+        let taker = &mut replicas[usize::from(replica) - 1];
         taker.take(alloc, number, delta, meter)?;
-        Ok(())
+        Ok(World { deltas, replicas })
     }
 
     /// The sheet of a replica, counted from 1.
     ///
     /// Cost: constant.
     pub fn sheet(&self, replica: u8) -> Option<&Sheet>
-        ensures { option_copied result ≡ option_map (λ x. x.sheet) (replica_at self.now.replicas replica) }
+        ensures sheet { option_copied result ≡ option_map (λ x. x.sheet) (replica_at self.now.replicas replica) }
+        ensures world { IsWorld self.now }
     {
         Some(self.replica(replica)?.sheet())
     }
@@ -153,30 +169,43 @@ impl World {
     ///
     /// Cost: constant.
     pub fn taken(&self, replica: u8) -> Option<&BTreeSet<usize>>
-        ensures { option_copied result ≡ option_map (λ x. x.taken) (replica_at self.now.replicas replica) }
+        ensures taken { option_copied result ≡ option_map (λ x. x.taken) (replica_at self.now.replicas replica) }
+        ensures world { IsWorld self.now }
     {
         Some(self.replica(replica)?.taken())
     }
 
     // The replica with a number.
     fn replica(&self, replica: u8) -> Option<&Replica>
-        ensures { option_copied result ≡ replica_at self.now.replicas replica }
+        ensures replica { option_copied result ≡ replica_at self.now.replicas replica }
+        ensures world { IsWorld self.now }
     {
-        if replica < 1 {
-            return None;
-        }
-        self.replicas.get(usize::from(replica) - 1)
+        numbered(&self.replicas, replica)
     }
+}
+
+// The replica with a number in the list of all.
+fn numbered(replicas: &[Replica], replica: u8) -> Option<&Replica>
+    ensures { option_copied result ≡ replica_at replicas.now replica }
+{
+    if replica < 1 {
+        return None;
+    }
+    replicas.get(usize::from(replica) - 1)
 }
 
 /// Plays the events, one after another, on as many empty sheets, 1 to 32, which are replicas 1, 2 and so on.
 ///
+/// This is the headline for whole runs, whatever the events are. The world has exactly the deltas, and each replica
+/// took exactly the numbers, of `played`, a definition that knows no sheet. Each sheet shows the settled values of the
+/// join of the deltas that its replica took (`settled`), and replicas that took the same deltas show the same (`same`).
+///
 /// An event that names an unknown replica or an unknown delta changes nothing, and neither does an edit that is refused
-/// for another cause than lack of memory.
+/// for another cause than memory.
 ///
-/// Refused where the number of replicas is out of range, and for lack of memory.
+/// Refused where the number of replicas is out of range, and where memory runs out.
 ///
-/// Cost: opening the sheets, then that of each edit and of each delivery.
+/// Cost: opening n sheets, then that of each edit and of each delivery.
 pub fn play<L: Ledger>(
     alloc: Global,
     replicas: u8,
@@ -193,8 +222,10 @@ pub fn play<L: Ledger>(
 {
     let mut world = World::open(alloc, replicas)?;
     for event in events {
-        world.apply(alloc, event, meter)?;
+        world = world.after(alloc, event, meter)?;
     }
+    // Brings the fact `IsWorld`: a type's invariant is known where one of its fields is looked at.
+    let _ = &world.deltas;
     Ok(world)
 }
 
