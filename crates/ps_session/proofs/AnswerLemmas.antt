@@ -1,23 +1,23 @@
 -- What a sheet does with a line is the answer to the line.
-use Rattle.std.proofs.Common.{◌≡◌, ◌≢◌, ◌⊎◌, inl, inr, refl, ap, subst, ℕ, false, List, Ok, Err}
+use Rattle.std.proofs.Common.{◌≡◌, ◌≢◌, ◌⊎◌, inl, inr, refl, ap, ℕ, List, Ok, Err}
 use Rattle.ps_grid.specs.declared.refusal.Refusal.{Refusal}
 use Rattle.ps_grid.specs.declared.refusal.Refusal.TheVariants as refusals
 use Rattle.ps_sheet.specs.Sheet.{SheetView}
 use Rattle.ps_session.specs.Commands.{ReadsLine}
-use Rattle.ps_session.proofs.MemoryLemmas.{changes_may_lack, memory_refused}
-use Rattle.ps_session.specs.Answers.{Answers, Obeys, is_get}
+use Rattle.ps_session.specs.Answers.{Answers, Obeys, TakesMemory}
 use Rattle.ps_session.specs.Replies.{refusal_text}
 use Rattle.ps_session.specs.declared.command.Command.{Command}
 
--- a refusal is for want of memory, or it isn't
+-- a refusal is out of memory, or it isn't
 memory_or_other : (refusal : Refusal) → (refusal ≡ refusals.Memory) ⊎ (refusal ≢ refusals.Memory)
 memory_or_other refusals.Memory = inl refl
 memory_or_other _ = inr (λ is. cc)
 
--- a line that was read as a command, which was carried out or lacked memory
+-- a line that was read as a command, which was carried out or was out of memory
 pub answer_of_command : (old new : SheetView) (line text : List ℕ) (command : Command) → ReadsLine line (Ok command)
     → Obeys old.replica old.history (Ok command) text new.history
-    ⊎ ((is_get command ≡ false) × (text ≡ refusal_text refusals.Memory) × (new.history ≡ old.history))
+    ⊎ (TakesMemory old.replica old.history (Ok command) × (text ≡ refusal_text refusals.Memory)
+    × (new.history ≡ old.history))
     → new.replica ≡ old.replica → Answers old line text new
 answer_of_command old new line text command reads (inl obeys) replica = inl (record {
   asked = Ok command;
@@ -27,7 +27,9 @@ answer_of_command old new line text command reads (inl obeys) replica = inl (rec
   replica = replica;
 })
 answer_of_command old new line text command reads (inr lacks) replica = inr (record {
-  may = changes_may_lack line command reads lacks.0;
+  asked = Ok command;
+  reads = reads;
+  takes = lacks.0;
   told = lacks.1;
   history = lacks.2;
   replica = replica;
@@ -38,7 +40,9 @@ pub answer_of_refusal : (sheet : SheetView) (line : List ℕ) (refusal : Refusal
     → Answers sheet line (refusal_text refusal) sheet
 answer_of_refusal sheet line refusal reads = elim (memory_or_other refusal) [
   | inl is ↦ inr (record {
-    may = memory_refused line (subst (λ r. ReadsLine line (Err r)) is reads);
+    asked = Err refusal;
+    reads = reads;
+    takes = is;
     told = ap refusal_text is;
     history = refl;
     replica = refl;

@@ -138,10 +138,11 @@ module _ {X : Type 0} (f : X → Entries) (xs : List X) (history : List Entries)
 
   pub hands_refusal : (refusal : Refusal) → (refusal ≡ refusals.TooLong) ⊎ (refusal ≡ refusals.Memory)
       → (refusal ≡ refusals.TooLong → HasNone (map f (take (length xs - from) (drop from xs))) most)
-      → HandsOut history from most (refusal_text refusal) ⊎ (refusal_text refusal ≡ refusal_text refusals.Memory)
+      → HandsOut history from most (refusal_text refusal)
+      ⊎ ((from < length history) × (refusal_text refusal ≡ refusal_text refusals.Memory))
   hands_refusal refusal (inl is) none =
       inl (subst (λ e. HandsOut history from most (refusal_text e)) (sym is) (hands_none (none is)))
-  hands_refusal refusal (inr is) none = inr (ap refusal_text is)
+  hands_refusal refusal (inr is) none = inr (inside, ap refusal_text is)
 
 -- the line of so many deltas is one
 group_line_once : (deltas : List Entries) (n m : ℕ) (line other : List ℕ) → n ≡ m → IsGroupLine deltas n line

@@ -7,7 +7,6 @@ mod EndLemmas
 mod ReadLemmas
 mod AnswerLemmas
 mod KeptLemmas
-mod MemoryLemmas
 mod WordLemmas
 mod CommandLemmas
 pub mod ReadingLaws

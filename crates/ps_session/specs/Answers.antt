@@ -1,7 +1,7 @@
 -- What a sheet answers a line. It is told by the replica and by the history, the deltas that the replica has accepted;
 -- what the sheet shows follows from them.
-use Rattle.std.specs.Prelude.{◌≡◌, ◌≢◌, ◌⊎◌, ◌++◌, ◌∷◌, [], ℕ, Bool, true, false, List, length}
-use Rattle.std.specs.Prelude.{Result, Ok, Err, unwrap_or}
+use Rattle.std.specs.Prelude.{◌≡◌, ◌≢◌, ◌⊎◌, ◌<◌, ◌++◌, ◌∷◌, [], ℕ, List, length, ⊤}
+use Rattle.std.specs.Prelude.{Result, Ok, Err, IsOk, unwrap_or}
 use Rattle.ps_grid.specs.declared.refusal.Refusal.{Refusal}
 use Rattle.ps_grid.specs.declared.refusal.Refusal.TheVariants as refusals
 use Rattle.ps_grid.specs.Rectangle.{spanned}
@@ -12,7 +12,7 @@ use Rattle.ps_sheet.specs.Edits.{delta_of_edit}
 use Rattle.ps_sheet.specs.Sheet.{SheetView, Takes}
 use Rattle.ps_csv.specs.Exports.{exported}
 use Rattle.ps_session.specs.Handing.{HandsOut}
-use Rattle.ps_session.specs.Commands.{Read, ReadsLine, has_memory_reply}
+use Rattle.ps_session.specs.Commands.{Read, ReadsLine}
 use Rattle.ps_session.specs.Replies.{done_text, refusal_text, rows_text, value_text}
 use Rattle.ps_session.specs.Transcript.{Answering, Lines}
 use Rattle.ps_session.specs.declared.command.Command.{Command}
@@ -22,14 +22,6 @@ use Rattle.ps_session.specs.declared.command.Command.TheVariants.{Edit, Get, Pul
 abbrev pub Edited : Result Entries Refusal → List Entries → List ℕ → List Entries → Type 0
 Edited (Ok delta) history text next = (next ≡ history ++ delta ∷ []) × (text ≡ done_text (length next))
 Edited (Err refusal) history text next = (next ≡ history) × (text ≡ refusal_text refusal)
-
--- the command only looks at one cell
-abbrev pub is_get : Command → Bool
-is_get (Edit edit) = false
-is_get (Get cell) = true
-is_get (Rows first last) = false
-is_get (Pull from most) = false
-is_get (Push delta) = false
 
 -- what a replica with a history does where a line asks for this: the reply, and the history afterwards
 abbrev pub Obeys : ℕ → List Entries → Read Command → List ℕ → List Entries → Type 0
@@ -53,9 +45,21 @@ pub record Serves (old : SheetView) (line text : List ℕ) (new : SheetView) : T
   pub obeys : Obeys old.replica old.history asked text new.history
   pub replica : new.replica ≡ old.replica
 
--- for want of memory a line does nothing; no `get` is answered so
+-- what was asked for takes memory, at a replica with a history: an edit where its delta is made, a table, a delta
+-- that is handed out or taken in; never a look at a cell, and no edit that is refused
+abbrev pub TakesMemory : ℕ → List Entries → Read Command → Type 0
+TakesMemory replica history (Ok (Edit edit)) = IsOk (delta_of_edit replica (joined_history history) edit)
+TakesMemory replica history (Ok (Get cell)) = ⊥
+TakesMemory replica history (Ok (Rows first last)) = ⊤
+TakesMemory replica history (Ok (Pull from most)) = from < length history
+TakesMemory replica history (Ok (Push delta)) = ⊤
+TakesMemory replica history (Err refusal) = refusal ≡ refusals.Memory
+
+-- out of memory, a line does nothing: where memory was taken to read it, or by what it asks for
 pub record LacksMemory (old : SheetView) (line text : List ℕ) (new : SheetView) : Type 0 where
-  pub may : has_memory_reply line ≡ true
+  pub asked : Read Command
+  pub reads : ReadsLine line asked
+  pub takes : TakesMemory old.replica old.history asked
   pub told : text ≡ refusal_text refusals.Memory
   pub history : new.history ≡ old.history
   pub replica : new.replica ≡ old.replica
@@ -68,6 +72,6 @@ Answers old line text new = Serves old line text new ⊎ LacksMemory old line te
 abbrev pub SheetLines : Answering SheetView
 SheetLines = Lines Answers
 
--- .. where no reply is for want of memory
+-- .. where no reply is out of memory
 abbrev pub AmpleLines : Answering SheetView
 AmpleLines = Lines Serves

@@ -1,12 +1,12 @@
 -- What a line asks for. It is the line's own: no sheet is looked at.
-use Rattle.std.specs.Prelude.{◌≡◌, ◌<◌, ◌↔◌, ℕ, Bool, true, false, ◌&&◌, nat_le, List, [], ◌∷◌, codes, bytes_eq, drop}
+use Rattle.std.specs.Prelude.{◌≡◌, ◌<◌, ◌↔◌, ℕ, ◌&&◌, nat_le, List, [], ◌∷◌, codes, bytes_eq, drop}
 use Rattle.std.specs.Prelude.{Option, Some, None, MatchOption, Result, Ok, Err, IfOk, IfErr, MatchResult, ◌⊎◌}
-use Rattle.std.specs.Prelude.{if◌then◌else◌}
+use Rattle.std.specs.Prelude.{if◌then◌else◌, ⊤}
 use Rattle.ps_grid.specs.Place.{cell_name}
 use Rattle.ps_grid.specs.declared.refusal.Refusal.{Refusal}
 use Rattle.ps_grid.specs.declared.refusal.Refusal.TheVariants as refusals
 use Rattle.ps_grid.specs.declared.size.TheConstants.{CELLS}
-use Rattle.ps_content.specs.Entry.{Reads, kind_of}
+use Rattle.ps_content.specs.Entry.{Reads, formula, kind_of}
 use Rattle.ps_content.specs.declared.content.Content.{Content}
 use Rattle.ps_delta.specs.Deltas.{Entries}
 use Rattle.ps_wire.specs.Line.{IsLine}
@@ -140,19 +140,12 @@ abbrev pub ReadsLine : List ℕ → Read Command → Type 0
 ReadsLine line read =
     ReadsVerb (verb_of (first_word line)) (drop 1 (words line)) (behind_word line) read
 
--- every verb but `get` may find too little memory
-abbrev pub may_grow : Option Verb → Bool
-may_grow None = false
-may_grow (Some Get) = false
-may_grow (Some Set) = true
-may_grow (Some Add) = true
-may_grow (Some Sub) = true
-may_grow (Some Choose) = true
-may_grow (Some Unchoose) = true
-may_grow (Some Rows) = true
-may_grow (Some Push) = true
-may_grow (Some Pull) = true
+-- to read the rest of a line takes memory: a formula is kept, and so is a delta
+abbrev pub IsKeptInMemory : Option Verb → List ℕ → Type 0
+IsKeptInMemory (Some Set) rest = kind_of (behind_word rest) ≡ formula
+IsKeptInMemory (Some Push) rest = ⊤
+IsKeptInMemory _ rest = ⊥
 
--- the line may be refused for lack of memory
-abbrev pub has_memory_reply : List ℕ → Bool
-has_memory_reply line = may_grow (verb_of (first_word line))
+-- to read the line takes memory: it assigns a formula, or it is a `push`
+abbrev pub TakesMemoryToRead : List ℕ → Type 0
+TakesMemoryToRead line = IsKeptInMemory (verb_of (first_word line)) (behind_word line)

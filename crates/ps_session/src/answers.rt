@@ -1,12 +1,12 @@
 //! A sheet answers lines.
-ghost use Rattle.std.specs.Prelude.{◌≡◌, ◌⊎◌, Ok, false, length};
+ghost use Rattle.std.specs.Prelude.{◌≡◌, ◌⊎◌, IsOk, Ok, length};
 ghost use Rattle.ps_delta.specs.Deltas.{joined_history};
 ghost use Rattle.ps_eval.specs.Items.{Assignment};
 ghost use Rattle.ps_csv.specs.Exports.{exported};
 ghost use Rattle.ps_sheet.specs.Edits.{delta_of_edit};
 ghost use Rattle.ps_sheet.specs.Settled.{IsSettled};
 ghost use Rattle.ps_sheet.specs.Sheet.{Takes};
-ghost use Rattle.ps_session.specs.Answers.{Edited, Obeys, is_get};
+ghost use Rattle.ps_session.specs.Answers.{Edited, Obeys, TakesMemory};
 ghost use Rattle.ps_session.specs.Replies.{done_text, refusal_text, reply_text, rows_text};
 
 use crate::board::Board;
@@ -35,7 +35,7 @@ impl<L: Ledger> Board<Meter<L>> for Sheet {
     }
 }
 
-/// Does what a command asks for. Only a `get` is never refused for lack of memory.
+/// Does what a command asks for, or nothing, out of memory, where that takes some.
 fn obey<L: Ledger>(
     alloc: Global,
     command: Command,
@@ -43,8 +43,8 @@ fn obey<L: Ledger>(
     meter: &mut Meter<L>,
 ) -> Reply
     ensures obeyed { Obeys sheet.old.replica sheet.old.history (Ok command) (reply_text result) sheet.new.history
-        ⊎ ((is_get command ≡ false) × (reply_text result ≡ refusal_text Refusal.Memory)
-        × (sheet.new.history ≡ sheet.old.history)) }
+        ⊎ (TakesMemory sheet.old.replica sheet.old.history (Ok command)
+        × (reply_text result ≡ refusal_text Refusal.Memory) × (sheet.new.history ≡ sheet.old.history)) }
     ensures replica { sheet.new.replica ≡ sheet.old.replica }
 {
     match command {
@@ -60,7 +60,8 @@ fn obey<L: Ledger>(
 fn carry_out<L: Ledger>(alloc: Global, edit: Edit, sheet: &mut Sheet, meter: &mut Meter<L>) -> Reply
     ensures edited { Edited (delta_of_edit sheet.old.replica (joined_history sheet.old.history) edit) sheet.old.history
         (reply_text result) sheet.new.history
-        ⊎ ((reply_text result ≡ refusal_text Refusal.Memory) × (sheet.new.history ≡ sheet.old.history)) }
+        ⊎ (IsOk (delta_of_edit sheet.old.replica (joined_history sheet.old.history) edit)
+        × (reply_text result ≡ refusal_text Refusal.Memory) × (sheet.new.history ≡ sheet.old.history)) }
     ensures replica { sheet.new.replica ≡ sheet.old.replica }
 {
     match sheet.edit(alloc, edit, meter) {

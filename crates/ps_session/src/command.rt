@@ -1,9 +1,9 @@
 //! What a line asks for.
-ghost use Rattle.std.specs.Prelude.{◌≡◌, ◌∷◌, Ok, Some};
+ghost use Rattle.std.specs.Prelude.{◌≡◌, ◌∷◌, Err, Ok, Some};
 ghost use Rattle.std.specs.Option.{ok_or};
 ghost use Rattle.ps_session.specs.Words.{behind_word, parts, whole_number, words};
 ghost use Rattle.ps_session.specs.Commands.{AtCell, ReadsCorners, ReadsGet, ReadsLine, ReadsPair, ReadsPull};
-ghost use Rattle.ps_session.specs.Commands.{ReadsRows, ReadsSet, ReadsVerb, TakesIn, group_size};
+ghost use Rattle.ps_session.specs.Commands.{ReadsRows, ReadsSet, ReadsVerb, TakesIn, TakesMemoryToRead, group_size};
 
 use crate::verb::Verb;
 use crate::words::{read_whole, split_part, split_word};
@@ -51,11 +51,13 @@ impl Command {
     /// Exactly one space stands between two words; an entry may hold more. Of several refusals the first is told:
     /// another first word, a word too few or too many (`Command`), no cell (`Cell`), no digits or a number of more
     /// than 64 bits (`Amount` or `OptionRange`), and then those of the entry. Whether the number is in range, and the
-    /// cell has a counter or a set, isn't asked here.
+    /// cell has a counter or a set, isn't asked here. Only an entry that is a formula, and the line of a delta, take
+    /// memory to be read.
     ///
-    /// Cost: linear in the line; only an entry that is a formula takes memory.
+    /// Cost: O(n) in the n bytes of the line.
     pub fn read(alloc: Global, line: &[u8]) -> Result<Command, Refusal>
-        ensures { ReadsLine line.now result }
+        ensures read { ReadsLine line.now result }
+        ensures memory { result ≡ Err Refusal.Memory → TakesMemoryToRead line.now }
     {
         let (word, behind) = split_word(line);
         let Some(verb) = Verb::read(word) else {

@@ -21,7 +21,7 @@ use std::sync::Arc;
 /// aren't looked at.
 pub(crate) fn hand_out(alloc: Global, from: u64, most: usize, sheet: &Sheet) -> Reply
     ensures { HandsOut sheet.now.history from most (reply_text result)
-        ⊎ (reply_text result ≡ refusal_text Refusal.Memory) }
+        ⊎ ((from < length sheet.now.history) × (reply_text result ≡ refusal_text Refusal.Memory)) }
 {
     let history = sheet.history();
     let version = sheet.version();

@@ -1,8 +1,8 @@
 use Rattle.ps_session.proofs.CommandLemmas.{line_alone}
 use Rattle.ps_session.proofs.command.Command.read.Goals as goal
 
-pub returns-in-None : goal.returns-in-None
-returns-in-None c =
+pub returns-in-None-clause-read : goal.returns-in-None-clause-read
+returns-in-None-clause-read c =
     line_alone c.args.line.now c.split_word.result.0.now c.in-Some.verb c.split_word.ensures.word
     c.in-Some.ensures
     (rw c.in-None.is at c.split_word.ensures.words)
