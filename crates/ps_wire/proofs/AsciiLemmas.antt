@@ -40,12 +40,12 @@ either_ascii : (b : Bool) (xs ys : List ℕ) → IsAscii xs → IsAscii ys → I
 either_ascii true xs ys h k = h
 either_ascii false xs ys h k = k
 
-digits_onto_ascii : (k n : ℕ) (behind : List ℕ) → IsAscii behind → IsAscii (digits_onto k 10 false n behind)
-digits_onto_ascii zero n behind h = h
-digits_onto_ascii (suc k) n behind h =
+digits_onto_ascii : (k n : ℕ) (rest : List ℕ) → IsAscii rest → IsAscii (digits_onto k 10 false n rest)
+digits_onto_ascii zero n rest h = h
+digits_onto_ascii (suc k) n rest h =
     let d = digit_glyph false (n % 10) in
-    let more = IsAscii-cons d behind (glyph_small (n % 10) (omega arith)) h in
-    either_ascii (n / 10 == 0) (d ∷ behind) _ more (digits_onto_ascii k (n / 10) (d ∷ behind) more)
+    let more = IsAscii-cons d rest (glyph_small (n % 10) (omega arith)) h in
+    either_ascii (n / 10 == 0) (d ∷ rest) _ more (digits_onto_ascii k (n / 10) (d ∷ rest) more)
 
 decimal_ascii : (n : ℕ) → IsAscii (decimal n)
 unfolding digits
@@ -99,9 +99,9 @@ operator_ascii operators.GreaterOrEqual = ascii (operator_text operators.Greater
 -- a text in brackets
 bracketed : (inner : List ℕ) → IsAscii inner → IsAscii (91 ∷ 46 ∷ (inner ++ 93 ∷ []))
 bracketed inner h =
-    let behind = ascii (93 ∷ []) refl in
+    let rest = ascii (93 ∷ []) refl in
     IsAscii-append (91 ∷ 46 ∷ []) (inner ++ 93 ∷ []) (ascii (91 ∷ 46 ∷ []) refl)
-    (IsAscii-append inner (93 ∷ []) h behind)
+    (IsAscii-append inner (93 ∷ []) h rest)
 
 token_ascii : (t : Token) → IsAscii (token_text t)
 token_ascii (Numeral z) = signed_ascii z

@@ -12,9 +12,9 @@ use Rattle.json.specs.Json as json
 use Rattle.json.specs.Json.{Json, Items, Parse, parse_map, after_end_array, items_step, items, value_with, value}
 
 -- a comma, where a value stands before
-abbrev behind : Bool → ℕ
-behind true = 1
-behind false = 0
+abbrev comma_of : Bool → ℕ
+comma_of true = 1
+comma_of false = 0
 
 -- the bytes that a token takes
 abbrev pub width : Token → ℕ
@@ -38,15 +38,15 @@ weight (colon ∷ ls) = 1 + weight ls
 -- the bytes that the tokens take, with commas between values, up to the first fault
 abbrev pub cost : Bool → List Token → ℕ
 cost later [] = 0
-cost later (begin_object ∷ ts) = behind later + (1 + cost false ts)
+cost later (begin_object ∷ ts) = comma_of later + (1 + cost false ts)
 cost later (end_object ∷ ts) = 1 + cost true ts
-cost later (begin_array ∷ ts) = behind later + (1 + cost false ts)
+cost later (begin_array ∷ ts) = comma_of later + (1 + cost false ts)
 cost later (end_array ∷ ts) = 1 + cost true ts
-cost later (key s ∷ ts) = behind later + (length (quoted s) + cost false ts)
-cost later (string s ∷ ts) = behind later + (length (quoted s) + cost true ts)
-cost later (number s ∷ ts) = behind later + (length s + cost true ts)
-cost later (boolean b ∷ ts) = behind later + cost true ts
-cost later (null ∷ ts) = behind later + (4 + cost true ts)
+cost later (key s ∷ ts) = comma_of later + (length (quoted s) + cost false ts)
+cost later (string s ∷ ts) = comma_of later + (length (quoted s) + cost true ts)
+cost later (number s ∷ ts) = comma_of later + (length s + cost true ts)
+cost later (boolean b ∷ ts) = comma_of later + cost true ts
+cost later (null ∷ ts) = comma_of later + (4 + cost true ts)
 cost later (bad ∷ ts) = 0
 
 one_comma : (ts : List Token) → cost true ts ≤ 1 + cost false ts
@@ -63,16 +63,16 @@ one_comma (null ∷ ts) = omega arith
 one_comma (bad ∷ ts) = omega arith
 
 -- whether a value stands right before
-abbrev is_behind : Place → Bool
-is_behind fresh = false
-is_behind after_value = true
-is_behind after_comma = false
-is_behind after_key = false
+abbrev stands_after : Place → Bool
+stands_after fresh = false
+stands_after after_value = true
+stands_after after_comma = false
+stands_after after_key = false
 
 -- a token at its place
 placed : (p : Place) (t : Token) (c : Bool) (k : Place → List Token) (w : ℕ)
-    → ((next : Place) → cost (is_behind next) (k next) ≤ w)
-    → cost (is_behind p) (place_token p t c k) ≤ width t + w
+    → ((next : Place) → cost (stands_after next) (k next) ≤ w)
+    → cost (stands_after p) (place_token p t c k) ≤ width t + w
 placed fresh begin_object c k w h = omega (arith, h fresh)
 placed fresh end_object c k w h = omega (arith, h after_value)
 placed fresh begin_array c k w h = omega (arith, h fresh)
@@ -119,7 +119,7 @@ placed after_key null c k w h = omega arith
 placed after_key bad c k w h = omega arith
 
 -- the commas between lexemes pay for those that are printed
-pub punctuated : (p : Place) (ls : List Lexeme) → cost (is_behind p) (punctuate p ls) ≤ weight ls
+pub punctuated : (p : Place) (ls : List Lexeme) → cost (stands_after p) (punctuate p ls) ≤ weight ls
 unfolding punctuate
 punctuated fresh [] = omega arith
 punctuated after_value [] = omega arith
@@ -157,7 +157,7 @@ abbrev mutual
   -- with the commas and the closing bracket
   pub spans_of : Bool → Items → ℕ
   spans_of later json.no_items = 1
-  spans_of later (json.item j js) = behind later + (span_of j + spans_of true js)
+  spans_of later (json.item j js) = comma_of later + (span_of j + spans_of true js)
 
 abbrev mutual
   pub HasNoObject : Json → Type 0
@@ -175,7 +175,8 @@ abbrev mutual
 -- what was read takes its bytes, and the rest takes the others
 abbrev pub ValuePays : List Token → Option (Json × List Token) → Type 0
 ValuePays ts None = Unit {0}
-ValuePays ts (Some p) = HasNoObject p.0 → (later : Bool) → behind later + (span_of p.0 + cost true p.1) ≤ cost later ts
+ValuePays ts (Some p) =
+    HasNoObject p.0 → (later : Bool) → comma_of later + (span_of p.0 + cost true p.1) ≤ cost later ts
 
 abbrev pub ItemsPay : Bool → List Token → Option (Items × List Token) → Type 0
 ItemsPay later ts None = Unit {0}
@@ -198,7 +199,7 @@ closing later (null ∷ ts) r e = absurd cc
 closing later (bad ∷ ts) r e = absurd cc
 
 joined : (later : Bool) (ts s : List Token) (j : Json)
-    → (HasNoObject j → behind later + (span_of j + cost true s) ≤ cost later ts)
+    → (HasNoObject j → comma_of later + (span_of j + cost true s) ≤ cost later ts)
     → (o : Option (Items × List Token)) → ItemsPay true s o → ItemsPay later ts (parse_map (json.item j) o)
 joined later ts s j first None rest = tt
 joined later ts s j first (Some p) rest = λ flat. omega (arith, first flat.0, rest flat.1)

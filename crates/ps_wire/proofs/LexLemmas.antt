@@ -52,14 +52,14 @@ abbrev PassesTo : List ℕ → Option (List ℕ) → Type 0
 PassesTo text None = ⊤
 PassesTo text (Some rest) = Passes text rest
 
-behind : (t r : List ℕ) (o : Option (List ℕ)) → Passes t r → PassesTo r o → PassesTo t o
-behind t r None h k = tt
-behind t r (Some s) h k = omega (arith, h, k)
+onward : (t r : List ℕ) (o : Option (List ℕ)) → Passes t r → PassesTo r o → PassesTo t o
+onward t r None h k = tt
+onward t r (Some s) h k = omega (arith, h, k)
 
 then : (t : List ℕ) (f : List ℕ → Option (List ℕ)) (o : Option (List ℕ)) → PassesTo t o
     → ((r : List ℕ) → PassesTo r (f r)) → PassesTo t (option_and_then f o)
 then t f None h k = tt
-then t f (Some r) h k = behind t r (f r) h (k r)
+then t f (Some r) h k = onward t r (f r) h (k r)
 
 -- one byte of a word
 one_byte : (t : List ℕ) (c : ℕ) → is_operator c ≡ false → is_space c ≡ false → head t ≡ c → Passes t (drop 1 t)
@@ -112,7 +112,7 @@ fraction_passes t = by_test (head t == ascii.dot) refl
   where
     by_test : (b : Bool) → (head t == ascii.dot) ≡ b → PassesTo t (cond b (after_digits (drop 1 t)) (Some t))
     by_test true e =
-        behind t (drop 1 t) (after_digits (drop 1 t)) (one_byte t 46 refl refl (eqb-true (head t) 46 e))
+        onward t (drop 1 t) (after_digits (drop 1 t)) (one_byte t 46 refl refl (eqb-true (head t) 46 e))
         (some_digits (drop 1 t))
     by_test false e = omega arith
 
@@ -135,14 +135,14 @@ exponent_passes t = by_test ((head t == ascii.lower_e) || (head t == ascii.upper
     by_test : (b : Bool) → ((head t == ascii.lower_e) || (head t == ascii.upper_e)) ≡ b
         → PassesTo t (cond b (after_digits (after_sign (drop 1 t))) (Some t))
     by_test true e =
-        behind t (drop 1 t) _ (either_byte t 101 69 (head t == 101) (head t == 69) refl refl refl refl refl refl e)
-        (behind (drop 1 t) (after_sign (drop 1 t)) _ (sign_passes (drop 1 t)) (some_digits (after_sign (drop 1 t))))
+        onward t (drop 1 t) _ (either_byte t 101 69 (head t == 101) (head t == 69) refl refl refl refl refl refl e)
+        (onward (drop 1 t) (after_sign (drop 1 t)) _ (sign_passes (drop 1 t)) (some_digits (after_sign (drop 1 t))))
     by_test false e = omega arith
 
 number_passes : (t : List ℕ) → PassesTo t (after_number t)
 unfolding after_number
 number_passes t =
-    then t after_exponent _ (then t after_fraction _ (behind t (after_minus t) (after_whole (after_minus t))
+    then t after_exponent _ (then t after_fraction _ (onward t (after_minus t) (after_whole (after_minus t))
     (if_byte t 45 (head t == 45) refl refl refl) (whole_passes (after_minus t))) fraction_passes) exponent_passes
 
 -- ---- words

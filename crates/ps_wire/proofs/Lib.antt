@@ -1,13 +1,13 @@
+pub mod ArrayLemmas
 pub mod AsciiLemmas
-pub mod CellLemmas
 pub mod ContentLemmas
 pub mod CostLemmas
 pub mod EscapeLemmas
-pub mod FitLemmas
 pub mod LawLemmas
+pub mod LengthLemmas
 pub mod LexLemmas
 pub mod LineLemmas
+pub mod NoFloatLemmas
+pub mod OneDeltaLemmas
 pub mod PartLemmas
 pub mod ShorterLemmas
-pub mod ValueLemmas
-pub mod WrittenLemmas

@@ -9,10 +9,10 @@ use Rattle.ps_grid.specs.declared.refusal.Refusal.TheVariants.{Memory}
 use Rattle.ps_delta.specs.Deltas.{Entries, IsDelta, AreInGrid}
 use Rattle.ps_wire.specs.declared.TheConstants.{DELTA_LINE_LIMIT}
 use Rattle.ps_wire.specs.Line.{IsLine}
-use Rattle.ps_wire.specs.Refused.{RefusedAs}
+use Rattle.ps_wire.specs.Inside.{RefusedAs}
 use Rattle.ps_wire.specs.Value.{array_of, cell_value, delta_value, IsState, StandsFor}
-use Rattle.ps_wire.proofs.ValueLemmas.{array_of-injective}
-use Rattle.ps_wire.proofs.CellLemmas.{Good, all_good, cells-injective, one_delta}
+use Rattle.ps_wire.proofs.ArrayLemmas.{array_of-injective}
+use Rattle.ps_wire.proofs.OneDeltaLemmas.{Good, all_good, cells-injective, one_delta}
 
 module _ (value : Data) where
   -- no array stands for a delta
@@ -54,7 +54,7 @@ pub stands_by_line : (bytes : List ℕ) (value : Data) (d : Entries) → read by
     → StandsFor value d
 stands_by_line bytes value d is line = let both = sym is ∙ line.read in record { lawful = line.lawful; spelled = cc }
 
--- the delta of a line is found, but for lack of memory
+-- the delta of a line is found, or memory ran out
 pub found_by_line : (bytes : List ℕ) (value : Data) (r : Result Entries Refusal) → read bytes ≡ Some value
     → IfOk r (λ d. StandsFor value d) → IfErr r (λ e. RefusedAs e ((d : Entries) → StandsFor value d → ⊥))
     → (d : Entries) → IsLine bytes d → MatchResult r (λ found. found ≡ d) (λ e. e ≡ Memory)

@@ -11,7 +11,7 @@ use Rattle.ps_lattice.specs.Tally.{Counts, is_count, is_tally}
 use Rattle.ps_lattice.specs.Choice.{Pairs, is_pair, is_choice, pair_cmp}
 use Rattle.ps_lattice.proofs.Views.{entries_of}
 use Rattle.ps_wire.specs.Value.{array_of, count_value, pair_value, gone_number}
-use Rattle.ps_wire.proofs.ValueLemmas.{array_of-injective, map-injective}
+use Rattle.ps_wire.proofs.ArrayLemmas.{array_of-injective, map-injective}
 
 -- nothing is asked of an item
 abbrev Any : {X : Type 0} → X → Type 0

@@ -1,4 +1,4 @@
 pub mod Fits
+pub mod Inside
 pub mod Line
-pub mod Refused
 pub mod Value

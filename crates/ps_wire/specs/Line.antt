@@ -10,12 +10,6 @@ use Rattle.ps_wire.specs.declared.TheConstants.{DELTA_LINE_LIMIT}
 unfoldable pub delta_text : Entries → List ℕ
 delta_text delta = compact_text (delta_value delta)
 
--- the bytes are UTF-8, and JSON that serde_json reads as the value of the delta
-pub record ReadsAs (bytes : List ℕ) (delta : Entries) : Type 0 where
-  pub utf8 : IsUtf8 bytes
-  pub read : read bytes ≡ Some (delta_value delta)
-  pub lawful : IsLawful delta
-
 -- the bytes are a line of the delta: not too long, UTF-8, and JSON that serde_json reads as the delta's value
 pub record IsLine (bytes : List ℕ) (delta : Entries) : Type 0 where
   pub fits : length bytes ≤ DELTA_LINE_LIMIT

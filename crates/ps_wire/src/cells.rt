@@ -9,7 +9,7 @@ ghost use Rattle.ps_grid.specs.declared.size.TheConstants.{CELLS};
 ghost use Rattle.ps_delta.specs.declared.cell_state.CellState.{CellState as State};
 ghost use Rattle.ps_delta.specs.Deltas.{Entries};
 ghost use Rattle.ps_wire.specs.Value.{cell_value, IsState};
-ghost use Rattle.ps_wire.specs.Refused.{RefusedAs, RefusedSince};
+ghost use Rattle.ps_wire.specs.Inside.{RefusedAs, RefusedSince};
 
 use crate::parts::{quadruple, text};
 use crate::states::{read_choice, read_register, read_tally};
@@ -18,7 +18,7 @@ use ps_grid::{Cell, Refusal};
 use serde_json::Value;
 use std::alloc::Global;
 
-// A cell, by its name.
+/// A cell, by its name.
 fn read_name(value: &Value) -> Result<Cell, Refusal>
     ensures found { IfOk result (λ c. (view value.now ≡ string (cell_name c)) × (c < CELLS)) }
     ensures refused { IfErr result (λ r. RefusedSince r
@@ -27,7 +27,7 @@ fn read_name(value: &Value) -> Result<Cell, Refusal>
     Cell::read(text(value)?.as_bytes()).ok_or(Refusal::Delta)
 }
 
-// A cell with its state.
+/// A cell with its state.
 #[tactic(auto, unfolding(crate::specs::Value::cell_value))]
 fn read_cell(alloc: Global, value: &Value) -> Result<(Cell, CellState), Refusal>
     ensures found { IfOk result (λ e. (view value.now ≡ cell_value e) × (e.0 < CELLS) × IsState e.1) }

@@ -3,13 +3,18 @@
 //! A delta travels as one line: a JSON array (RFC 8259) of one or more cells, ascending and distinct, each an array of
 //! four: the cell's name, its register, its counters and its pairs.
 //!
-//! It is not the session: it knows no commands and no replies, and it carries nothing out.
+//! It is not the session: it knows no commands and no replies, and it carries nothing out. It is no store: a delta that
+//! was read is handed on, and nothing is kept.
+//!
+//! The contract to use: [`decode`] returns the one delta that the bytes are a line of (`IsLine`), and refuses bytes as
+//! no delta only where they are a line of none; [`encode`] appends the delta's compact text, which is a line of it, and
+//! refuses it only where it is too long. Which deltas never are, [`decoded_lines_fit`] and [`edited_lines_fit`] say.
 //!
 //! Say `A1` holds 5, assigned at the time 1 by the replica 2. The delta that says so has the line
 //! `[["A1",[1,2,"5"],[],[]]]`, and so has every other spelling of that value, as one with blanks between the tokens.
 //! `[["A1",null,[],[]]]` says nothing of A1 and is no delta.
 //!
-//! Cost: reading and writing take time linear in the line, and memory for the cells, counts and pairs.
+//! Cost: time linear in the line either way, and memory for the delta's cells, counts and pairs.
 #![tactic(auto)]
 
 mod cells;
@@ -22,7 +27,9 @@ mod values;
 pub use laws::{decoded_lines_fit, edited_lines_fit, values_and_deltas_agree};
 pub use line::{decode, encode};
 
-/// The most bytes of a delta's line.
+/// The most bytes of a delta's line. `edited_lines_fit` hangs on it, with `COLUMNS`: a batch of a row's cells has to
+/// fit, at 1,613 bytes a cell and a comma, so twice the columns need twice the bytes. The session's limit of a line
+/// hangs on it in turn: the word of a command stands before a delta.
 pub const DELTA_LINE_LIMIT: usize = 262_144;
 
 #[cfg(test)]

@@ -6,9 +6,9 @@ ghost use Rattle.serde_json.specs.Read.{read as read_text};
 ghost use Rattle.serde_json.specs.View.{view};
 ghost use Rattle.ps_grid.specs.declared.refusal.Refusal.TheVariants.{Memory};
 ghost use Rattle.ps_delta.specs.Deltas.{Entries};
-ghost use Rattle.ps_wire.specs.Line.{IsLine, ReadsAs, delta_text};
+ghost use Rattle.ps_wire.specs.Line.{IsLine, delta_text};
 ghost use Rattle.ps_wire.specs.Value.{StandsFor};
-ghost use Rattle.ps_wire.specs.Refused.{RefusedAs};
+ghost use Rattle.ps_wire.specs.Inside.{ReadsAs, RefusedAs};
 
 use crate::DELTA_LINE_LIMIT;
 use crate::cells::read_cells;
@@ -20,9 +20,9 @@ use serde_json::Value;
 use std::alloc::Global;
 
 /// Appends the compact text of the delta: JSON of its value without blanks. Refused as `TooLong` only where that text
-/// has more than `DELTA_LINE_LIMIT` bytes, and for lack of memory; then the line is as before.
+/// has more than `DELTA_LINE_LIMIT` bytes, and as `Memory` where memory ran out; then the line is as before.
 ///
-/// Cost: linear in the text; memory for the cells, counts and pairs, and for the text.
+/// Cost: t, for t bytes of the text; memory for them and for the delta's cells, counts and pairs.
 pub fn encode(alloc: Global, delta: &Delta, line: &mut Vec<u8>) -> Result<(), Refusal>
     ensures appended { OnOk result (line.new.items ≡ line.old.items ++ delta_text delta.now) }
     ensures is_line { OnOk result (IsLine (delta_text delta.now) delta.now) }
@@ -38,7 +38,7 @@ pub fn encode(alloc: Global, delta: &Delta, line: &mut Vec<u8>) -> Result<(), Re
     Ok(())
 }
 
-// The text that serde_json writes for the value of the delta.
+/// The text that serde_json writes for the value of the delta.
 fn compact_text(alloc: Global, delta: &Delta) -> Result<Vec<u8>, Refusal>
     ensures text { IfOk result (λ text. text.items ≡ delta_text delta.now) }
     ensures reads { IfOk result (λ text. ReadsAs text.items delta.now) }
@@ -49,10 +49,10 @@ fn compact_text(alloc: Global, delta: &Delta) -> Result<Vec<u8>, Refusal>
 }
 
 /// The delta that a line stands for: any JSON text of its value, blanks and escapes as they may be, of at most
-/// `DELTA_LINE_LIMIT` bytes of UTF-8. Any other bytes are refused as `Delta`; and a line may be refused for lack of
-/// memory.
+/// `DELTA_LINE_LIMIT` bytes of UTF-8. Any other bytes are refused as `Delta`, and a line as `Memory` where memory ran
+/// out.
 ///
-/// Cost: linear in the bytes; memory for the cells, counts and pairs.
+/// Cost: b, for b bytes of the line; memory for the delta's cells, counts and pairs.
 pub fn decode(alloc: Global, bytes: &[u8]) -> Result<Delta, Refusal>
     ensures line { IfOk result (λ d. IsLine bytes.now d) }
     ensures read { (d : Entries) → IsLine bytes.now d → MatchResult result (λ found. found ≡ d) (λ e. e ≡ Memory) }
@@ -65,6 +65,7 @@ pub fn decode(alloc: Global, bytes: &[u8]) -> Result<Delta, Refusal>
     read_delta(alloc, &value)
 }
 
+/// The delta that the value stands for.
 fn read_delta(alloc: Global, value: &Value) -> Result<Delta, Refusal>
     ensures found { IfOk result (λ d. StandsFor (view value.now) d) }
     ensures refused { IfErr result (λ r. RefusedAs r ((d : Entries) → StandsFor (view value.now) d → ⊥)) }
@@ -73,6 +74,7 @@ fn read_delta(alloc: Global, value: &Value) -> Result<Delta, Refusal>
     Delta::new(cells).ok_or(Refusal::Delta)
 }
 
+/// The JSON value that the bytes spell.
 fn read_value(alloc: Global, bytes: &[u8]) -> Result<Value, Refusal>
     ensures found { IfOk result (λ v. IsUtf8 bytes.now × (read_text bytes.now ≡ Some (view v))) }
     ensures refused { IfErr result (λ r. RefusedAs r (IsUtf8 bytes.now → read_text bytes.now ≡ None)) }

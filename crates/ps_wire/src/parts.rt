@@ -4,7 +4,7 @@ ghost use Rattle.std.specs.Prelude.{◌≡◌, ℕ, ◌^◌, ◌<◌, List, [], 
 ghost use Rattle.serde_json.specs.Data.{Data, string};
 ghost use Rattle.serde_json.specs.View.{view};
 ghost use Rattle.ps_wire.specs.Value.{array_of, whole};
-ghost use Rattle.ps_wire.specs.Refused.{RefusedSince};
+ghost use Rattle.ps_wire.specs.Inside.{RefusedSince};
 
 use ps_grid::Refusal;
 use serde_json::Value;

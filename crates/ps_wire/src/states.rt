@@ -14,7 +14,7 @@ ghost use Rattle.ps_content.specs.Content.{canonical_text, IsContent};
 ghost use Rattle.ps_content.specs.declared.content.Content.{Content as Contents};
 ghost use Rattle.ps_wire.specs.Value.{array_of, whole, register_value, count_value, pair_value, gone_number};
 ghost use Rattle.ps_wire.specs.Value.{IsRegister};
-ghost use Rattle.ps_wire.specs.Refused.{RefusedAs, RefusedSince};
+ghost use Rattle.ps_wire.specs.Inside.{RefusedAs, RefusedSince};
 
 use crate::parts::{items, middling, quadruple, short, text, triple, whole};
 use ps_content::{Content, read_canonical};
@@ -23,7 +23,7 @@ use ps_lattice::{Assignment, Choice, Count, Pair, Register, Tally};
 use serde_json::Value;
 use std::alloc::Global;
 
-// A content, by its canonical text.
+/// A content, by its canonical text.
 fn read_content(alloc: Global, value: &Value) -> Result<Content, Refusal>
     ensures found { IfOk result (λ c. (view value.now ≡ string (canonical_text c)) × IsContent c) }
     ensures refused { IfErr result (λ r. RefusedAs r
@@ -35,7 +35,7 @@ fn read_content(alloc: Global, value: &Value) -> Result<Content, Refusal>
     }
 }
 
-// `null`, or an array of the time, the replica and the content.
+/// `null`, or an array of the time, the replica and the content.
 pub(crate) fn read_register(alloc: Global, value: &Value) -> Result<Register<Content>, Refusal>
     ensures found { IfOk result (λ held. (view value.now ≡ register_value held) × IsRegister held) }
     ensures refused { IfErr result (λ r. RefusedAs r
@@ -53,7 +53,7 @@ pub(crate) fn read_register(alloc: Global, value: &Value) -> Result<Register<Con
     Register::from_parts(assignment).ok_or(Refusal::Delta)
 }
 
-// A counter: an array of replicas with their counts.
+/// A counter: an array of replicas with their counts.
 pub(crate) fn read_tally(alloc: Global, value: &Value) -> Result<Tally, Refusal>
     ensures found { IfOk result (λ t. (view value.now ≡ array_of (each count_value (map.entries t)))
         × IsTrue (is_tally (map.entries t))) }
@@ -64,6 +64,7 @@ pub(crate) fn read_tally(alloc: Global, value: &Value) -> Result<Tally, Refusal>
     Tally::from_parts(counts).ok_or(Refusal::Delta)
 }
 
+/// Replicas with their counts, one after another.
 fn read_counts(alloc: Global, values: &[Value]) -> Result<Vec<(u8, Count)>, Refusal>
     ensures found { IfOk result (λ all. each view values.now ≡ each count_value all.items) }
     ensures refused { IfErr result (λ r. RefusedAs r ((all : List (ℕ × Counted)) → IsTrue (list_all is_count all)
@@ -76,7 +77,7 @@ fn read_counts(alloc: Global, values: &[Value]) -> Result<Vec<(u8, Count)>, Refu
     Ok(counts)
 }
 
-// A replica with its two counts.
+/// A replica with its two counts.
 fn read_count(value: &Value) -> Result<(u8, Count), Refusal>
     ensures found { IfOk result (λ e. view value.now ≡ count_value e) }
     ensures refused { IfErr result (λ r. RefusedSince r
@@ -90,7 +91,7 @@ fn read_count(value: &Value) -> Result<(u8, Count), Refusal>
     Ok((short(replica)?, count))
 }
 
-// A set: an array of pairs.
+/// A set: an array of pairs.
 pub(crate) fn read_choice(alloc: Global, value: &Value) -> Result<Choice, Refusal>
     ensures found { IfOk result (λ c. (view value.now ≡ array_of (each pair_value (map.entries c)))
         × IsTrue (is_choice (map.entries c))) }
@@ -101,6 +102,7 @@ pub(crate) fn read_choice(alloc: Global, value: &Value) -> Result<Choice, Refusa
     Choice::from_parts(pairs).ok_or(Refusal::Delta)
 }
 
+/// Pairs with whether they are gone, one after another.
 fn read_pairs(alloc: Global, values: &[Value]) -> Result<Vec<(Pair, bool)>, Refusal>
     ensures found { IfOk result (λ all. each view values.now ≡ each pair_value all.items) }
     ensures refused { IfErr result (λ r. RefusedAs r ((all : List (Tagged × Bool)) → IsTrue (list_all is_pair all)
@@ -113,7 +115,7 @@ fn read_pairs(alloc: Global, values: &[Value]) -> Result<Vec<(Pair, bool)>, Refu
     Ok(pairs)
 }
 
-// A pair, and whether it is gone.
+/// A pair, and whether it is gone.
 fn read_pair(value: &Value) -> Result<(Pair, bool), Refusal>
     ensures found { IfOk result (λ e. view value.now ≡ pair_value e) }
     ensures refused { IfErr result (λ r. RefusedSince r
@@ -128,7 +130,7 @@ fn read_pair(value: &Value) -> Result<(Pair, bool), Refusal>
     Ok((pair, read_gone(gone)?))
 }
 
-// 0 for what is added alone, 1 for what is removed too.
+/// 0 for what is added alone, 1 for what is removed too.
 fn read_gone(value: &Value) -> Result<bool, Refusal>
     ensures found { IfOk result (λ b. view value.now ≡ whole (gone_number b)) }
     ensures refused { IfErr result (λ r. RefusedSince r ((b : Bool) → view value.now ≡ whole (gone_number b) → ⊥)) }

@@ -6,7 +6,7 @@ use ps_grid::Refusal;
 use std::alloc::Global;
 use std::test::Fail;
 
-// The compact text of the delta that the bytes stand for.
+/// The compact text of the delta that the bytes stand for.
 fn rewritten(alloc: Global, bytes: &[u8]) -> Result<Vec<u8>, Refusal> {
     let delta = decode(alloc, bytes)?;
     let mut line = Vec::new(alloc);
@@ -20,7 +20,7 @@ fn is_refused(alloc: Global, bytes: &[u8]) -> bool {
 
 /// Compact lines stay as they are: registers, counters and sets, also on the longest names and the last times.
 #[test]
-fn old_lines(rt: HostRuntime) -> Result<(), Fail> {
+fn compact_lines_stay_as_they_are(rt: HostRuntime) -> Result<(), Fail> {
     for line in [
         r#"[["B1",[2,2,"4"],[],[]],["D1",[2,2,"=[.C1]"],[],[]]]"#,
         r#"[["B1",[3,2,"=[.A1]"],[],[]],["D1",[3,2,"7"],[],[]]]"#,
@@ -53,7 +53,7 @@ fn old_lines(rt: HostRuntime) -> Result<(), Fail> {
 
 /// Blanks and escapes may be spelled in other ways; what is written is compact.
 #[test]
-fn other_spellings(rt: HostRuntime) -> Result<(), Fail> {
+fn other_spellings_are_written_compactly(rt: HostRuntime) -> Result<(), Fail> {
     let spaced = rewritten(rt.alloc(), br#"[ ["A1", [1,2,"\u0035"], [], []] ]"#)?;
     assert_eq!(rt;
         spaced.as_slice(),
@@ -63,9 +63,9 @@ fn other_spellings(rt: HostRuntime) -> Result<(), Fail> {
 }
 
 /// What isn't a delta: nothing, cells out of order or twice, names, numbers, contents, counts and pairs out of their
-/// ranges, numbers with a sign, a fraction or an exponent, and what goes on behind its end.
+/// ranges, numbers with a sign, a fraction or an exponent, and what goes on after its end.
 #[test]
-fn refused_lines(rt: HostRuntime) -> Result<(), Fail> {
+fn what_is_no_delta_is_refused(rt: HostRuntime) -> Result<(), Fail> {
     for line in [
         r#"[]"#,
         r#"[["A1",null,[],[]]]"#,
@@ -103,7 +103,7 @@ fn refused_lines(rt: HostRuntime) -> Result<(), Fail> {
 
 /// Each proper beginning of a line is refused, and so are brackets without end.
 #[test]
-fn cut_lines(rt: HostRuntime) -> Result<(), Fail> {
+fn cut_lines_are_refused(rt: HostRuntime) -> Result<(), Fail> {
     let line = br#"[["B1",[2,2,"4"],[],[]],["D1",[2,2,"=[.C1]"],[],[]]]"#.as_slice();
     for length in 0..line.len() {
         assert!(rt; is_refused(rt.alloc(), &line[..length]), "{length}");
@@ -118,7 +118,7 @@ fn cut_lines(rt: HostRuntime) -> Result<(), Fail> {
 
 /// A line may be padded with blanks up to the limit, and not beyond.
 #[test]
-fn padded_lines(rt: HostRuntime) -> Result<(), Fail> {
+fn lines_are_padded_up_to_the_limit(rt: HostRuntime) -> Result<(), Fail> {
     let text = br#"[["A1",[1,2,"5"],[],[]]]"#.as_slice();
     let mut line = text.to_vec(rt.alloc())?;
     line.resize(DELTA_LINE_LIMIT, b' ')?;
@@ -129,11 +129,11 @@ fn padded_lines(rt: HostRuntime) -> Result<(), Fail> {
     Ok(())
 }
 
-// A line of a cell with all three parts, and of a formula, whose content takes memory of its own.
+/// A line of a cell with all three parts, and of a formula, whose content takes memory of its own.
 const FULL_LINE: &[u8] =
     br#"[["A1",[1,1,"@choice"],[[1,5,0]],[[7,1,1,1],[7,2,1,0]]],["B1",[2,2,"=-[.A1]"],[],[]]]"#;
 
-// The delta of the line, by a second call where the first one lacked memory.
+/// The delta of the line, by a second call where memory ran out in the first one.
 fn decoded(alloc: Global, bytes: &[u8]) -> Result<Delta, Refusal> {
     match decode(alloc, bytes) {
         Err(Refusal::Memory) => decode(alloc, bytes),
@@ -141,8 +141,8 @@ fn decoded(alloc: Global, bytes: &[u8]) -> Result<Delta, Refusal> {
     }
 }
 
-// Appends the text of the delta, by a second call where the first one is refused. Whether such a refusal was `Memory`
-// and left the line as before.
+/// Appends the text of the delta, by a second call where the first one is refused. Whether such a refusal was `Memory`
+/// and left the line as before.
 fn append(
     alloc: Global,
     delta: &Delta,
@@ -159,10 +159,10 @@ fn append(
     }
 }
 
-/// Where one growth is refused (`rt try --test --fail-alloc N`), `decode` answers `Memory` or the delta of the line,
-/// and the next call answers that delta.
+/// Where one growth is refused (`rt try --test --fail-alloc N`), `decode` returns `Memory` or the delta of the line,
+/// and the next call returns that delta.
 #[test]
-fn refused_decode(rt: HostRuntime) -> Result<(), Refusal> {
+fn decode_stands_a_refused_growth(rt: HostRuntime) -> Result<(), Refusal> {
     let delta = decoded(rt.alloc(), FULL_LINE)?;
     let mut line = Vec::new(rt.alloc());
     let _ = append(rt.alloc(), &delta, &mut line, b"")?;
@@ -170,10 +170,10 @@ fn refused_decode(rt: HostRuntime) -> Result<(), Refusal> {
     Ok(())
 }
 
-/// Where one growth is refused (`rt try --test --fail-alloc N`), `encode` answers `Memory` and leaves the line as it
+/// Where one growth is refused (`rt try --test --fail-alloc N`), `encode` returns `Memory` and leaves the line as it
 /// was, be it empty or not; the next call appends the text.
 #[test]
-fn refused_encode(rt: HostRuntime) -> Result<(), Refusal> {
+fn encode_stands_a_refused_growth(rt: HostRuntime) -> Result<(), Refusal> {
     let delta = decoded(rt.alloc(), FULL_LINE)?;
     let mut line = Vec::new(rt.alloc());
     let is_kept_empty = append(rt.alloc(), &delta, &mut line, b"")?;

@@ -17,7 +17,7 @@ use ps_lattice::{Count, Pair, Register};
 use serde_json::Value;
 use std::alloc::Global;
 
-// An array of three.
+/// An array of three.
 fn three(alloc: Global, first: Value, second: Value, third: Value) -> Result<Value, Refusal>
     ensures value { IfOk result (λ v. view v ≡ array_of (view first ∷ view second ∷ view third ∷ [])) }
     ensures memory { IfErr result (λ e. e ≡ Memory) }
@@ -29,7 +29,7 @@ fn three(alloc: Global, first: Value, second: Value, third: Value) -> Result<Val
     Ok(Value::Array(items))
 }
 
-// An array of four.
+/// An array of four.
 fn four(
     alloc: Global,
     first: Value,
@@ -49,7 +49,7 @@ fn four(
     Ok(Value::Array(items))
 }
 
-// The value of a text.
+/// The value of a text.
 fn text_value(text: Vec<u8>) -> Value
     requires { IsUtf8 text.items }
     ensures { view result ≡ string text.items }
@@ -57,6 +57,7 @@ fn text_value(text: Vec<u8>) -> Value
     Value::String(String::from_utf8(text).unwrap())
 }
 
+/// The value of a cell's name.
 fn name_value(alloc: Global, cell: Cell) -> Result<Value, Refusal>
     ensures value { IfOk result (λ v. view v ≡ string (cell_name cell)) }
     ensures memory { IfErr result (λ e. e ≡ Memory) }
@@ -66,6 +67,7 @@ fn name_value(alloc: Global, cell: Cell) -> Result<Value, Refusal>
     Ok(text_value(Vec::from_slice(alloc, &name[..len])?))
 }
 
+/// The value of a content: its canonical text.
 fn content_value(alloc: Global, content: &Content) -> Result<Value, Refusal>
     ensures value { IfOk result (λ v. view v ≡ string (canonical_text content.now)) }
     ensures content { IfOk result (λ _. IsContent content.now) }
@@ -76,6 +78,7 @@ fn content_value(alloc: Global, content: &Content) -> Result<Value, Refusal>
     Ok(text_value(text))
 }
 
+/// `null`, or an array of the time, the replica and the content.
 fn register_value(alloc: Global, register: &Register<Content>) -> Result<Value, Refusal>
     ensures value { IfOk result (λ v. view v ≡ register_value register.now) }
     ensures register { IfOk result (λ _. IsRegister register.now) }
@@ -92,6 +95,7 @@ fn register_value(alloc: Global, register: &Register<Content>) -> Result<Value, 
     }
 }
 
+/// A replica with its two counts.
 fn count_value(alloc: Global, entry: &(u8, Count)) -> Result<Value, Refusal>
     ensures value { IfOk result (λ v. view v ≡ count_value entry.now) }
     ensures memory { IfErr result (λ e. e ≡ Memory) }
@@ -104,6 +108,7 @@ fn count_value(alloc: Global, entry: &(u8, Count)) -> Result<Value, Refusal>
     )
 }
 
+/// A counter: an array of replicas with their counts.
 fn counts_value(alloc: Global, counts: &[(u8, Count)]) -> Result<Value, Refusal>
     ensures value { IfOk result (λ v. view v ≡ array_of (each count_value counts.now)) }
     ensures memory { IfErr result (λ e. e ≡ Memory) }
@@ -115,6 +120,7 @@ fn counts_value(alloc: Global, counts: &[(u8, Count)]) -> Result<Value, Refusal>
     Ok(Value::Array(items))
 }
 
+/// A pair, and whether it is gone.
 fn pair_value(alloc: Global, entry: &(Pair, bool)) -> Result<Value, Refusal>
     ensures value { IfOk result (λ v. view v ≡ pair_value entry.now) }
     ensures memory { IfErr result (λ e. e ≡ Memory) }
@@ -128,12 +134,14 @@ fn pair_value(alloc: Global, entry: &(Pair, bool)) -> Result<Value, Refusal>
     )
 }
 
+/// 0 for what is added alone, 1 for what is removed too.
 fn gone_number(gone: bool) -> u8
     ensures { result ≡ gone_number gone }
 {
     if gone { 1 } else { 0 }
 }
 
+/// A set: an array of pairs.
 fn pairs_value(alloc: Global, pairs: &[(Pair, bool)]) -> Result<Value, Refusal>
     ensures value { IfOk result (λ v. view v ≡ array_of (each pair_value pairs.now)) }
     ensures memory { IfErr result (λ e. e ≡ Memory) }
@@ -145,6 +153,7 @@ fn pairs_value(alloc: Global, pairs: &[(Pair, bool)]) -> Result<Value, Refusal>
     Ok(Value::Array(items))
 }
 
+/// A cell with its state.
 #[tactic(auto, unfolding(crate::specs::Value::cell_value))]
 fn cell_value(alloc: Global, entry: &(Cell, CellState)) -> Result<Value, Refusal>
     ensures value { IfOk result (λ v. view v ≡ cell_value entry.now) }
@@ -161,6 +170,7 @@ fn cell_value(alloc: Global, entry: &(Cell, CellState)) -> Result<Value, Refusal
     )
 }
 
+/// The cells of a delta, one after another.
 fn cells_value(alloc: Global, cells: &[(Cell, CellState)]) -> Result<Value, Refusal>
     ensures value { IfOk result (λ v. view v ≡ array_of (each cell_value cells.now)) }
     ensures states { IfOk result (λ _. All (λ e. IsState e.1) cells.now) }

@@ -5,9 +5,9 @@ use Rattle.serde_json.specs.View.{view}
 use Rattle.ps_grid.specs.declared.size.TheConstants.{CELLS}
 use Rattle.ps_delta.specs.declared.cell_state.CellState.{CellState}
 use Rattle.ps_delta.specs.Deltas.{Entries}
-use Rattle.ps_wire.specs.Refused.{RefusedAs}
+use Rattle.ps_wire.specs.Inside.{RefusedAs}
 use Rattle.ps_wire.specs.Value.{cell_value, IsState}
-use Rattle.ps_wire.proofs.ValueLemmas.{read_at, read_more, refused_so}
+use Rattle.ps_wire.proofs.ArrayLemmas.{read_at, read_more, refused_so}
 use Rattle.ps_wire.proofs.cells.read_cells.Goals as goal
 
 abbrev Good : ℕ × CellState → Type 0

@@ -1,7 +1,7 @@
 use Rattle.std.proofs.Common.{Some, ap, ◌∙◌, arith}
 use Rattle.serde_json.specs.Written.{compact_text, has_float}
 use Rattle.ps_wire.specs.Line.{delta_text}
-use Rattle.ps_wire.proofs.WrittenLemmas.{delta_plain}
+use Rattle.ps_wire.proofs.NoFloatLemmas.{delta_plain}
 use Rattle.ps_wire.proofs.line.compact_text.Goals as goal
 
 pub returns-clause-text : goal.returns-clause-text

@@ -1,7 +1,7 @@
 use Rattle.std.proofs.Common.{rules, map}
 use Rattle.serde_json.specs.View.{view}
 use Rattle.ps_wire.proofs.LineLemmas.{no_array, no_cells, no_delta, stands_for}
-use Rattle.ps_wire.proofs.ValueLemmas.{refused_so}
+use Rattle.ps_wire.proofs.ArrayLemmas.{refused_so}
 use Rattle.ps_wire.proofs.line.read_delta.Goals as goal
 
 pub returns-in_err-items-clause-refused : goal.returns-in_err-items-clause-refused

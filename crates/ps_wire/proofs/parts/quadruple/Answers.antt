@@ -1,6 +1,6 @@
 use Rattle.std.proofs.Common.{[], ◌∷◌, refl, sym, ◌∙◌, arith}
 use Rattle.std.proofs.lemmas.Grind.{common_steps}
-use Rattle.ps_wire.proofs.ValueLemmas.{array_length}
+use Rattle.ps_wire.proofs.ArrayLemmas.{array_length}
 use Rattle.ps_wire.proofs.parts.quadruple.Goals as goal
 use Rattle.ps_wire.proofs.parts.quadruple.Goals.{in_default-via-then-branch-lt4}
 use Rattle.ps_wire.proofs.parts.quadruple.Goals.{in_default-via-else-branch-lt4+else-this-lt5}

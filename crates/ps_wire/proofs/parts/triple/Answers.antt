@@ -1,6 +1,6 @@
 use Rattle.std.proofs.Common.{[], ◌∷◌, refl, sym, ◌∙◌, arith}
 use Rattle.std.proofs.lemmas.Grind.{common_steps}
-use Rattle.ps_wire.proofs.ValueLemmas.{array_length}
+use Rattle.ps_wire.proofs.ArrayLemmas.{array_length}
 use Rattle.ps_wire.proofs.parts.triple.Goals as goal
 use Rattle.ps_wire.proofs.parts.triple.Goals.{in_default-via-then-branch-lt3}
 use Rattle.ps_wire.proofs.parts.triple.Goals.{in_default-via-else-branch-lt3+else-this-lt4}

@@ -4,7 +4,7 @@ use Rattle.serde_json.specs.View.{view}
 use Rattle.ps_lattice.specs.Tally.{is_count}
 use Rattle.ps_lattice.specs.declared.tally.Count.{Count}
 use Rattle.ps_wire.specs.Value.{count_value}
-use Rattle.ps_wire.proofs.ValueLemmas.{All-list_all, read_at}
+use Rattle.ps_wire.proofs.ArrayLemmas.{All-list_all, read_at}
 use Rattle.ps_wire.proofs.states.read_counts.Goals as goal
 
 pub returns-in_err-read_count-clause-refused : goal.returns-in_err-read_count-clause-refused

@@ -4,7 +4,7 @@ use Rattle.serde_json.specs.View.{view}
 use Rattle.ps_lattice.specs.Choice.{is_pair}
 use Rattle.ps_lattice.specs.declared.choice.Pair.{Pair}
 use Rattle.ps_wire.specs.Value.{pair_value}
-use Rattle.ps_wire.proofs.ValueLemmas.{All-list_all, read_at}
+use Rattle.ps_wire.proofs.ArrayLemmas.{All-list_all, read_at}
 use Rattle.ps_wire.proofs.states.read_pairs.Goals as goal
 
 pub returns-in_err-read_pair-clause-refused : goal.returns-in_err-read_pair-clause-refused

@@ -5,7 +5,7 @@ use Rattle.std.proofs.lemmas.List.Elements.{All-push}
 use Rattle.serde_json.specs.View.{view}
 use Rattle.serde_json.proofs.Views.{view-Array}
 use Rattle.ps_wire.specs.Value.{array_of, cell_value, IsState}
-use Rattle.ps_wire.proofs.ValueLemmas.{read_more}
+use Rattle.ps_wire.proofs.ArrayLemmas.{read_more}
 use Rattle.ps_wire.proofs.values.cells_value.Goals as goal
 
 pub loop-entry-preserved : goal.loop-entry-preserved

@@ -10,7 +10,7 @@ use Rattle.serde_json.specs.Data.{Data, array, Items, no_items, item}
 use Rattle.serde_json.specs.View.{items_of, view}
 use Rattle.serde_json.specs.declared.value.Value.{Value}
 use Rattle.ps_grid.specs.declared.refusal.Refusal.{Refusal}
-use Rattle.ps_wire.specs.Refused.{RefusedAs}
+use Rattle.ps_wire.specs.Inside.{RefusedAs}
 use Rattle.ps_wire.specs.Value.{array_of}
 
 -- the items of an array

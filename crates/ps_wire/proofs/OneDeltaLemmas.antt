@@ -15,7 +15,7 @@ use Rattle.ps_wire.specs.Value.{cell_value, count_value, pair_value, register_va
 use Rattle.ps_wire.specs.Value.{IsRegister, IsState, IsLawful, OneValue, OneDelta}
 use Rattle.ps_wire.proofs.ContentLemmas.{canonical_text-injective}
 use Rattle.ps_wire.proofs.PartLemmas.{counts-injective, pairs-injective}
-use Rattle.ps_wire.proofs.ValueLemmas.{array_of-injective, map-injective}
+use Rattle.ps_wire.proofs.ArrayLemmas.{array_of-injective, map-injective}
 
 register_value-injective : (r s : Option (Assignment Content)) → IsRegister r → IsRegister s
     → register_value r ≡ register_value s → r ≡ s

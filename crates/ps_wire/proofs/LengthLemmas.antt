@@ -38,14 +38,14 @@ use Rattle.ps_content.specs.declared.content.Content.TheVariants.{Blank, Number,
 use Rattle.ps_delta.specs.declared.cell_state.CellState.{CellState}
 use Rattle.ps_wire.specs.Value.{array_of, whole, register_value, count_value, pair_value, cell_value, gone_number}
 use Rattle.ps_wire.specs.Value.{IsRegister, IsState}
-use Rattle.ps_wire.proofs.ValueLemmas.{All-list_all}
+use Rattle.ps_wire.proofs.ArrayLemmas.{All-list_all}
 
 -- ---- texts of values
 
 abbrev pub size : Data → ℕ
 size value = length (compact_text value)
 
--- an item, a comma before it, and what stands behind it
+-- an item, a comma before it, and what stands after it
 size-item : (later : Bool) (d : Data) (ds : Items)
     → length (items_text later (item d ds)) ≤ 1 + size d + length (items_text true ds)
 size-item true d ds = omega (arith, length-append (compact_text d) (items_text true ds))
@@ -216,9 +216,9 @@ module _ {K X : Type 0} (R : K → K → Ordering) (Good : K → Type 0) (rank :
   how_many low high [] h good ranks = omega arith
   how_many low high (e ∷ es) h good ranks =
       let first = ranks 0 e (omega arith) in
-      let behind = λ (k : ℕ) (f : K × X) (w : k < length es). good (suc k) f (omega arith) in
-      let higher = above e.0 es (good 0 e (omega arith)) behind (sorted_head_of e es h) in
-      let rest = how_many (low + 1) high es (sorted_rest_of e es h) behind
+      let others = λ (k : ℕ) (f : K × X) (w : k < length es). good (suc k) f (omega arith) in
+      let higher = above e.0 es (good 0 e (omega arith)) others (sorted_head_of e es h) in
+      let rest = how_many (low + 1) high es (sorted_rest_of e es h) others
       (λ k f w. (omega (arith, first.0, higher k f w), (ranks (suc k) f (omega arith)).1)) in
       omega (arith, first.0, first.1, rest)
     where
