@@ -14,11 +14,11 @@ use Rattle.ps_formula.specs.Grammar.{Has}
 use Rattle.ps_formula.specs.Kept.{IsKept}
 use Rattle.ps_formula.specs.References.{rects_at}
 use Rattle.ps_formula.specs.Tree.{Tree}
-use Rattle.ps_formula.proofs.Apart.{are_apart}
-use Rattle.ps_formula.proofs.Flat.{tokens_of-has, rects_of-tokens_of}
-use Rattle.ps_tokens.proofs.Canonical.{text_spells}
-use Rattle.ps_tokens.proofs.Spelling.{one_spelled}
-use Rattle.ps_formula.proofs.Whole.{one_tree_of}
+use Rattle.ps_formula.proofs.TokensApart.{are_apart}
+use Rattle.ps_formula.proofs.TokensOfTrees.{tokens_of-has, rects_of-tokens_of}
+use Rattle.ps_tokens.proofs.CanonicalSpelling.{text_spells}
+use Rattle.ps_tokens.proofs.OneSpelling.{one_spelled}
+use Rattle.ps_formula.proofs.WholeListsRead.{one_tree_of}
 
 one_opening : (bytes r s : List ℕ) → Opens bytes r → Opens bytes s → r ≡ s
 one_opening bytes r s (inl e) (inl f) = cc
@@ -26,7 +26,7 @@ one_opening bytes r s (inl e) (inr f) = cc
 one_opening bytes r s (inr e) (inl f) = cc
 one_opening bytes r s (inr e) (inr f) = cc
 
--- the tokens of a formula are spelled behind whatever opening was found
+-- the tokens of a formula are spelled after whatever opening was found
 pub spelled_behind : (bytes rest : List ℕ) (t : Tree) → Opens bytes rest → (h : HasTree bytes t)
     → Spells rest h.tokens
 spelled_behind bytes rest t opening h =
@@ -88,7 +88,7 @@ pub length-canon : (ts : List Token) (t : Tree) (text : List ℕ) → Has 3 ts t
     → length (canon t) ≡ length text
 length-canon ts t text h is = ap (λ v. length (61 ∷ tokens_text v)) (tokens_of-has h) ∙ ap length (sym is)
 
--- a refusal that is none of the first kind is one for lack of memory
+-- a refusal that is none of the first kind is one when out of memory
 pub memory_alone : (e : Refusal) → (e ≡ Formula) ⊎ (e ≡ Memory) → (e ≡ Formula → ⊥) → e ≡ Memory
 memory_alone e (inl is) no_formula = absurd (no_formula is)
 memory_alone e (inr is) no_formula = is

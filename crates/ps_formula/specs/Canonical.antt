@@ -25,12 +25,12 @@ abbrev mutual
   tokens_of (group a) = Open ∷ tokens_of a ++ (Close ∷ [])
   tokens_of (call f is) = Name f ∷ Open ∷ tokens_of_items is
 
-  -- the arguments with the separators between them and the parenthesis behind them
+  -- the arguments with the separators between them and the parenthesis after them
   pub tokens_of_items : Items → List Token
   tokens_of_items no_items = Close ∷ []
   tokens_of_items (item_and i is) = tokens_of_item i ++ tokens_behind is
 
-  -- what stands behind an argument: the parenthesis, or a separator and the next argument
+  -- what stands after an argument: the parenthesis, or a separator and the next argument
   pub tokens_behind : Items → List Token
   tokens_behind no_items = Close ∷ []
   tokens_behind (item_and i is) = Separator ∷ tokens_of_item i ++ tokens_behind is

@@ -10,7 +10,7 @@ use Rattle.ps_formula.specs.Grammar.{Has}
 abbrev pub Opens : List ℕ → List ℕ → Type 0
 Opens bytes rest = (bytes ≡ codes "=" ++ rest) ⊎ (bytes ≡ codes "of:=" ++ rest)
 
--- the bytes are a formula with this tree: behind the opening they spell tokens that are a comparison with the tree
+-- the bytes are a formula with this tree: after the opening they spell tokens that are a comparison with the tree
 pub record HasTree (bytes : List ℕ) (t : Tree) : Type 0 where
   pub rest : List ℕ
   pub tokens : List Token

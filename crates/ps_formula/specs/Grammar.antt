@@ -61,13 +61,13 @@ mutual
         → Has 0 (Name f ∷ Open ∷ ts) (call f is)
     a_chain : {l : ℕ} {ts us : List Token} {a t : Tree} → Has l ts a → More l a us t → Has (suc l) (ts ++ us) t
 
-  -- any number of further operands, each behind an operator of the level: from the left, `a` becomes `t`
+  -- any number of further operands, each after an operator of the level: from the left, `a` becomes `t`
   pub data More : ℕ → Tree → List Token → Tree → Type 0 where
     no_more : {l : ℕ} {a : Tree} → More l a [] a
     one_more : {l : ℕ} {a b t : Tree} {o : Operator} {ts us : List Token} → level_of o ≡ l → Has l ts b
         → More l (joined a o b) us t → More l a (Symbol o ∷ ts ++ us) t
 
-  -- one or more arguments, with a separator between two and the closing parenthesis behind the last
+  -- one or more arguments, with a separator between two and the closing parenthesis after the last
   pub data Arguments : Function → List Token → Items → Type 0 where
     last_argument : {f : Function} {ts : List Token} {i : Item} → Argument f ts i
         → Arguments f (ts ++ (Close ∷ [])) (item_and i no_items)

@@ -94,7 +94,7 @@ unfoldable mutual
   arguments_at zero f is ts = None
   arguments_at (suc n) f is ts = option_and_then (λ i. behind_at n f (is ++ i.0 ∷ []) i.1) (argument_at n f ts)
 
-  -- behind an argument: the parenthesis, or a separator and further arguments
+  -- after an argument: the parenthesis, or a separator and further arguments
   pub behind_at : ℕ → Function → List Item → List Token → Option (List Item × List Token)
   behind_at zero f is ts = None
   behind_at (suc n) f is ts =

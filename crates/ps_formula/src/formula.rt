@@ -24,9 +24,9 @@ pub const LONGEST_TEXT: usize = 256;
 #[derive(Drop)]
 pub struct Formula {
     tree: Expr,
-    // the canonical text
+    /// the canonical text
     text: Vec<u8>,
-    // each reference and range, from left to right
+    /// each reference and range, from left to right
     rects: Vec<Rect>,
 }
 
@@ -55,9 +55,10 @@ impl Formula {
 
     /// The formula that the bytes have by the grammar. Refused as too long where there are more than
     /// `LONGEST_ENTRY` bytes, or where the canonical text would have more than `LONGEST_TEXT`; as no formula where
-    /// the bytes have no tree; and for lack of memory.
+    /// the bytes have no tree; and when out of memory.
     ///
-    /// Cost: linear in the bytes; an allocation for each operator and call, and a few for the whole.
+    /// Cost: linear in the bytes; allocations are two for each operator, one for each sign and group, the growing
+    /// list of each call's arguments, and four lists for the whole.
     pub fn read(alloc: Global, bytes: &[u8]) -> Result<Formula, Refusal>
         ensures short { IfOk result (λ _. length bytes.now ≤ LONGEST_ENTRY) }
         ensures found { IfOk result (λ t. HasTree bytes.now t) }
@@ -79,7 +80,7 @@ impl Formula {
         if bytes.len() > LONGEST_ENTRY {
             return Err(Refusal::TooLong);
         }
-        let Some(rest) = behind_opening(bytes) else {
+        let Some(rest) = after_opening(bytes) else {
             return Err(Refusal::Formula);
         };
         let found = tokens(alloc, rest)?;
@@ -124,8 +125,8 @@ impl Formula {
     }
 }
 
-// What stands behind the opening of a formula.
-fn behind_opening(bytes: &[u8]) -> Option<&[u8]>
+/// What stands after the opening of a formula.
+fn after_opening(bytes: &[u8]) -> Option<&[u8]>
     ensures found { IfSome result (λ rest. Opens bytes.now rest.now) }
     ensures none { IfNone result ((rest : List ℕ) → Opens bytes.now rest → ⊥) }
 {

@@ -10,7 +10,7 @@ use ps_grid::{Rect, Refusal};
 use ps_tokens::{Token, put_token};
 use std::alloc::Global;
 
-/// The canonical text of the tokens behind its `=`. `room` is how many bytes are reserved for it at once.
+/// The canonical text of the tokens after its `=`. `room` is how many bytes are reserved for it at once.
 pub(crate) fn text(alloc: Global, room: usize, tokens: &[Token]) -> Result<Vec<u8>, Refusal>
     ensures text { IfOk result (λ text. text.items ≡ 61 ∷ tokens_text tokens.now) }
     ensures memory { IfErr result (λ e. e ≡ Memory) }

@@ -10,6 +10,8 @@ use crate::formula::Formula;
 use std::cmp::Ordering;
 
 /// Formulas are equal where their trees are, and so where their canonical texts are.
+///
+/// Cost: linear in the shorter text.
 impl PartialEq for Formula {
     ghost eq = { tree_eq };
 
@@ -26,7 +28,7 @@ impl Eq for Formula {
 
 /// Formulas are ordered by the bytes of their canonical texts.
 ///
-/// Cost: linear in the texts.
+/// Cost: linear in the shorter text.
 impl Ord for Formula {
     ghost cmp = { tree_cmp };
 

@@ -21,7 +21,7 @@ use std::alloc::Global;
 /// The loosest level, that of comparisons: below it are sums, products and prefixed operands.
 const COMPARISON: usize = 3;
 
-// The level whose operands the operator joins.
+/// The level whose operands the operator joins.
 fn level_of(operator: Operator) -> usize
     ensures { result ≡ level_of operator }
 {
@@ -32,7 +32,7 @@ fn level_of(operator: Operator) -> usize
     }
 }
 
-// Whether the function takes so many arguments.
+/// Whether the function takes so many arguments.
 fn accepts(function: Function, count: usize) -> bool
     ensures { result ≡ accepts function count }
 {
@@ -46,7 +46,7 @@ fn accepts(function: Function, count: usize) -> bool
     }
 }
 
-// Whether an argument of the function may be a range.
+/// Whether an argument of the function may be a range.
 fn takes_ranges(function: Function) -> bool
     ensures { result ≡ takes_ranges function }
 {
@@ -56,7 +56,7 @@ fn takes_ranges(function: Function) -> bool
     )
 }
 
-// The sign that the operator is in front of an operand.
+/// The sign that the operator is in front of an operand.
 fn sign(operator: Operator) -> Option<Sign>
     ensures { result ≡ sign_of operator }
 {
@@ -67,7 +67,7 @@ fn sign(operator: Operator) -> Option<Sign>
     }
 }
 
-// What stands behind an opening parenthesis, if the tokens begin with one.
+/// What stands after an opening parenthesis, if the tokens begin with one.
 fn opened(tokens: &[Token]) -> Option<&[Token]>
     ensures { option_copied result ≡ opened_at tokens.now }
 {
@@ -77,7 +77,7 @@ fn opened(tokens: &[Token]) -> Option<&[Token]>
     }
 }
 
-// What stands behind a closing parenthesis.
+/// What stands after a closing parenthesis.
 fn closed(tokens: &[Token]) -> Option<&[Token]>
     ensures { option_copied result ≡ closed_at tokens.now }
 {
@@ -87,7 +87,7 @@ fn closed(tokens: &[Token]) -> Option<&[Token]>
     }
 }
 
-// What stands behind a separator.
+/// What stands after a separator.
 fn separated(tokens: &[Token]) -> Option<&[Token]>
     ensures { option_copied result ≡ separated_at tokens.now }
 {
@@ -97,7 +97,7 @@ fn separated(tokens: &[Token]) -> Option<&[Token]>
     }
 }
 
-// A range, and what stands behind it.
+/// A range, and what stands after it.
 fn range(tokens: &[Token]) -> Option<(Rect, &[Token])>
     ensures { option_map (λ x. (x.0, x.1.now)) result ≡ range_at tokens.now }
 {
@@ -107,7 +107,7 @@ fn range(tokens: &[Token]) -> Option<(Rect, &[Token])>
     }
 }
 
-// An operator of the level, and what stands behind it.
+/// An operator of the level, and what stands after it.
 fn operator(level: usize, tokens: &[Token]) -> Option<(Operator, &[Token])>
     ensures { option_map (λ x. (x.0, x.1.now)) result ≡ operator_at level tokens.now }
 {
@@ -119,7 +119,7 @@ fn operator(level: usize, tokens: &[Token]) -> Option<(Operator, &[Token])>
     }
 }
 
-// An expression of a level, as far as it goes, and what stands behind it.
+/// An expression of a level, as far as it goes, and what stands after it.
 #[cycle(parser)]
 #[tactic(auto, unfolding(crate::specs::Reading::level_at))]
 fn level(
@@ -140,7 +140,7 @@ fn level(
     more(alloc, depth - 1, loosest - 1, left, rest)
 }
 
-// The operand with any number of further operands of the level, each behind an operator.
+/// The operand with any number of further operands of the level, each after an operator.
 #[cycle(parser)]
 #[tactic(auto, unfolding(crate::specs::Reading::level_at))]
 fn more(
@@ -170,7 +170,7 @@ fn more(
     )
 }
 
-// Any number of signs, and then a numeral, a reference, a group or a call.
+/// Any number of signs, and then a numeral, a reference, a group or a call.
 #[cycle(parser)]
 #[tactic(auto, unfolding(crate::specs::Reading::level_at))]
 fn prefixed(alloc: Global, depth: usize, tokens: &[Token]) -> Result<(Expr, &[Token]), Refusal>
@@ -211,7 +211,7 @@ fn prefixed(alloc: Global, depth: usize, tokens: &[Token]) -> Result<(Expr, &[To
     }
 }
 
-// A call, from behind its opening parenthesis.
+/// A call, from after its opening parenthesis.
 #[cycle(parser)]
 #[tactic(auto, unfolding(crate::specs::Reading::level_at))]
 fn call(
@@ -238,7 +238,7 @@ fn call(
     Ok((Expr::Call(function, items), rest))
 }
 
-// Further arguments behind those before, up to the closing parenthesis.
+/// Further arguments after those before, up to the closing parenthesis.
 #[cycle(parser)]
 #[tactic(auto, unfolding(crate::specs::Reading::level_at))]
 fn arguments(
@@ -259,7 +259,7 @@ fn arguments(
     behind(alloc, depth - 1, function, before, rest)
 }
 
-// What stands behind an argument: the closing parenthesis, or a separator and further arguments.
+/// What stands after an argument: the closing parenthesis, or a separator and further arguments.
 #[cycle(parser)]
 #[tactic(auto, unfolding(crate::specs::Reading::level_at))]
 fn behind(
@@ -284,7 +284,7 @@ fn behind(
     arguments(alloc, depth - 1, function, before, rest)
 }
 
-// One argument, and what stands behind it.
+/// One argument, and what stands after it.
 #[cycle(parser)]
 #[tactic(auto, unfolding(crate::specs::Reading::level_at))]
 fn argument(

@@ -8,12 +8,12 @@ use ps_grid::{Cell, Rect, Refusal};
 use ps_tokens::{Function, Operator};
 use std::alloc::Global;
 
-// Whether the text is a formula with this canonical text.
+/// Whether the text is a formula with this canonical text.
 fn has_canonical(alloc: Global, text: &[u8], canonical: &[u8]) -> Result<bool, Refusal> {
     Ok(Formula::read(alloc, text)?.text() == canonical)
 }
 
-// Whether the first formula is less than the second, and whether it equals that.
+/// Whether the first formula is less than the second, and whether it equals that.
 fn compared(alloc: Global, first: &[u8], second: &[u8]) -> Result<(bool, bool), Refusal> {
     let first = Formula::read(alloc, first)?;
     let second = Formula::read(alloc, second)?;
@@ -71,7 +71,7 @@ fn order(rt: HostRuntime) {
     assert!(rt; compared(rt.alloc(), b"= 02", b"of:=2") == Ok((false, true)));
 }
 
-// Why the text is refused.
+/// Why the text is refused.
 fn refusal(alloc: Global, text: &[u8]) -> Option<Refusal> {
     Formula::read(alloc, text).err()
 }
@@ -94,7 +94,7 @@ fn no_formulas(rt: HostRuntime) {
     }
 }
 
-// The opening of a formula, a byte a number of times, and an end.
+/// The opening of a formula, a byte a number of times, and an end.
 fn repeated(alloc: Global, byte: u8, count: usize, end: &[u8]) -> Result<Vec<u8>, Refusal> {
     let mut text = Vec::new(alloc);
     text.push(b'=')?;
@@ -105,7 +105,7 @@ fn repeated(alloc: Global, byte: u8, count: usize, end: &[u8]) -> Result<Vec<u8>
     Ok(text)
 }
 
-// Why such a text is refused.
+/// Why such a text is refused.
 fn refusal_of(alloc: Global, byte: u8, count: usize, end: &[u8]) -> Option<Refusal> {
     match repeated(alloc, byte, count, end) {
         Ok(text) => refusal(alloc, &text),
@@ -131,7 +131,7 @@ fn lengths(rt: HostRuntime) {
     assert!(rt; refusal_of(alloc, b'(', 128, &closed) == Some(Refusal::TooLong));
 }
 
-// Whether the tree is (2-3) less the product of -4 and 5, as far as its operators, 4 and 5 say.
+/// Whether the tree is (2-3) less the product of -4 and 5, as far as its operators, 4 and 5 say.
 fn is_grouped(tree: &Expr) -> bool {
     let Expr::Infix(left, Operator::Minus, right) = tree else {
         return false;
@@ -174,7 +174,7 @@ fn has_expected_rects(rects: &[Rect]) -> bool {
     }
 }
 
-// Whether it is a call of IF with three arguments, of which the second is a reference.
+/// Whether it is a call of IF with three arguments, of which the second is a reference.
 fn is_choice(tree: &Expr) -> bool {
     let Expr::Call(Function::If, arguments) = tree else {
         return false;

@@ -160,9 +160,9 @@ impl Rect {
 #[derive(Drop)]
 pub struct Cells {
     rect: Rect,
-    // how many cells are still to come
+    /// how many cells are still to come
     left: usize,
-    // the index of the next of them, and how many cells of its row come before it
+    /// the index of the next of them, and how many cells of its row come before it
     place: usize,
     across: usize,
 }

@@ -45,7 +45,7 @@ pub enum Refusal {
     Version,
     /// 18: a table that is too large or malformed.
     Csv,
-    /// 19: a growth was refused for lack of memory.
+    /// 19: a growth was refused when out of memory.
     Memory,
     /// 20: a reader or a writer failed.
     Device,

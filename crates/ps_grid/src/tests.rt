@@ -6,12 +6,12 @@ use super::*;
 use std::alloc::{AllocError, Global};
 use std::test::Fail;
 
-// The index of a cell by its column and row, or the grid's size where there is none.
+/// The index of a cell by its column and row, or the grid's size where there is none.
 fn index_of(column: u8, row: u16) -> usize {
     Cell::new(column, row).map_or(CELLS, |cell| cell.index())
 }
 
-// Where a text is read, the index of its cell.
+/// Where a text is read, the index of its cell.
 fn index_read(text: &str) -> Option<usize> {
     Cell::read(text.as_bytes()).map(|cell| cell.index())
 }
@@ -55,7 +55,7 @@ fn other_texts_name_no_cell(rt: HostRuntime) {
     assert_eq!(rt; Cell::read(&[65, 255]), None);
 }
 
-/// A name is written at the front, and the bytes behind it stay.
+/// A name is written at the front, and the bytes after it stay.
 #[test]
 fn names_are_written(rt: HostRuntime) -> Result<(), Fail> {
     let mut out = [b'.'; 6];
@@ -124,7 +124,7 @@ fn refusals_have_numbers_and_names(rt: HostRuntime) {
     refusal_numbers_differ();
 }
 
-// A type whose copies take no memory.
+/// A type whose copies take no memory.
 #[derive(Debug, Drop, PartialEq)]
 struct Note(u8);
 
@@ -134,7 +134,7 @@ impl Twin for Note {
     }
 }
 
-// A copy of a copy, which is equal again.
+/// A copy of a copy, which is equal again.
 fn twin_twice<T: Twin + Drop>(alloc: Global, value: &T) -> Result<T, Refusal>
     ensures { IfOk result (λ t. t ≡ value.now) }
 {

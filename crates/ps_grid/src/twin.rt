@@ -8,7 +8,7 @@ use std::alloc::Global;
 
 /// What can be copied where memory allows.
 pub trait Twin: Sized {
-    /// An equal value; refused only for lack of memory.
+    /// An equal value; refused only when out of memory.
     ///
     /// Cost: that of the value's size.
     fn twin(&self, alloc: Global) -> Result<Self, Refusal>

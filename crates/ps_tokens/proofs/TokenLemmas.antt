@@ -22,14 +22,14 @@ use Rattle.ps_tokens.specs.declared.token.Operator.TheVariants.{LessOrEqual, Gre
 use Rattle.ps_tokens.specs.declared.token.Token.{Token}
 use Rattle.ps_tokens.specs.declared.token.Token.TheVariants.{Numeral, Reference, Range, Name, Symbol, Open, Close}
 use Rattle.ps_tokens.specs.declared.token.Token.TheVariants.{Separator}
-use Rattle.ps_tokens.proofs.Choices.{if_some, option_map_from}
-use Rattle.ps_tokens.proofs.Corners.{TakesCorner, all_digits, corner_at-corner, corner_at-some}
-use Rattle.ps_tokens.proofs.Heads.{goes_on, letter_no_digit, sign_goes_on}
-use Rattle.ps_tokens.proofs.Marks.{after-some}
+use Rattle.ps_tokens.proofs.OptionLemmas.{if_some, option_map_from}
+use Rattle.ps_tokens.proofs.CornerLemmas.{TakesCorner, all_digits, corner_at-corner, corner_at-some}
+use Rattle.ps_tokens.proofs.FirstBytes.{goes_on, letter_no_digit, sign_goes_on}
+use Rattle.ps_tokens.proofs.MarkLemmas.{after-some}
 use Rattle.ps_tokens.proofs.NameLemmas.{function_of-name, function_of-some, name_letters, name_some}
-use Rattle.ps_tokens.proofs.Runs.{Stops, AllDigits-digits_at, drop-run, take-run}
-use Rattle.ps_tokens.proofs.Signs.{TakesToken, option_or_from, sign_at-some}
-use Rattle.ps_tokens.proofs.Values.{number_in-small}
+use Rattle.ps_tokens.proofs.LongestRuns.{Stops, AllDigits-digits_at, drop-run, take-run}
+use Rattle.ps_tokens.proofs.SignLemmas.{TakesToken, option_or_from, sign_at-some}
+use Rattle.ps_tokens.proofs.DigitValues.{number_in-small}
 
 -- the same, of another token and another rest
 moved : {s r t : List ℕ} {x y : Token} → TakesToken s x r → x ≡ y → r ≡ t → TakesToken s y t
@@ -84,7 +84,7 @@ name_at-some s x r e =
     moved taken token rest)
     e
 
--- a reference that was found ends behind its corner
+-- a reference that was found ends after its corner
 reference_at-some : (t : List ℕ) (c : ℕ) (u : List ℕ) (x : Token) (r : List ℕ) → TakesCorner t c u
     → reference_at c u ≡ Some (x, r) → TakesToken (91 ∷ 46 ∷ t) x r
 unfolding reference_at
@@ -106,7 +106,7 @@ reference_at-some t c u x r corner e =
 range_pieces : (a b v : List ℕ) → (a ++ (58 ∷ 46 ∷ (b ++ (93 ∷ [])))) ++ v ≡ a ++ (58 ∷ 46 ∷ (b ++ (93 ∷ v)))
 range_pieces a b v = simp append_assoc
 
--- a range that was found ends behind its second corner
+-- a range that was found ends after its second corner
 range_at-some : (t : List ℕ) (c : ℕ) (u : List ℕ) (x : Token) (r : List ℕ) → TakesCorner t c u
     → range_at c u ≡ Some (x, r) → TakesToken (91 ∷ 46 ∷ t) x r
 unfolding range_at

@@ -7,7 +7,7 @@ use Rattle.ps_tokens.specs.declared.token.Token.TheVariants.{Numeral, Name, Symb
 use Rattle.ps_tokens.specs.declared.token.Operator.{Operator}
 use Rattle.ps_tokens.specs.declared.token.Operator.TheVariants.{Equal, Less, Greater, GreaterOrEqual}
 
--- whether an operator's sign goes on in the sign behind it
+-- whether an operator's sign goes on in the sign after it
 abbrev pub signs_join : Operator → Operator → Bool
 signs_join Less Equal = true
 signs_join Less Greater = true
@@ -15,19 +15,19 @@ signs_join Less GreaterOrEqual = true
 signs_join Greater Equal = true
 signs_join _ _ = false
 
--- whether a token goes on in the token behind it: digits in digits, letters in letters, signs in signs
+-- whether a token goes on in the token after it: digits in digits, letters in letters, signs in signs
 abbrev pub join : Token → Token → Bool
 join (Numeral _) (Numeral _) = true
 join (Name _) (Name _) = true
 join (Symbol x) (Symbol y) = signs_join x y
 join _ _ = false
 
--- the token does not go on in the first of the tokens behind it
+-- the token does not go on in the first of the tokens after it
 abbrev pub IsApart : Token → List Token → Type 0
 IsApart x [] = Unit {0}
 IsApart x (y ∷ ts) = join x y ≡ false
 
--- no token goes on in the one behind it
+-- no token goes on in the one after it
 abbrev pub AreApart : List Token → Type 0
 AreApart [] = Unit {0}
 AreApart (x ∷ ts) = IsApart x ts × AreApart ts

@@ -21,7 +21,7 @@ use Rattle.ps_tokens.specs.declared.token.Token.{Token}
 use Rattle.ps_tokens.specs.declared.token.Token.TheVariants.{Numeral, Reference, Range, Name, Symbol, Open, Close}
 use Rattle.ps_tokens.specs.declared.token.Token.TheVariants.{Separator}
 
--- the text behind the byte b, where the text begins with it
+-- the text after the byte b, where the text begins with it
 unfoldable pub after : ℕ → List ℕ → Option (List ℕ)
 after b s = if slice_index s 0 == b then Some (drop 1 s) else None
 
@@ -53,7 +53,7 @@ cell_below n letters digits =
 unfoldable pub cell_in : List ℕ → List ℕ → Option ℕ
 cell_in letters digits = cell_below CELLS letters digits
 
--- the corner at the front, and what stands behind it
+-- the corner at the front, and what stands after it
 unfoldable pub corner_at : List ℕ → Option (ℕ × List ℕ)
 corner_at s =
     let t = unmarked s in
@@ -73,7 +73,7 @@ range_at c s =
     (after 46 t))
     (after 58 s)
 
--- the reference that ends behind its corner
+-- the reference that ends after its corner
 unfoldable pub reference_at : ℕ → List ℕ → Option (Token × List ℕ)
 reference_at c s = option_map (λ t. (Reference c, t)) (after 93 s)
 
@@ -126,7 +126,7 @@ sign_at s =
     (option_map (λ x. (Symbol x, drop 2 s)) (operator_of_two (slice_index s 0) (slice_index s 1)))
     (option_map (λ x. (x, drop 1 s)) (token_of_one (slice_index s 0)))
 
--- the token at the front, and what stands behind it
+-- the token at the front, and what stands after it
 unfoldable pub token_at : List ℕ → Option (Token × List ℕ)
 token_at s =
     if is_ascii_digit (slice_index s 0) then numeral_at s

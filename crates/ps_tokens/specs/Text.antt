@@ -64,7 +64,7 @@ IsToken w Open = w ≡ codes "("
 IsToken w Close = w ≡ codes ")"
 IsToken w Separator = w ≡ codes ";"
 
--- the text spells the tokens, one after another, with any blanks before, between and behind them
+-- the text spells the tokens, one after another, with any blanks before, between and after them
 pub data Spells : List ℕ → List Token → Type 0 where
   nothing : Spells [] []
   a_blank : {b : ℕ} {s : List ℕ} {ts : List Token} → is_blank b ≡ true → Spells s ts → Spells (b ∷ s) ts

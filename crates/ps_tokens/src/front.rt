@@ -1,4 +1,4 @@
-//! The token at the front of a text. Each function answers what it found and the text behind it.
+//! The token at the front of a text. Each function returns what it found and the text after it.
 
 ghost use Rattle.std.specs.Prelude.{◌≡◌, ◌<◌, ◌≤◌, ◌^◌, drop, length, slice_index, IfSome, pos};
 ghost use Rattle.std.specs.Option.{option_map};
@@ -29,7 +29,7 @@ pub(crate) fn from(text: &[u8], place: usize) -> &[u8]
     }
 }
 
-// The text behind a byte, where that byte stands at the front.
+/// The text after a byte, where that byte stands at the front.
 #[tactic(auto, unfolding(crate::specs::Lexing::after))]
 fn after(byte: u8, text: &[u8]) -> Option<&[u8]>
     ensures { option_map (λ rest. rest.now) result ≡ after byte text.now }
@@ -41,7 +41,7 @@ fn after(byte: u8, text: &[u8]) -> Option<&[u8]>
     }
 }
 
-// The text behind a `$`, if one stands at the front.
+/// The text after a `$`, if one stands at the front.
 #[tactic(auto, unfolding(crate::specs::Lexing::unmarked))]
 fn unmarked(text: &[u8]) -> &[u8]
     ensures { result.now ≡ unmarked text.now }
@@ -53,7 +53,7 @@ fn unmarked(text: &[u8]) -> &[u8]
     }
 }
 
-// How many digits stand at the front.
+/// How many digits stand at the front.
 fn digits_at(text: &[u8]) -> usize
     ensures count { result ≡ digits_at text.now }
     ensures in_text { result ≤ length text.now }
@@ -66,7 +66,7 @@ fn digits_at(text: &[u8]) -> usize
     text.len()
 }
 
-// How many capital letters stand at the front.
+/// How many capital letters stand at the front.
 fn capitals_at(text: &[u8]) -> usize
     ensures count { result ≡ capitals_at text.now }
     ensures in_text { result ≤ length text.now }
@@ -79,7 +79,7 @@ fn capitals_at(text: &[u8]) -> usize
     text.len()
 }
 
-// How many letters stand at the front.
+/// How many letters stand at the front.
 fn letters_at(text: &[u8]) -> usize
     ensures count { result ≡ letters_at text.now }
     ensures in_text { result ≤ length text.now }
@@ -92,7 +92,7 @@ fn letters_at(text: &[u8]) -> usize
     text.len()
 }
 
-// The number that the digits write, where it is at most 2^63 - 1.
+/// The number that the digits write, where it is at most 2^63 - 1.
 #[tactic(auto, unfolding(crate::specs::Lexing::number_in))]
 fn number(digits: &[u8]) -> Option<u64>
     requires { AllDigits 10 digits.now }
@@ -113,7 +113,7 @@ fn number(digits: &[u8]) -> Option<u64>
     Some(value)
 }
 
-// The corner at the front. Its `$` are read and not kept.
+/// The corner at the front. Its `$` are read and not kept.
 #[tactic(auto, unfolding(crate::specs::Lexing::corner_at))]
 fn corner(text: &[u8]) -> Option<(Cell, &[u8])>
     ensures { option_map (λ found. (found.0, found.1.now)) result ≡ corner_at text.now }
@@ -126,7 +126,7 @@ fn corner(text: &[u8]) -> Option<(Cell, &[u8])>
     Some((cell, rest))
 }
 
-// The reference whose corner was read, where its bracket is closed.
+/// The reference whose corner was read, where its bracket is closed.
 #[tactic(auto, unfolding(crate::specs::Lexing::reference_at))]
 fn reference(corner: Cell, text: &[u8]) -> Option<(Token, &[u8])>
     ensures { option_map (λ found. (found.0, found.1.now)) result ≡ reference_at corner text.now }
@@ -135,7 +135,7 @@ fn reference(corner: Cell, text: &[u8]) -> Option<(Token, &[u8])>
     Some((Token::Reference(corner), rest))
 }
 
-// The range whose first corner was read.
+/// The range whose first corner was read.
 #[tactic(auto, unfolding(crate::specs::Lexing::range_at))]
 fn range(first: Cell, text: &[u8]) -> Option<(Token, &[u8])>
     ensures { option_map (λ found. (found.0, found.1.now)) result ≡ range_at first text.now }
@@ -149,7 +149,7 @@ fn range(first: Cell, text: &[u8]) -> Option<(Token, &[u8])>
     Some((Token::Range(Rect::new(first, second)), rest))
 }
 
-// The reference or the range whose bracket was opened.
+/// The reference or the range whose bracket was opened.
 #[tactic(auto, unfolding(crate::specs::Lexing::bracketed_at))]
 fn bracketed(text: &[u8]) -> Option<(Token, &[u8])>
     ensures { option_map (λ found. (found.0, found.1.now)) result ≡ bracketed_at text.now }
@@ -164,7 +164,7 @@ fn bracketed(text: &[u8]) -> Option<(Token, &[u8])>
     range(first, text)
 }
 
-// The numeral at the front.
+/// The numeral at the front.
 #[tactic(auto, unfolding(crate::specs::Lexing::numeral_at))]
 fn numeral(text: &[u8]) -> Option<(Token, &[u8])>
     ensures { option_map (λ found. (found.0, found.1.now)) result ≡ numeral_at text.now }
@@ -174,7 +174,7 @@ fn numeral(text: &[u8]) -> Option<(Token, &[u8])>
     Some((Token::Numeral(value as i64), rest))
 }
 
-// The function of a name in any case.
+/// The function of a name in any case.
 #[tactic(auto, unfolding(crate::specs::Lexing::function_of))]
 fn function(name: &[u8]) -> Option<Function>
     ensures { result ≡ function_of name.now }
@@ -187,7 +187,7 @@ fn function(name: &[u8]) -> Option<Function>
     None
 }
 
-// The name at the front.
+/// The name at the front.
 #[tactic(auto, unfolding(crate::specs::Lexing::name_at))]
 fn name(text: &[u8]) -> Option<(Token, &[u8])>
     ensures { option_map (λ found. (found.0, found.1.now)) result ≡ name_at text.now }
@@ -197,7 +197,7 @@ fn name(text: &[u8]) -> Option<(Token, &[u8])>
     Some((Token::Name(function), rest))
 }
 
-// The operator of two bytes.
+/// The operator of two bytes.
 #[tactic(auto, unfolding(crate::specs::Lexing::operator_of_two))]
 fn operator_of_two(first: u8, second: u8) -> Option<Operator>
     ensures { result ≡ operator_of_two first second }
@@ -210,7 +210,7 @@ fn operator_of_two(first: u8, second: u8) -> Option<Operator>
     }
 }
 
-// The token of one byte that is no digit and no letter.
+/// The token of one byte that is no digit and no letter.
 #[tactic(auto, unfolding(crate::specs::Lexing::token_of_one))]
 fn token_of_one(byte: u8) -> Option<Token>
     ensures { result ≡ token_of_one byte }
@@ -229,7 +229,7 @@ fn token_of_one(byte: u8) -> Option<Token>
     }
 }
 
-// The operator, the parenthesis or the separator at the front, of two bytes where it can be.
+/// The operator, the parenthesis or the separator at the front, of two bytes where it can be.
 #[tactic(auto, unfolding(crate::specs::Lexing::sign_at))]
 fn sign(text: &[u8]) -> Option<(Token, &[u8])>
     ensures { option_map (λ found. (found.0, found.1.now)) result ≡ sign_at text.now }
@@ -241,7 +241,7 @@ fn sign(text: &[u8]) -> Option<(Token, &[u8])>
     Some((token, from(text, 1)))
 }
 
-/// The token at the front of the text, as long as it gets, and the text behind it.
+/// The token at the front of the text, as long as it gets, and the text after it.
 #[tactic(auto, unfolding(crate::specs::Lexing::token_at))]
 pub(crate) fn token(text: &[u8]) -> Option<(Token, &[u8])>
     ensures { option_map (λ found. (found.0, found.1.now)) result ≡ token_at text.now }

@@ -8,16 +8,16 @@ ghost use Rattle.ps_tokens.specs.declared.token.Token.{Token};
 /// A text spells at most one list of tokens in which no two neighbours could be read as one.
 ///
 /// Cost: nothing is done.
-#[tactic(auto, using(crate::proofs::Spelling::one_spelled))]
+#[tactic(auto, using(crate::proofs::OneSpelling::one_spelled))]
 pub fn one_spelling()
     ensures { (text : List ℕ) (ts us : List Token)
         → Spells text ts → AreApart ts → Spells text us → AreApart us → ts ≡ us }
 {}
 
-/// Tokens that some text spells are spelled by their canonical text, one behind another.
+/// Tokens that some text spells are spelled by their canonical text, one after another.
 ///
 /// Cost: nothing is done.
-#[tactic(auto, using(crate::proofs::Canonical::text_spells))]
+#[tactic(auto, using(crate::proofs::CanonicalSpelling::text_spells))]
 pub fn canonical_spelling()
     ensures { (text : List ℕ) (ts : List Token) → Spells text ts → Spells (tokens_text ts) ts }
 {}

@@ -11,7 +11,7 @@ use crate::token::Token;
 use ps_grid::Refusal;
 use std::alloc::Global;
 
-// Whether a byte may stand between tokens.
+/// Whether a byte may stand between tokens.
 fn is_blank(byte: u8) -> bool
     ensures { result ≡ is_blank byte }
 {
@@ -36,11 +36,11 @@ pub fn tokens(alloc: Global, text: &[u8]) -> Result<Vec<Token>, Refusal>
         if is_blank(byte_at(rest, 0)) {
             rest = from(rest, 1);
         } else {
-            let Some((token, behind)) = token(rest) else {
+            let Some((token, others)) = token(rest) else {
                 return Err(Refusal::Formula);
             };
             found.push(token)?;
-            rest = behind;
+            rest = others;
         }
     }
     Ok(found)

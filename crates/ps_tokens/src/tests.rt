@@ -5,7 +5,7 @@ use ps_grid::{Cell, Rect, Refusal};
 use std::alloc::Global;
 use std::test::Fail;
 
-// The canonical spelling of the tokens of a text.
+/// The canonical spelling of the tokens of a text.
 fn canonical(alloc: Global, text: &[u8]) -> Result<Vec<u8>, Refusal> {
     let mut out = Vec::new(alloc);
     for token in tokens(alloc, text)? {

@@ -1,4 +1,4 @@
-use Rattle.ps_formula.proofs.Ordered.{tree_cmp-canon}
+use Rattle.ps_formula.proofs.OrderByText.{tree_cmp-canon}
 use Rattle.ps_formula.proofs.laws.ordered_by_text.Goals as goal
 
 pub returns : goal.returns

@@ -3,7 +3,7 @@ use Rattle.std.proofs.lemmas.Result.{err_from_is_err_and}
 use Rattle.std.proofs.lemmas.Bool.Decides.{nat_tests}
 use Rattle.ps_grid.specs.declared.refusal.Refusal.TheVariants.{Formula}
 use Rattle.ps_formula.specs.TreeOf.{tree_of}
-use Rattle.ps_formula.proofs.Whole.{read_whole, nothing_read, not_all_read, refused_none}
+use Rattle.ps_formula.proofs.WholeListsRead.{read_whole, nothing_read, not_all_read, refused_none}
 use Rattle.ps_formula.proofs.parser.whole.Goals as goal
 
 pub returns-in_err-tree-clause-none : goal.returns-in_err-tree-clause-none

@@ -1,5 +1,5 @@
 use Rattle.std.proofs.Common.{◌+◌, sym, arith}
-use Rattle.ps_tokens.proofs.Values.{digits_value-take-le, number_in-large, value_more}
+use Rattle.ps_tokens.proofs.DigitValues.{digits_value-take-le, number_in-large, value_more}
 use Rattle.ps_tokens.proofs.front.number.Goals as goal
 
 pub returns-then-value-clause-value : goal.returns-then-value-clause-value

@@ -1,6 +1,6 @@
 use Rattle.std.proofs.Common.{take, sym, ap, subst, ◌∙◌}
 use Rattle.std.specs.Str.Parse.{AllDigits}
-use Rattle.ps_tokens.proofs.Runs.{AllDigits-digits_at}
+use Rattle.ps_tokens.proofs.LongestRuns.{AllDigits-digits_at}
 use Rattle.ps_tokens.proofs.front.numeral.Goals as goal
 
 pub number-requires : goal.number-requires

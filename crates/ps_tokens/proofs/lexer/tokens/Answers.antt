@@ -1,6 +1,6 @@
 use Rattle.std.proofs.Common.{sym, ap, ◌∙◌}
 use Rattle.ps_tokens.specs.Text.{is_blank}
-use Rattle.ps_tokens.proofs.Spelling.{token_at-shorter, turn_blank, turn_end, turn_none, turn_token}
+use Rattle.ps_tokens.proofs.OneSpelling.{token_at-shorter, turn_blank, turn_end, turn_none, turn_token}
 use Rattle.ps_tokens.proofs.lexer.tokens.Goals as goal
 
 pub tokens-preserved-then-is_blank : goal.tokens-preserved-then-is_blank

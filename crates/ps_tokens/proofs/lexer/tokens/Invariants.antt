@@ -1,5 +1,5 @@
 use Rattle.std.proofs.Common.{length}
-use Rattle.ps_tokens.proofs.Spelling.{IsLeft}
+use Rattle.ps_tokens.proofs.OneSpelling.{IsLeft}
 use Rattle.ps_tokens.proofs.lexer.tokens.Given as goal
 
 -- the tokens found and the rest of the text make up the whole

@@ -1,5 +1,5 @@
 use Rattle.std.proofs.Common.{rules, ◌∙◌, ap}
-use Rattle.ps_formula.proofs.Covered.{is_covered, is_covered-rects_of}
+use Rattle.ps_formula.proofs.CellsCovered.{is_covered, is_covered-rects_of}
 use Rattle.ps_formula.proofs.formula.Formula.rects.Goals as goal
 
 pub returns-clause-covered : goal.returns-clause-covered

@@ -1,5 +1,5 @@
 use Rattle.std.proofs.Common.{◌∙◌, sym}
-use Rattle.ps_formula.proofs.Ordered.{tree_cmp-texts}
+use Rattle.ps_formula.proofs.OrderByText.{tree_cmp-texts}
 use Rattle.ps_formula.proofs.order.FormulaOrd.cmp.Goals as goal
 
 pub returns : goal.returns

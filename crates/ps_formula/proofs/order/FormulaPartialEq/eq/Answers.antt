@@ -1,7 +1,7 @@
 use Rattle.std.proofs.Common.{◌∙◌, sym, ap}
 use Rattle.std.proofs.lemmas.Map.Text.{is_eq-slice_cmp}
 use Rattle.std.specs.Ordering.{is_eq}
-use Rattle.ps_formula.proofs.Ordered.{tree_cmp-texts}
+use Rattle.ps_formula.proofs.OrderByText.{tree_cmp-texts}
 use Rattle.ps_formula.proofs.order.FormulaPartialEq.eq.Goals as goal
 
 pub returns : goal.returns

@@ -1,4 +1,4 @@
--- In a formula no token goes on in the one behind it, so its text is read token for token.
+-- In a formula no token goes on in the one after it, so its text is read token for token.
 use Rattle.std.proofs.Common.{ℕ, sym, refl, ap, subst, List, [], ◌∷◌, ◌++◌, append_assoc, append-nil}
 use Rattle.ps_tokens.specs.Apart.{AreApart, IsApart}
 use Rattle.ps_tokens.specs.declared.token.Function.{Function}
@@ -15,12 +15,12 @@ use Rattle.ps_formula.specs.Grammar.{a_bare_call, a_call, a_chain, no_more, one_
 use Rattle.ps_formula.specs.Grammar.{a_comparison, a_range}
 use Rattle.ps_formula.specs.Tree.{Tree, Item, Items}
 
--- what may stand behind an operand: no numeral, since an operand may end with one
+-- what may stand after an operand: no numeral, since an operand may end with one
 abbrev Ends : List Token → Type 0
 Ends (Numeral _ ∷ ts) = ⊥
 Ends _ = Unit {0}
 
--- what may stand behind an operator: no operator but a sign
+-- what may stand after an operator: no operator but a sign
 abbrev Begins : List Token → Type 0
 Begins (Symbol plus_sign ∷ ts) = Unit {0}
 Begins (Symbol minus_sign ∷ ts) = Unit {0}

@@ -15,9 +15,9 @@ use Rattle.ps_formula.specs.Reading.{level_at, more_at, prefixed_at, call_at, ar
 use Rattle.ps_formula.specs.Reading.{closed_at, opened_at, separated_at, range_at, operator_at, sign_of}
 use Rattle.ps_formula.specs.Tree.{Tree, Item, Items, number, reference, signed, joined, group, call, expression}
 use Rattle.ps_formula.specs.Tree.{range, no_items, item_and, in_row}
-use Rattle.ps_formula.proofs.Fronts.{either_way_cases, opened_at-some, closed_at-some, separated_at-some}
-use Rattle.ps_formula.proofs.Fronts.{range_at-some, operator_at-some, sign_of-some, cut_twice}
-use Rattle.ps_formula.proofs.Rows.{listed, in_row-listed, length-listed}
+use Rattle.ps_formula.proofs.FirstTokens.{either_way_cases, opened_at-some, closed_at-some, separated_at-some}
+use Rattle.ps_formula.proofs.FirstTokens.{range_at-some, operator_at-some, sign_of-some, cut_twice}
+use Rattle.ps_formula.proofs.ArgumentLists.{listed, in_row-listed, length-listed}
 
 pub record Takes (l : ℕ) (ts : List Token) (x : Tree × List Token) : Type 0 where
   pub front : List Token

@@ -11,9 +11,9 @@ use Rattle.ps_tokens.specs.declared.token.Operator.TheVariants.{Plus, Minus, Tim
 use Rattle.ps_tokens.specs.declared.token.Operator.TheVariants.{LessOrEqual, Greater, GreaterOrEqual}
 use Rattle.ps_tokens.specs.declared.token.Token.{Token}
 use Rattle.ps_tokens.specs.declared.token.Token.TheVariants.{Symbol, Open, Close, Separator}
-use Rattle.ps_tokens.proofs.Choices.{if_some_or, option_map_from}
+use Rattle.ps_tokens.proofs.OptionLemmas.{if_some_or, option_map_from}
 
--- the front of s is a spelling of the token, and r stands behind it
+-- the front of s is a spelling of the token, and r stands after it
 pub record TakesToken (s : List ℕ) (x : Token) (r : List ℕ) : Type 0 where
   pub word : List ℕ
   pub is_token : IsToken word x

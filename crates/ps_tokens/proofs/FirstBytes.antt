@@ -16,7 +16,7 @@ use Rattle.ps_tokens.specs.declared.token.Operator.TheVariants.{LessOrEqual, Gre
 use Rattle.ps_tokens.specs.declared.token.Token.{Token}
 use Rattle.ps_tokens.specs.declared.token.Token.TheVariants.{Numeral, Reference, Range, Name, Symbol, Open, Close}
 use Rattle.ps_tokens.specs.declared.token.Token.TheVariants.{Separator}
-use Rattle.ps_tokens.proofs.Choices.{byte_is}
+use Rattle.ps_tokens.proofs.OptionLemmas.{byte_is}
 use Rattle.ps_tokens.proofs.NameLemmas.{name_letters, name_some}
 
 -- the first byte of an operator

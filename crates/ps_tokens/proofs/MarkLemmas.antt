@@ -4,8 +4,8 @@ use Rattle.std.proofs.Common.{Some, None, List, [], ◌∷◌, ◌++◌, refl, a
 use Rattle.std.proofs.lemmas.Bool.{eqb-true, eq-eqb}
 use Rattle.ps_tokens.specs.Lexing.{after, unmarked}
 use Rattle.ps_tokens.specs.Text.{mark}
-use Rattle.ps_tokens.proofs.Choices.{if_some}
-use Rattle.ps_tokens.proofs.Runs.{Stops}
+use Rattle.ps_tokens.proofs.OptionLemmas.{if_some}
+use Rattle.ps_tokens.proofs.LongestRuns.{Stops}
 
 -- a byte that was found stands there
 pub after-some : (b : ℕ) (s r : List ℕ) → 0 < b → after b s ≡ Some r → s ≡ b ∷ r

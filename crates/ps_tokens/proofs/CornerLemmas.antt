@@ -18,12 +18,12 @@ use Rattle.ps_grid.specs.declared.size.TheConstants.{CELLS, COLUMNS}
 use Rattle.ps_grid.proofs.NameLemmas.{all_letters, some_letter}
 use Rattle.ps_tokens.specs.Lexing.{capitals_at, cell_in, corner_at, digits_at, unmarked}
 use Rattle.ps_tokens.specs.Text.{mark, IsCorner}
-use Rattle.ps_tokens.proofs.Choices.{option_map_from}
-use Rattle.ps_tokens.proofs.Marks.{unmarked-mark, unmarked_text}
+use Rattle.ps_tokens.proofs.OptionLemmas.{option_map_from}
+use Rattle.ps_tokens.proofs.MarkLemmas.{unmarked-mark, unmarked_text}
 use Rattle.ps_tokens.proofs.NamedCells.{cell_in-name, cell_in-some}
-use Rattle.ps_tokens.proofs.Runs.{Stops, drop-run, take-run}
+use Rattle.ps_tokens.proofs.LongestRuns.{Stops, drop-run, take-run}
 
--- the front of s is a corner of the cell, and r stands behind it
+-- the front of s is a corner of the cell, and r stands after it
 pub record TakesCorner (s : List ℕ) (c : ℕ) (r : List ℕ) : Type 0 where
   pub word : List ℕ
   pub is_corner : IsCorner word c
@@ -95,7 +95,7 @@ capitals_stop : (w s : List ℕ) → 0 < length w → list_all is_ascii_uppercas
 capitals_stop [] s some h = absurd (omega arith)
 capitals_stop (c ∷ w) s some h = capital_is_other c (and_parts _ _ h).0
 
--- a corner that stands at the front is read, if no digit stands behind it
+-- a corner that stands at the front is read, if no digit stands after it
 pub corner_at-corner : (w : List ℕ) (c : ℕ) (s : List ℕ) → IsCorner w c → Stops is_ascii_digit s
     → corner_at (w ++ s) ≡ Some (c, s)
 unfolding corner_at

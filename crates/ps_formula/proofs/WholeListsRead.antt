@@ -7,8 +7,8 @@ use Rattle.ps_formula.specs.Reading.{level_at, Refuses}
 use Rattle.ps_grid.specs.declared.refusal.Refusal.{Refusal}
 use Rattle.ps_grid.specs.declared.refusal.Refusal.TheVariants.{Formula}
 use Rattle.ps_formula.specs.Tree.{Tree, reference}
-use Rattle.ps_formula.proofs.Takes.{takes_level}
-use Rattle.ps_formula.proofs.Again.{again_level}
+use Rattle.ps_formula.proofs.ReaderIsSound.{takes_level}
+use Rattle.ps_formula.proofs.ReaderIsComplete.{again_level}
 
 -- the tree that was read
 abbrev tree_in : Option (Tree × List Token) → Tree

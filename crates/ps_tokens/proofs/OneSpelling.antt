@@ -8,8 +8,8 @@ use Rattle.ps_tokens.specs.Lexing.{token_at}
 use Rattle.ps_tokens.specs.Text.{is_blank, Spells}
 use Rattle.ps_tokens.specs.Text.Spells.{nothing, a_blank, a_token}
 use Rattle.ps_tokens.specs.declared.token.Token.{Token}
-use Rattle.ps_tokens.proofs.Heads.{IsToken-head, apart_stops, blank_stops, goes_on, head_no_blank}
-use Rattle.ps_tokens.proofs.Runs.{Stops}
+use Rattle.ps_tokens.proofs.FirstBytes.{IsToken-head, apart_stops, blank_stops, goes_on, head_no_blank}
+use Rattle.ps_tokens.proofs.LongestRuns.{Stops}
 use Rattle.ps_tokens.proofs.TokenLemmas.{token_at-some, token_at-token}
 
 -- an empty text spells no token
@@ -21,7 +21,7 @@ nothing_spelled _ _ (a_token w {s} {x} token sp) e =
     let begins : (head.first ∷ head.others) ++ s ≡ [] = subst (λ v. v ++ s ≡ []) head.text e in
     cc
 
--- behind a blank the same is spelled
+-- after a blank the same is spelled
 pub blank_spelled : (t : List ℕ) (us : List Token) → Spells t us → (b : ℕ) (s : List ℕ) → is_blank b ≡ true
     → t ≡ b ∷ s → Spells s us
 blank_spelled _ _ nothing b s h e = cc
@@ -43,7 +43,7 @@ stops x _ _ (a_token w {s} {x = y} token sp) apart =
     let head = IsToken-head w y token in
     subst (λ v. Stops (goes_on x) (v ++ s)) (sym head.text) (apart_stops x y head.first apart head.fits)
 
--- the first of tokens that are apart is the one that is read, and the others are spelled behind it
+-- the first of tokens that are apart is the one that is read, and the others are spelled after it
 pub record ReadsFirst (s : List ℕ) (us : List Token) : Type 0 where
   pub first : Token
   pub others : List Token

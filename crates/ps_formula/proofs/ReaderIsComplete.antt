@@ -1,4 +1,4 @@
--- The reader finds what the grammar says: tokens that have a tree are read as that tree, whatever stands behind them,
+-- The reader finds what the grammar says: tokens that have a tree are read as that tree, whatever stands after them,
 -- as long as it is no operator that would go on.
 use Rattle.std.proofs.Common.{◌≡◌, ℕ, zero, suc, ◌+◌, ◌*◌, ◌<◌, ◌≤◌, true, false, cond, eqb, refl, sym, ap, ◌∙◌}
 use Rattle.std.proofs.Common.{subst, List, [], ◌∷◌, ◌++◌, length, length-append, append_assoc, arith}
@@ -17,7 +17,7 @@ use Rattle.ps_formula.specs.Canonical.{symbol_of}
 use Rattle.ps_formula.specs.Reading.{level_at, more_at, prefixed_at, arguments_at, behind_at, argument_at, either_way}
 use Rattle.ps_formula.specs.Reading.{closed_at, range_at, operator_at, sign_of}
 use Rattle.ps_formula.specs.Tree.{Tree, Item, Items, signed, joined, group, call, expression, range, no_items, in_row}
-use Rattle.ps_formula.proofs.Rows.{listed, in_row-listed, length-listed}
+use Rattle.ps_formula.proofs.ArgumentLists.{listed, in_row-listed, length-listed}
 
 -- no operator of a level below l stands at the front
 abbrev pub Stops : ℕ → List Token → Type 0
