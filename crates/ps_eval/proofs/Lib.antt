@@ -1,7 +1,7 @@
 pub mod Agreement
-pub mod Calls
+pub mod CallLemmas
 pub mod CycleFaults
 pub mod ModuloLemmas
-pub mod Ranges
+pub mod RangeItems
 pub mod SummaryLemmas
 pub mod TotalLemmas

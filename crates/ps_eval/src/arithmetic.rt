@@ -9,14 +9,14 @@ use ps_formula::Sign;
 use ps_tokens::Operator;
 use ps_value::Fault;
 
-// A result, or the fault of a number out of range.
+/// A result, or the fault of a number out of range.
 fn ranged(exact_result: Option<i64>) -> Result<i64, Fault>
     ensures { MatchOption exact_result (result ≡ Err OutOfRange) (λ n. result ≡ Ok n) }
 {
     exact_result.ok_or(Fault::Num)
 }
 
-// The value of a sign in front of a number.
+/// The value of a sign in front of a number.
 pub(crate) fn prefixed(sign: Sign, a: i64) -> Result<i64, Fault>
     ensures { result ≡ prefixed sign a }
 {
@@ -26,7 +26,7 @@ pub(crate) fn prefixed(sign: Sign, a: i64) -> Result<i64, Fault>
     }
 }
 
-// The value of an operator between two numbers.
+/// The value of an operator between two numbers.
 pub(crate) fn operation(operator: Operator, a: i64, b: i64) -> Result<i64, Fault>
     ensures { result ≡ operation operator a b }
 {
@@ -43,14 +43,14 @@ pub(crate) fn operation(operator: Operator, a: i64, b: i64) -> Result<i64, Fault
     }
 }
 
-// 1 where it holds, else 0.
+/// 1 where it holds, else 0.
 pub(crate) fn truth(holds: bool) -> i64
     ensures { result ≡ truth holds }
 {
     if holds { 1 } else { 0 }
 }
 
-// MOD: what is left of `a` after whole `b`s, with the sign of `b`.
+/// MOD: what is left of `a` after whole `b`s, with the sign of `b`.
 pub(crate) fn modulo(a: i64, b: i64) -> Result<i64, Fault>
     ensures { result ≡ modulo a b }
 {
@@ -60,7 +60,7 @@ pub(crate) fn modulo(a: i64, b: i64) -> Result<i64, Fault>
     Ok(rest_of(a, b))
 }
 
-// What is left of `a` after whole `b`s: of the sign of `b`, where the machine's remainder has that of `a`.
+/// What is left of `a` after whole `b`s: of the sign of `b`, where the machine's remainder has that of `a`.
 fn rest_of(a: i64, b: i64) -> i64
     requires { b ≢ pos 0 }
     ensures { result ≡ a -ℤ b *ℤ floored a b }
@@ -73,7 +73,7 @@ fn rest_of(a: i64, b: i64) -> i64
     }
 }
 
-// QUOTIENT: `a` divided by `b`, cut towards zero.
+/// QUOTIENT: `a` divided by `b`, cut towards zero.
 pub(crate) fn quotient(a: i64, b: i64) -> Result<i64, Fault>
     ensures { result ≡ quotient a b }
 {
@@ -84,7 +84,7 @@ pub(crate) fn quotient(a: i64, b: i64) -> Result<i64, Fault>
     }
 }
 
-// ABS: the magnitude.
+/// ABS: the magnitude.
 pub(crate) fn absolute(a: i64) -> Result<i64, Fault>
     ensures { result ≡ absolute a }
 {

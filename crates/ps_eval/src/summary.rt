@@ -9,19 +9,19 @@ use crate::arithmetic::truth;
 use crate::total::Total;
 use ps_value::{Fault, Value};
 
-// What is known of the items so far.
+/// What is known of the items so far.
 #[derive(Drop)]
 pub(crate) struct Summary {
-    // how many numbers there are, and their sum
+    /// how many numbers there are, and their sum
     count: u128,
     sum: Total,
-    // the least and the greatest number, or 0
+    /// the least and the greatest number, or 0
     least: i64,
     greatest: i64,
-    // whether no number is 0, and whether one isn't
+    /// whether no number is 0, and whether one isn't
     all: bool,
     any: bool,
-    // the first fault
+    /// the first fault
     fault: Option<Fault>,
     ghost bounded: { unsigned_abs sum ≤ count * 2 ^ 63 },
 }
@@ -30,7 +30,7 @@ impl Summary {
     ghost use Rattle.ps_eval.specs.Items.{all_of, any_of, cell_items, count_of, max_of, min_of, sum_of};
     ghost use Rattle.ps_eval.specs.Summarized.{Summarizes};
 
-    // Of no items.
+    /// Of no items.
     pub(crate) fn new() -> Summary
         ensures { Summarizes [] result }
     {
@@ -45,7 +45,7 @@ impl Summary {
         }
     }
 
-    // One more number.
+    /// One more number.
     #[inline]
     fn take_number(&mut self, number: i64)
         requires { self.old.count < 2 ^ 100 }
@@ -62,7 +62,7 @@ impl Summary {
         self.sum.add(number);
     }
 
-    // One more item.
+    /// One more item.
     pub(crate) fn take(&mut self, item: Result<i64, Fault>)
         requires { self.old.count < 2 ^ 100 }
         ensures items { (items : List Number)
@@ -76,7 +76,7 @@ impl Summary {
         }
     }
 
-    // One more fault: the first one stays.
+    /// One more fault: the first one stays.
     fn take_fault(&mut self, fault: Fault)
         ensures items { (items : List Number)
             → Summarizes items self.old
@@ -88,7 +88,7 @@ impl Summary {
         }
     }
 
-    // The value of one more cell, which may be no item.
+    /// The value of one more cell, which may be no item.
     #[inline]
     pub(crate) fn take_cell(&mut self, value: Value)
         requires { self.old.count < 2 ^ 100 }
@@ -105,7 +105,7 @@ impl Summary {
         }
     }
 
-    // SUM of the items.
+    /// SUM of the items.
     pub(crate) fn sum(&self) -> Result<i64, Fault>
         ensures { (items : List Number) → Summarizes items self.now → result ≡ sum_of items }
     {
@@ -115,7 +115,7 @@ impl Summary {
         }
     }
 
-    // MIN of the items.
+    /// MIN of the items.
     pub(crate) fn min(&self) -> Result<i64, Fault>
         ensures { (items : List Number) → Summarizes items self.now → result ≡ min_of items }
     {
@@ -125,7 +125,7 @@ impl Summary {
         }
     }
 
-    // MAX of the items.
+    /// MAX of the items.
     pub(crate) fn max(&self) -> Result<i64, Fault>
         ensures { (items : List Number) → Summarizes items self.now → result ≡ max_of items }
     {
@@ -135,7 +135,7 @@ impl Summary {
         }
     }
 
-    // COUNT of the items.
+    /// COUNT of the items.
     pub(crate) fn count(&self) -> Result<i64, Fault>
         ensures { (items : List Number) → Summarizes items self.now → result ≡ count_of items }
     {
@@ -146,7 +146,7 @@ impl Summary {
         }
     }
 
-    // AND of the items.
+    /// AND of the items.
     pub(crate) fn all(&self) -> Result<i64, Fault>
         ensures { (items : List Number) → Summarizes items self.now → result ≡ all_of items }
     {
@@ -156,7 +156,7 @@ impl Summary {
         }
     }
 
-    // OR of the items.
+    /// OR of the items.
     pub(crate) fn any(&self) -> Result<i64, Fault>
         ensures { (items : List Number) → Summarizes items self.now → result ≡ any_of items }
     {
@@ -167,10 +167,10 @@ impl Summary {
     }
 }
 
-// The greatest number of 64 bits.
+/// The greatest number of 64 bits.
 const GREATEST: u128 = 0x7fff_ffff_ffff_ffff;
 
-// The least number of one more than `count`.
+/// The least number of one more than `count`.
 #[inline]
 fn lesser(count: u128, least: i64, number: i64) -> i64
     ensures { result ≡ (if count == 0 then number else int_min least number) }
@@ -182,7 +182,7 @@ fn lesser(count: u128, least: i64, number: i64) -> i64
     }
 }
 
-// The greatest number of one more than `count`.
+/// The greatest number of one more than `count`.
 #[inline]
 fn greater(count: u128, greatest: i64, number: i64) -> i64
     ensures { result ≡ (if count == 0 then number else int_max greatest number) }
@@ -194,7 +194,7 @@ fn greater(count: u128, greatest: i64, number: i64) -> i64
     }
 }
 
-// Whether none is 0 where there is one more.
+/// Whether none is 0 where there is one more.
 #[inline]
 fn every(all: bool, number: i64) -> bool
     ensures { result ≡ (all && not (is_zero number)) }
@@ -202,7 +202,7 @@ fn every(all: bool, number: i64) -> bool
     all && number != 0
 }
 
-// Whether one isn't 0 where there is one more.
+/// Whether one isn't 0 where there is one more.
 #[inline]
 fn some(any: bool, number: i64) -> bool
     ensures { result ≡ (any || not (is_zero number)) }

@@ -20,7 +20,7 @@ const NUM: Value = Value::Err(Fault::Num);
 
 const VALUE: Value = Value::Err(Fault::Value);
 
-// What the first cells of the grid show. All others are empty.
+/// What the first cells of the grid show. All others are empty.
 #[derive(Drop)]
 struct Board {
     shown: Vec<Value>,
@@ -40,7 +40,7 @@ impl Look for Board {
     }
 }
 
-// Three rows, with the values of some cells.
+/// Three rows, with the values of some cells.
 fn filled(alloc: Global, values: &[(&str, Value)]) -> Result<Board, Fail> {
     let mut shown = vec![in alloc; Value::Empty; 312]?;
     for (name, value) in values {
@@ -104,7 +104,7 @@ fn check_numbers(rt: &impl Abort, alloc: Global, formulas: &[(&str, i64)]) -> Re
 
 /// The range is tested once, at the end of a sum; a text is no number.
 #[test]
-fn row_7(rt: HostRuntime) -> Result<(), Fail> {
+fn sums_are_tested_once_at_their_end(rt: HostRuntime) -> Result<(), Fail> {
     let alloc = rt.alloc();
     let board = filled(alloc, &[("A1", label("9223372036854775808")?)])?;
     check(
@@ -130,7 +130,7 @@ fn row_7(rt: HostRuntime) -> Result<(), Fail> {
 
 /// MOD has the sign of the divisor, QUOTIENT is cut towards zero.
 #[test]
-fn row_8(rt: HostRuntime) -> Result<(), Fail> {
+fn remainders_and_quotients_of_each_sign(rt: HostRuntime) -> Result<(), Fail> {
     let alloc = rt.alloc();
     let empty = filled(alloc, &[])?;
     check_numbers(
@@ -157,7 +157,7 @@ fn row_8(rt: HostRuntime) -> Result<(), Fail> {
 
 /// MOD and QUOTIENT of numbers with many digits, as another program works them out.
 #[test]
-fn divisions(rt: HostRuntime) -> Result<(), Fail> {
+fn divisions_of_many_digits(rt: HostRuntime) -> Result<(), Fail> {
     check_numbers(
         &rt,
         rt.alloc(),
@@ -229,7 +229,7 @@ fn as_another_spreadsheet_shows(rt: HostRuntime) -> Result<(), Fail> {
 
 /// Items: texts and empty cells are passed over, and SUM, MIN and MAX answer a fault that COUNT passes over.
 #[test]
-fn row_9(rt: HostRuntime) -> Result<(), Fail> {
+fn items_pass_over_texts_and_empty_cells(rt: HostRuntime) -> Result<(), Fail> {
     let alloc = rt.alloc();
     let board = filled(
         alloc,
@@ -279,7 +279,7 @@ fn the_first_fault_is_row_by_row(rt: HostRuntime) -> Result<(), Fail> {
 
 /// Operators group from the left, signs pile up, and a choice counts as the number of its options.
 #[test]
-fn operators(rt: HostRuntime) -> Result<(), Fail> {
+fn operators_group_from_the_left(rt: HostRuntime) -> Result<(), Fail> {
     let alloc = rt.alloc();
     let board = filled(
         alloc,
@@ -308,7 +308,7 @@ fn operators(rt: HostRuntime) -> Result<(), Fail> {
 
 /// IF takes the chosen branch alone, and each of the other functions on single values.
 #[test]
-fn functions(rt: HostRuntime) -> Result<(), Fail> {
+fn functions_of_single_values(rt: HostRuntime) -> Result<(), Fail> {
     let alloc = rt.alloc();
     let board = filled(alloc, &[("A1", label("x")?)])?;
     check(
@@ -337,7 +337,7 @@ fn functions(rt: HostRuntime) -> Result<(), Fail> {
     )
 }
 
-// Two meters of their own ledgers: the first adds what the second has counted.
+/// Two meters of their own ledgers: the first adds what the second has counted.
 fn counted_together<L: Ledger, M: Ledger>(
     first: Blank,
     second: Blank,

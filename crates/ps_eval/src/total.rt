@@ -6,10 +6,10 @@ ghost use Rattle.ps_eval.specs.Number.{exact};
 use ps_value::Fault;
 use std::marker::Model;
 
-// How far apart two numbers are that differ by one turn.
+/// How far apart two numbers are that differ by one turn.
 const TURN: i128 = 0x1_0000_0000_0000_0000;
 
-// The greatest and the least number of 64 bits.
+/// The greatest and the least number of 64 bits.
 const GREATEST: i128 = 0x7fff_ffff_ffff_ffff;
 
 const LEAST: i128 = -0x8000_0000_0000_0000;

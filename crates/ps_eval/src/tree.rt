@@ -33,7 +33,7 @@ pub fn eval<K: Look, L: Ledger>(formula: &Formula, look: &K, meter: &mut Meter<L
     }
 }
 
-// The number of a tree.
+/// The number of a tree.
 #[cycle(numbers)]
 fn number<K: Look>(tree: &Expr, look: &K) -> Result<i64, Fault>
     ensures { result ≡ number_of (tree_of tree.now) (K.value_at look.now) }
@@ -52,7 +52,7 @@ fn number<K: Look>(tree: &Expr, look: &K) -> Result<i64, Fault>
     }
 }
 
-// A cell's value where one number is wanted.
+/// A cell's value where one number is wanted.
 fn single(value: Value) -> Result<i64, Fault>
     ensures { result ≡ single value }
 {
@@ -65,7 +65,7 @@ fn single(value: Value) -> Result<i64, Fault>
     }
 }
 
-// The number of a call.
+/// The number of a call.
 #[cycle(numbers)]
 fn value_of_call<K: Look>(
     function: Function,
@@ -97,7 +97,7 @@ fn value_of_call<K: Look>(
     }
 }
 
-// IF: only the chosen branch is evaluated.
+/// IF: only the chosen branch is evaluated.
 #[cycle(numbers)]
 fn choice<K: Look>(arguments: &[Argument], look: &K) -> Result<i64, Fault>
     ensures { result ≡ number_of (call Function.If (in_row (map item_of arguments.now))) (K.value_at look.now) }
@@ -172,7 +172,7 @@ fn negation_of<K: Look>(arguments: &[Argument], look: &K) -> Result<i64, Fault>
     }
 }
 
-// The value of an argument: a range is no number.
+/// The value of an argument: a range is no number.
 #[cycle(numbers)]
 fn operand<K: Look>(argument: &Argument, look: &K) -> Result<i64, Fault>
     ensures { result ≡ value_in (item_of argument.now) (K.value_at look.now) }
@@ -183,7 +183,7 @@ fn operand<K: Look>(argument: &Argument, look: &K) -> Result<i64, Fault>
     }
 }
 
-// What is known of the values of the arguments.
+/// What is known of the values of the arguments.
 #[cycle(numbers)]
 fn operands<K: Look>(arguments: &[Argument], look: &K) -> Summary
     ensures { Summarizes (values_of (in_row (map item_of arguments.now)) (K.value_at look.now)) result }
@@ -195,7 +195,7 @@ fn operands<K: Look>(arguments: &[Argument], look: &K) -> Summary
     summary
 }
 
-// What is known of the items of the arguments.
+/// What is known of the items of the arguments.
 #[cycle(numbers)]
 fn items<K: Look>(arguments: &[Argument], look: &K) -> Summary
     ensures { Summarizes (items_of (in_row (map item_of arguments.now)) (K.value_at look.now)) result }
@@ -207,7 +207,7 @@ fn items<K: Look>(arguments: &[Argument], look: &K) -> Summary
     summary
 }
 
-// The items of one more argument.
+/// The items of one more argument.
 #[cycle(numbers)]
 fn take_argument<K: Look>(summary: &mut Summary, argument: &Argument, look: &K)
     requires { summary.old.count < 2 ^ 90 }
@@ -225,7 +225,7 @@ fn take_argument<K: Look>(summary: &mut Summary, argument: &Argument, look: &K)
     }
 }
 
-// The cell of a reference that stands alone.
+/// The cell of a reference that stands alone.
 fn cell_alone(tree: &Expr) -> Option<Cell>
     ensures { MatchOption result
         ((v : Assignment) (x : Number) → items_alone (tree_of tree.now) v x ≡ x ∷ [])
@@ -241,7 +241,7 @@ fn cell_alone(tree: &Expr) -> Option<Cell>
     }
 }
 
-// The items of a range, row by row.
+/// The items of a range, row by row.
 fn take_range<K: Look>(summary: &mut Summary, rect: Rect, look: &K)
     requires { summary.old.count < 2 ^ 90 }
     ensures items { (items : List Number)

@@ -29,7 +29,7 @@ fn becomes(alloc: Global, text: &[u8], canonical: &[u8]) -> bool {
 /// range's corners at the top left and the bottom right; parentheses and signs are kept, and so is a range of one
 /// cell. Its canonical text is read as the same formula.
 #[test]
-fn canonical_texts(rt: HostRuntime) {
+fn texts_become_canonical(rt: HostRuntime) {
     // in each line a text and its canonical text
     let texts = "of:= - 2 * sum ( [.$C$2:.B1] ; 007 ) ~ =-2*SUM([.B1:.C2];7)\n\
         = sum( [.$B$2:.A1] ; -007) ~ =SUM([.A1:.B2];-7)\n\
@@ -66,7 +66,7 @@ fn canonical_texts(rt: HostRuntime) {
 
 /// Formulas are ordered by the bytes of their canonical texts, however they were written.
 #[test]
-fn order(rt: HostRuntime) {
+fn formulas_are_ordered_by_their_texts(rt: HostRuntime) {
     assert!(rt; compared(rt.alloc(), b"=12", b"= 02") == Ok((true, false)));
     assert!(rt; compared(rt.alloc(), b"= 02", b"of:=2") == Ok((false, true)));
 }
@@ -78,7 +78,7 @@ fn refusal(alloc: Global, text: &[u8]) -> Option<Refusal> {
 
 /// What the grammar does not have is refused as no formula.
 #[test]
-fn no_formulas(rt: HostRuntime) {
+fn texts_that_are_no_formulas(rt: HostRuntime) {
     // one in each line; the first is empty, and the third begins with a blank
     let texts = "\n1\n =1\n\
         of: =1\nOF:=1\n=\n= \n==1\n=SUM()\n=AND()\n=TRUE\n=TRUE(1)\n=[.A1:.A2]\n=AND([.A1:.A2])\n\
@@ -116,7 +116,7 @@ fn refusal_of(alloc: Global, byte: u8, count: usize, end: &[u8]) -> Option<Refus
 /// 512 bytes are read, 513 are too long whatever they hold; a canonical text has at most 256 bytes. Nothing nests
 /// too deep for the reader.
 #[test]
-fn lengths(rt: HostRuntime) {
+fn lengths_are_limited(rt: HostRuntime) {
     let alloc = rt.alloc();
     assert!(rt; refusal_of(alloc, b' ', 510, b"1") == None);
     assert!(rt; refusal_of(alloc, b' ', 511, b"1") == Some(Refusal::TooLong));
@@ -153,7 +153,7 @@ fn read_is_grouped(alloc: Global) -> Result<bool, Refusal> {
 
 /// Operators of one level group from the left, `*` binds tighter than `-`, and a sign tighter than both.
 #[test]
-fn grouping(rt: HostRuntime) {
+fn operators_group_by_their_level(rt: HostRuntime) {
     assert!(rt; read_is_grouped(rt.alloc()) == Ok(true));
 }
 
@@ -190,6 +190,6 @@ fn refers_to_all(alloc: Global) -> Result<bool, Refusal> {
 /// A formula refers to the cells of all its references and ranges, in branches that are not taken too; a range that
 /// covers the grid is one rectangle.
 #[test]
-fn references(rt: HostRuntime) {
+fn references_are_listed_from_left_to_right(rt: HostRuntime) {
     assert!(rt; refers_to_all(rt.alloc()) == Ok(true));
 }

@@ -1,7 +1,7 @@
 use Rattle.std.proofs.Common.{◌+◌, ◌≤◌, List, ◌++◌, length}
 use Rattle.ps_eval.specs.Number.{Number}
 use Rattle.ps_eval.specs.Summarized.{Summarizes}
-use Rattle.ps_eval.proofs.Ranges.{items_at}
+use Rattle.ps_eval.proofs.RangeItems.{items_at}
 use Rattle.ps_eval.proofs.tree.take_range.Given as goal
 
 -- the summary has the items of the cells so far
