@@ -56,7 +56,7 @@ impl Delta {
     ///
     /// Refused only when out of memory.
     ///
-    /// Cost: the cells of all the deltas, with their counts and pairs, times the number of deltas.
+    /// Cost: for each delta, the cells joined so far and its own, with their counts and pairs.
     pub fn joined(alloc: Global, deltas: &[Arc<Delta>]) -> Result<Delta, Refusal>
         requires { 0 < length deltas.now }
         ensures joined { IfOk result (λ d. state_of d ≡ joined_history (map arc_value deltas.now)) }

@@ -79,7 +79,7 @@ impl Grid {
     ///
     /// Refused only when out of memory, and then nothing is changed.
     ///
-    /// Cost: the cells of the delta, and the counts and pairs that these have here and there.
+    /// Cost: for each cell of the delta, the counts and pairs that it has here and there.
     pub fn join(&mut self, alloc: Global, delta: &Delta) -> Result<(), Refusal>
         ensures ok { OnOk result (state_at self.new ≡ joined_state (state_at self.old) (state_of delta.now)) }
         ensures err { OnErr result (self.new ≡ self.old) }
@@ -92,7 +92,8 @@ impl Grid {
 
     /// Whether the delta is below the grid: joining it changes nothing.
     ///
-    /// Cost: the cells of the delta, and the counts and pairs that these have here and there; it takes no memory.
+    /// Cost: for each cell of the delta its counts and pairs, each with a search among those that the cell has here; it
+    /// takes no memory.
     pub fn covers(&self, delta: &Delta) -> bool
         ensures { IsTrue result ↔ IsBelow (state_of delta.now) (state_at self.now) }
     {
@@ -108,7 +109,8 @@ impl Grid {
     /// Finds the cells that a join of the delta would change: those whose register, counter or set is not what it was,
     /// shown or not.
     ///
-    /// Cost: the cells of the delta, and the counts and pairs that these have here and there; it takes no memory.
+    /// Cost: for each cell of the delta its counts and pairs, each with a search among those that the cell has here; it
+    /// takes no memory.
     pub fn touched(&self, delta: &Delta, touched: &mut Touched)
         ensures { AreTouched (state_at self.now) (joined_state (state_at self.now) (state_of delta.now)) touched.new }
     {
@@ -148,7 +150,8 @@ impl Grid {
     }
 }
 
-/// A grid joined with another one: what two replicas hold, cell by cell.
+/// A grid joined with another one: what two replicas hold, cell by cell. The states are all made before the first of
+/// them takes its place, so a join that is refused changes nothing.
 impl Join for Grid {
     ghost use Rattle.ps_delta.specs.State.{joined_cells};
     ghost use Rattle.ps_delta.specs.CellLaws.{joined_cells-comm, joined_cells-assoc, joined_cells-idem};

@@ -6,6 +6,11 @@
 //!
 //! It is not the sheet: it evaluates nothing, makes no edits and keeps no history.
 //!
+//! The contract to use: after `Grid::join` the grid's state is `joined_state` of what it was and of the delta's, or
+//! after a refusal just what it was; `Grid::covers` says whether that join would change nothing, `Grid::touched` which
+//! cells it would change. Two grids join by the laws of `Join`. The functions of `laws.rt` say that the joined history
+//! depends on the set of deltas alone.
+//!
 //! Say `A1` holds 3 with the stamp (time 1, replica 1), and a delta comes that gives `A1` the content 4 with the same
 //! stamp and counts 5 of replica 2 for its counter. `Grid::touched` names `A1`, and after `Grid::join` it holds 4, the
 //! greater content, and the counter beside it. The same delta again is covered, and touches nothing.

@@ -43,7 +43,8 @@ removed_step n k e done h gone =
     never true = refl
     never false = refl
 
-live_step_by : (n k : ℕ) (e : Pair × Bool) (done : Bool) → k < OPTIONS → e.0.option < OPTIONS → bit_at n k ≡ cond done 1 0
+live_step_by : (n k : ℕ) (e : Pair × Bool) (done : Bool) → k < OPTIONS → e.0.option < OPTIONS
+    → bit_at n k ≡ cond done 1 0
     → e.1 ≡ false
     → (same : Bool) → (e.0.option == k) ≡ same
     → bit_at (bit_or n (1 * 2 ^ e.0.option % 2 ^ 64)) k ≡ cond (done || (is_live k e || false)) 1 0
@@ -57,7 +58,8 @@ live_step_by n k e done low within h gone false is =
     ∙ ap (λ b. cond b 1 0) (sym (ap (λ b. done || (b || false)) (λ i. is i && not (gone i)) ∙ or_nothing done))
 
 -- one that isn't removed sets its own
-pub live_step : (n k : ℕ) (e : Pair × Bool) (done : Bool) → k < OPTIONS → e.0.option < OPTIONS → bit_at n k ≡ cond done 1 0
+pub live_step : (n k : ℕ) (e : Pair × Bool) (done : Bool) → k < OPTIONS → e.0.option < OPTIONS
+    → bit_at n k ≡ cond done 1 0
     → e.1 ≡ false
     → bit_at (bit_or n (1 * 2 ^ e.0.option % 2 ^ 64)) k ≡ cond (done || (is_live k e || false)) 1 0
 live_step n k e done low within h gone = live_step_by n k e done low within h gone (e.0.option == k) refl

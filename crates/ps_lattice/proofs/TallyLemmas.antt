@@ -186,10 +186,12 @@ total_fits part fits es h =
     omega arith
 
 -- the sums of P and of N are at most a full count of each replica
-pub added_total_fits : (es : List (ℕ × Count)) → is_tally es ≡ true → sum_by (λ e. e.1.added) es ≤ REPLICAS * COUNT_LIMIT
+pub added_total_fits : (es : List (ℕ × Count)) → is_tally es ≡ true
+    → sum_by (λ e. e.1.added) es ≤ REPLICAS * COUNT_LIMIT
 added_total_fits = total_fits (λ c. c.added) (λ e h. (count_fits e h).added)
 
-pub subtracted_total_fits : (es : List (ℕ × Count)) → is_tally es ≡ true → sum_by (λ e. e.1.subtracted) es ≤ REPLICAS * COUNT_LIMIT
+pub subtracted_total_fits : (es : List (ℕ × Count)) → is_tally es ≡ true
+    → sum_by (λ e. e.1.subtracted) es ≤ REPLICAS * COUNT_LIMIT
 subtracted_total_fits = total_fits (λ c. c.subtracted) (λ e h. (count_fits e h).subtracted)
 
 either_max : (a b c d : ℕ) → (nat_le 1 a || nat_le 1 b) ≡ true → (nat_le 1 (max a c) || nat_le 1 (max b d)) ≡ true

@@ -1,3 +1,4 @@
+pub mod Codes
 pub mod Limits
 pub mod Orders
 pub mod Maps
@@ -5,9 +6,7 @@ pub mod MapLaws
 pub mod Register
 pub mod RegisterLaws
 pub mod Tally
-pub mod TallyCode
 pub mod TallyLaws
 pub mod Choice
-pub mod ChoiceCode
 pub mod ChoiceLaws
 pub mod JoinWords

@@ -1,4 +1,4 @@
-//! A set of options from which only what was observed is removed.
+//! A set of options from which only what was observed is removed: an observed-remove set.
 
 ghost use Rattle.std.specs.Prelude.{◌≡◌, ℕ, ◌+◌, ◌<◌, ◌≤◌, ◌↔◌, not, ◌&&◌, ◌||◌, ◌==◌, [], ◌∷◌, Contains, IsTrue};
 ghost use Rattle.std.specs.Prelude.{IfOk, IfErr, IsErrOf, IsBitSet, true, filter, map as each};
@@ -89,7 +89,7 @@ impl Merge for bool {
 /// A choice: the added pairs, and which of them are removed.
 #[derive(Debug, Drop)]
 pub struct Choice {
-    // in the order of the pairs, each with whether it is removed
+    // in the order of the pairs, each with whether it is removed: a removed pair stays, as a tombstone
     pairs: Vec<(Pair, bool)>,
 }
 
@@ -97,7 +97,7 @@ impl Model for Choice {
     ghost use Rattle.std.specs.Prelude.{IsTrue};
     ghost use Rattle.std.specs.FinMap as map;
     ghost use Rattle.ps_lattice.specs.Choice.{Pairs, is_choice};
-    ghost use Rattle.ps_lattice.specs.ChoiceCode.{pairs_code};
+    ghost use Rattle.ps_lattice.specs.Codes.{pairs_code};
 
     ghost Value = { Pairs };
 

@@ -1,4 +1,4 @@
-//! Lists of keys and values in the order of their keys: what counters and choices are kept as.
+//! Lists of keys and values in the order of their keys: what counters and choices are kept as, and deltas listed in.
 
 ghost use Rattle.std.specs.Prelude.{◌≡◌, ◌↔◌, IsTrue, IfOk, IfErr};
 ghost use Rattle.std.specs.FinMap as map;

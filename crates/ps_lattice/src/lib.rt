@@ -1,11 +1,14 @@
-//! Three join-semilattices for states that replicas exchange: a register in which the last writer wins, a counter
-//! that goes up and down (a PN-counter), and a set from which only what was observed is removed (an observed-remove
-//! set), after Shapiro, Preguica, Baquero and Zawirski, INRIA RR-7506.
+//! Three join-semilattices for states that replicas exchange, after Shapiro, Preguica, Baquero and Zawirski, INRIA
+//! RR-7506: `Register`, a last-writer register, `Tally`, a PN-counter, and `Choice`, an observed-remove set.
 //!
-//! An edit answers a delta, a small state of the same type, after Almeida, Shoker and Baquero, 2018: the state
+//! An edit makes a delta, a small state of the same type, after Almeida, Shoker and Baquero, 2018: the state
 //! joined with it is the state after the edit. Deltas may be joined in any order, in any groups and again.
 //!
 //! It is not a network: it sends nothing, and knows no cells. Which replica edits is the caller's word.
+//!
+//! The contract to use: `Join` joins two states, and says whether one is below the other; its three laws have no
+//! premise. Each edit's clause `ok` names the delta that it makes, the next clause the state that this makes, and
+//! `fresh` says that it changes something. `parts` and `from_parts` take a state apart and put it together.
 //!
 //! Replica 1 adds 5 to an empty counter: the delta holds `(1, P = 5, N = 0)`. Replica 2 subtracts 2 from the same
 //! empty counter: `(2, P = 0, N = 2)`. Joined in either order, and again, the counter shows 3.

@@ -1,4 +1,4 @@
-//! A register in which the last writer wins.
+//! A register in which the last writer wins: a last-writer register.
 
 ghost use Rattle.std.specs.Prelude.{◌≡◌, ◌+◌, ◌≤◌, ◌↔◌, IsTrue, IfOk, IfErr, IsErrOf, IfSome};
 ghost use Rattle.std.specs.Option.{SomeIff, option_copied};
@@ -11,7 +11,7 @@ use std::alloc::Global;
 use std::cmp::Ordering;
 use std::marker::Model;
 
-/// What was assigned, at which time and by which replica.
+/// What was assigned, at which time and by which replica: time and replica are its stamp, a Lamport timestamp.
 #[derive(Debug, Drop)]
 pub struct Assignment<V> {
     /// 1 to `LAST_TIME`.

@@ -1,4 +1,4 @@
-//! A counter that goes up and down.
+//! A counter that goes up and down: a PN-counter.
 
 ghost use Rattle.std.specs.Prelude.{◌≡◌, ◌+◌, ◌<◌, ◌≤◌, ◌↔◌, not, [], ◌∷◌, ◌*◌, sum_by, Contains, IsTrue, IfOk};
 ghost use Rattle.std.specs.Prelude.{IfErr, IsErrOf};
@@ -52,7 +52,7 @@ impl Model for Tally {
     ghost use Rattle.std.specs.Prelude.{IsTrue};
     ghost use Rattle.std.specs.FinMap as map;
     ghost use Rattle.ps_lattice.specs.Tally.{Counts, is_tally};
-    ghost use Rattle.ps_lattice.specs.TallyCode.{counts_code};
+    ghost use Rattle.ps_lattice.specs.Codes.{counts_code};
 
     ghost Value = { Counts };
 
