@@ -28,7 +28,7 @@ pub(crate) struct Summary {
 
 impl Summary {
     ghost use Rattle.ps_eval.specs.Items.{all_of, any_of, cell_items, count_of, max_of, min_of, sum_of};
-    ghost use Rattle.ps_eval.specs.Summarized.{Summarizes};
+    ghost use Rattle.ps_eval.specs.Inside.Summarized.{Summarizes};
 
     /// Of no items.
     pub(crate) fn new() -> Summary

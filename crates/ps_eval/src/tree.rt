@@ -6,7 +6,7 @@ ghost use Rattle.ps_formula.specs.Tree.{call, in_row, reference};
 ghost use Rattle.ps_formula.specs.TreeOf.{item_of, tree_of};
 ghost use Rattle.ps_eval.specs.Number.{Number};
 ghost use Rattle.ps_eval.specs.Items.{Assignment, range_items, single};
-ghost use Rattle.ps_eval.specs.Summarized.{Summarizes};
+ghost use Rattle.ps_eval.specs.Inside.Summarized.{Summarizes};
 ghost use Rattle.ps_eval.specs.Value.{called, ev, items_alone, items_in, items_of, number_of, value_in, values_of};
 
 use crate::arithmetic::{absolute, modulo, operation, prefixed, quotient, truth};

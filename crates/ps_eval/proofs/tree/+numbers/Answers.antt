@@ -4,7 +4,7 @@ use Rattle.ps_formula.specs.Tree.{in_row, call}
 use Rattle.ps_formula.specs.TreeOf.{item_of}
 use Rattle.ps_tokens.specs.declared.token.Function.{Function}
 use Rattle.ps_eval.specs.Value.{items_of, values_of, number_of}
-use Rattle.ps_eval.specs.Summarized.{Summarizes}
+use Rattle.ps_eval.specs.Inside.Summarized.{Summarizes}
 use Rattle.ps_eval.proofs.CallLemmas.{items_of-push, values_of-push, if_few, if_many, mod_few, mod_many}
 use Rattle.ps_eval.proofs.CallLemmas.{quotient_few, quotient_many, abs_many, not_many, true_many, false_many}
 use Rattle.ps_eval.proofs.tree.+numbers.Goals as goal

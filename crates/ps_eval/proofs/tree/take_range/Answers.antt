@@ -3,7 +3,7 @@ use Rattle.std.proofs.lemmas.Iterator.Consumers.{YieldsList-from_first, YieldsLi
 use Rattle.std.proofs.lemmas.List.{map-id}
 use Rattle.ps_grid.specs.Rectangle.{cells_of}
 use Rattle.ps_grid.proofs.AreaLemmas.{area-le, length-cells_of}
-use Rattle.ps_eval.specs.Summarized.{Summarizes}
+use Rattle.ps_eval.specs.Inside.Summarized.{Summarizes}
 use Rattle.ps_eval.proofs.RangeItems.{items_at, range_items_are}
 use Rattle.ps_eval.proofs.tree.take_range.Goals as goal
 

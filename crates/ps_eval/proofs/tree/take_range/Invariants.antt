@@ -1,6 +1,6 @@
 use Rattle.std.proofs.Common.{◌+◌, ◌≤◌, List, ◌++◌, length}
 use Rattle.ps_eval.specs.Number.{Number}
-use Rattle.ps_eval.specs.Summarized.{Summarizes}
+use Rattle.ps_eval.specs.Inside.Summarized.{Summarizes}
 use Rattle.ps_eval.proofs.RangeItems.{items_at}
 use Rattle.ps_eval.proofs.tree.take_range.Given as goal
 
