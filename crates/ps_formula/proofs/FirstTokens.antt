@@ -14,7 +14,8 @@ use Rattle.ps_formula.specs.declared.expr.Sign.{Sign}
 use Rattle.ps_formula.specs.declared.expr.Sign.TheVariants.{Plus, Minus}
 use Rattle.ps_formula.specs.Canonical.{symbol_of}
 use Rattle.ps_formula.specs.Grammar.{level_of}
-use Rattle.ps_formula.specs.Reading.{either_way, opened_at, closed_at, separated_at, range_at, operator_at, sign_of}
+use Rattle.ps_formula.specs.Inside.Reading.{either_way, opened_at, closed_at, separated_at, range_at, operator_at}
+use Rattle.ps_formula.specs.Inside.Reading.{sign_of}
 
 pub either_way_cases : {X Y P : Type 0} (o : Option X) (y z : Y) (f : X → Y) → either_way o y f ≡ z
     → (o ≡ None → y ≡ z → P) → ((x : X) → o ≡ Some x → f x ≡ z → P) → P

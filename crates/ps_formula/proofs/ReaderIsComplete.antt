@@ -14,8 +14,9 @@ use Rattle.ps_formula.specs.Grammar.{Has, More, Arguments, Argument, accepts, ta
 use Rattle.ps_formula.specs.Grammar.{a_reference, a_sign, a_group, a_bare_call, a_call, a_chain, no_more, one_more}
 use Rattle.ps_formula.specs.Grammar.{last_argument, next_argument, a_comparison, a_range}
 use Rattle.ps_formula.specs.Canonical.{symbol_of}
-use Rattle.ps_formula.specs.Reading.{level_at, more_at, prefixed_at, arguments_at, behind_at, argument_at, either_way}
-use Rattle.ps_formula.specs.Reading.{closed_at, range_at, operator_at, sign_of}
+use Rattle.ps_formula.specs.Inside.Reading.{level_at, more_at, prefixed_at, arguments_at, behind_at, argument_at}
+use Rattle.ps_formula.specs.Inside.Reading.{either_way}
+use Rattle.ps_formula.specs.Inside.Reading.{closed_at, range_at, operator_at, sign_of}
 use Rattle.ps_formula.specs.Tree.{Tree, Item, Items, signed, joined, group, call, expression, range, no_items, in_row}
 use Rattle.ps_formula.proofs.ArgumentLists.{listed, in_row-listed, length-listed}
 

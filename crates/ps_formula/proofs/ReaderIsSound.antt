@@ -11,8 +11,9 @@ use Rattle.ps_formula.specs.Grammar.{Has, More, Arguments, Argument, accepts, ta
 use Rattle.ps_formula.specs.Grammar.{a_sign, a_group, a_bare_call, a_call, a_chain, no_more, one_more, last_argument}
 use Rattle.ps_formula.specs.Grammar.{next_argument, a_comparison, a_range}
 use Rattle.ps_formula.specs.Canonical.{symbol_of}
-use Rattle.ps_formula.specs.Reading.{level_at, more_at, prefixed_at, call_at, arguments_at, behind_at, argument_at}
-use Rattle.ps_formula.specs.Reading.{closed_at, opened_at, separated_at, range_at, operator_at, sign_of}
+use Rattle.ps_formula.specs.Inside.Reading.{level_at, more_at, prefixed_at, call_at, arguments_at, behind_at}
+use Rattle.ps_formula.specs.Inside.Reading.{argument_at}
+use Rattle.ps_formula.specs.Inside.Reading.{closed_at, opened_at, separated_at, range_at, operator_at, sign_of}
 use Rattle.ps_formula.specs.Tree.{Tree, Item, Items, number, reference, signed, joined, group, call, expression}
 use Rattle.ps_formula.specs.Tree.{range, no_items, item_and, in_row}
 use Rattle.ps_formula.proofs.FirstTokens.{either_way_cases, opened_at-some, closed_at-some, separated_at-some}

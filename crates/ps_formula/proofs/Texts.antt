@@ -11,7 +11,7 @@ use Rattle.ps_formula.specs.declared.formula.TheConstants.{LONGEST_TEXT}
 use Rattle.ps_formula.specs.Canonical.{canon}
 use Rattle.ps_formula.specs.Formula.{HasTree, Opens, OneTree, CanonicalTextHasTree}
 use Rattle.ps_formula.specs.Grammar.{Has}
-use Rattle.ps_formula.specs.Kept.{IsKept}
+use Rattle.ps_formula.specs.Inside.Parts.{FitTogether}
 use Rattle.ps_formula.specs.References.{rects_at}
 use Rattle.ps_formula.specs.Tree.{Tree}
 use Rattle.ps_formula.proofs.TokensApart.{are_apart}
@@ -71,7 +71,7 @@ canonical_text_has_tree bytes t h =
 -- what is kept of a formula, from its tokens
 pub kept : (rest : List ℕ) (ts : List Token) (t : Tree) (text : List ℕ) (rects : List Area)
     → Spells rest ts → Has 3 ts t → text ≡ 61 ∷ tokens_text ts → length text ≤ LONGEST_TEXT
-    → rects ≡ flat_map rects_at ts → IsKept t text rects
+    → rects ≡ flat_map rects_at ts → FitTogether t text rects
 kept rest ts t text rects spelled has is fits are = record {
   canonical = is ∙ ap (λ v. 61 ∷ tokens_text v) (sym (tokens_of-has has));
   has_tree = subst (λ v. HasTree v t) (sym is) (canonical_has_tree rest ts t spelled has);

@@ -3,7 +3,7 @@ use Rattle.std.proofs.Common.{◌≡◌, ℕ, ◌+◌, ◌*◌, ◌<◌, sym, ap
 use Rattle.std.specs.Prelude.{Option, Some, None}
 use Rattle.ps_tokens.specs.declared.token.Token.{Token}
 use Rattle.ps_formula.specs.Grammar.{Has}
-use Rattle.ps_formula.specs.Reading.{level_at, Refuses}
+use Rattle.ps_formula.specs.Inside.Reading.{level_at, Refuses}
 use Rattle.ps_grid.specs.declared.refusal.Refusal.{Refusal}
 use Rattle.ps_grid.specs.declared.refusal.Refusal.TheVariants.{Formula}
 use Rattle.ps_formula.specs.Tree.{Tree, reference}

@@ -5,7 +5,6 @@ pub mod Canonical
 pub mod References
 pub mod Grammar
 pub mod Formula
-pub mod Kept
-pub mod Reading
 pub mod Order
 pub mod OrderLaws
+pub mod Inside

@@ -39,11 +39,11 @@ impl Model for Formula {
     ghost coded = { tree_code };
 
     ghost use Rattle.ps_formula.specs.TreeOf.{tree_of};
-    ghost use Rattle.ps_formula.specs.Kept.{IsKept};
+    ghost use Rattle.ps_formula.specs.Inside.Parts.{FitTogether};
 
     ghost view = { λ f. tree_of f.tree };
 
-    ghost invariant = { λ f. IsKept (tree_of f.tree) f.text.items f.rects.items };
+    ghost invariant = { λ f. FitTogether (tree_of f.tree) f.text.items f.rects.items };
 }
 
 impl Formula {

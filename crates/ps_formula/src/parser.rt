@@ -7,9 +7,9 @@ ghost use Rattle.std.specs.Prelude.{◌≡◌, ◌⊎◌, map, IfOk, IfErr};
 ghost use Rattle.std.specs.Option.{option_copied, option_map};
 ghost use Rattle.ps_grid.specs.declared.refusal.Refusal.TheVariants.{Memory, Formula as NoFormula};
 ghost use Rattle.ps_formula.specs.Grammar.{accepts, Has, level_of, takes_ranges};
-ghost use Rattle.ps_formula.specs.Reading.{Gives, argument_at, arguments_at, behind_at, call_at, closed_at, level_at};
-ghost use Rattle.ps_formula.specs.Reading.{more_at, opened_at, operator_at, prefixed_at, range_at, separated_at};
-ghost use Rattle.ps_formula.specs.Reading.{sign_of};
+ghost use Rattle.ps_formula.specs.Inside.Reading.{Gives, argument_at, arguments_at, behind_at, call_at, closed_at};
+ghost use Rattle.ps_formula.specs.Inside.Reading.{level_at, more_at, opened_at, operator_at, prefixed_at, range_at};
+ghost use Rattle.ps_formula.specs.Inside.Reading.{separated_at, sign_of};
 ghost use Rattle.ps_formula.specs.Tree.{Tree};
 ghost use Rattle.ps_formula.specs.TreeOf.{item_of, tree_of};
 
@@ -121,7 +121,7 @@ fn operator(level: usize, tokens: &[Token]) -> Option<(Operator, &[Token])>
 
 /// An expression of a level, as far as it goes, and what stands after it.
 #[cycle(parser)]
-#[tactic(auto, unfolding(crate::specs::Reading::level_at))]
+#[tactic(auto, unfolding(crate::specs::Inside::Reading::level_at))]
 fn level(
     alloc: Global,
     depth: usize,
@@ -142,7 +142,7 @@ fn level(
 
 /// The operand with any number of further operands of the level, each after an operator.
 #[cycle(parser)]
-#[tactic(auto, unfolding(crate::specs::Reading::level_at))]
+#[tactic(auto, unfolding(crate::specs::Inside::Reading::level_at))]
 fn more(
     alloc: Global,
     depth: usize,
@@ -172,7 +172,7 @@ fn more(
 
 /// Any number of signs, and then a numeral, a reference, a group or a call.
 #[cycle(parser)]
-#[tactic(auto, unfolding(crate::specs::Reading::level_at))]
+#[tactic(auto, unfolding(crate::specs::Inside::Reading::level_at))]
 fn prefixed(alloc: Global, depth: usize, tokens: &[Token]) -> Result<(Expr, &[Token]), Refusal>
     ensures { Gives (λ x. (tree_of x.0, x.1.now)) result (prefixed_at depth tokens.now) }
 {
@@ -213,7 +213,7 @@ fn prefixed(alloc: Global, depth: usize, tokens: &[Token]) -> Result<(Expr, &[To
 
 /// A call, from after its opening parenthesis.
 #[cycle(parser)]
-#[tactic(auto, unfolding(crate::specs::Reading::level_at))]
+#[tactic(auto, unfolding(crate::specs::Inside::Reading::level_at))]
 fn call(
     alloc: Global,
     depth: usize,
@@ -240,7 +240,7 @@ fn call(
 
 /// Further arguments after those before, up to the closing parenthesis.
 #[cycle(parser)]
-#[tactic(auto, unfolding(crate::specs::Reading::level_at))]
+#[tactic(auto, unfolding(crate::specs::Inside::Reading::level_at))]
 fn arguments(
     alloc: Global,
     depth: usize,
@@ -261,7 +261,7 @@ fn arguments(
 
 /// What stands after an argument: the closing parenthesis, or a separator and further arguments.
 #[cycle(parser)]
-#[tactic(auto, unfolding(crate::specs::Reading::level_at))]
+#[tactic(auto, unfolding(crate::specs::Inside::Reading::level_at))]
 fn behind(
     alloc: Global,
     depth: usize,
@@ -286,7 +286,7 @@ fn behind(
 
 /// One argument, and what stands after it.
 #[cycle(parser)]
-#[tactic(auto, unfolding(crate::specs::Reading::level_at))]
+#[tactic(auto, unfolding(crate::specs::Inside::Reading::level_at))]
 fn argument(
     alloc: Global,
     depth: usize,

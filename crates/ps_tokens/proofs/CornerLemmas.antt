@@ -16,7 +16,7 @@ use Rattle.std.proofs.lemmas.Str.Parse.{digit_from_value}
 use Rattle.ps_grid.specs.Place.{column_name, column_of, row_of}
 use Rattle.ps_grid.specs.declared.size.TheConstants.{CELLS, COLUMNS}
 use Rattle.ps_grid.proofs.NameLemmas.{all_letters, some_letter}
-use Rattle.ps_tokens.specs.Lexing.{capitals_at, cell_in, corner_at, digits_at, unmarked}
+use Rattle.ps_tokens.specs.Inside.Lexing.{capitals_at, cell_in, corner_at, digits_at, unmarked}
 use Rattle.ps_tokens.specs.Text.{mark, IsCorner}
 use Rattle.ps_tokens.proofs.OptionLemmas.{option_map_from}
 use Rattle.ps_tokens.proofs.MarkLemmas.{unmarked-mark, unmarked_text}

@@ -7,7 +7,7 @@ use Rattle.std.specs.Str.Parse.{AllDigits}
 use Rattle.std.proofs.lemmas.Bool.Decides.{nat_tests}
 use Rattle.std.proofs.lemmas.List.{take_at, drop_at}
 use Rattle.std.proofs.lemmas.List.Sums.{take_while-cons}
-use Rattle.ps_tokens.specs.Lexing.{digits_at}
+use Rattle.ps_tokens.specs.Inside.Lexing.{digits_at}
 
 -- a text that does not go on with a byte that passes
 abbrev pub Stops : (ℕ → Bool) → List ℕ → Type 0

@@ -2,7 +2,7 @@
 use Rattle.std.proofs.Common.{◌≡◌, ℕ, ◌<◌, ◌==◌, Bool, true, false, cond}
 use Rattle.std.proofs.Common.{Some, None, List, [], ◌∷◌, ◌++◌, refl, ap, ◌∙◌, arith}
 use Rattle.std.proofs.lemmas.Bool.{eqb-true, eq-eqb}
-use Rattle.ps_tokens.specs.Lexing.{after, unmarked}
+use Rattle.ps_tokens.specs.Inside.Lexing.{after, unmarked}
 use Rattle.ps_tokens.specs.Text.{mark}
 use Rattle.ps_tokens.proofs.OptionLemmas.{if_some}
 use Rattle.ps_tokens.proofs.LongestRuns.{Stops}

@@ -7,7 +7,7 @@ use Rattle.std.specs.Str.{bytes_eq, str_eq_ignore_ascii_case, str_to_ascii_lower
 use Rattle.std.proofs.lemmas.Bool.{and_from, and_parts}
 use Rattle.std.proofs.lemmas.Bool.Decides.{nat_tests}
 use Rattle.std.proofs.lemmas.Slice.Eq.{bytes_eq-Decides}
-use Rattle.ps_tokens.specs.Lexing.{function_of}
+use Rattle.ps_tokens.specs.Inside.Lexing.{function_of}
 use Rattle.ps_tokens.specs.Names.{function_name}
 use Rattle.ps_tokens.specs.declared.token.TheConstants.{FUNCTIONS}
 use Rattle.ps_tokens.specs.declared.token.Function.{Function}

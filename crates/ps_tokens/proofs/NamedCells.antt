@@ -10,7 +10,7 @@ use Rattle.std.proofs.lemmas.Slice.Eq.{bytes_eq-Decides}
 use Rattle.ps_grid.specs.Place.{column_name, column_of, row_of}
 use Rattle.ps_grid.specs.declared.size.TheConstants.{CELLS}
 use Rattle.ps_grid.proofs.NameLemmas.{cell_name-injective}
-use Rattle.ps_tokens.specs.Lexing.{cell_below, cell_in}
+use Rattle.ps_tokens.specs.Inside.Lexing.{cell_below, cell_in}
 
 -- what is found passes the test, and is one of the numbers
 found_passes : (p : ℕ → Bool) (n k c : ℕ) → find p (range_with_len k n) ≡ Some c → (p c ≡ true) × (c < k + n)

@@ -4,7 +4,7 @@ use Rattle.std.proofs.Common.{get_or, refl, sym, ap, subst, ◌∙◌, append_as
 use Rattle.std.proofs.lemmas.Bool.{eqb-true}
 use Rattle.std.proofs.lemmas.List.{append-nil}
 use Rattle.ps_tokens.specs.Apart.{AreApart, IsApart}
-use Rattle.ps_tokens.specs.Lexing.{token_at}
+use Rattle.ps_tokens.specs.Inside.Lexing.{token_at}
 use Rattle.ps_tokens.specs.Text.{is_blank, Spells}
 use Rattle.ps_tokens.specs.Text.Spells.{nothing, a_blank, a_token}
 use Rattle.ps_tokens.specs.declared.token.Token.{Token}

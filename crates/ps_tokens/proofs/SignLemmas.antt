@@ -3,7 +3,7 @@ use Rattle.std.proofs.Common.{◌≡◌, ℕ, ◌==◌, true, ◌&&◌, Option, 
 use Rattle.std.proofs.Common.{sym, ap, subst, ◌∙◌, arith}
 use Rattle.std.specs.Option.{option_or}
 use Rattle.std.proofs.lemmas.Bool.{and_parts, eqb-true}
-use Rattle.ps_tokens.specs.Lexing.{operator_of_two, sign_at, token_of_one}
+use Rattle.ps_tokens.specs.Inside.Lexing.{operator_of_two, sign_at, token_of_one}
 use Rattle.ps_tokens.specs.Names.{operator_text}
 use Rattle.ps_tokens.specs.Text.{IsToken}
 use Rattle.ps_tokens.specs.declared.token.Operator.{Operator}

@@ -10,9 +10,9 @@ use Rattle.std.proofs.lemmas.Bool.{and_parts, eqb-true, ltb-true}
 use Rattle.std.proofs.lemmas.List.{length-take, take-append-drop}
 use Rattle.std.proofs.lemmas.Option.{option_and_then_some}
 use Rattle.ps_grid.specs.Rectangle.{spanned}
-use Rattle.ps_tokens.specs.Lexing.{after, bracketed_at, corner_at, digits_at, function_of, letters_at, name_at}
-use Rattle.ps_tokens.specs.Lexing.{number_in, numeral_at, operator_of_two, range_at, reference_at, sign_at}
-use Rattle.ps_tokens.specs.Lexing.{token_at, token_of_one}
+use Rattle.ps_tokens.specs.Inside.Lexing.{after, bracketed_at, corner_at, digits_at, function_of, letters_at, name_at}
+use Rattle.ps_tokens.specs.Inside.Lexing.{number_in, numeral_at, operator_of_two, range_at, reference_at, sign_at}
+use Rattle.ps_tokens.specs.Inside.Lexing.{token_at, token_of_one}
 use Rattle.ps_tokens.specs.Names.{operator_text}
 use Rattle.ps_tokens.specs.Text.{IsCorner, IsNumber, IsToken}
 use Rattle.ps_tokens.specs.declared.token.Function.{Function}

@@ -1,4 +1,4 @@
 pub mod Apart
-pub mod Lexing
 pub mod Names
 pub mod Text
+pub mod Inside

@@ -3,10 +3,10 @@
 ghost use Rattle.std.specs.Prelude.{◌≡◌, ◌<◌, ◌≤◌, ◌^◌, drop, length, slice_index, IfSome, pos};
 ghost use Rattle.std.specs.Option.{option_map};
 ghost use Rattle.std.specs.Str.Parse.{AllDigits};
-ghost use Rattle.ps_tokens.specs.Lexing.{after, bracketed_at, capitals_at, corner_at, digits_at, function_of};
-ghost use Rattle.ps_tokens.specs.Lexing.{letters_at, name_at, number_in, numeral_at, operator_of_two, range_at};
-ghost use Rattle.ps_tokens.specs.Lexing.{reference_at, sign_at, token_at};
-ghost use Rattle.ps_tokens.specs.Lexing.{token_of_one, unmarked};
+ghost use Rattle.ps_tokens.specs.Inside.Lexing.{after, bracketed_at, capitals_at, corner_at, digits_at, function_of};
+ghost use Rattle.ps_tokens.specs.Inside.Lexing.{letters_at, name_at, number_in, numeral_at, operator_of_two, range_at};
+ghost use Rattle.ps_tokens.specs.Inside.Lexing.{reference_at, sign_at, token_at};
+ghost use Rattle.ps_tokens.specs.Inside.Lexing.{token_of_one, unmarked};
 
 use crate::token::{FUNCTIONS, Function, Operator, Token};
 use ps_grid::{Cell, Rect};
@@ -30,7 +30,7 @@ pub(crate) fn from(text: &[u8], place: usize) -> &[u8]
 }
 
 /// The text after a byte, where that byte stands at the front.
-#[tactic(auto, unfolding(crate::specs::Lexing::after))]
+#[tactic(auto, unfolding(crate::specs::Inside::Lexing::after))]
 fn after(byte: u8, text: &[u8]) -> Option<&[u8]>
     ensures { option_map (λ rest. rest.now) result ≡ after byte text.now }
 {
@@ -42,7 +42,7 @@ fn after(byte: u8, text: &[u8]) -> Option<&[u8]>
 }
 
 /// The text after a `$`, if one stands at the front.
-#[tactic(auto, unfolding(crate::specs::Lexing::unmarked))]
+#[tactic(auto, unfolding(crate::specs::Inside::Lexing::unmarked))]
 fn unmarked(text: &[u8]) -> &[u8]
     ensures { result.now ≡ unmarked text.now }
 {
@@ -93,7 +93,7 @@ fn letters_at(text: &[u8]) -> usize
 }
 
 /// The number that the digits write, where it is at most 2^63 - 1.
-#[tactic(auto, unfolding(crate::specs::Lexing::number_in))]
+#[tactic(auto, unfolding(crate::specs::Inside::Lexing::number_in))]
 fn number(digits: &[u8]) -> Option<u64>
     requires { AllDigits 10 digits.now }
     ensures value { result ≡ number_in digits.now }
@@ -114,7 +114,7 @@ fn number(digits: &[u8]) -> Option<u64>
 }
 
 /// The corner at the front. Its `$` are read and not kept.
-#[tactic(auto, unfolding(crate::specs::Lexing::corner_at))]
+#[tactic(auto, unfolding(crate::specs::Inside::Lexing::corner_at))]
 fn corner(text: &[u8]) -> Option<(Cell, &[u8])>
     ensures { option_map (λ found. (found.0, found.1.now)) result ≡ corner_at text.now }
 {
@@ -127,7 +127,7 @@ fn corner(text: &[u8]) -> Option<(Cell, &[u8])>
 }
 
 /// The reference whose corner was read, where its bracket is closed.
-#[tactic(auto, unfolding(crate::specs::Lexing::reference_at))]
+#[tactic(auto, unfolding(crate::specs::Inside::Lexing::reference_at))]
 fn reference(corner: Cell, text: &[u8]) -> Option<(Token, &[u8])>
     ensures { option_map (λ found. (found.0, found.1.now)) result ≡ reference_at corner text.now }
 {
@@ -136,7 +136,7 @@ fn reference(corner: Cell, text: &[u8]) -> Option<(Token, &[u8])>
 }
 
 /// The range whose first corner was read.
-#[tactic(auto, unfolding(crate::specs::Lexing::range_at))]
+#[tactic(auto, unfolding(crate::specs::Inside::Lexing::range_at))]
 fn range(first: Cell, text: &[u8]) -> Option<(Token, &[u8])>
     ensures { option_map (λ found. (found.0, found.1.now)) result ≡ range_at first text.now }
 {
@@ -150,7 +150,7 @@ fn range(first: Cell, text: &[u8]) -> Option<(Token, &[u8])>
 }
 
 /// The reference or the range whose bracket was opened.
-#[tactic(auto, unfolding(crate::specs::Lexing::bracketed_at))]
+#[tactic(auto, unfolding(crate::specs::Inside::Lexing::bracketed_at))]
 fn bracketed(text: &[u8]) -> Option<(Token, &[u8])>
     ensures { option_map (λ found. (found.0, found.1.now)) result ≡ bracketed_at text.now }
 {
@@ -165,7 +165,7 @@ fn bracketed(text: &[u8]) -> Option<(Token, &[u8])>
 }
 
 /// The numeral at the front.
-#[tactic(auto, unfolding(crate::specs::Lexing::numeral_at))]
+#[tactic(auto, unfolding(crate::specs::Inside::Lexing::numeral_at))]
 fn numeral(text: &[u8]) -> Option<(Token, &[u8])>
     ensures { option_map (λ found. (found.0, found.1.now)) result ≡ numeral_at text.now }
 {
@@ -175,7 +175,7 @@ fn numeral(text: &[u8]) -> Option<(Token, &[u8])>
 }
 
 /// The function of a name in any case.
-#[tactic(auto, unfolding(crate::specs::Lexing::function_of))]
+#[tactic(auto, unfolding(crate::specs::Inside::Lexing::function_of))]
 fn function(name: &[u8]) -> Option<Function>
     ensures { result ≡ function_of name.now }
 {
@@ -188,7 +188,7 @@ fn function(name: &[u8]) -> Option<Function>
 }
 
 /// The name at the front.
-#[tactic(auto, unfolding(crate::specs::Lexing::name_at))]
+#[tactic(auto, unfolding(crate::specs::Inside::Lexing::name_at))]
 fn name(text: &[u8]) -> Option<(Token, &[u8])>
     ensures { option_map (λ found. (found.0, found.1.now)) result ≡ name_at text.now }
 {
@@ -198,7 +198,7 @@ fn name(text: &[u8]) -> Option<(Token, &[u8])>
 }
 
 /// The operator of two bytes.
-#[tactic(auto, unfolding(crate::specs::Lexing::operator_of_two))]
+#[tactic(auto, unfolding(crate::specs::Inside::Lexing::operator_of_two))]
 fn operator_of_two(first: u8, second: u8) -> Option<Operator>
     ensures { result ≡ operator_of_two first second }
 {
@@ -211,7 +211,7 @@ fn operator_of_two(first: u8, second: u8) -> Option<Operator>
 }
 
 /// The token of one byte that is no digit and no letter.
-#[tactic(auto, unfolding(crate::specs::Lexing::token_of_one))]
+#[tactic(auto, unfolding(crate::specs::Inside::Lexing::token_of_one))]
 fn token_of_one(byte: u8) -> Option<Token>
     ensures { result ≡ token_of_one byte }
 {
@@ -230,7 +230,7 @@ fn token_of_one(byte: u8) -> Option<Token>
 }
 
 /// The operator, the parenthesis or the separator at the front, of two bytes where it can be.
-#[tactic(auto, unfolding(crate::specs::Lexing::sign_at))]
+#[tactic(auto, unfolding(crate::specs::Inside::Lexing::sign_at))]
 fn sign(text: &[u8]) -> Option<(Token, &[u8])>
     ensures { option_map (λ found. (found.0, found.1.now)) result ≡ sign_at text.now }
 {
@@ -242,7 +242,7 @@ fn sign(text: &[u8]) -> Option<(Token, &[u8])>
 }
 
 /// The token at the front of the text, as long as it gets, and the text after it.
-#[tactic(auto, unfolding(crate::specs::Lexing::token_at))]
+#[tactic(auto, unfolding(crate::specs::Inside::Lexing::token_at))]
 pub(crate) fn token(text: &[u8]) -> Option<(Token, &[u8])>
     ensures { option_map (λ found. (found.0, found.1.now)) result ≡ token_at text.now }
 {

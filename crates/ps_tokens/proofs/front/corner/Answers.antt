@@ -1,6 +1,6 @@
 use Rattle.std.proofs.Common.{◌≡◌, Some, None, sym, ◌∙◌, arith}
 use Rattle.std.proofs.lemmas.Grind.{common_steps}
-use Rattle.ps_tokens.specs.Lexing.{cell_in, corner_at}
+use Rattle.ps_tokens.specs.Inside.Lexing.{cell_in, corner_at}
 use Rattle.ps_tokens.proofs.NamedCells.{named_is}
 use Rattle.ps_tokens.proofs.front.corner.Goals as goal
 

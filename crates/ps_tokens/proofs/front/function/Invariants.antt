@@ -1,7 +1,7 @@
 use Rattle.std.proofs.Common.{◌≡◌, drop}
 use Rattle.std.specs.List.{find}
 use Rattle.std.specs.Str.{str_eq_ignore_ascii_case}
-use Rattle.ps_tokens.specs.Lexing.{function_of}
+use Rattle.ps_tokens.specs.Inside.Lexing.{function_of}
 use Rattle.ps_tokens.specs.Names.{function_name}
 use Rattle.ps_tokens.specs.declared.token.TheConstants.{FUNCTIONS}
 use Rattle.ps_tokens.proofs.front.function.Given as goal

@@ -7,7 +7,7 @@ use Rattle.ps_formula.specs.References.{rects_of}
 use Rattle.ps_formula.specs.Formula.{HasTree}
 use Rattle.ps_formula.specs.declared.formula.TheConstants.{LONGEST_TEXT}
 
-pub record IsKept (tree : Tree) (text : List ℕ) (rects : List Area) : Type 0 where
+pub record FitTogether (tree : Tree) (text : List ℕ) (rects : List Area) : Type 0 where
   pub canonical : text ≡ canon tree
   pub has_tree : HasTree text tree
   pub fits : length text ≤ LONGEST_TEXT
