@@ -57,7 +57,7 @@ pub(crate) fn first_of(state: &CellState) -> Value
     }
 }
 
-// What a cell with this content shows before the first round.
+/// What a cell with this content shows before the first round.
 fn first_by(content: &Content, state: &CellState) -> Value
     ensures { result ≡ first_by content.now state.now }
 {
@@ -71,7 +71,7 @@ fn first_by(content: &Content, state: &CellState) -> Value
     }
 }
 
-// The options that are in, as a number.
+/// The options that are in, as a number.
 fn options_of(choice: &Choice) -> u64
     ensures { result ≡ options_of choice.now }
 {

@@ -75,7 +75,7 @@ impl Batch {
     }
 }
 
-// Whether the cells are ascending and distinct.
+/// Whether the cells are ascending and distinct.
 fn are_ascending(cells: &[(Cell, Content)]) -> bool
     ensures { IsTrue result ↔ IsStrictlyIncreasing (map (λ e. e.0) cells.now) }
 {

@@ -9,21 +9,29 @@ ghost use Rattle.ps_sheet.specs.Settled.{SettledAtLeastOnce, SettledAtMostOnce};
 use crate::sheet::Sheet;
 
 /// A state of the grid has at most one settled assignment of values to cells.
+///
+/// Cost: none.
 pub fn settled_at_most_once()
     ensures { SettledAtMostOnce }
 {}
 
 /// A state of the grid has a settled assignment of values to cells.
+///
+/// Cost: none.
 pub fn settled_at_least_once()
     ensures { SettledAtLeastOnce }
 {}
 
 /// A delta that an edit makes over a state is not below it: an edit that isn't refused always changes the state.
+///
+/// Cost: none.
 pub fn edits_are_fresh()
     ensures { EditsAreFresh }
 {}
 
 /// A run of accepted deltas joins to the joined history, whether each was appended or was below the state.
+///
+/// Cost: none.
 pub fn accepted_deltas_join()
     ensures { AcceptedDeltasJoin }
 {}
@@ -45,6 +53,7 @@ pub fn same_join_shows_the_same(a: &Sheet, b: &Sheet)
     requires { joined_history a.now.history ≡ joined_history b.now.history }
     ensures { a.now.shown ≡ b.now.shown }
 {
+    // Each call brings the fact `IsSheet` of its sheet.
     let _ = a.version();
     let _ = b.version();
 }

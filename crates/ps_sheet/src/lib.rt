@@ -1,4 +1,25 @@
-//! The sheet of one replica.
+//! The sheet of one replica: the deltas that it accepted, and what each cell shows.
+//!
+//! A sheet turns edits into deltas, accepts deltas of other replicas in any order and as often as they come, and shows
+//! the settled value of each cell: `#CYCLE!` exactly where a chain of references from the cell holds a cell twice, and
+//! else the value of what the cell holds.
+//!
+//! It is the only crate that makes deltas of edits and that decides which formulas are evaluated. It knows no bytes, no
+//! lines, no other sheet and no threads, and it sends nothing.
+//!
+//! The contract to use is that of [`Sheet::edit`] and [`Sheet::receive`]. An edit appends exactly the delta that
+//! `delta_of_edit` gives over the joined history, or returns the first refusal that holds. A received delta is
+//! appended, unless it is below the joined history. After either, as after [`Sheet::open`], the sheet is an `IsSheet`:
+//! what it shows is settled for the joined history. After a refusal everything is as before, and out of memory is
+//! returned only where a delta was to be appended. Settled values exist ([`settled_at_least_once`]), are the only ones
+//! ([`settled_at_most_once`]), and depend on the set of deltas alone ([`same_deltas_show_the_same`]).
+//!
+//! Say replica 1 gives A1 the number 5 and B1 the formula `=[.A1]*2`: two edits, so `version` is 2 and B1 shows 10.
+//! Then a delta of replica 2 comes that gives A1 the number 7 at time 1, as replica 1 did. The greater replica wins: A1
+//! shows 7 and B1 shows 14. The same delta once more is below the state: `version` stays 3.
+//!
+//! Cost: a sheet keeps its deltas, a state and a value for each cell of the grid, and the list of its f formula cells.
+//! A change costs its delta and rounds over the f cells, at most f + 1 of them; a look at a cell costs a constant.
 #![tactic(auto)]
 
 mod changes;

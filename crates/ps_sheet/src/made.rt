@@ -67,7 +67,7 @@ pub(crate) fn delta_of(
     }
 }
 
-// The delta of giving cells their contents. All clocks are looked at before anything is allocated.
+/// The delta of giving cells their contents. All clocks are looked at before anything is allocated.
 fn all_assigned(
     alloc: Global,
     grid: &Grid,
@@ -96,14 +96,14 @@ fn all_assigned(
     }
 }
 
-// Whether the register of one of the cells has the last time.
+/// Whether the register of one of the cells has the last time.
 fn is_any_full(grid: &Grid, cells: &[(Cell, Content)]) -> bool
     ensures { result ≡ list_any (λ e. is_clock_full (state_at grid.now e.0)) cells.now }
 {
     cells.iter().any(|entry| is_clock_full(grid.at(entry.0)))
 }
 
-// Refused where the amount is out of range, or the cell's register doesn't hold a counter.
+/// Refused where the amount is out of range, or the cell's register doesn't hold a counter.
 fn check_tally(state: &CellState, amount: u64) -> Result<(), Refusal>
     ensures { result ≡ (if is_amount amount
         then (if holds_tally (content_of state.now) then Ok tt else Err Refusal.NotTally)
@@ -118,7 +118,7 @@ fn check_tally(state: &CellState, amount: u64) -> Result<(), Refusal>
     }
 }
 
-// Refused where the option is out of range, or the cell's register doesn't hold a set.
+/// Refused where the option is out of range, or the cell's register doesn't hold a set.
 fn check_choice(state: &CellState, option: u64) -> Result<(), Refusal>
     ensures { result ≡ (if nat_le OPTIONS option
         then Err Refusal.OptionRange
@@ -133,7 +133,7 @@ fn check_choice(state: &CellState, option: u64) -> Result<(), Refusal>
     }
 }
 
-// A cell with nothing but a register.
+/// A cell with nothing but a register.
 fn with_register(alloc: Global, register: Register<Content>) -> CellState
     ensures { result ≡ registered register }
 {
@@ -144,7 +144,7 @@ fn with_register(alloc: Global, register: Register<Content>) -> CellState
     }
 }
 
-// A cell with nothing but counts.
+/// A cell with nothing but counts.
 fn with_tally(alloc: Global, tally: Tally) -> CellState
     ensures { result ≡ counted tally }
 {
@@ -155,7 +155,7 @@ fn with_tally(alloc: Global, tally: Tally) -> CellState
     }
 }
 
-// A cell with nothing but pairs.
+/// A cell with nothing but pairs.
 fn with_choice(alloc: Global, choice: Choice) -> CellState
     ensures { result ≡ paired choice }
 {
@@ -166,7 +166,7 @@ fn with_choice(alloc: Global, choice: Choice) -> CellState
     }
 }
 
-// The delta of one cell.
+/// The delta of one cell.
 fn of_cell(alloc: Global, cell: Cell, state: CellState) -> Result<Delta, Refusal>
     requires { state ≢ empty_cell }
     ensures made { IfOk result (λ d. d ≡ (cell, state) ∷ []) }

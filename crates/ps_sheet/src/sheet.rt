@@ -78,7 +78,7 @@ impl Sheet {
 
     /// The empty sheet of a replica, 1 to 32. The workers, 1 to 16, are not used yet.
     ///
-    /// Refused where the replica is out of range, and for lack of memory.
+    /// Refused where the replica is out of range, and where memory runs out.
     ///
     /// Cost: linear in the cells of the grid.
     pub fn open(alloc: Global, replica: u8, workers: usize) -> Result<Sheet, Refusal>
@@ -107,9 +107,9 @@ impl Sheet {
     ///
     /// Refused by the first of these that holds: the amount or the option is out of range; the cell holds no counter or
     /// no set; the count is full, the sequences are used up, the option isn't in the set, or a register has the last
-    /// time. Where none of them holds, only for lack of memory. Then nothing is changed.
+    /// time. Where none of them holds, only out of memory. Then nothing is changed.
     ///
-    /// Cost: that of the delta, and of the rounds over all formulas.
+    /// Cost: that of the delta and its join, and at most f + 1 rounds over the f formula cells.
     pub fn edit<L: Ledger>(
         &mut self,
         alloc: Global,
@@ -139,9 +139,9 @@ impl Sheet {
 
     /// Accepts a delta made elsewhere: appends it to the history, unless it is below the state already.
     ///
-    /// Refused only where it would be appended, for lack of memory, and then nothing is changed.
+    /// Refused only where it would be appended, out of memory, and then nothing is changed.
     ///
-    /// Cost: that of joining the delta, and where it is appended, of the rounds over all formulas.
+    /// Cost: that of joining the delta, and where it is appended, at most f + 1 rounds over the f formula cells.
     pub fn receive<L: Ledger>(
         &mut self,
         alloc: Global,
@@ -166,7 +166,7 @@ impl Sheet {
         self.append(alloc, delta, meter)
     }
 
-    // Appends a delta that isn't below the state.
+    /// Appends a delta that isn't below the state.
     fn append<L: Ledger>(
         &mut self,
         alloc: Global,
@@ -200,7 +200,7 @@ impl Sheet {
         })
     }
 
-    // The report of a change that changed nothing.
+    /// The report of a change that changed nothing.
     fn report(&self) -> Report
         ensures version { result.version ≡ length self.now.history }
         ensures sheet { IsSheet self.now }
@@ -262,7 +262,7 @@ impl Sheet {
     }
 }
 
-// A list of n empty values.
+/// A list of n empty values.
 fn all_empty(alloc: Global, n: usize) -> Result<Vec<Value>, Refusal>
     ensures length { IfOk result (λ v. length v.items ≡ n) }
     ensures empty { IfOk result (λ v. (c : ℕ) → shown_at v.items c ≡ Value.Empty) }
@@ -271,7 +271,7 @@ fn all_empty(alloc: Global, n: usize) -> Result<Vec<Value>, Refusal>
     Ok(vec![in alloc; Value::Empty; n]?)
 }
 
-// Appends a delta to a history that has room for it.
+/// Appends a delta to a history that has room for it.
 fn put(history: &mut Vec<Arc<Delta>>, delta: Arc<Delta>)
     requires { vec_len history.old < vec_capacity history.old }
     ensures { map arc_value history.new.items ≡ map arc_value history.old.items ++ arc_value delta ∷ [] }

@@ -2,8 +2,8 @@
 //!
 //! A world has replicas, each with its sheet, and a list of deltas that they made or that untrusted peers sent. An
 //! event is an edit at a replica, a peer's delta, or the delivery of a delta to a replica: in any order, and as often
-//! as it happens. Whatever the events are, each sheet shows the settled values of the join of the deltas that its replica
-//! took, and replicas that took the same deltas show the same.
+//! as it happens. Whatever the events are, each sheet shows the settled values of the join of the deltas that its
+//! replica took, and replicas that took the same deltas show the same.
 //!
 //! It is no network: it sends no bytes, loses nothing and starts no thread. It knows a sheet by its contract alone.
 //!

@@ -1,4 +1,4 @@
-//! Scripts: steps at a sheet, with what each answers and what the cells show then.
+//! Scripts: steps at a sheet, with what each returns and what the cells show then.
 
 ghost use Rattle.std.specs.Prelude.{◌≡◌, ◌<◌};
 
