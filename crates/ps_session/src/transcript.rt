@@ -5,7 +5,7 @@ ghost use Rattle.std.specs.Io.KnownBytes.{Consumes, IsAtEnd};
 ghost use Rattle.ps_session.specs.Transcript.{Answered, Cut, Lines, Replies, Stopped, Transcribed, has_reply, is_filled};
 ghost use Rattle.ps_session.specs.Replies.{refusal_text, reply_text};
 ghost use Rattle.ps_device.specs.Device.{Sends};
-ghost use Rattle.ps_session.specs.Stands.{Stands};
+ghost use Rattle.ps_session.specs.Stands.{CutsShort, GoesOn, Stands};
 ghost use Rattle.ps_session.specs.Holds.{Holds, Replied, as_one};
 ghost use Rattle.ps_grid.specs.declared.refusal.Refusal.TheVariants as refusals;
 
@@ -89,13 +89,11 @@ fn turn<B: Board<M>, M, K: Sink>(
 ) -> Result<usize, Failed>
     requires some { 0 < length piece.now }
     ensures within { IfOk result (λ taken. (0 < taken) × (taken ≤ length piece.now)) }
-    ensures stands { IfOk result (λ taken. (first : B) (written : Option (List ℕ)) (read : List ℕ)
-        → Stands (Lines B.answers) first written read board.old session.old.pending (K.contents sink.old) answered.old
-        → Stands (Lines B.answers) first written (read ++ take taken piece.now) board.new session.new.pending
-        (K.contents sink.new) answered.new) }
-    ensures cut { OnErr result ((first : B) (written : Option (List ℕ)) (read : List ℕ)
-        → Stands (Lines B.answers) first written read board.old session.old.pending (K.contents sink.old) answered.old
-        → Cut (Lines B.answers) ⊥ first written (read ++ piece.now) board.new (K.contents sink.new)) }
+    ensures stands { IfOk result (λ taken. GoesOn (Lines B.answers) (take taken piece.now)
+        board.old session.old.pending (K.contents sink.old) answered.old
+        board.new session.new.pending (K.contents sink.new) answered.new) }
+    ensures cut { OnErr result (CutsShort (Lines B.answers) piece.now
+        board.old session.old.pending (K.contents sink.old) answered.old board.new (K.contents sink.new)) }
     ensures calm { OnOk result (K.failures sink.new ≡ K.failures sink.old) }
     ensures failed { OnErr result (K.failures sink.old < K.failures sink.new) }
 {
@@ -117,13 +115,11 @@ fn serve<B: Board<M>, M, K: Sink>(
     sink: &mut K,
     answered: &mut u64,
 ) -> Result<(), Failed>
-    ensures stands { OnOk result ((first : B) (written : Option (List ℕ)) (read : List ℕ)
-        → Stands (Lines B.answers) first written read board.old session.old.pending (K.contents sink.old) answered.old
-        → Stands (Lines B.answers) first written (read ++ piece.now) board.new session.new.pending
-        (K.contents sink.new) answered.new) }
-    ensures cut { OnErr result ((first : B) (written : Option (List ℕ)) (read : List ℕ)
-        → Stands (Lines B.answers) first written read board.old session.old.pending (K.contents sink.old) answered.old
-        → Cut (Lines B.answers) ⊥ first written (read ++ piece.now) board.new (K.contents sink.new)) }
+    ensures stands { OnOk result (GoesOn (Lines B.answers) piece.now
+        board.old session.old.pending (K.contents sink.old) answered.old
+        board.new session.new.pending (K.contents sink.new) answered.new) }
+    ensures cut { OnErr result (CutsShort (Lines B.answers) piece.now
+        board.old session.old.pending (K.contents sink.old) answered.old board.new (K.contents sink.new)) }
     ensures calm { OnOk result (K.failures sink.new ≡ K.failures sink.old) }
     ensures failed { OnErr result (K.failures sink.old < K.failures sink.new) }
 {
