@@ -25,9 +25,9 @@ run_app = with_rule (with_rule (new_app (codes "run")) (number_option (codes "wo
 abbrev pub table_app : App
 table_app = with_rule (new_app (codes "table")) (number_option (codes "workers") 16)
 
--- the program has one of the commands
+-- the program has one of the commands, and a version
 abbrev pub sheet_app : App
-sheet_app = with_subcommand (with_subcommand (on_top (λ s. record s { subcommand_required = true })
+sheet_app = with_subcommand (with_subcommand (on_top (λ s. record s { subcommand_required = true; has_version = true })
     (new_app (codes "sheet"))) run_app.top) table_app.top
 
 -- among a command's matches the option has this number

@@ -4,7 +4,7 @@ ghost use Rattle.std.specs.Prelude.{◌≤◌};
 /// What `sheet run` is asked for.
 #[derive(Debug, Clone, Copy, PartialEq, Eq)]
 pub struct RunOptions {
-    /// How many workers evaluate a level, 1 to 16.
+    /// How many workers may evaluate a level, 1 to 16.
     pub workers: u8,
     /// The replica's number, 1 to 32.
     pub replica: u8,
@@ -15,7 +15,7 @@ pub struct RunOptions {
 /// What `sheet table` is asked for.
 #[derive(Debug, Clone, Copy, PartialEq, Eq)]
 pub struct TableOptions {
-    /// How many workers evaluate a level, 1 to 16.
+    /// How many workers may evaluate a level, 1 to 16.
     pub workers: u8,
     ghost workers_in_range: { (1 ≤ workers) × (workers ≤ 16) },
 }

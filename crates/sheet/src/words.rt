@@ -19,6 +19,9 @@ use clap::builder::ValueParser;
 use clap::{Arg, ArgAction, ArgMatches, Command, Error};
 use std::alloc::{AllocError, Global};
 
+/// What `--version` prints after the program's name.
+const VERSION: &str = "0.1.0";
+
 /// An option with a number from 1 to `most`, which is 1 where it isn't given.
 fn number_option<'a>(alloc: Global, id: &'a str, most: u8) -> Arg<'a>
     ensures rule { rule_of result ≡ number_option id.now most }
@@ -31,12 +34,13 @@ fn number_option<'a>(alloc: Global, id: &'a str, most: u8) -> Arg<'a>
         .default_value("1")
 }
 
+/// The command `run`.
 fn run_command<'a>(alloc: Global) -> Result<Command<'a>, AllocError>
     ensures app { IfOk result (λ command. app_of command ≡ run_app) }
     ensures local { IfOk result (λ command. (fields_of command).has_globals ≡ false) }
 {
     let workers = number_option(alloc, "workers", 16).help(
-        "how many threads evaluate formulas, 1 to 16",
+        "how many threads may evaluate formulas, 1 to 16; one does for now",
     );
     let replica = number_option(alloc, "replica", 32).help("the number of this replica, 1 to 32");
     Command::new(alloc, "run")
@@ -46,12 +50,13 @@ fn run_command<'a>(alloc: Global) -> Result<Command<'a>, AllocError>
         .arg(replica)
 }
 
+/// The command `table`.
 fn table_command<'a>(alloc: Global) -> Result<Command<'a>, AllocError>
     ensures app { IfOk result (λ command. app_of command ≡ table_app) }
     ensures local { IfOk result (λ command. (fields_of command).has_globals ≡ false) }
 {
     let workers = number_option(alloc, "workers", 16).help(
-        "how many threads evaluate formulas, 1 to 16",
+        "how many threads may evaluate formulas, 1 to 16; one does for now",
     );
     Command::new(alloc, "table")
         .about("reads a table of CSV and writes its settled values as CSV")
@@ -59,12 +64,14 @@ fn table_command<'a>(alloc: Global) -> Result<Command<'a>, AllocError>
         .arg(workers)
 }
 
+/// The whole command line.
 fn sheet_command<'a>(alloc: Global) -> Result<Command<'a>, AllocError>
     ensures { IfOk result (λ command. app_of command ≡ sheet_app) }
 {
     Command::new(alloc, "sheet")
         .about("a replicated spreadsheet")
         .subcommand_required(true)
+        .version(VERSION)
         .subcommand(run_command(alloc)?)?
         .subcommand(table_command(alloc)?)
 }
@@ -111,7 +118,10 @@ fn options_of(name: &str, matches: &ArgMatches<'_>) -> Option<Options>
     }
 }
 
-/// Reads the program's words, the first of which is its own name.
+/// Reads the program's words, the first of which is its own name: the command and the numbers are those of `clap`'s
+/// matches. Where the words are none, or ask for help or the version, the error has the text, and the exit status.
+///
+/// Cost: O(n) in the n bytes of the words.
 pub fn read_words<'a>(alloc: Global, words: &'a [String]) -> Result<Options, Error>
     ensures { IfOk result (GivesOptions (subcommand_of sheet_app (map string_bytes words.now))) }
 {

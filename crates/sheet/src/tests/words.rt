@@ -33,7 +33,7 @@ fn options_are_read(rt: HostRuntime) -> Result<(), Fail> {
     Ok(())
 }
 
-/// Numbers out of range, unknown words and a missing command end with status 2, help with 0.
+/// Numbers out of range, unknown words and a missing command end with status 2, help and the version with 0.
 #[test]
 fn other_words_are_refused(rt: HostRuntime) -> Result<(), Fail> {
     let alloc = rt.alloc();
@@ -46,6 +46,20 @@ fn other_words_are_refused(rt: HostRuntime) -> Result<(), Fail> {
     assert!(rt; numbers(alloc, &["sheet", "run", "--replica", "x"])? == Err(2));
     assert!(rt; numbers(alloc, &["sheet", "--help"])? == Err(0));
     assert!(rt; numbers(alloc, &["sheet", "run", "--help"])? == Err(0));
+    assert!(rt; numbers(alloc, &["sheet", "--version"])? == Err(0));
+    Ok(())
+}
+
+/// The version has a line of its own.
+#[test]
+fn the_version_is_told(rt: HostRuntime) -> Result<(), Fail> {
+    let words = words(rt.alloc(), &["sheet", "--version"])?;
+    match read_words(rt.alloc(), words.as_slice()) {
+        Ok(_) => assert!(rt; false),
+        Err(error) => {
+            assert!(rt; format!(in rt.alloc(); "{error}")?.as_str() == "sheet 0.1.0\n");
+        }
+    }
     Ok(())
 }
 
