@@ -57,6 +57,8 @@ pub fn decode(alloc: Global, bytes: &[u8]) -> Result<Delta, Refusal>
     ensures line { IfOk result (λ d. IsLine bytes.now d) }
     ensures read { (d : Entries) → IsLine bytes.now d → MatchResult result (λ found. found ≡ d) (λ e. e ≡ Memory) }
     ensures refused { IfErr result (λ e. (e ≡ Refusal.Delta) ⊎ (e ≡ Memory)) }
+    // such a line takes no memory
+    ensures too_long { DELTA_LINE_LIMIT < length bytes.now → result ≡ Err Refusal.Delta }
 {
     if bytes.len() > DELTA_LINE_LIMIT {
         return Err(Refusal::Delta);
