@@ -8,19 +8,19 @@ use Rattle.std.specs.Global.{Vec}
 use Rattle.csv.specs.Writing.{default_writer, row_text}
 use Rattle.csv.specs.declared.writer.Writer.{Writer}
 use Rattle.ps_grid.specs.declared.refusal.Refusal.{Refusal}
-use Rattle.ps_grid.specs.Rectangle.{Area}
+use Rattle.ps_grid.specs.Rectangle.{Area, cell_within}
 use Rattle.ps_value.specs.Shown.{shown_text}
 use Rattle.ps_eval.specs.Items.{Assignment}
-use Rattle.ps_csv.specs.Exports.{cell_in, shown_record, shown_records, table_text}
+use Rattle.ps_csv.specs.Exports.{shown_record, shown_records, table_text}
 use Rattle.ps_csv.specs.Inside.{HasWritten}
 
 -- the first fields of a row's record
 abbrev pub first_fields : Assignment → Area → ℕ → ℕ → List (List ℕ)
-first_fields v a k n = map (λ j. shown_text (v (cell_in a j k))) (range_with_len 0 n)
+first_fields v a k n = map (λ j. shown_text (v (cell_within a j k))) (range_with_len 0 n)
 
 pub first_fields-more : (v : Assignment) (a : Area) (k n : ℕ)
-    → first_fields v a k (n + 1) ≡ first_fields v a k n ++ shown_text (v (cell_in a n k)) ∷ []
-first_fields-more v a k n = map-range_with_len_more (λ j. shown_text (v (cell_in a j k))) 0 n n (omega arith)
+    → first_fields v a k (n + 1) ≡ first_fields v a k n ++ shown_text (v (cell_within a n k)) ∷ []
+first_fields-more v a k n = map-range_with_len_more (λ j. shown_text (v (cell_within a j k))) 0 n n (omega arith)
 
 pub first_fields-all : (v : Assignment) (a : Area) (k : ℕ) → first_fields v a k a.width ≡ shown_record v a k
 unfolding shown_record

@@ -1,19 +1,14 @@
 -- The table that the shown values of a rectangle make, as `csv` writes it.
-use Rattle.std.specs.Prelude.{ℕ, ◌+◌, ◌*◌, List, map}
+use Rattle.std.specs.Prelude.{ℕ, List, map}
 use Rattle.std.specs.List.{flat_map, range_with_len}
 use Rattle.csv.specs.Writing.{default_writer, row_text}
-use Rattle.ps_grid.specs.declared.size.TheConstants.{COLUMNS}
-use Rattle.ps_grid.specs.Rectangle.{Area}
+use Rattle.ps_grid.specs.Rectangle.{Area, cell_within}
 use Rattle.ps_value.specs.Shown.{shown_text}
 use Rattle.ps_eval.specs.Items.{Assignment}
 
--- the cell of the rectangle at the j-th column from its left side and the k-th row from its upper side
-abbrev pub cell_in : Area → ℕ → ℕ → ℕ
-cell_in a j k = (a.top + k) * COLUMNS + (a.left + j)
-
 -- what the cells of the k-th row show, from the left to the right
 unfoldable pub shown_record : Assignment → Area → ℕ → List (List ℕ)
-shown_record v a k = map (λ j. shown_text (v (cell_in a j k))) (range_with_len 0 a.width)
+shown_record v a k = map (λ j. shown_text (v (cell_within a j k))) (range_with_len 0 a.width)
 
 -- a record for each row of the rectangle, from the upper to the lower
 unfoldable pub shown_records : Assignment → Area → List (List (List ℕ))

@@ -5,13 +5,13 @@ ghost use Rattle.std.specs.Io.KnownBytes.{Appends};
 ghost use Rattle.csv.specs.Records.{fields_of, partial_of};
 ghost use Rattle.ps_value.specs.Shown.{shown_text};
 ghost use Rattle.csv.specs.Writing.{default_writer, row_text};
-ghost use Rattle.ps_csv.specs.Exports.{cell_in, exported, shown_record};
+ghost use Rattle.ps_csv.specs.Exports.{exported, shown_record};
 ghost use Rattle.ps_csv.specs.Inside.{HasWritten};
 
 use csv::{ByteRecord, Writer, WriterBuilder};
 use ps_device::{MemorySink, Sink, put_all};
 use ps_eval::Look;
-use ps_grid::{Cell, Rect, Refusal};
+use ps_grid::{Rect, Refusal};
 use ps_value::{Value, write_shown};
 use std::alloc::Global;
 use std::marker::Brand;
@@ -74,7 +74,7 @@ fn text_with<G: Look, L: Ledger>(
     let mut shown = MemorySink::<L>::new(alloc, blank);
     let mut row = ByteRecord::new(alloc);
     let mut writer = new_writer(alloc);
-    for k in 0..height(rect) {
+    for k in 0..rect.height() {
         fill(look, rect, k, &mut shown, &mut row)?;
         put_record(&row, &mut writer)?;
     }
@@ -124,8 +124,9 @@ fn fill<G: Look, L: Ledger>(
     ensures memory { IfErr result (λ e. e ≡ Refusal.Memory) }
 {
     row.clear();
-    for j in 0..width(rect) {
-        let value = look.at(cell_of(rect, j, k));
+    for j in 0..rect.width() {
+        let cell = rect.at(j, k);
+        let value = look.at(cell);
         push_shown(value, shown, row)?;
     }
     Ok(())
@@ -149,31 +150,4 @@ fn push_shown<L: Ledger>(
     }
     row.push_field(shown.bytes.as_slice())?;
     Ok(())
-}
-
-/// How many columns the rectangle has.
-fn width(rect: Rect) -> usize
-    ensures { result ≡ rect.width }
-{
-    let left = rect.top_left().column() as usize;
-    let right = rect.bottom_right().column() as usize;
-    right - left + 1
-}
-
-/// How many rows the rectangle has.
-fn height(rect: Rect) -> usize
-    ensures { result ≡ rect.height }
-{
-    let upper = rect.top_left().row() as usize;
-    let lower = rect.bottom_right().row() as usize;
-    lower - upper + 1
-}
-
-/// The cell at the j-th column and the k-th row of the rectangle.
-fn cell_of(rect: Rect, j: usize, k: usize) -> Cell
-    requires column { j < rect.width }
-    requires row { k < rect.height }
-    ensures { result ≡ cell_in rect j k }
-{
-    rect.nth(k * width(rect) + j)
 }

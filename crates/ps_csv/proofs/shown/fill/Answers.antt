@@ -7,7 +7,7 @@ loop-j-preserved g c =
     let v = g.G.Look.value_at c.args.look.now in
     let more = first_fields-more v c.args.rect c.args.k c.loop-j.j in
     let shown = c.at-value.ensures in
-    let cell = c.cell_of.ensures in
+    let cell = c.at-cell.ensures in
     let before = c.loop-j.invariant.fields in
     record {
       fields = rw (more, c.in_ok-push_shown.ensures.field, before, shown, cell);
