@@ -4,7 +4,7 @@ ghost use Rattle.std.specs.Prelude.{◌≡◌, ◌≢◌, ◌⊎◌, ◌<◌, �
 ghost use Rattle.std.specs.Io.KnownBytes.{Consumes, IsAtEnd};
 ghost use Rattle.ps_csv.specs.Faults.{TooManyBytes};
 
-use ps_device::Source;
+use ps_device::{PIECE_BYTES, Source};
 use ps_grid::{CELLS, Refusal};
 use std::alloc::Global;
 
@@ -13,9 +13,6 @@ const BYTES_PER_CELL: usize = 640;
 
 /// The most bytes of a table: 68,157,440. It hangs on the size of the grid alone, and no other limit hangs on it.
 pub const LONGEST_TABLE: usize = BYTES_PER_CELL * CELLS;
-
-/// How many bytes are taken from the source at once. No limit hangs on it.
-const PIECE: usize = 65_536;
 
 /// The bytes of the source, to its end. No more are taken out once they are too many.
 pub(crate) fn read_all<S: Source>(alloc: Global, source: &mut S) -> Result<Vec<u8>, Refusal>
@@ -29,7 +26,7 @@ pub(crate) fn read_all<S: Source>(alloc: Global, source: &mut S) -> Result<Vec<u
         ⊎ ((e ≡ Refusal.Csv) × TooManyBytes (S.remaining source.old) (S.remaining source.new))) }
 {
     let mut bytes = Vec::new(alloc);
-    let mut piece = [0u8; PIECE];
+    let mut piece = [0u8; PIECE_BYTES];
     'pieces: loop {
         let count = match source.take(&mut piece) {
             Ok(count) => count,
