@@ -2,16 +2,16 @@
 use Rattle.std.specs.Prelude.{◌≡◌, ◌⊎◌, ◌≤◌, ◌==◌, ℕ, List, [], length, Option, if◌then◌else◌}
 use Rattle.std.specs.Io.KnownBytes.{Consumes, IsAtEnd}
 use Rattle.ps_grid.specs.Rectangle.{Area}
-use Rattle.ps_grid.specs.declared.refusal.Refusal.{Refusal}
 use Rattle.ps_grid.specs.declared.refusal.Refusal.TheVariants.{Csv, Device, Memory}
 use Rattle.ps_delta.specs.Deltas.{joined_history}
 use Rattle.ps_sheet.specs.Settled.{shown_at}
 use Rattle.ps_sheet.specs.Sheet.{IsSheet, SheetView}
 use Rattle.ps_csv.specs.Exports.{exported}
-use Rattle.ps_csv.specs.Imports.{TakesIn}
-use Rattle.ps_csv.specs.Records.{TableFault}
-use Rattle.ps_csv.specs.Sources.{TooManyBytes}
+use Rattle.ps_csv.specs.Faults.{FirstFault, ReaderFails, TooManyBytes}
+use Rattle.ps_csv.specs.Imports.{ImportsTable}
 use Rattle.sheet.specs.Sessions.{IsOpened}
+use Rattle.sheet.specs.declared.fault.ProgramFault.{ProgramFault}
+use Rattle.sheet.specs.declared.fault.ProgramFault.TheVariants.{ReaderFailed, Refused}
 use Rattle.ps_csv.specs.declared.bytes.TheConstants.{LONGEST_TABLE}
 
 -- so many rows and columns from A1 on
@@ -30,14 +30,17 @@ pub record IsTableOf (bytes text : List ℕ) : Type 0 where
   pub empty : SheetView
   pub filled : SheetView
   pub opened : IsOpened 1 empty
-  pub taken : TakesIn bytes records fields empty filled
+  pub taken : ImportsTable bytes records fields empty filled
   pub settled : IsSheet filled
   pub shown : text ≡ table_of records fields filled
 
--- the causes of a refusal: memory, a device, too many bytes, or what is at fault with a table for an empty sheet. A
--- source had `old` and has `new` to come
-abbrev pub IsCauseOf : Option (List ℕ) → Option (List ℕ) → Refusal → Type 0
-IsCauseOf old new e =
+-- the causes of a fault: of a refusal memory, a device, too many bytes, or the first fault of the table for an empty
+-- sheet; else that `csv`'s own reader failed. A source had `old` and has `new` to come
+abbrev pub IsCauseOf : Option (List ℕ) → Option (List ℕ) → ProgramFault → Type 0
+IsCauseOf old new (Refused e) =
     (e ≡ Memory) ⊎ (e ≡ Device) ⊎ ((e ≡ Csv) × TooManyBytes old new)
     ⊎ ((bytes : List ℕ) × Consumes old new bytes × IsAtEnd new × (length bytes ≤ LONGEST_TABLE)
-    × TableFault (joined_history []) bytes e)
+    × FirstFault (joined_history []) bytes e)
+IsCauseOf old new (ReaderFailed error) =
+    (bytes : List ℕ) × Consumes old new bytes × IsAtEnd new × (length bytes ≤ LONGEST_TABLE)
+    × ReaderFails (joined_history []) bytes error

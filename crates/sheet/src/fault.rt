@@ -1,17 +1,21 @@
 //! How the program ends before its work is done.
 ghost use Rattle.std.specs.Prelude.{◌≡◌};
-ghost use Rattle.sheet.specs.Status.{exit_status};
+ghost use Rattle.sheet.specs.Status.{exit_status, program_fault};
 
+use ps_csv::ImportFault;
 use ps_grid::Refusal;
 use std::alloc::AllocError;
 use thiserror::Error;
 
 /// What ended the program. Its text is the line that standard error gets: `err`, the refusal's number and its name.
-#[derive(Clone, Copy, Debug, PartialEq, Eq, Error)]
+#[derive(Debug, Drop, Error)]
 pub enum ProgramFault {
     /// A call was refused.
     #[error("err {} {}", .0.number(), .0.name())]
     Refused(Refusal),
+    /// `csv`'s own reader failed over a table, with this error. The text is that of `Csv`.
+    #[error("err {} {}", Refusal::Csv.number(), Refusal::Csv.name())]
+    ReaderFailed(csv::Error),
 }
 
 impl From<Refusal> for ProgramFault {
@@ -26,12 +30,22 @@ impl From<AllocError> for ProgramFault {
     }
 }
 
+/// The fault that an import ends the program with.
+pub fn fault_of_import(fault: ImportFault) -> ProgramFault
+    ensures { result ≡ program_fault fault.reader_error fault.refusal }
+{
+    match fault.reader_error {
+        Some(error) => ProgramFault::ReaderFailed(error),
+        None => ProgramFault::Refused(fault.refusal),
+    }
+}
+
 /// The exit status: 1 where a device failed, else 3.
 pub fn status_of(fault: &ProgramFault) -> u8
     ensures { result ≡ exit_status fault.now }
 {
     match fault {
         ProgramFault::Refused(Refusal::Device) => 1,
-        ProgramFault::Refused(_) => 3,
+        ProgramFault::Refused(_) | ProgramFault::ReaderFailed(_) => 3,
     }
 }

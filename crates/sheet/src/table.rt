@@ -6,7 +6,7 @@ ghost use Rattle.ps_grid.specs.declared.size.TheConstants.{COLUMNS, ROWS};
 ghost use Rattle.sheet.specs.Tables.{IsCauseOf, IsTableOf, from_first, table_of};
 ghost use Rattle.sheet.specs.declared.fault.ProgramFault.TheVariants.{Refused};
 
-use crate::fault::ProgramFault;
+use crate::fault::{ProgramFault, fault_of_import};
 use ps_csv::{Imported, export, import};
 use ps_device::{Sink, Source};
 use ps_eval::Meter;
@@ -20,9 +20,9 @@ use std::sync::ledger::Ledger;
 /// that was written is handed on.
 ///
 /// Refused as an import or an export is: `Device` where one of the two fails, `Csv` where the source has too many
-/// bytes, and for the first fault of the table in reading order, or as `Csv` where `csv`'s reader fails; out of memory
-/// in place of any of them. Nothing is written before the whole table is taken in: where the source failed nothing was
-/// written, where the sink failed a beginning of the due text.
+/// bytes, and for the first fault of the table in reading order; `Memory` in place of any of them. That `csv`'s own
+/// reader failed is a fault of its own. Nothing is written before the whole table is taken in: where the source failed
+/// nothing was written, where the sink failed a beginning of the due text.
 ///
 /// Cost: that of an import and an export.
 pub fn table_on<S: Source, K: Sink, L: Ledger>(
@@ -38,8 +38,7 @@ pub fn table_on<S: Source, K: Sink, L: Ledger>(
         × IsTableOf bytes text × Appends (K.contents sink.old) (K.contents sink.new) text) }
     ensures calm { OnOk result ((S.failures source.new ≡ S.failures source.old)
         × (K.failures sink.new ≡ K.failures sink.old)) }
-    ensures refused { IfErr result (λ f. (e : Refusal) × (f ≡ Refused e)
-        × IsCauseOf (S.remaining source.old) (S.remaining source.new) e) }
+    ensures refused { IfErr result (λ f. IsCauseOf (S.remaining source.old) (S.remaining source.new) f) }
     ensures settled { OnOk result (K.waiting sink.new ≡ []) }
     ensures device { result ≡ Err (Refused Refusal.Device)
         → ((S.failures source.old < S.failures source.new) × (sink.new ≡ sink.old))
@@ -54,7 +53,7 @@ pub fn table_on<S: Source, K: Sink, L: Ledger>(
     };
     let imported = match import(alloc, source, &mut sheet, meter) {
         Ok(imported) => imported,
-        Err(fault) => return Err(ProgramFault::Refused(fault.refusal)),
+        Err(fault) => return Err(fault_of_import(fault)),
     };
     match put_table(alloc, &sheet, imported, sink) {
         Ok(()) => {}

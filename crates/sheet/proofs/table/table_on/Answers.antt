@@ -1,29 +1,45 @@
 use Rattle.std.proofs.Common.{rules, ◌≡◌, ℕ, List, Option, inr, length, take, refl, sym, ap, subst}
-use Rattle.std.proofs.Common.{Result, Ok, Err}
-use Rattle.std.specs.Io.KnownBytes.{Appends}
+use Rattle.std.proofs.Common.{Result, Ok, Err, Some, None, IfSome, IfNone, [], ◌≤◌}
+use Rattle.std.specs.Io.KnownBytes.{Appends, Consumes, IsAtEnd}
 use Rattle.std.proofs.Math.Seq.{take-length}
+use Rattle.csv.specs.declared.error.Error.{Error}
 use Rattle.ps_grid.specs.declared.refusal.Refusal.{Refusal}
+use Rattle.ps_grid.specs.declared.refusal.Refusal.TheVariants.{Csv}
+use Rattle.ps_delta.specs.Deltas.{joined_history}
 use Rattle.ps_sheet.specs.Sheet.{IsSheet, SheetView}
-use Rattle.ps_csv.specs.Imports.{TakesIn}
+use Rattle.ps_csv.specs.Faults.{ReaderFails}
+use Rattle.ps_csv.specs.Imports.{ImportsTable}
+use Rattle.ps_csv.specs.declared.bytes.TheConstants.{LONGEST_TABLE}
 use Rattle.ps_device.proofs.DeviceLemmas.{Appends-keeps}
 use Rattle.sheet.specs.Sessions.{IsOpened}
-use Rattle.sheet.specs.Tables.{IsTableOf, table_of}
+use Rattle.sheet.specs.Status.{program_fault}
+use Rattle.sheet.specs.Tables.{IsCauseOf, IsTableOf, table_of}
 use Rattle.sheet.specs.declared.fault.ProgramFault.{ProgramFault}
-use Rattle.sheet.specs.declared.fault.ProgramFault.TheVariants.{Refused}
+use Rattle.sheet.specs.declared.fault.ProgramFault.TheVariants.{ReaderFailed, Refused}
 use Rattle.sheet.proofs.table.table_on.Goals as goal
 
 -- the refusal that a result has, or this one
 abbrev refusal_in : Refusal → Result (Unit {0}) ProgramFault → Refusal
 refusal_in other (Ok done) = other
 refusal_in other (Err (Refused e)) = e
+refusal_in other (Err (ReaderFailed error)) = other
 
 same_refusal : (e wanted : Refusal) → ◌≡◌ {A = Result (Unit {0}) ProgramFault} (Err (Refused e)) (Err (Refused wanted))
     → e ≡ wanted
 same_refusal e wanted is = ap (refusal_in e) is
 
+-- the cause of the fault that an import's fault is
+cause_of : (old new : Option (List ℕ)) (own : Option Error) (e : Refusal)
+    → IfNone own (IsCauseOf old new (Refused e))
+    → IfSome own (λ error. (e ≡ Csv) × (bytes : List ℕ) × Consumes old new bytes × IsAtEnd new
+    × (length bytes ≤ LONGEST_TABLE) × ReaderFails (joined_history []) bytes error)
+    → IsCauseOf old new (program_fault own e)
+cause_of old new None e refused reader = refused
+cause_of old new (Some error) e refused reader = (reader.1, reader.2, reader.3, reader.4, reader.5)
+
 -- the text of the table that was taken in
 filled_table : (bytes : List ℕ) (records fields : ℕ) (empty filled : SheetView) → IsOpened 1 empty
-    → TakesIn bytes records fields empty filled → IsSheet filled → IsTableOf bytes (table_of records fields filled)
+    → ImportsTable bytes records fields empty filled → IsSheet filled → IsTableOf bytes (table_of records fields filled)
 filled_table bytes records fields empty filled opened taken settled = record {
   records = records;
   fields = fields;
@@ -50,6 +66,14 @@ returns-in-Ok-settle-clause-done g c =
           c.import.new.sheet (search rules) imported.3 (search rules),
       Appends-keeps _ _ _ _ c.in-Ok-put_table.ensures.written c.in-Ok-settle.ensures.same,
     )
+
+pub returns-in-Err-import-clause-refused : goal.returns-in-Err-import-clause-refused
+returns-in-Err-import-clause-refused g c =
+    let empty : c.in-Ok.sheet.history ≡ [] = search rules in
+    let refused = rw empty at c.in-Err-import.ensures.refused in
+    let reader = rw empty at c.in-Err-import.ensures.reader in
+    rw c.fault_of_import.ensures
+    (cause_of _ _ c.in-Err-import.fault.reader_error c.in-Err-import.fault.refusal refused reader)
 
 pub returns-in-Err-put_table-clause-device : goal.returns-in-Err-put_table-clause-device
 returns-in-Err-put_table-clause-device g c told =
