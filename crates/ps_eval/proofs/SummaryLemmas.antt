@@ -1,16 +1,20 @@
 -- One more item in a summary.
-use Rattle.std.proofs.Common.{◌≡◌, ◌+◌, ◌==◌, List, [], ◌∷◌, ◌++◌, length, Option, Some, None, Ok, Err, ℤ, pos}
+use Rattle.std.proofs.Common.{◌≡◌, ◌+◌, List, [], ◌∷◌, ◌++◌, length, Option, Some, None, Ok, Err, ℤ, pos}
 use Rattle.std.proofs.Common.{◌+ℤ◌, refl, ap, sym, ◌∙◌, arith, length-append}
 use Rattle.std.specs.List.{list_all, list_any}
 use Rattle.std.proofs.Math.Bool.{and-true, or-false}
 use Rattle.std.proofs.lemmas.List.Folds.{list_all-append, list_any-append}
-use Rattle.std.specs.Prelude.{not, ◌&&◌, ◌||◌, is_none, true, false, fold, if◌then◌else◌}
+use Rattle.std.specs.Prelude.{not, ◌&&◌, ◌||◌, is_none, true, false}
 use Rattle.std.specs.Int.{int_min, int_max}
 use Rattle.std.proofs.lemmas.List.Sums.{fold-append}
-use Rattle.std.proofs.lemmas.Bool.{cond-false, ne_eqb}
+use Rattle.std.proofs.lemmas.Bool.{cond_both, ltb-false, ltb-true}
+use Rattle.std.proofs.lemmas.Int.{ints}
+use Rattle.std.proofs.Common.{◌-◌, ◌^◌, negsuc, FitsSigned, w64}
+use Rattle.std.specs.Prelude.{nat_lt}
+use Rattle.ps_eval.specs.Inside.Summarized.{least_or, greatest_or}
 use Rattle.ps_value.specs.declared.value.Fault.{Fault}
 use Rattle.ps_eval.specs.Number.{Number, is_zero}
-use Rattle.ps_eval.specs.Items.{numbers_in, first_fault, total, least, greatest}
+use Rattle.ps_eval.specs.Items.{numbers_in, first_fault, total}
 
 pub numbers_in-append : (xs ys : List Number) → numbers_in (xs ++ ys) ≡ numbers_in xs ++ numbers_in ys
 numbers_in-append [] ys = refl
@@ -36,22 +40,6 @@ first_fault-fault (Err first ∷ xs) fault = refl
 pub total-push : (ns : List ℤ) (n : ℤ) → total (ns ++ n ∷ []) ≡ total ns +ℤ n
 total-push ns n = fold-append ◌+ℤ◌ (pos 0) ns (n ∷ [])
 
-not_empty : (n : ℤ) (ns : List ℤ) → (length (n ∷ ns) == 0) ≡ false
-not_empty n ns = ne_eqb (length (n ∷ ns)) 0 (λ e. omega arith)
-
-pub least-push : (ns : List ℤ) (n : ℤ) → least (ns ++ n ∷ []) ≡ (if length ns == 0 then n else int_min (least ns) n)
-least-push [] n = refl
-least-push (m ∷ ns) n =
-    fold-append int_min m ns (n ∷ [])
-    ∙ sym (cond-false (length (m ∷ ns) == 0) n (int_min (fold int_min m ns) n) (not_empty m ns))
-
-pub greatest-push : (ns : List ℤ) (n : ℤ)
-    → greatest (ns ++ n ∷ []) ≡ (if length ns == 0 then n else int_max (greatest ns) n)
-greatest-push [] n = refl
-greatest-push (m ∷ ns) n =
-    fold-append int_max m ns (n ∷ [])
-    ∙ sym (cond-false (length (m ∷ ns) == 0) n (int_max (fold int_max m ns) n) (not_empty m ns))
-
 -- ---- the same of the numbers among items
 
 pub counted_more : (items : List Number) (n : ℤ)
@@ -61,16 +49,6 @@ counted_more items n = ap length (numbers_in-append items (Ok n ∷ [])) ∙ len
 pub summed_more : (items : List Number) (n : ℤ)
     → total (numbers_in (items ++ Ok n ∷ [])) ≡ total (numbers_in items) +ℤ n
 summed_more items n = ap total (numbers_in-append items (Ok n ∷ [])) ∙ total-push (numbers_in items) n
-
-pub lowest_more : (items : List Number) (n : ℤ) →
-    least (numbers_in (items ++ Ok n ∷ [])) ≡
-    (if length (numbers_in items) == 0 then n else int_min (least (numbers_in items)) n)
-lowest_more items n = ap least (numbers_in-append items (Ok n ∷ [])) ∙ least-push (numbers_in items) n
-
-pub highest_more : (items : List Number) (n : ℤ) →
-    greatest (numbers_in (items ++ Ok n ∷ [])) ≡
-    (if length (numbers_in items) == 0 then n else int_max (greatest (numbers_in items)) n)
-highest_more items n = ap greatest (numbers_in-append items (Ok n ∷ [])) ∙ greatest-push (numbers_in items) n
 
 pub every_more : (items : List Number) (n : ℤ) →
     list_all (λ k. not (is_zero k)) (numbers_in (items ++ Ok n ∷ [])) ≡
@@ -104,3 +82,33 @@ pub first_put : (items : List Number) (fault : Fault) (o : Option Fault) → o �
     → is_none o ≡ true → Some fault ≡ first_fault (items ++ Err fault ∷ [])
 first_put items fault None is none = sym (first_fault-fault items fault ∙ ap (λ p. or_fault p fault) (sym is))
 first_put items fault (Some first) is none = cc
+
+int_min_top : (n : ℤ) → FitsSigned w64 n → n ≡ int_min (pos (2 ^ 63 - 1)) n
+int_min_top (negsuc k) fits = refl
+int_min_top (pos k) fits =
+    cond_both (nat_lt k (2 ^ 63 - 1)) (pos k) (pos (2 ^ 63 - 1)) (λ x. pos k ≡ x) (λ e. refl)
+    (λ e. ap pos (let b = ltb-false k (2 ^ 63 - 1) e in omega (arith, ints, fits, b)))
+
+int_max_top : (n : ℤ) → FitsSigned w64 n → n ≡ int_max (negsuc (2 ^ 63 - 1)) n
+int_max_top (pos k) fits = refl
+int_max_top (negsuc k) fits =
+    cond_both (nat_lt (2 ^ 63 - 1) k) (negsuc (2 ^ 63 - 1)) (negsuc k) (λ x. negsuc k ≡ x)
+    (λ e. absurd (let b = ltb-true (2 ^ 63 - 1) k e in omega (arith, ints, fits, b))) (λ e. refl)
+
+pub lowest_next : (items : List Number) (n : ℤ) → FitsSigned w64 n →
+    least_or (pos (2 ^ 63 - 1)) (numbers_in (items ++ Ok n ∷ [])) ≡
+    int_min (least_or (pos (2 ^ 63 - 1)) (numbers_in items)) n
+lowest_next items n fits = ap (least_or (pos (2 ^ 63 - 1))) (numbers_in-append items (Ok n ∷ [])) ∙ push (numbers_in items)
+  where
+    push : (ns : List ℤ) → least_or (pos (2 ^ 63 - 1)) (ns ++ n ∷ []) ≡ int_min (least_or (pos (2 ^ 63 - 1)) ns) n
+    push [] = int_min_top n fits
+    push (m ∷ ns) = fold-append int_min m ns (n ∷ [])
+
+pub highest_next : (items : List Number) (n : ℤ) → FitsSigned w64 n →
+    greatest_or (negsuc (2 ^ 63 - 1)) (numbers_in (items ++ Ok n ∷ [])) ≡
+    int_max (greatest_or (negsuc (2 ^ 63 - 1)) (numbers_in items)) n
+highest_next items n fits = ap (greatest_or (negsuc (2 ^ 63 - 1))) (numbers_in-append items (Ok n ∷ [])) ∙ push (numbers_in items)
+  where
+    push : (ns : List ℤ) → greatest_or (negsuc (2 ^ 63 - 1)) (ns ++ n ∷ []) ≡ int_max (greatest_or (negsuc (2 ^ 63 - 1)) ns) n
+    push [] = int_max_top n fits
+    push (m ∷ ns) = fold-append int_max m ns (n ∷ [])

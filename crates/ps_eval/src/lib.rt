@@ -21,6 +21,7 @@ mod summary;
 mod tests;
 mod total;
 mod tree;
+mod truths;
 
 pub use laws::{cycle_comes_from_references, depends_on_references_alone};
 pub use look::Look;

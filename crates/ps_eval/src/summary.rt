@@ -1,13 +1,12 @@
-//! What SUM, MIN, MAX and COUNT need to know of their items, and AND and OR of their arguments.
+//! What SUM, MIN, MAX and COUNT need to know of their items.
 
 ghost use Rattle.std.specs.Prelude.{◌≡◌, ◌+◌, ◌*◌, ◌^◌, ◌<◌, ◌≤◌, ◌==◌, not, ◌&&◌, ◌||◌, if◌then◌else◌};
 ghost use Rattle.std.specs.Prelude.{List, [], ◌∷◌, ◌++◌, unsigned_abs};
 ghost use Rattle.std.specs.Int.{int_max, int_min};
-ghost use Rattle.ps_eval.specs.Number.{is_zero, Number};
+ghost use Rattle.ps_eval.specs.Number.{Number};
 
-use crate::arithmetic::truth;
 use crate::total::Total;
-use ps_value::{Fault, Value};
+use ps_value::{Fault, Operand};
 
 /// What is known of the items so far.
 #[derive(Drop)]
@@ -15,19 +14,17 @@ pub(crate) struct Summary {
     /// how many numbers there are, and their sum
     count: u128,
     sum: Total,
-    /// the least and the greatest number, or 0
+    /// the least and the greatest number; where there is none, the greatest and the least that there are
     least: i64,
     greatest: i64,
-    /// whether no number is 0, and whether one isn't
-    all: bool,
-    any: bool,
     /// the first fault
     fault: Option<Fault>,
     ghost bounded: { unsigned_abs sum ≤ count * 2 ^ 63 },
 }
 
 impl Summary {
-    ghost use Rattle.ps_eval.specs.Items.{all_of, any_of, cell_items, count_of, max_of, min_of, sum_of};
+    ghost use Rattle.ps_eval.specs.Items.{count_of, max_of, min_of, sum_of};
+    ghost use Rattle.ps_eval.specs.Inside.Operands.{items_from};
     ghost use Rattle.ps_eval.specs.Inside.Summarized.{Summarizes};
 
     /// Of no items.
@@ -37,10 +34,8 @@ impl Summary {
         Summary {
             count: 0,
             sum: Total::new(),
-            least: 0,
-            greatest: 0,
-            all: true,
-            any: false,
+            least: i64::MAX,
+            greatest: i64::MIN,
             fault: None,
         }
     }
@@ -54,10 +49,8 @@ impl Summary {
             → Summarizes (items ++ Ok number ∷ []) self.new }
         ensures count { self.new.count ≡ self.old.count + 1 }
     {
-        self.least = lesser(self.count, self.least, number);
-        self.greatest = greater(self.count, self.greatest, number);
-        self.all = every(self.all, number);
-        self.any = some(self.any, number);
+        self.least = self.least.min(number);
+        self.greatest = self.greatest.max(number);
         self.count += 1;
         self.sum.add(number);
     }
@@ -88,20 +81,19 @@ impl Summary {
         }
     }
 
-    /// The value of one more cell, which may be no item.
+    /// The operand of one more cell, which may be no item.
     #[inline]
-    pub(crate) fn take_cell(&mut self, value: Value)
+    pub(crate) fn take_cell(&mut self, operand: Operand)
         requires { self.old.count < 2 ^ 100 }
         ensures items { (items : List Number)
             → Summarizes items self.old
-            → Summarizes (items ++ cell_items value) self.new }
+            → Summarizes (items ++ items_from operand) self.new }
         ensures count { self.new.count ≤ self.old.count + 1 }
     {
-        match value {
-            Value::Empty | Value::Text(_) => {}
-            Value::Num(number) => self.take_number(number),
-            Value::Choice(options) => self.take_number(i64::from(options.count_ones())),
-            Value::Err(fault) => self.take_fault(fault),
+        match operand {
+            Operand::Empty | Operand::Text => {}
+            Operand::Num(number) => self.take_number(number),
+            Operand::Err(fault) => self.take_fault(fault),
         }
     }
 
@@ -121,6 +113,7 @@ impl Summary {
     {
         match self.fault {
             Some(fault) => Err(fault),
+            None if self.count == 0 => Ok(0),
             None => Ok(self.least),
         }
     }
@@ -131,6 +124,7 @@ impl Summary {
     {
         match self.fault {
             Some(fault) => Err(fault),
+            None if self.count == 0 => Ok(0),
             None => Ok(self.greatest),
         }
     }
@@ -145,67 +139,7 @@ impl Summary {
             Err(Fault::Num)
         }
     }
-
-    /// AND of the items.
-    pub(crate) fn all(&self) -> Result<i64, Fault>
-        ensures { (items : List Number) → Summarizes items self.now → result ≡ all_of items }
-    {
-        match self.fault {
-            Some(fault) => Err(fault),
-            None => Ok(truth(self.all)),
-        }
-    }
-
-    /// OR of the items.
-    pub(crate) fn any(&self) -> Result<i64, Fault>
-        ensures { (items : List Number) → Summarizes items self.now → result ≡ any_of items }
-    {
-        match self.fault {
-            Some(fault) => Err(fault),
-            None => Ok(truth(self.any)),
-        }
-    }
 }
 
 /// The greatest number of 64 bits.
 const GREATEST: u128 = 0x7fff_ffff_ffff_ffff;
-
-/// The least number of one more than `count`.
-#[inline]
-fn lesser(count: u128, least: i64, number: i64) -> i64
-    ensures { result ≡ (if count == 0 then number else int_min least number) }
-{
-    if count == 0 {
-        number
-    } else {
-        least.min(number)
-    }
-}
-
-/// The greatest number of one more than `count`.
-#[inline]
-fn greater(count: u128, greatest: i64, number: i64) -> i64
-    ensures { result ≡ (if count == 0 then number else int_max greatest number) }
-{
-    if count == 0 {
-        number
-    } else {
-        greatest.max(number)
-    }
-}
-
-/// Whether none is 0 where there is one more.
-#[inline]
-fn every(all: bool, number: i64) -> bool
-    ensures { result ≡ (all && not (is_zero number)) }
-{
-    all && number != 0
-}
-
-/// Whether one isn't 0 where there is one more.
-#[inline]
-fn some(any: bool, number: i64) -> bool
-    ensures { result ≡ (any || not (is_zero number)) }
-{
-    any || number != 0
-}

@@ -7,7 +7,7 @@ ghost use Rattle.std.specs.Prelude.{◌≡◌, ◌<◌};
 use crate::{Look, Meter, eval};
 use ps_formula::Formula;
 use ps_grid::{Cell, Refusal};
-use ps_value::{Fault, Label, Value};
+use ps_value::{Fault, Label, Operand, Value};
 use std::alloc::Global;
 use std::marker::Brand;
 use std::process::Abort;
@@ -37,6 +37,10 @@ impl Look for Board {
             .get(cell.index())
             .copied()
             .unwrap_or(Value::Empty)
+    }
+
+    fn operand(&self, cell: Cell) -> Operand {
+        self.at(cell).operand()
     }
 }
 

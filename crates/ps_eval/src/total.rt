@@ -42,6 +42,17 @@ impl Total {
         requires { unsigned_abs self.old < 2 ^ 180 }
         ensures { self.new ≡ self.old +ℤ number }
     {
+        match self.low.checked_add(number) {
+            Some(sum) => self.low = sum,
+            None => self.carry(number),
+        }
+    }
+
+    // Adds a number that may go round.
+    fn carry(&mut self, number: i64)
+        requires { unsigned_abs self.old < 2 ^ 180 }
+        ensures { self.new ≡ self.old +ℤ number }
+    {
         let sum = i128::from(self.low) + i128::from(number);
         if sum > GREATEST {
             self.low = (sum - TURN) as i64;

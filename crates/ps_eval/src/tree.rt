@@ -5,18 +5,20 @@ ghost use Rattle.ps_grid.specs.declared.size.TheConstants.{CELLS};
 ghost use Rattle.ps_formula.specs.Tree.{call, in_row, reference};
 ghost use Rattle.ps_formula.specs.TreeOf.{item_of, tree_of};
 ghost use Rattle.ps_eval.specs.Number.{Number};
-ghost use Rattle.ps_eval.specs.Items.{Assignment, range_items, single};
-ghost use Rattle.ps_eval.specs.Inside.Summarized.{Summarizes};
+ghost use Rattle.ps_eval.specs.Items.{Assignment, range_items};
+ghost use Rattle.ps_eval.specs.Inside.Operands.{single_of};
+ghost use Rattle.ps_eval.specs.Inside.Summarized.{Judges, Summarizes};
 ghost use Rattle.ps_eval.specs.Value.{called, ev, items_alone, items_in, items_of, number_of, value_in, values_of};
 
 use crate::arithmetic::{absolute, modulo, operation, prefixed, quotient, truth};
 use crate::look::Look;
 use crate::meter::Meter;
 use crate::summary::Summary;
+use crate::truths::Truths;
 use ps_formula::{Argument, Expr, Formula};
 use ps_grid::{Cell, Rect};
 use ps_tokens::Function;
-use ps_value::{Fault, Value};
+use ps_value::{Fault, Operand, Value};
 use std::sync::ledger::Ledger;
 
 /// The value of a formula where each cell shows what `look` says, with one tick of the meter. It takes no memory.
@@ -40,7 +42,7 @@ fn number<K: Look>(tree: &Expr, look: &K) -> Result<i64, Fault>
 {
     match tree {
         Expr::Numeral(n) => Ok(*n),
-        Expr::Reference(cell) => single(look.at(*cell)),
+        Expr::Reference(cell) => single(look.operand(*cell)),
         Expr::Prefix(sign, operand) => prefixed(*sign, number(operand, look)?),
         Expr::Infix(left, operator, right) => {
             let a = number(left, look)?;
@@ -52,16 +54,15 @@ fn number<K: Look>(tree: &Expr, look: &K) -> Result<i64, Fault>
     }
 }
 
-/// A cell's value where one number is wanted.
-fn single(value: Value) -> Result<i64, Fault>
-    ensures { result ≡ single value }
+/// A cell's operand where one number is wanted.
+fn single(operand: Operand) -> Result<i64, Fault>
+    ensures { result ≡ single_of operand }
 {
-    match value {
-        Value::Empty => Ok(0),
-        Value::Num(n) => Ok(n),
-        Value::Text(_) => Err(Fault::Value),
-        Value::Choice(options) => Ok(i64::from(options.count_ones())),
-        Value::Err(fault) => Err(fault),
+    match operand {
+        Operand::Empty => Ok(0),
+        Operand::Num(n) => Ok(n),
+        Operand::Text => Err(Fault::Value),
+        Operand::Err(fault) => Err(fault),
     }
 }
 
@@ -185,14 +186,14 @@ fn operand<K: Look>(argument: &Argument, look: &K) -> Result<i64, Fault>
 
 /// What is known of the values of the arguments.
 #[cycle(numbers)]
-fn operands<K: Look>(arguments: &[Argument], look: &K) -> Summary
-    ensures { Summarizes (values_of (in_row (map item_of arguments.now)) (K.value_at look.now)) result }
+fn operands<K: Look>(arguments: &[Argument], look: &K) -> Truths
+    ensures { Judges (values_of (in_row (map item_of arguments.now)) (K.value_at look.now)) result }
 {
-    let mut summary = Summary::new();
+    let mut truths = Truths::new();
     for argument in arguments {
-        summary.take(operand(argument, look));
+        truths.take(operand(argument, look));
     }
-    summary
+    truths
 }
 
 /// What is known of the items of the arguments.
@@ -219,7 +220,7 @@ fn take_argument<K: Look>(summary: &mut Summary, argument: &Argument, look: &K)
     match argument {
         Argument::Range(rect) => take_range(summary, *rect, look),
         Argument::Expression(tree) => match cell_alone(tree) {
-            Some(cell) => summary.take_cell(look.at(cell)),
+            Some(cell) => summary.take_cell(look.operand(cell)),
             None => summary.take(number(tree, look)),
         },
     }
@@ -250,6 +251,6 @@ fn take_range<K: Look>(summary: &mut Summary, rect: Rect, look: &K)
     ensures count { summary.new.count ≤ summary.old.count + CELLS }
 {
     for cell in rect.cells() {
-        summary.take_cell(look.at(cell));
+        summary.take_cell(look.operand(cell));
     }
 }

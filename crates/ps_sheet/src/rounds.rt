@@ -14,7 +14,7 @@ use ps_delta::Grid;
 use ps_eval::{Look, Meter, eval};
 use ps_formula::Formula;
 use ps_grid::{CELLS, Cell, Rect};
-use ps_value::{Fault, Value};
+use ps_value::{Fault, Operand, Value};
 use std::sync::ledger::Ledger;
 
 /// What the cells show, as a formula looks at them.
@@ -30,6 +30,10 @@ impl Look for Shown<'_> {
 
     fn at(&self, cell: Cell) -> Value {
         value_in(self.values, cell)
+    }
+
+    fn operand(&self, cell: Cell) -> Operand {
+        value_in(self.values, cell).operand()
     }
 }
 

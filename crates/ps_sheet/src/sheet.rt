@@ -17,7 +17,7 @@ use ps_delta::{Delta, Grid};
 use ps_eval::{Look, Meter};
 use ps_grid::{CELLS, Cell, Refusal};
 use ps_lattice::REPLICAS;
-use ps_value::{Fault, Value};
+use ps_value::{Fault, Operand, Value};
 use std::alloc::Global;
 use std::marker::Model;
 use std::sync::Arc;
@@ -69,6 +69,10 @@ impl Look for Sheet {
 
     fn at(&self, cell: Cell) -> Value {
         self.shown(cell)
+    }
+
+    fn operand(&self, cell: Cell) -> Operand {
+        self.shown(cell).operand()
     }
 }
 

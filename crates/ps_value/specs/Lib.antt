@@ -1,3 +1,4 @@
 pub mod Label
+pub mod Operand
 pub mod Shown
 pub mod Stored

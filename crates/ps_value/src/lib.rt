@@ -12,10 +12,12 @@
 #![tactic(auto)]
 
 mod label;
+mod operand;
 mod shown;
 mod value;
 
 pub use label::Label;
+pub use operand::Operand;
 pub use shown::write_shown;
 pub use value::{Fault, Value};
 

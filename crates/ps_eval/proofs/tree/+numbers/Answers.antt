@@ -4,7 +4,7 @@ use Rattle.ps_formula.specs.Tree.{in_row, call}
 use Rattle.ps_formula.specs.TreeOf.{item_of}
 use Rattle.ps_tokens.specs.declared.token.Function.{Function}
 use Rattle.ps_eval.specs.Value.{items_of, values_of, number_of}
-use Rattle.ps_eval.specs.Inside.Summarized.{Summarizes}
+use Rattle.ps_eval.specs.Inside.Summarized.{Judges, Summarizes}
 use Rattle.ps_eval.proofs.CallLemmas.{items_of-push, values_of-push, if_few, if_many, mod_few, mod_many}
 use Rattle.ps_eval.proofs.CallLemmas.{quotient_few, quotient_many, abs_many, not_many, true_many, false_many}
 use Rattle.ps_eval.proofs.tree.+numbers.Goals as goal
@@ -79,7 +79,4 @@ operands-loop-argument-preserved g t c =
     ∙ ap (λ y. take i xs ++ y ∷ []) (sym c.argument-item.is) in
     let values = ap (λ ys. values_of (in_row (map item_of ys)) v) more ∙ values_of-push (take i xs) x v
     ∙ ap (λ n. before ++ n ∷ []) (sym c.operand.ensures) in
-    let few = c.take.ensures.count in
-    let fewer = c.loop-argument.invariant.1 in
-    let taken = c.take.ensures.items before c.loop-argument.invariant.0 in
-    (subst (λ ns. Summarizes ns c.take.new.self) (sym values) taken, omega arith)
+    subst (λ ns. Judges ns c.take.new.self) (sym values) (c.take.ensures before c.loop-argument.invariant)

@@ -1,8 +1,7 @@
 use Rattle.std.proofs.Common.{ap, sym, ◌∙◌, length, rules}
-use Rattle.std.specs.Prelude.{not}
-use Rattle.std.specs.List.{list_all, list_any}
-use Rattle.ps_eval.specs.Number.{is_zero}
-use Rattle.ps_eval.specs.Items.{total, least, greatest}
+use Rattle.ps_eval.specs.Items.{total}
+use Rattle.ps_eval.specs.Inside.Summarized.{least_or, greatest_or}
+use Rattle.std.proofs.Common.{pos, negsuc, ◌-◌, ◌^◌}
 use Rattle.ps_eval.proofs.SummaryLemmas.{numbers_in-fault, first_kept, first_put}
 use Rattle.ps_eval.proofs.summary.Summary.take_fault.Goals as goal
 
@@ -12,10 +11,8 @@ returns-then-is_none-clause-items c = λ items s.
     record {
       counted = s.counted ∙ ap length same;
       summed = s.summed ∙ ap total same;
-      lowest = s.lowest ∙ ap least same;
-      highest = s.highest ∙ ap greatest same;
-      every = s.every ∙ ap (list_all (λ n. not (is_zero n))) same;
-      some = s.some ∙ ap (list_any (λ n. not (is_zero n))) same;
+      lowest = s.lowest ∙ ap (least_or (pos (2 ^ 63 - 1))) same;
+      highest = s.highest ∙ ap (greatest_or (negsuc (2 ^ 63 - 1))) same;
       first = first_put items c.args.fault c.args.self.now.fault s.first (search rules);
     }
 
@@ -25,9 +22,7 @@ returns-else-is_none-clause-items c = λ items s.
     record {
       counted = s.counted ∙ ap length same;
       summed = s.summed ∙ ap total same;
-      lowest = s.lowest ∙ ap least same;
-      highest = s.highest ∙ ap greatest same;
-      every = s.every ∙ ap (list_all (λ n. not (is_zero n))) same;
-      some = s.some ∙ ap (list_any (λ n. not (is_zero n))) same;
+      lowest = s.lowest ∙ ap (least_or (pos (2 ^ 63 - 1))) same;
+      highest = s.highest ∙ ap (greatest_or (negsuc (2 ^ 63 - 1))) same;
       first = first_kept items c.args.fault c.args.self.now.fault s.first (search rules);
     }

@@ -1,10 +1,8 @@
-use Rattle.std.proofs.Common.{◌+◌, ◌+ℤ◌, ◌==◌, ap, sym, ◌∙◌, rules, if◌then◌else◌, FitsSigned, w64}
-use Rattle.std.specs.Prelude.{not, ◌&&◌, ◌||◌}
-use Rattle.ps_eval.specs.Number.{is_zero}
+use Rattle.std.proofs.Common.{◌+◌, ◌+ℤ◌, ap, sym, ◌∙◌, rules, FitsSigned, w64}
 use Rattle.std.specs.Int.{int_max, int_min}
 use Rattle.std.proofs.lemmas.Int.{to_z-of_z}
-use Rattle.ps_eval.proofs.SummaryLemmas.{counted_more, summed_more, lowest_more, highest_more, every_more}
-use Rattle.ps_eval.proofs.SummaryLemmas.{some_more, first_fault-number}
+use Rattle.ps_eval.proofs.SummaryLemmas.{counted_more, summed_more, lowest_next, highest_next}
+use Rattle.ps_eval.proofs.SummaryLemmas.{first_fault-number}
 use Rattle.ps_eval.proofs.summary.Summary.take_number.Goals as goal
 
 pub returns-clause-items : goal.returns-clause-items
@@ -13,17 +11,16 @@ returns-clause-items c = λ items s.
     let fits : FitsSigned w64 c.args.number = search rules in
     let least_fits : FitsSigned w64 c.args.self.now.least = search rules in
     let greatest_fits : FitsSigned w64 c.args.self.now.greatest = search rules in
-    let low : FitsSigned w64 c.lesser-self.result = search rules in
-    let high : FitsSigned w64 c.greater-self.result = search rules in
+    let low : FitsSigned w64 c.min-self.result = search rules in
+    let high : FitsSigned w64 c.max-self.result = search rules in
+    let least_is = simp to_z-of_z at c.min-self.ensures in
+    let greatest_is = simp to_z-of_z at c.max-self.ensures in
     record {
       counted = ap (λ k. k + 1) s.counted ∙ sym (counted_more items n);
       summed = (simp to_z-of_z at c.add.ensures) ∙ ap (λ z. z +ℤ n) s.summed ∙ sym (summed_more items n);
-      lowest = to_z-of_z w64 c.lesser-self.result low ∙ (simp to_z-of_z at c.lesser-self.ensures)
-          ∙ (λ i. if s.counted i == 0 then n else int_min (s.lowest i) n) ∙ sym (lowest_more items n);
-      highest = to_z-of_z w64 c.greater-self.result high ∙ (simp to_z-of_z at c.greater-self.ensures)
-          ∙ (λ i. if s.counted i == 0 then n else int_max (s.highest i) n) ∙ sym (highest_more items n);
-      every = (simp to_z-of_z at c.every-self.ensures) ∙ (λ i. s.every i && not (is_zero n))
-          ∙ sym (every_more items n);
-      some = (simp to_z-of_z at c.some-self.ensures) ∙ (λ i. s.some i || not (is_zero n)) ∙ sym (some_more items n);
+      lowest = to_z-of_z w64 c.min-self.result low ∙ least_is.value
+          ∙ (λ i. int_min (s.lowest i) n) ∙ sym (lowest_next items n fits);
+      highest = to_z-of_z w64 c.max-self.result high ∙ greatest_is.value
+          ∙ (λ i. int_max (s.highest i) n) ∙ sym (highest_next items n fits);
       first = s.first ∙ sym (first_fault-number items n);
     }

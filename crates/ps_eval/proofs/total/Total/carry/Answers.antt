@@ -2,7 +2,7 @@ use Rattle.std.proofs.Common.{◌^◌, pos, ◌+ℤ◌, ◌-ℤ◌, arith, w64, 
 use mir.Syntax.{w128}
 use Rattle.std.proofs.lemmas.Int.{ints}
 use Rattle.ps_eval.proofs.TotalLemmas.{turned_up, turned_down}
-use Rattle.ps_eval.proofs.total.Total.add.Goals as goal
+use Rattle.ps_eval.proofs.total.Total.carry.Goals as goal
 
 pub returns-then-sum-gt-GREATEST : goal.returns-then-sum-gt-GREATEST
 returns-then-sum-gt-GREATEST c =
