@@ -11,7 +11,7 @@ use Rattle.std.proofs.lemmas.Map.Keys.{IsDistinct-cons}
 use Rattle.std.specs.List.{filter, list_any, range_with_len, IsDistinct}
 use Rattle.ps_grid.specs.declared.size.TheConstants.{COLUMNS, CELLS, ROWS}
 use Rattle.ps_grid.specs.Chains.{In}
-use Rattle.ps_grid.specs.Rectangle.{Area, area, nth_cell, cells_of, place_of, is_inside, IsInGrid}
+use Rattle.ps_grid.specs.Rectangle.{Area, area, nth_cell, cells_of, place_of, is_inside, LiesInGrid}
 use Rattle.ps_grid.proofs.ChainLemmas.{apart, bool_cases, In-self, In-more, In-cases}
 
 -- a cell lies in the rectangle by its column and its row
@@ -38,23 +38,23 @@ inside_of a c s =
     grind (arith, common_steps)
 
 -- the k-th cell has its column and its row
-column-nth_cell : (a : Area) (k : ℕ) → IsInGrid a → k < area a → nth_cell a k % COLUMNS ≡ a.left + k % a.width
+column-nth_cell : (a : Area) (k : ℕ) → LiesInGrid a → k < area a → nth_cell a k % COLUMNS ≡ a.left + k % a.width
 column-nth_cell a k g h =
     let w = g.within_columns in
     let m = mod_below k a.width g.some_width in
     mod-mul-add (a.top + k / a.width) COLUMNS (a.left + k % a.width) (omega arith)
 
-row-nth_cell : (a : Area) (k : ℕ) → IsInGrid a → k < area a → nth_cell a k / COLUMNS ≡ a.top + k / a.width
+row-nth_cell : (a : Area) (k : ℕ) → LiesInGrid a → k < area a → nth_cell a k / COLUMNS ≡ a.top + k / a.width
 row-nth_cell a k g h =
     let w = g.within_columns in
     let m = mod_below k a.width g.some_width in
     div-mul-add (a.top + k / a.width) COLUMNS (a.left + k % a.width) (omega arith)
 
-row_below : (a : Area) (k : ℕ) → IsInGrid a → k < area a → k / a.width < a.height
+row_below : (a : Area) (k : ℕ) → LiesInGrid a → k < area a → k / a.width < a.height
 row_below a k g h = grind (arith, common_steps, rows)
 
 -- each of its cells lies in the rectangle
-pub is_inside-nth_cell : (a : Area) (k : ℕ) → IsInGrid a → k < area a → is_inside a (nth_cell a k) ≡ true
+pub is_inside-nth_cell : (a : Area) (k : ℕ) → LiesInGrid a → k < area a → is_inside a (nth_cell a k) ≡ true
 is_inside-nth_cell a k g h =
     let m = mod_below k a.width g.some_width in
     let r = row_below a k g h in
@@ -68,7 +68,7 @@ is_inside-nth_cell a k g h =
     })
 
 -- and is a cell of the grid
-pub is_inside-below : (a : Area) (c : ℕ) → IsInGrid a → is_inside a c ≡ true → c < CELLS
+pub is_inside-below : (a : Area) (c : ℕ) → LiesInGrid a → is_inside a c ≡ true → c < CELLS
 is_inside-below a c g h =
     let s = spans_of a c h in
     let u = s.above in
@@ -95,7 +95,7 @@ nth_cell-place_of a c h =
     let column = mod-mul-add (c / COLUMNS - a.top) a.width (c % COLUMNS - a.left) (omega arith) in
     omega (arith, row, column)
 
-pub place_of-nth_cell : (a : Area) (k : ℕ) → IsInGrid a → k < area a → place_of a (nth_cell a k) ≡ k
+pub place_of-nth_cell : (a : Area) (k : ℕ) → LiesInGrid a → k < area a → place_of a (nth_cell a k) ≡ k
 place_of-nth_cell a k g h =
     let column = column-nth_cell a k g h in
     let row = row-nth_cell a k g h in
@@ -104,7 +104,7 @@ place_of-nth_cell a k g h =
     (λ i. down i * a.width + across i) ∙ div-add-mod' k a.width
 
 -- no two numbers give one cell
-pub nth_cell-injective : (a : Area) (j k : ℕ) → IsInGrid a → j < area a → k < area a
+pub nth_cell-injective : (a : Area) (j k : ℕ) → LiesInGrid a → j < area a → k < area a
     → nth_cell a j ≡ nth_cell a k → j ≡ k
 nth_cell-injective a j k g p q same =
     sym (place_of-nth_cell a j g p) ∙ ap (place_of a) same ∙ place_of-nth_cell a k g q
@@ -137,13 +137,13 @@ In-cells_of a c h =
     subst (In (cells_of a)) (nth_cell-place_of a c h)
     (In-from_number a (area a) 0 (place_of a c) (omega arith) (let b = place_of-below a c h in omega arith))
 
-pub is_inside-In : (a : Area) (c : ℕ) → IsInGrid a → In (cells_of a) c → is_inside a c ≡ true
+pub is_inside-In : (a : Area) (c : ℕ) → LiesInGrid a → In (cells_of a) c → is_inside a c ≡ true
 is_inside-In a c g h =
     let m = number_from_In a (area a) 0 c h in
     let high = m.2 in
     subst (λ d. is_inside a d ≡ true) (sym m.3) (is_inside-nth_cell a m.0 g (omega arith))
 
-pub list_any-cells_of : (a : Area) (c : ℕ) → IsInGrid a → list_any (eqb c) (cells_of a) ≡ is_inside a c
+pub list_any-cells_of : (a : Area) (c : ℕ) → LiesInGrid a → list_any (eqb c) (cells_of a) ≡ is_inside a c
 list_any-cells_of a c g =
     ⊎_elim
     (λ (y : is_inside a c ≡ true). In-cells_of a c y ∙ sym y)
@@ -153,7 +153,7 @@ list_any-cells_of a c g =
     (bool_cases (list_any (eqb c) (cells_of a))))
     (bool_cases (is_inside a c))
 
-distinct_from : (a : Area) (n k : ℕ) → IsInGrid a → k + n ≤ area a
+distinct_from : (a : Area) (n k : ℕ) → LiesInGrid a → k + n ≤ area a
     → IsDistinct eqb (map (nth_cell a) (range_with_len k n))
 unfolding IsDistinct
 distinct_from a zero k g fits = tt
@@ -173,7 +173,7 @@ distinct_from a (suc n) k g fits =
     (distinct_from a n (k + 1) g (omega arith))
 
 -- each once
-pub IsDistinct-cells_of : (a : Area) → IsInGrid a → IsDistinct eqb (cells_of a)
+pub IsDistinct-cells_of : (a : Area) → LiesInGrid a → IsDistinct eqb (cells_of a)
 IsDistinct-cells_of a g = distinct_from a (area a) 0 g (omega arith)
 
 -- as many as the area
@@ -181,7 +181,7 @@ pub length-cells_of : (a : Area) → length (cells_of a) ≡ area a
 length-cells_of a = length-map-range_with_len (nth_cell a) 0 (area a)
 
 -- which is no more than the grid has
-pub area-le : (a : Area) → IsInGrid a → area a ≤ CELLS
+pub area-le : (a : Area) → LiesInGrid a → area a ≤ CELLS
 area-le a g =
     let columns = g.within_columns in
     let rows = g.within_rows in
@@ -189,7 +189,7 @@ area-le a g =
     let high : a.height ≤ ROWS = omega arith in
     grind (arith, mul-le-mul_right a.height wide, mul-le-mul_left COLUMNS high)
 
-all_inside : (a : Area) (k n : ℕ) → IsInGrid a → k + n ≤ area a
+all_inside : (a : Area) (k n : ℕ) → LiesInGrid a → k + n ≤ area a
     → filter (is_inside a) (map (nth_cell a) (range_with_len k n)) ≡ map (nth_cell a) (range_with_len k n)
 all_inside a k zero g within = refl
 all_inside a k (suc n) g within =
@@ -199,5 +199,5 @@ all_inside a k (suc n) g within =
     ∙ ap (λ cs. nth_cell a k ∷ cs) (all_inside a (k + 1) n g (omega arith))
 
 -- none of them lies outside
-pub filter-cells_of : (a : Area) → IsInGrid a → filter (is_inside a) (cells_of a) ≡ cells_of a
+pub filter-cells_of : (a : Area) → LiesInGrid a → filter (is_inside a) (cells_of a) ≡ cells_of a
 filter-cells_of a g = all_inside a 0 (area a) g (omega arith)

@@ -11,7 +11,7 @@ pub record Area : Type 0 where
   pub height : ℕ
 
 -- at least one cell, and none outside the grid
-pub record IsInGrid (a : Area) : Type 0 where
+pub record LiesInGrid (a : Area) : Type 0 where
   pub some_width : 1 ≤ a.width
   pub some_height : 1 ≤ a.height
   pub within_columns : a.left + a.width ≤ COLUMNS

@@ -1,7 +1,7 @@
 //! Rectangles of cells.
 
 ghost use Rattle.std.specs.Prelude.{◌≡◌, ℕ, ◌<◌, ◌≤◌, nat_eq};
-ghost use Rattle.ps_grid.specs.Rectangle.{area, cell_within, cells_of, first_cell, IsInGrid, is_inside};
+ghost use Rattle.ps_grid.specs.Rectangle.{area, cell_within, cells_of, first_cell, LiesInGrid, is_inside};
 ghost use Rattle.ps_grid.specs.Rectangle.{last_cell, nth_cell, spanned};
 ghost use Rattle.std.specs.Iterator.{YieldsFirst, item_count};
 ghost use Rattle.std.specs.List.{IsDistinct, list_any};
@@ -20,13 +20,13 @@ pub struct Rect {
 }
 
 impl Model for Rect {
-    ghost use Rattle.ps_grid.specs.Rectangle.{Area, IsInGrid};
+    ghost use Rattle.ps_grid.specs.Rectangle.{Area, LiesInGrid};
 
     ghost Value = { Area };
 
     ghost view = { λ r. record { left = r.left; top = r.top; width = r.width; height = r.height } };
 
-    ghost invariant = { λ r. IsInGrid (record { left = r.left; top = r.top; width = r.width; height = r.height }) };
+    ghost invariant = { λ r. LiesInGrid (record { left = r.left; top = r.top; width = r.width; height = r.height }) };
 
     ghost inverse = { λ a. record { left = a.left; top = a.top; width = a.width; height = a.height } };
 }
@@ -37,7 +37,7 @@ impl Rect {
     /// Cost: constant.
     pub fn new(a: Cell, b: Cell) -> Rect
         ensures spanned { result ≡ spanned a b }
-        ensures in_grid { IsInGrid result }
+        ensures in_grid { LiesInGrid result }
     {
         let left = a.column().min(b.column());
         let right = a.column().max(b.column());
@@ -92,7 +92,7 @@ impl Rect {
     /// Cost: constant.
     pub fn area(self) -> usize
         ensures area { result ≡ area self }
-        ensures in_grid { IsInGrid self }
+        ensures in_grid { LiesInGrid self }
     {
         self.width as usize * self.height as usize
     }
@@ -124,7 +124,7 @@ impl Rect {
         ensures cells { result ≡ cells_of self }
         ensures inside { (c : ℕ) → list_any (nat_eq c) result ≡ is_inside self c }
         ensures once { IsDistinct nat_eq result }
-        ensures in_grid { IsInGrid self }
+        ensures in_grid { LiesInGrid self }
     {
         Cells {
             rect: self,

@@ -4,7 +4,7 @@ use Rattle.std.proofs.Common.{◌∙◌, arith}
 use Rattle.std.specs.Str.Parse.{digits_value}
 use Rattle.std.proofs.lemmas.Fmt.{decimal_is_IsNumeral}
 use Rattle.ps_grid.specs.Place.{cell_name}
-use Rattle.ps_grid.specs.Rectangle.{Area, IsInGrid, first_cell, last_cell, spanned}
+use Rattle.ps_grid.specs.Rectangle.{Area, LiesInGrid, first_cell, last_cell, spanned}
 use Rattle.ps_grid.specs.declared.size.TheConstants.{CELLS, COLUMNS, ROWS}
 use Rattle.ps_tokens.specs.Text.{IsCorner, IsToken, Spells, token_text, tokens_text}
 use Rattle.ps_tokens.specs.Text.Spells.{nothing, a_blank, a_token}
@@ -20,7 +20,7 @@ IsNumber-decimal n h =
 IsCorner-cell_name : (c : ℕ) → c < CELLS → IsCorner (cell_name c) c
 IsCorner-cell_name c h = record { column_fixed = false; row_fixed = false; in_grid = h; text = refl }
 
-spanned-in_grid : (c d : ℕ) → c < CELLS → d < CELLS → IsInGrid (spanned c d)
+spanned-in_grid : (c d : ℕ) → c < CELLS → d < CELLS → LiesInGrid (spanned c d)
 spanned-in_grid c d ch dh = record {
   some_width = omega arith;
   some_height = omega arith;
@@ -48,7 +48,7 @@ place_of_cell : (r k c : ℕ) → k < COLUMNS → r < ROWS → c ≡ r * COLUMNS
     → (c % COLUMNS ≡ k) × (c / COLUMNS ≡ r) × (c < CELLS)
 place_of_cell r k c kh rh e = (omega arith, omega arith, omega arith)
 
-ends : (a : Area) → IsInGrid a → Ends a
+ends : (a : Area) → LiesInGrid a → Ends a
 ends a h =
     let width = h.some_width in
     let height = h.some_height in
@@ -66,7 +66,7 @@ ends a h =
       last_below = last.2;
     }
 
-spanned-ends : (a : Area) → IsInGrid a → spanned (first_cell a) (last_cell a) ≡ a
+spanned-ends : (a : Area) → LiesInGrid a → spanned (first_cell a) (last_cell a) ≡ a
 spanned-ends a h =
     let e = ends a h in
     let width = h.some_width in
@@ -77,7 +77,7 @@ spanned-ends a h =
     let lower = e.last_row in
     same_area (spanned (first_cell a) (last_cell a)) a (omega arith) (omega arith) (omega arith) (omega arith)
 
-IsRange-text : (a : Area) → IsInGrid a → IsToken (token_text (Range a)) (Range a)
+IsRange-text : (a : Area) → LiesInGrid a → IsToken (token_text (Range a)) (Range a)
 IsRange-text a h =
     let e = ends a h in
     record {
@@ -100,7 +100,7 @@ IsToken-token_text w (Reference c) h =
     record { corner = cell_name c; is_corner = IsCorner-cell_name c h.is_corner.in_grid; text = refl }
 IsToken-token_text w (Range a) h =
     IsRange-text a
-    (subst IsInGrid (sym h.rectangle) (spanned-in_grid h.from h.to h.is_first.in_grid h.is_second.in_grid))
+    (subst LiesInGrid (sym h.rectangle) (spanned-in_grid h.from h.to h.is_first.in_grid h.is_second.in_grid))
 IsToken-token_text w (Name f) h = refl
 IsToken-token_text w (Symbol x) h = refl
 IsToken-token_text w Open h = refl

@@ -1,7 +1,7 @@
 -- Where a walk of a rectangle stands.
 use Rattle.std.specs.Prelude.{◌≡◌, ℕ, ◌-◌, ◌%◌, ◌≤◌, List, map}
 use Rattle.std.specs.List.{range_with_len}
-use Rattle.ps_grid.specs.Rectangle.{Area, IsInGrid, area, nth_cell}
+use Rattle.ps_grid.specs.Rectangle.{Area, LiesInGrid, area, nth_cell}
 
 -- the last so many of its cells, row by row
 abbrev pub last_cells : Area → ℕ → List ℕ
@@ -9,7 +9,7 @@ last_cells a left = map (nth_cell a) (range_with_len (area a - left) left)
 
 -- so many cells are left, the next of them has this index, and so many cells of its row come before it
 pub record IsAt (a : Area) (left next across : ℕ) : Type 0 where
-  pub in_grid : IsInGrid a
+  pub in_grid : LiesInGrid a
   pub within : left ≤ area a
   pub index : next ≡ nth_cell a (area a - left)
   pub row : across ≡ (area a - left) % a.width
