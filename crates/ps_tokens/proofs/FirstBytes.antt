@@ -6,7 +6,7 @@ use Rattle.std.specs.Int.{IsInRange}
 use Rattle.std.proofs.lemmas.Bool.{and_parts}
 use Rattle.std.proofs.lemmas.Bool.Decides.{nat_tests}
 use Rattle.std.proofs.lemmas.Str.Parse.{digit_from_value}
-use Rattle.ps_tokens.specs.Apart.{join}
+use Rattle.ps_tokens.specs.Apart.{join, signs_join}
 use Rattle.ps_tokens.specs.Names.{operator_text}
 use Rattle.ps_tokens.specs.Text.{is_blank, IsToken}
 use Rattle.ps_tokens.specs.declared.token.Function.{Function}
@@ -116,38 +116,18 @@ IsToken-head w Close h = record { first = 41; others = []; text = h; fits = refl
 IsToken-head w Separator h = record { first = 59; others = []; text = h; fits = refl }
 
 -- what an operator begins with is no digit, no letter and no blank
-sign_no_digit : (x : Operator) → is_ascii_digit (sign_head x) ≡ false
-sign_no_digit Plus = refl
-sign_no_digit Minus = refl
-sign_no_digit Times = refl
-sign_no_digit Equal = refl
-sign_no_digit NotEqual = refl
-sign_no_digit Less = refl
-sign_no_digit LessOrEqual = refl
-sign_no_digit Greater = refl
-sign_no_digit GreaterOrEqual = refl
-
-sign_no_letter : (x : Operator) → is_ascii_alphabetic (sign_head x) ≡ false
-sign_no_letter Plus = refl
-sign_no_letter Minus = refl
-sign_no_letter Times = refl
-sign_no_letter Equal = refl
-sign_no_letter NotEqual = refl
-sign_no_letter Less = refl
-sign_no_letter LessOrEqual = refl
-sign_no_letter Greater = refl
-sign_no_letter GreaterOrEqual = refl
-
-sign_no_blank : (x : Operator) → is_blank (sign_head x) ≡ false
-sign_no_blank Plus = refl
-sign_no_blank Minus = refl
-sign_no_blank Times = refl
-sign_no_blank Equal = refl
-sign_no_blank NotEqual = refl
-sign_no_blank Less = refl
-sign_no_blank LessOrEqual = refl
-sign_no_blank Greater = refl
-sign_no_blank GreaterOrEqual = refl
+-- an operator begins with no digit, no letter and no blank
+sign_is_sign : (x : Operator) → (is_ascii_digit (sign_head x) ≡ false)
+    × (is_ascii_alphabetic (sign_head x) ≡ false) × (is_blank (sign_head x) ≡ false)
+sign_is_sign Plus = (refl, refl, refl)
+sign_is_sign Minus = (refl, refl, refl)
+sign_is_sign Times = (refl, refl, refl)
+sign_is_sign Equal = (refl, refl, refl)
+sign_is_sign NotEqual = (refl, refl, refl)
+sign_is_sign Less = (refl, refl, refl)
+sign_is_sign LessOrEqual = (refl, refl, refl)
+sign_is_sign Greater = (refl, refl, refl)
+sign_is_sign GreaterOrEqual = (refl, refl, refl)
 
 pub letter_no_digit : (b : ℕ) → is_ascii_alphabetic b ≡ true → is_ascii_digit b ≡ false
 letter_no_digit b h = grind (arith, nat_tests)
@@ -173,7 +153,7 @@ head_no_blank (Numeral _) b h = digit_no_blank b h
 head_no_blank (Reference _) b h = byte_is is_blank false b 91 h refl
 head_no_blank (Range _) b h = byte_is is_blank false b 91 h refl
 head_no_blank (Name _) b h = letter_no_blank b h
-head_no_blank (Symbol x) b h = byte_is is_blank false b (sign_head x) h (sign_no_blank x)
+head_no_blank (Symbol x) b h = byte_is is_blank false b (sign_head x) h (sign_is_sign x).2
 head_no_blank Open b h = byte_is is_blank false b 40 h refl
 head_no_blank Close b h = byte_is is_blank false b 41 h refl
 head_no_blank Separator b h = byte_is is_blank false b 59 h refl
@@ -186,41 +166,32 @@ blank_stops (Symbol Less) b h = grind (arith, nat_tests)
 blank_stops (Symbol Greater) b h = grind (arith, nat_tests)
 blank_stops _ b h = refl
 
-less_stops : (y : Token) (b : ℕ) → join (Symbol Less) y ≡ false → head_of y b ≡ true → (b == 61 || b == 62) ≡ false
-less_stops (Numeral _) b j h = (digit_no_sign b h).0
-less_stops (Reference _) b j h = byte_is (sign_goes_on Less) false b 91 h refl
-less_stops (Range _) b j h = byte_is (sign_goes_on Less) false b 91 h refl
-less_stops (Name _) b j h = (letter_no_sign b h).0
-less_stops (Symbol Plus) b j h = byte_is (sign_goes_on Less) false b 43 h refl
-less_stops (Symbol Minus) b j h = byte_is (sign_goes_on Less) false b 45 h refl
-less_stops (Symbol Times) b j h = byte_is (sign_goes_on Less) false b 42 h refl
-less_stops (Symbol Equal) b j h = cc
-less_stops (Symbol NotEqual) b j h = byte_is (sign_goes_on Less) false b 60 h refl
-less_stops (Symbol Less) b j h = byte_is (sign_goes_on Less) false b 60 h refl
-less_stops (Symbol LessOrEqual) b j h = byte_is (sign_goes_on Less) false b 60 h refl
-less_stops (Symbol Greater) b j h = cc
-less_stops (Symbol GreaterOrEqual) b j h = cc
-less_stops Open b j h = byte_is (sign_goes_on Less) false b 40 h refl
-less_stops Close b j h = byte_is (sign_goes_on Less) false b 41 h refl
-less_stops Separator b j h = byte_is (sign_goes_on Less) false b 59 h refl
+-- an operator goes on in no byte but `=` and `>`
+no_sign_stops : (x : Operator) (b : ℕ) → ((b == 61 || b == 62) ≡ false) × ((b == 61) ≡ false)
+    → sign_goes_on x b ≡ false
+no_sign_stops Less b h = h.0
+no_sign_stops Greater b h = h.1
+no_sign_stops _ b h = refl
 
-greater_stops : (y : Token) (b : ℕ) → join (Symbol Greater) y ≡ false → head_of y b ≡ true → (b == 61) ≡ false
-greater_stops (Numeral _) b j h = (digit_no_sign b h).1
-greater_stops (Reference _) b j h = byte_is (sign_goes_on Greater) false b 91 h refl
-greater_stops (Range _) b j h = byte_is (sign_goes_on Greater) false b 91 h refl
-greater_stops (Name _) b j h = (letter_no_sign b h).1
-greater_stops (Symbol Plus) b j h = byte_is (sign_goes_on Greater) false b 43 h refl
-greater_stops (Symbol Minus) b j h = byte_is (sign_goes_on Greater) false b 45 h refl
-greater_stops (Symbol Times) b j h = byte_is (sign_goes_on Greater) false b 42 h refl
-greater_stops (Symbol Equal) b j h = cc
-greater_stops (Symbol NotEqual) b j h = byte_is (sign_goes_on Greater) false b 60 h refl
-greater_stops (Symbol Less) b j h = byte_is (sign_goes_on Greater) false b 60 h refl
-greater_stops (Symbol LessOrEqual) b j h = byte_is (sign_goes_on Greater) false b 60 h refl
-greater_stops (Symbol Greater) b j h = byte_is (sign_goes_on Greater) false b 62 h refl
-greater_stops (Symbol GreaterOrEqual) b j h = byte_is (sign_goes_on Greater) false b 62 h refl
-greater_stops Open b j h = byte_is (sign_goes_on Greater) false b 40 h refl
-greater_stops Close b j h = byte_is (sign_goes_on Greater) false b 41 h refl
-greater_stops Separator b j h = byte_is (sign_goes_on Greater) false b 59 h refl
+signs_stop : (x y : Operator) → signs_join x y ≡ false → sign_goes_on x (sign_head y) ≡ false
+signs_stop Less Equal j = cc
+signs_stop Less Greater j = cc
+signs_stop Less GreaterOrEqual j = cc
+signs_stop Less _ j = refl
+signs_stop Greater Equal j = cc
+signs_stop Greater _ j = refl
+signs_stop _ y j = refl
+
+sign_stops : (x : Operator) (y : Token) (b : ℕ) → join (Symbol x) y ≡ false → head_of y b ≡ true
+    → sign_goes_on x b ≡ false
+sign_stops x (Numeral _) b j h = no_sign_stops x b (digit_no_sign b h)
+sign_stops x (Reference _) b j h = byte_is (sign_goes_on x) false b 91 h (no_sign_stops x 91 (refl, refl))
+sign_stops x (Range _) b j h = byte_is (sign_goes_on x) false b 91 h (no_sign_stops x 91 (refl, refl))
+sign_stops x (Name _) b j h = no_sign_stops x b (letter_no_sign b h)
+sign_stops x (Symbol y) b j h = byte_is (sign_goes_on x) false b (sign_head y) h (signs_stop x y j)
+sign_stops x Open b j h = byte_is (sign_goes_on x) false b 40 h (no_sign_stops x 40 (refl, refl))
+sign_stops x Close b j h = byte_is (sign_goes_on x) false b 41 h (no_sign_stops x 41 (refl, refl))
+sign_stops x Separator b j h = byte_is (sign_goes_on x) false b 59 h (no_sign_stops x 59 (refl, refl))
 
 numeral_stops : (z : ℤ) (y : Token) (b : ℕ) → join (Numeral z) y ≡ false → head_of y b ≡ true
     → is_ascii_digit b ≡ false
@@ -228,7 +199,7 @@ numeral_stops z (Numeral _) b j h = cc
 numeral_stops z (Reference _) b j h = byte_is is_ascii_digit false b 91 h refl
 numeral_stops z (Range _) b j h = byte_is is_ascii_digit false b 91 h refl
 numeral_stops z (Name _) b j h = letter_no_digit b h
-numeral_stops z (Symbol x) b j h = byte_is is_ascii_digit false b (sign_head x) h (sign_no_digit x)
+numeral_stops z (Symbol x) b j h = byte_is is_ascii_digit false b (sign_head x) h (sign_is_sign x).0
 numeral_stops z Open b j h = byte_is is_ascii_digit false b 40 h refl
 numeral_stops z Close b j h = byte_is is_ascii_digit false b 41 h refl
 numeral_stops z Separator b j h = byte_is is_ascii_digit false b 59 h refl
@@ -239,7 +210,7 @@ name_stops f (Numeral _) b j h = digit_no_letter b h
 name_stops f (Reference _) b j h = byte_is is_ascii_alphabetic false b 91 h refl
 name_stops f (Range _) b j h = byte_is is_ascii_alphabetic false b 91 h refl
 name_stops f (Name _) b j h = cc
-name_stops f (Symbol x) b j h = byte_is is_ascii_alphabetic false b (sign_head x) h (sign_no_letter x)
+name_stops f (Symbol x) b j h = byte_is is_ascii_alphabetic false b (sign_head x) h (sign_is_sign x).1
 name_stops f Open b j h = byte_is is_ascii_alphabetic false b 40 h refl
 name_stops f Close b j h = byte_is is_ascii_alphabetic false b 41 h refl
 name_stops f Separator b j h = byte_is is_ascii_alphabetic false b 59 h refl
@@ -248,6 +219,5 @@ name_stops f Separator b j h = byte_is is_ascii_alphabetic false b 59 h refl
 pub apart_stops : (x y : Token) (b : ℕ) → join x y ≡ false → head_of y b ≡ true → goes_on x b ≡ false
 apart_stops (Numeral z) y b j h = numeral_stops z y b j h
 apart_stops (Name f) y b j h = name_stops f y b j h
-apart_stops (Symbol Less) y b j h = less_stops y b j h
-apart_stops (Symbol Greater) y b j h = greater_stops y b j h
+apart_stops (Symbol x) y b j h = sign_stops x y b j h
 apart_stops _ y b j h = refl

@@ -112,11 +112,11 @@ left_token text found b s x r other read left =
           let first = token_spelled (b ∷ s) rest.0 rest.2 rest.3 b s other refl in
           let same = same_answer first.first first.rest x r (sym first.read ∙ read) in
           let token : first.first ≡ x = same.0 in
-          let behind : first.rest ≡ r = same.1 in (
+          let others : first.rest ≡ r = same.1 in (
             first.others,
             rest.1 ∙ ap (λ v. found ++ v) (first.tokens ∙ ap (λ v. v ∷ first.others) token)
                 ∙ sym (append_assoc found (x ∷ []) first.others),
-            subst (λ v. Spells v first.others) behind
+            subst (λ v. Spells v first.others) others
                 first.spelled,
             first.apart,
           );
@@ -150,9 +150,9 @@ token_at-shorter s x r read =
 -- the turns of the loop: over a blank, over a token, and where no token is read
 pub turn_blank : (text : List ℕ) (found : List Token) (rest s : List ℕ) → (length rest == 0) ≡ false
     → is_blank (get_or rest 0 0) ≡ true → s ≡ drop 1 rest → IsLeft text found rest → IsLeft text found s
-turn_blank text found [] s some blank behind left = cc
-turn_blank text found (b ∷ rest) s some blank behind left =
-    subst (IsLeft text found) (sym behind) (left_blank text found b rest blank left)
+turn_blank text found [] s some blank others left = cc
+turn_blank text found (b ∷ rest) s some blank others left =
+    subst (IsLeft text found) (sym others) (left_blank text found b rest blank left)
 
 pub turn_token : (text : List ℕ) (found new : List Token) (rest : List ℕ) (x : Token) (r : List ℕ)
     → is_blank (get_or rest 0 0) ≡ false → token_at rest ≡ Some (x, r) → new ≡ found ++ x ∷ []

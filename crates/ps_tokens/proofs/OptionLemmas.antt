@@ -1,14 +1,14 @@
--- Tests that choose, and options that answer.
+-- Tests that choose, and options that hold a value.
 use Rattle.std.proofs.Common.{◌≡◌, ℕ, ◌==◌, Bool, true, false, cond, Option, Some, None, refl, sym, subst}
 use Rattle.std.specs.Option.{option_map}
 use Rattle.std.proofs.lemmas.Bool.{eqb-true}
 
--- a test that gave an answer held
+-- a test that gave a value held
 pub if_some : {X : Type 0} (b : Bool) (x y : X) → cond b (Some x) None ≡ Some y → (b ≡ true) × (x ≡ y)
 if_some true x y e = (refl, cc)
 if_some false x y e = cc
 
--- an answer is that of the test or that of the others
+-- a value is that of the test or that of the others
 pub if_some_or : {X P : Type 0} (b : Bool) (x y : X) (o : Option X) → (b ≡ true → x ≡ y → P) → (o ≡ Some y → P)
     → cond b (Some x) o ≡ Some y → P
 if_some_or true x y o this others e = this refl cc

@@ -125,7 +125,7 @@ range_at-some t c u x r corner e =
     let ends = after-some 93 p.1 v (omega arith) found in
     let colon_text = after-some 58 u u1 (omega arith) colon in
     let dot_text = after-some 46 u1 u2 (omega arith) dot in
-    let behind : u ≡ 58 ∷ 46 ∷ (other.word ++ (93 ∷ v)) =
+    let after_colon : u ≡ 58 ∷ 46 ∷ (other.word ++ (93 ∷ v)) =
     colon_text ∙ ap (λ z. 58 ∷ z) (dot_text ∙ ap (λ z. 46 ∷ z) (other.text ∙ ap (λ z. other.word ++ z) ends)) in
     let taken : TakesToken (91 ∷ 46 ∷ t) (Range (spanned c p.0)) v = record {
       word = 91 ∷ 46 ∷ (corner.word ++ (58 ∷ 46 ∷ (other.word ++ (93 ∷ []))));
@@ -140,7 +140,7 @@ range_at-some t c u x r corner e =
         text = refl;
       };
       text = ap (λ z. 91 ∷ 46 ∷ z)
-          (corner.text ∙ ap (λ z. corner.word ++ z) behind ∙ sym (range_pieces corner.word other.word v));
+          (corner.text ∙ ap (λ z. corner.word ++ z) after_colon ∙ sym (range_pieces corner.word other.word v));
     } in
     moved taken token rest)
     e3)))

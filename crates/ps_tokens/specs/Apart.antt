@@ -1,6 +1,6 @@
--- Which tokens may stand side by side. This is no part of what a formula is: a text is read from the left,
--- each token as long as it gets, and that finds every list of tokens in which no two neighbours could be
--- read as one longer token. In a formula no such neighbours stand.
+-- Which tokens may stand side by side. This is no part of what a formula is: a text is read from the left, at
+-- each place the longest token, and that finds every list of tokens in which no two neighbours could be read
+-- as one longer token. In a formula no such neighbours stand.
 use Rattle.std.specs.Prelude.{◌≡◌, Bool, true, false, List, [], ◌∷◌}
 use Rattle.ps_tokens.specs.declared.token.Token.{Token}
 use Rattle.ps_tokens.specs.declared.token.Token.TheVariants.{Numeral, Name, Symbol}

@@ -58,12 +58,7 @@ fn digits_at(text: &[u8]) -> usize
     ensures count { result ≡ digits_at text.now }
     ensures in_text { result ≤ length text.now }
 {
-    for (n, byte) in text.iter().enumerate() {
-        if !byte.is_ascii_digit() {
-            return n;
-        }
-    }
-    text.len()
+    text.iter().take_while(|byte| byte.is_ascii_digit()).count()
 }
 
 /// How many capital letters stand at the front.
@@ -71,12 +66,9 @@ fn capitals_at(text: &[u8]) -> usize
     ensures count { result ≡ capitals_at text.now }
     ensures in_text { result ≤ length text.now }
 {
-    for (n, byte) in text.iter().enumerate() {
-        if !byte.is_ascii_uppercase() {
-            return n;
-        }
-    }
-    text.len()
+    text.iter()
+        .take_while(|byte| byte.is_ascii_uppercase())
+        .count()
 }
 
 /// How many letters stand at the front.
@@ -84,12 +76,9 @@ fn letters_at(text: &[u8]) -> usize
     ensures count { result ≡ letters_at text.now }
     ensures in_text { result ≤ length text.now }
 {
-    for (n, byte) in text.iter().enumerate() {
-        if !byte.is_ascii_alphabetic() {
-            return n;
-        }
-    }
-    text.len()
+    text.iter()
+        .take_while(|byte| byte.is_ascii_alphabetic())
+        .count()
 }
 
 /// The number that the digits write, where it is at most 2^63 - 1.
@@ -241,7 +230,7 @@ fn sign(text: &[u8]) -> Option<(Token, &[u8])>
     Some((token, from(text, 1)))
 }
 
-/// The token at the front of the text, as long as it gets, and the text after it.
+/// The longest token at the front of the text, and the text after it.
 #[tactic(auto, unfolding(crate::specs::Inside::Lexing::token_at))]
 pub(crate) fn token(text: &[u8]) -> Option<(Token, &[u8])>
     ensures { option_map (λ found. (found.0, found.1.now)) result ≡ token_at text.now }

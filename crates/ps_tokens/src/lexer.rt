@@ -19,8 +19,8 @@ fn is_blank(byte: u8) -> bool
 }
 
 /// The tokens that the text spells, with blanks anywhere between them; refused as a formula where it spells
-/// none. Each token is read as long as it gets, so that `<=` is one operator and `12` one numeral; a list of
-/// tokens in which no two neighbours could be read as one is found by this.
+/// none. From the left on, the longest token is read at each place, so that `<=` is one operator and `12` one
+/// numeral; this finds a list of tokens in which no two neighbours could be read as one.
 ///
 /// Cost: linear in the bytes, one allocation.
 pub fn tokens(alloc: Global, text: &[u8]) -> Result<Vec<Token>, Refusal>

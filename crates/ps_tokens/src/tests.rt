@@ -70,7 +70,7 @@ fn spellings_become_canonical(rt: HostRuntime) -> Result<(), Fail> {
     Ok(())
 }
 
-/// Each token is read as long as it gets.
+/// At each place the longest token is read.
 #[test]
 fn longest_tokens_are_read(rt: HostRuntime) -> Result<(), Fail> {
     let counts: [(&[u8], usize); 6] = [

@@ -1,4 +1,4 @@
--- Reading the token at the front of a text, as long as it gets. This is no part of what a token is (that is
+-- Reading the longest token at the front of a text. This is no part of what a token is (that is
 -- `Text`): the code is proved equal to it, and laws in proofs/ tie it to `IsToken` on both sides.
 use Rattle.std.specs.Prelude.{ℕ, ◌^◌, ◌&&◌, ◌==◌, List, Option, Some, None, pos, nat_lt}
 use Rattle.std.specs.Prelude.{take, drop, slice_index, option_and_then, if◌then◌else◌}
