@@ -9,12 +9,12 @@ use Rattle.ps_grid.specs.Rectangle.{Area}
 use Rattle.ps_tokens.specs.declared.token.Operator.{Operator}
 use Rattle.ps_tokens.specs.declared.token.Operator.TheVariants.{Plus as plus_sign, Minus as minus_sign}
 use Rattle.ps_tokens.specs.declared.token.Token.{Token}
-use Rattle.ps_tokens.specs.declared.token.Token.TheVariants.{Range, Symbol, Open, Close, Separator}
+use Rattle.ps_tokens.specs.declared.token.Token.TheVariants.{Range, Symbol, Close}
 use Rattle.ps_formula.specs.declared.expr.Sign.{Sign}
 use Rattle.ps_formula.specs.declared.expr.Sign.TheVariants.{Plus, Minus}
 use Rattle.ps_formula.specs.Canonical.{symbol_of}
 use Rattle.ps_formula.specs.Grammar.{level_of}
-use Rattle.ps_formula.specs.Inside.Reading.{either_way, opened_at, closed_at, separated_at, range_at, operator_at}
+use Rattle.ps_formula.specs.Inside.Reading.{either_way, closed_at, range_at, operator_at}
 use Rattle.ps_formula.specs.Inside.Reading.{sign_of}
 
 pub either_way_cases : {X Y P : Type 0} (o : Option X) (y z : Y) (f : X → Y) → either_way o y f ≡ z
@@ -22,20 +22,10 @@ pub either_way_cases : {X Y P : Type 0} (o : Option X) (y z : Y) (f : X → Y) �
 either_way_cases None y z f e at_none at_some = at_none refl e
 either_way_cases (Some x) y z f e at_none at_some = at_some x refl e
 
-pub opened_at-some : (ts us : List Token) → opened_at ts ≡ Some us → ts ≡ Open ∷ us
-opened_at-some (Open ∷ ts) us e = cc
-opened_at-some (_ ∷ ts) us e = cc
-opened_at-some [] us e = cc
-
 pub closed_at-some : (ts us : List Token) → closed_at ts ≡ Some us → ts ≡ Close ∷ us
 closed_at-some (Close ∷ ts) us e = cc
 closed_at-some (_ ∷ ts) us e = cc
 closed_at-some [] us e = cc
-
-pub separated_at-some : (ts us : List Token) → separated_at ts ≡ Some us → ts ≡ Separator ∷ us
-separated_at-some (Separator ∷ ts) us e = cc
-separated_at-some (_ ∷ ts) us e = cc
-separated_at-some [] us e = cc
 
 pub range_at-some : (ts : List Token) (x : Area × List Token) → range_at ts ≡ Some x → ts ≡ Range x.0 ∷ x.1
 range_at-some (Range r ∷ ts) x e = let same : (r, ts) ≡ x = cc in ap (λ y. Range y.0 ∷ y.1) same

@@ -14,7 +14,8 @@ use Rattle.ps_formula.specs.Grammar.{Has, More, Arguments, Argument, accepts, ta
 use Rattle.ps_formula.specs.Grammar.{a_reference, a_sign, a_group, a_bare_call, a_call, a_chain, no_more, one_more}
 use Rattle.ps_formula.specs.Grammar.{last_argument, next_argument, a_comparison, a_range}
 use Rattle.ps_formula.specs.Canonical.{symbol_of}
-use Rattle.ps_formula.specs.Inside.Reading.{level_at, more_at, prefixed_at, arguments_at, behind_at, argument_at}
+use Rattle.ps_formula.specs.Inside.Reading.{level_at, more_at, prefixed_at, arguments_at, after_argument_at}
+use Rattle.ps_formula.specs.Inside.Reading.{argument_at}
 use Rattle.ps_formula.specs.Inside.Reading.{either_way}
 use Rattle.ps_formula.specs.Inside.Reading.{closed_at, range_at, operator_at, sign_of}
 use Rattle.ps_formula.specs.Tree.{Tree, Item, Items, signed, joined, group, call, expression, range, no_items, in_row}
@@ -41,10 +42,10 @@ operator_at-here : (l : ℕ) (o : Operator) (ts : List Token) → level_of o ≡
 operator_at-here l o ts h =
     let same : eqb (level_of o) l ≡ true = grind (arith, nat_tests) in ap (λ b. cond b (Some (o, ts)) None) same
 
-Stops-behind : {l : ℕ} {a t : Tree} {us : List Token} → More l a us t → (rest : List Token) → Stops (suc l) rest
+Stops-after : {l : ℕ} {a t : Tree} {us : List Token} → More l a us t → (rest : List Token) → Stops (suc l) rest
     → Stops l (us ++ rest)
-Stops-behind {l} no_more rest h = Stops-below l rest h
-Stops-behind (one_more here operand others) rest h = omega (arith, here)
+Stops-after {l} no_more rest h = Stops-below l rest h
+Stops-after (one_more here operand others) rest h = omega (arith, here)
 
 sign_of-symbol_of : (s : Sign) → sign_of (symbol_of s) ≡ Some s
 sign_of-symbol_of Plus = refl
@@ -108,7 +109,7 @@ mutual
   again_level (a_chain {l = l} {ts = ts} {us = us} {a = a} h more) (suc n) rest fuel stops =
       ap (level_at (suc n) (suc l)) (append_assoc ts us rest)
       ∙ ap (option_and_then (λ b. more_at n l b.0 b.1))
-      (again_level h n (us ++ rest) (omega (arith, fuel, length-append ts us)) (Stops-behind more rest stops))
+      (again_level h n (us ++ rest) (omega (arith, fuel, length-append ts us)) (Stops-after more rest stops))
       ∙ again_more more n rest (omega (arith, fuel, length-append ts us)) stops
   again_level _ _ rest fuel stops = absurd (omega (arith, fuel))
 
@@ -125,7 +126,7 @@ mutual
       (operator_at-here l o (ts ++ (us ++ rest)) here)
       ∙ ap (option_and_then (λ c. more_at n l (joined a o c.0) c.1))
       (again_level operand n (us ++ rest) (omega (arith, fuel, length-append ts us))
-      (Stops-behind others rest stops))
+      (Stops-after others rest stops))
       ∙ again_more others n rest (omega (arith, fuel, length-append ts us)) stops
   again_more _ zero rest fuel stops = absurd (omega (arith, fuel))
 
@@ -134,11 +135,11 @@ mutual
       → arguments_at n f before (ts ++ rest) ≡ Some (before ++ listed is, rest)
   again_arguments {f} (last_argument {ts = ts} {i = i} h) (suc (suc n)) before rest fuel =
       ap (arguments_at (suc (suc n)) f before) (append_assoc ts (Close ∷ []) rest)
-      ∙ ap (option_and_then (λ j. behind_at (suc n) f (before ++ j.0 ∷ []) j.1))
+      ∙ ap (option_and_then (λ j. after_argument_at (suc n) f (before ++ j.0 ∷ []) j.1))
       (again_argument h (suc n) (Close ∷ rest) (omega (arith, fuel, length-append ts (Close ∷ []))) tt)
   again_arguments {f} (next_argument {ts = ts} {us = us} {i = i} {is = is} h others) (suc (suc n)) before rest fuel =
       ap (arguments_at (suc (suc n)) f before) (append_assoc ts (Separator ∷ us) rest)
-      ∙ ap (option_and_then (λ j. behind_at (suc n) f (before ++ j.0 ∷ []) j.1))
+      ∙ ap (option_and_then (λ j. after_argument_at (suc n) f (before ++ j.0 ∷ []) j.1))
       (again_argument h (suc n) (Separator ∷ us ++ rest)
       (omega (arith, fuel, length-append ts (Separator ∷ us))) tt)
       ∙ again_arguments others n (before ++ i ∷ []) rest (omega (arith, fuel, length-append ts (Separator ∷ us)))

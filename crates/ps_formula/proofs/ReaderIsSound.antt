@@ -11,12 +11,12 @@ use Rattle.ps_formula.specs.Grammar.{Has, More, Arguments, Argument, accepts, ta
 use Rattle.ps_formula.specs.Grammar.{a_sign, a_group, a_bare_call, a_call, a_chain, no_more, one_more, last_argument}
 use Rattle.ps_formula.specs.Grammar.{next_argument, a_comparison, a_range}
 use Rattle.ps_formula.specs.Canonical.{symbol_of}
-use Rattle.ps_formula.specs.Inside.Reading.{level_at, more_at, prefixed_at, call_at, arguments_at, behind_at}
+use Rattle.ps_formula.specs.Inside.Reading.{level_at, more_at, prefixed_at, call_at, arguments_at, after_argument_at}
 use Rattle.ps_formula.specs.Inside.Reading.{argument_at}
-use Rattle.ps_formula.specs.Inside.Reading.{closed_at, opened_at, separated_at, range_at, operator_at, sign_of}
+use Rattle.ps_formula.specs.Inside.Reading.{closed_at, range_at, operator_at, sign_of}
 use Rattle.ps_formula.specs.Tree.{Tree, Item, Items, number, reference, signed, joined, group, call, expression}
 use Rattle.ps_formula.specs.Tree.{range, no_items, item_and, in_row}
-use Rattle.ps_formula.proofs.FirstTokens.{either_way_cases, opened_at-some, closed_at-some, separated_at-some}
+use Rattle.ps_formula.proofs.FirstTokens.{either_way_cases, closed_at-some}
 use Rattle.ps_formula.proofs.FirstTokens.{range_at-some, operator_at-some, sign_of-some, cut_twice}
 use Rattle.ps_formula.proofs.ArgumentLists.{listed, in_row-listed, length-listed}
 
@@ -43,9 +43,10 @@ pub record TakesArguments (f : Function) (before : List Item) (ts : List Token)
   pub has : Arguments f front items
   pub all : x.0 ≡ before ++ listed items
 
-pub data TakesBehind (f : Function) (before : List Item) (ts : List Token) (x : List Item × List Token) : Type 0 where
-  is_closed : ts ≡ Close ∷ x.1 → x.0 ≡ before → TakesBehind f before ts x
-  goes_on : (us : List Token) → ts ≡ Separator ∷ us → TakesArguments f before us x → TakesBehind f before ts x
+pub data TakesAfterArgument (f : Function) (before : List Item) (ts : List Token) (x : List Item × List Token)
+    : Type 0 where
+  is_closed : ts ≡ Close ∷ x.1 → x.0 ≡ before → TakesAfterArgument f before ts x
+  goes_on : (us : List Token) → ts ≡ Separator ∷ us → TakesArguments f before us x → TakesAfterArgument f before ts x
 
 group_splits : (ts front rest us : List Token) → ts ≡ front ++ rest → rest ≡ Close ∷ us
     → Open ∷ ts ≡ (Open ∷ front ++ (Close ∷ [])) ++ us
@@ -53,7 +54,7 @@ group_splits ts front rest us e f = ap (λ v. Open ∷ v) (cut_twice ts front re
 
 arguments_taken : (f : Function) (before : List Item) (ts : List Token) (i : Item × List Token)
     (x : List Item × List Token)
-    → TakesArgument f ts i → TakesBehind f (before ++ i.0 ∷ []) i.1 x → TakesArguments f before ts x
+    → TakesArgument f ts i → TakesAfterArgument f (before ++ i.0 ∷ []) i.1 x → TakesArguments f before ts x
 arguments_taken f before ts i x a (is_closed closed all) = record {
   front = a.front ++ (Close ∷ []);
   items = item_and i.0 no_items;
@@ -149,10 +150,8 @@ mutual
         splits = group_splits ts inner.front a.1 us inner.splits (closed_at-some a.1 us closed);
         has = a_group inner.has;
       })))
-  takes_prefixed (suc n) (Name f ∷ ts) x e =
-      option_and_then_some (λ us. call_at n f us) (opened_at ts) x e
-      (λ us opened rest.
-      subst (λ v. Takes 0 (Name f ∷ v) x) (sym (opened_at-some ts us opened)) (takes_call n f us x rest))
+  takes_prefixed (suc n) (Name f ∷ Open ∷ ts) x e = takes_call n f ts x e
+  takes_prefixed (suc n) (Name f ∷ ts) x e = cc
   takes_prefixed (suc n) (Range r ∷ ts) x e = cc
   takes_prefixed (suc n) (Close ∷ ts) x e = cc
   takes_prefixed (suc n) (Separator ∷ ts) x e = cc
@@ -192,22 +191,19 @@ mutual
       → arguments_at n f before ts ≡ Some x → TakesArguments f before ts x
   takes_arguments zero f before ts x e = cc
   takes_arguments (suc n) f before ts x e =
-      option_and_then_some (λ i. behind_at n f (before ++ i.0 ∷ []) i.1) (argument_at n f ts) x e
+      option_and_then_some (λ i. after_argument_at n f (before ++ i.0 ∷ []) i.1) (argument_at n f ts) x e
       (λ i found rest. arguments_taken f before ts i x (takes_argument n f ts i found)
-      (takes_behind n f (before ++ i.0 ∷ []) i.1 x rest))
+      (takes_after_argument n f (before ++ i.0 ∷ []) i.1 x rest))
 
-  takes_behind : (n : ℕ) (f : Function) (before : List Item) (ts : List Token) (x : List Item × List Token)
-      → behind_at n f before ts ≡ Some x → TakesBehind f before ts x
-  takes_behind zero f before ts x e = cc
-  takes_behind (suc n) f before ts x e =
-      either_way_cases (closed_at ts) (option_and_then (λ us. arguments_at n f before us) (separated_at ts)) (Some x)
-      (λ us. Some (before, us)) e
-      (λ none rest.
-      option_and_then_some (λ us. arguments_at n f before us) (separated_at ts) x rest
-      (λ us separated found. goes_on us (separated_at-some ts us separated) (takes_arguments n f before us x found)))
-      (λ us closed ends.
-      let same : (before, us) ≡ x = cc in
-      is_closed (closed_at-some ts us closed ∙ ap (λ y. Close ∷ y.1) same) (ap (λ y. y.0) (sym same)))
+  takes_after_argument : (n : ℕ) (f : Function) (before : List Item) (ts : List Token) (x : List Item × List Token)
+      → after_argument_at n f before ts ≡ Some x → TakesAfterArgument f before ts x
+  takes_after_argument zero f before ts x e = cc
+  takes_after_argument (suc n) f before (Close ∷ ts) x e =
+      let same : (before, ts) ≡ x = cc in
+      is_closed (ap (λ y. Close ∷ y.1) same) (ap (λ y. y.0) (sym same))
+  takes_after_argument (suc n) f before (Separator ∷ ts) x e = goes_on ts refl (takes_arguments n f before ts x e)
+  takes_after_argument (suc n) f before (_ ∷ ts) x e = cc
+  takes_after_argument (suc n) f before [] x e = cc
 
   takes_argument : (n : ℕ) (f : Function) (ts : List Token) (x : Item × List Token) → argument_at n f ts ≡ Some x
       → TakesArgument f ts x

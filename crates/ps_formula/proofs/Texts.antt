@@ -27,9 +27,9 @@ one_opening bytes r s (inr e) (inl f) = cc
 one_opening bytes r s (inr e) (inr f) = cc
 
 -- the tokens of a formula are spelled after whatever opening was found
-pub spelled_behind : (bytes rest : List ℕ) (t : Tree) → Opens bytes rest → (h : HasTree bytes t)
+pub spelled_after_opening : (bytes rest : List ℕ) (t : Tree) → Opens bytes rest → (h : HasTree bytes t)
     → Spells rest h.tokens
-spelled_behind bytes rest t opening h =
+spelled_after_opening bytes rest t opening h =
     subst (λ r. Spells r h.tokens) (one_opening bytes h.rest rest h.opening opening) h.spelled
 
 pub no_opening : (bytes : List ℕ) → ((rest : List ℕ) → Opens bytes rest → ⊥) → (t : Tree) → HasTree bytes t → ⊥
@@ -37,19 +37,20 @@ no_opening bytes none t h = none h.rest h.opening
 
 pub no_tokens : (bytes rest : List ℕ) → Opens bytes rest → ((ts : List Token) → Spells rest ts → AreApart ts → ⊥)
     → (t : Tree) → HasTree bytes t → ⊥
-no_tokens bytes rest opening none t h = none h.tokens (spelled_behind bytes rest t opening h) (are_apart h.has)
+no_tokens bytes rest opening none t h = none h.tokens (spelled_after_opening bytes rest t opening h) (are_apart h.has)
 
 pub no_tree : (bytes rest : List ℕ) (ts : List Token) → Opens bytes rest
     → ((us : List Token) → Spells rest us → AreApart us → ts ≡ us) → ((t : Tree) → Has 3 ts t → ⊥) → (t : Tree)
     → HasTree bytes t → ⊥
 no_tree bytes rest ts opening only none t h =
     none t
-    (subst (λ v. Has 3 v t) (sym (only h.tokens (spelled_behind bytes rest t opening h) (are_apart h.has))) h.has)
+    (subst (λ v. Has 3 v t)
+    (sym (only h.tokens (spelled_after_opening bytes rest t opening h) (are_apart h.has))) h.has)
 
 pub one_tree : OneTree
 one_tree bytes t u h k =
     let same : h.tokens ≡ k.tokens = one_spelled h.rest h.tokens k.tokens h.spelled (are_apart h.has)
-    (spelled_behind bytes h.rest u h.opening k) (are_apart k.has) in
+    (spelled_after_opening bytes h.rest u h.opening k) (are_apart k.has) in
     one_tree_of k.tokens t u (subst (λ v. Has 3 v t) same h.has) k.has
 
 -- what the tokens of a formula are written as is a formula with its tree

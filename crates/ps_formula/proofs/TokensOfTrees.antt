@@ -6,7 +6,7 @@ use Rattle.ps_grid.specs.Rectangle.{Area}
 use Rattle.ps_tokens.specs.declared.token.Function.{Function}
 use Rattle.ps_tokens.specs.declared.token.Token.{Token}
 use Rattle.ps_tokens.specs.declared.token.Token.TheVariants.{Name, Symbol, Open, Close, Separator}
-use Rattle.ps_formula.specs.Canonical.{tokens_of, tokens_of_items, tokens_behind, tokens_of_item, symbol_of}
+use Rattle.ps_formula.specs.Canonical.{tokens_of, tokens_of_items, tokens_after_item, tokens_of_item, symbol_of}
 use Rattle.ps_formula.specs.Grammar.{Has, More, Arguments, Argument, a_numeral, a_reference, a_sign, a_group}
 use Rattle.ps_formula.specs.Grammar.{a_bare_call, a_call, a_chain, no_more, one_more, last_argument, next_argument}
 use Rattle.ps_formula.specs.Grammar.{a_comparison, a_range}
@@ -34,14 +34,15 @@ mutual
       → tokens_of_items is ≡ ts
   tokens_of_items-arguments (last_argument h) = ap (λ v. v ++ (Close ∷ [])) (tokens_of_item-argument h)
   tokens_of_items-arguments (next_argument {ts = ts} {is = is} h others) =
-      ap (λ v. v ++ tokens_behind is) (tokens_of_item-argument h) ∙ ap (λ v. ts ++ v) (tokens_behind-arguments others)
+      ap (λ v. v ++ tokens_after_item is) (tokens_of_item-argument h)
+      ∙ ap (λ v. ts ++ v) (tokens_after_item-arguments others)
 
-  tokens_behind-arguments : {f : Function} {ts : List Token} {is : Items} → Arguments f ts is
-      → tokens_behind is ≡ Separator ∷ ts
-  tokens_behind-arguments (last_argument h) = ap (λ v. Separator ∷ v ++ (Close ∷ [])) (tokens_of_item-argument h)
-  tokens_behind-arguments (next_argument {ts = ts} {is = is} h others) =
-      ap (λ v. Separator ∷ v ++ tokens_behind is) (tokens_of_item-argument h)
-      ∙ ap (λ v. Separator ∷ ts ++ v) (tokens_behind-arguments others)
+  tokens_after_item-arguments : {f : Function} {ts : List Token} {is : Items} → Arguments f ts is
+      → tokens_after_item is ≡ Separator ∷ ts
+  tokens_after_item-arguments (last_argument h) = ap (λ v. Separator ∷ v ++ (Close ∷ [])) (tokens_of_item-argument h)
+  tokens_after_item-arguments (next_argument {ts = ts} {is = is} h others) =
+      ap (λ v. Separator ∷ v ++ tokens_after_item is) (tokens_of_item-argument h)
+      ∙ ap (λ v. Separator ∷ ts ++ v) (tokens_after_item-arguments others)
 
   tokens_of_item-argument : {f : Function} {ts : List Token} {i : Item} → Argument f ts i → tokens_of_item i ≡ ts
   tokens_of_item-argument (a_comparison h) = tokens_of-has h
@@ -69,14 +70,16 @@ mutual
   rects_among-tokens : (is : Items) → rects_at_all (tokens_of_items is) ≡ rects_among is
   rects_among-tokens no_items = refl
   rects_among-tokens (item_and i is) =
-      both (tokens_of_item i) (tokens_behind is) ∙ ap (λ v. v ++ rects_at_all (tokens_behind is)) (rects_in-tokens i)
-      ∙ ap (λ v. rects_in i ++ v) (rects_behind-tokens is)
+      both (tokens_of_item i) (tokens_after_item is)
+      ∙ ap (λ v. v ++ rects_at_all (tokens_after_item is)) (rects_in-tokens i)
+      ∙ ap (λ v. rects_in i ++ v) (rects_after_item-tokens is)
 
-  rects_behind-tokens : (is : Items) → rects_at_all (tokens_behind is) ≡ rects_among is
-  rects_behind-tokens no_items = refl
-  rects_behind-tokens (item_and i is) =
-      both (tokens_of_item i) (tokens_behind is) ∙ ap (λ v. v ++ rects_at_all (tokens_behind is)) (rects_in-tokens i)
-      ∙ ap (λ v. rects_in i ++ v) (rects_behind-tokens is)
+  rects_after_item-tokens : (is : Items) → rects_at_all (tokens_after_item is) ≡ rects_among is
+  rects_after_item-tokens no_items = refl
+  rects_after_item-tokens (item_and i is) =
+      both (tokens_of_item i) (tokens_after_item is)
+      ∙ ap (λ v. v ++ rects_at_all (tokens_after_item is)) (rects_in-tokens i)
+      ∙ ap (λ v. rects_in i ++ v) (rects_after_item-tokens is)
 
   rects_in-tokens : (i : Item) → rects_at_all (tokens_of_item i) ≡ rects_in i
   rects_in-tokens (expression a) = rects_of-tokens_of a

@@ -28,12 +28,12 @@ abbrev mutual
   -- the arguments with the separators between them and the parenthesis after them
   pub tokens_of_items : Items → List Token
   tokens_of_items no_items = Close ∷ []
-  tokens_of_items (item_and i is) = tokens_of_item i ++ tokens_behind is
+  tokens_of_items (item_and i is) = tokens_of_item i ++ tokens_after_item is
 
   -- what stands after an argument: the parenthesis, or a separator and the next argument
-  pub tokens_behind : Items → List Token
-  tokens_behind no_items = Close ∷ []
-  tokens_behind (item_and i is) = Separator ∷ tokens_of_item i ++ tokens_behind is
+  pub tokens_after_item : Items → List Token
+  tokens_after_item no_items = Close ∷ []
+  tokens_after_item (item_and i is) = Separator ∷ tokens_of_item i ++ tokens_after_item is
 
   pub tokens_of_item : Item → List Token
   tokens_of_item (expression a) = tokens_of a

@@ -1,8 +1,6 @@
 -- The grammar of formulas over tokens, a constructor for each rule. It is OpenFormula's notation (ISO/IEC 26300-2,
--- also
--- published by OASIS as ODF 1.2 part 2), cut down to whole numbers, one sheet and the functions that are listed
--- below.
--- Each level binds tighter than the one above it: 0 prefixed, 1 product, 2 sum, 3 comparison.
+-- also published by OASIS as ODF 1.2 part 2), cut down to whole numbers, one sheet and the functions that are
+-- listed below. Each level binds tighter than the one above it: 0 prefixed, 1 product, 2 sum, 3 comparison.
 use Rattle.std.specs.Prelude.{ℕ, ℤ, Bool, true, false, suc, ◌≡◌, ◌==◌, ◌&&◌, nat_le, List, [], ◌∷◌, ◌++◌}
 use Rattle.ps_grid.specs.Rectangle.{Area}
 use Rattle.ps_tokens.specs.declared.token.Function.{Function}

@@ -1,6 +1,5 @@
 -- The order of formulas: by the bytes of their canonical texts. Two trees that no text has may share a canonical
--- text,
--- and only such a tie is broken, by numbers that give the tree back; so no two trees are tied.
+-- text, and only such a tie is broken, by numbers that give the tree back; so no two trees are tied.
 use Rattle.std.specs.Prelude.{◌≡◌, ℕ, Bool, List, [], ◌∷◌}
 use Rattle.std.specs.Cmp.Lexicographic.{slice_cmp}
 use Rattle.std.specs.Ordering.{eq_by_cmp, nat_cmp, on, then_cmp}

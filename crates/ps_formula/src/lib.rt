@@ -6,7 +6,12 @@
 //! The bytes `= sum( [.$B$2:.A1] ; -007)` are a formula. Its tree is a call of `SUM` with a range and a signed
 //! number, its canonical text `=SUM([.A1:.B2];-7)`, and its one rectangle that of A1 to B2.
 //!
-//! Cost: reading is linear in the bytes, of which there are at most 512; all else is constant.
+//! The contract to use is that of `Formula::read`: the bytes have the tree that it finds by the grammar of
+//! `specs/Grammar.antt`, and it is refused as a formula just where they have none. A contract sees a formula as that
+//! tree.
+//!
+//! Cost: reading is linear in the bytes, of which there are at most 512; a comparison is linear in the shorter text;
+//! all else is constant.
 #![tactic(auto)]
 
 mod expr;

@@ -7,9 +7,9 @@ ghost use Rattle.std.specs.Prelude.{◌≡◌, ◌⊎◌, map, IfOk, IfErr};
 ghost use Rattle.std.specs.Option.{option_copied, option_map};
 ghost use Rattle.ps_grid.specs.declared.refusal.Refusal.TheVariants.{Memory, Formula as NoFormula};
 ghost use Rattle.ps_formula.specs.Grammar.{accepts, Has, level_of, takes_ranges};
-ghost use Rattle.ps_formula.specs.Inside.Reading.{Gives, argument_at, arguments_at, behind_at, call_at, closed_at};
-ghost use Rattle.ps_formula.specs.Inside.Reading.{level_at, more_at, opened_at, operator_at, prefixed_at, range_at};
-ghost use Rattle.ps_formula.specs.Inside.Reading.{separated_at, sign_of};
+ghost use Rattle.ps_formula.specs.Inside.Reading.{Gives, after_argument_at, argument_at, arguments_at, call_at};
+ghost use Rattle.ps_formula.specs.Inside.Reading.{closed_at, level_at, more_at, operator_at, prefixed_at, range_at};
+ghost use Rattle.ps_formula.specs.Inside.Reading.{sign_of};
 ghost use Rattle.ps_formula.specs.Tree.{Tree};
 ghost use Rattle.ps_formula.specs.TreeOf.{item_of, tree_of};
 
@@ -67,32 +67,12 @@ fn sign(operator: Operator) -> Option<Sign>
     }
 }
 
-/// What stands after an opening parenthesis, if the tokens begin with one.
-fn opened(tokens: &[Token]) -> Option<&[Token]>
-    ensures { option_copied result ≡ opened_at tokens.now }
-{
-    match tokens {
-        [Token::Open, rest @ ..] => Some(rest),
-        _ => None,
-    }
-}
-
-/// What stands after a closing parenthesis.
+/// What stands after a closing parenthesis, if the tokens begin with one.
 fn closed(tokens: &[Token]) -> Option<&[Token]>
     ensures { option_copied result ≡ closed_at tokens.now }
 {
     match tokens {
         [Token::Close, rest @ ..] => Some(rest),
-        _ => None,
-    }
-}
-
-/// What stands after a separator.
-fn separated(tokens: &[Token]) -> Option<&[Token]>
-    ensures { option_copied result ≡ separated_at tokens.now }
-{
-    match tokens {
-        [Token::Separator, rest @ ..] => Some(rest),
         _ => None,
     }
 }
@@ -202,7 +182,7 @@ fn prefixed(alloc: Global, depth: usize, tokens: &[Token]) -> Result<(Expr, &[To
             Ok((Expr::Group(inner), rest))
         }
         Token::Name(function) => {
-            let Some(rest) = opened(rest) else {
+            let [Token::Open, rest @ ..] = rest else {
                 return Err(Refusal::Formula);
             };
             call(alloc, depth - 1, function, rest)
@@ -256,13 +236,13 @@ fn arguments(
     }
     let (next, rest) = argument(alloc, depth - 1, function, tokens)?;
     before.push(next)?;
-    behind(alloc, depth - 1, function, before, rest)
+    after_argument(alloc, depth - 1, function, before, rest)
 }
 
 /// What stands after an argument: the closing parenthesis, or a separator and further arguments.
 #[cycle(parser)]
 #[tactic(auto, unfolding(crate::specs::Inside::Reading::level_at))]
-fn behind(
+fn after_argument(
     alloc: Global,
     depth: usize,
     function: Function,
@@ -270,18 +250,16 @@ fn behind(
     tokens: &[Token],
 ) -> Result<(Vec<Argument>, &[Token]), Refusal>
     ensures { Gives (λ x. (map item_of x.0.items, x.1.now)) result
-        (behind_at depth function (map item_of before.items) tokens.now) }
+        (after_argument_at depth function (map item_of before.items) tokens.now) }
 {
     if depth == 0 {
         return Err(Refusal::Formula);
     }
-    if let Some(rest) = closed(tokens) {
-        return Ok((before, rest));
+    match tokens {
+        [Token::Close, rest @ ..] => Ok((before, rest)),
+        [Token::Separator, rest @ ..] => arguments(alloc, depth - 1, function, before, rest),
+        _ => Err(Refusal::Formula),
     }
-    let Some(rest) = separated(tokens) else {
-        return Err(Refusal::Formula);
-    };
-    arguments(alloc, depth - 1, function, before, rest)
 }
 
 /// One argument, and what stands after it.
@@ -308,7 +286,7 @@ fn argument(
     Ok((Argument::Expression(inner), rest))
 }
 
-/// The expression that all of the tokens are together; refused as a formula where they are none, and for lack of
+/// The expression that all of the tokens are together; refused as a formula where they are none, and when out of
 /// memory.
 ///
 /// Cost: linear in the tokens.

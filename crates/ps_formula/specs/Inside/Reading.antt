@@ -17,7 +17,7 @@ use Rattle.ps_formula.specs.Grammar.{accepts, level_of, takes_ranges}
 use Rattle.ps_formula.specs.Tree.{Tree, Item, number, reference, signed, joined, group, call, expression, range}
 use Rattle.ps_formula.specs.Tree.{no_items, in_row}
 
--- what a refused call says of what was read: nothing where memory was short
+-- what a refused call says of what was read: nothing where it was out of memory
 abbrev pub Refuses : {Y : Type 0} → Refusal → Option Y → Type 0
 Refuses Formula read = read ≡ None
 Refuses Memory read = Unit {0}
@@ -33,17 +33,9 @@ abbrev pub either_way : {X Y : Type 0} → Option X → Y → (X → Y) → Y
 either_way None y f = y
 either_way (Some x) y f = f x
 
-abbrev pub opened_at : List Token → Option (List Token)
-opened_at (Open ∷ ts) = Some ts
-opened_at _ = None
-
 abbrev pub closed_at : List Token → Option (List Token)
 closed_at (Close ∷ ts) = Some ts
 closed_at _ = None
-
-abbrev pub separated_at : List Token → Option (List Token)
-separated_at (Separator ∷ ts) = Some ts
-separated_at _ = None
 
 abbrev pub range_at : List Token → Option (Area × List Token)
 range_at (Range r ∷ ts) = Some (r, ts)
@@ -78,7 +70,7 @@ unfoldable mutual
       option_and_then (λ s. option_and_then (λ a. Some (signed s a.0, a.1)) (prefixed_at n ts)) (sign_of o)
   prefixed_at (suc n) (Open ∷ ts) =
       option_and_then (λ a. option_and_then (λ us. Some (group a.0, us)) (closed_at a.1)) (level_at n 3 ts)
-  prefixed_at (suc n) (Name f ∷ ts) = option_and_then (λ us. call_at n f us) (opened_at ts)
+  prefixed_at (suc n) (Name f ∷ Open ∷ ts) = call_at n f ts
   prefixed_at (suc n) _ = None
 
   pub call_at : ℕ → Function → List Token → Option (Tree × List Token)
@@ -92,14 +84,14 @@ unfoldable mutual
   -- the arguments before, and those that are read
   pub arguments_at : ℕ → Function → List Item → List Token → Option (List Item × List Token)
   arguments_at zero f is ts = None
-  arguments_at (suc n) f is ts = option_and_then (λ i. behind_at n f (is ++ i.0 ∷ []) i.1) (argument_at n f ts)
+  arguments_at (suc n) f is ts = option_and_then (λ i. after_argument_at n f (is ++ i.0 ∷ []) i.1) (argument_at n f ts)
 
   -- after an argument: the parenthesis, or a separator and further arguments
-  pub behind_at : ℕ → Function → List Item → List Token → Option (List Item × List Token)
-  behind_at zero f is ts = None
-  behind_at (suc n) f is ts =
-      either_way (closed_at ts) (option_and_then (λ us. arguments_at n f is us) (separated_at ts))
-      (λ us. Some (is, us))
+  pub after_argument_at : ℕ → Function → List Item → List Token → Option (List Item × List Token)
+  after_argument_at zero f is ts = None
+  after_argument_at (suc n) f is (Close ∷ ts) = Some (is, ts)
+  after_argument_at (suc n) f is (Separator ∷ ts) = arguments_at n f is ts
+  after_argument_at (suc n) f is _ = None
 
   pub argument_at : ℕ → Function → List Token → Option (Item × List Token)
   argument_at zero f ts = None
