@@ -3,12 +3,14 @@ use Rattle.std.proofs.Common.{◌≡◌, ◌<◌, ◌≤◌, List, [], ◌∷◌
 use Rattle.std.proofs.Common.{append_assoc}
 use Rattle.std.proofs.lemmas.List.{append-nil}
 use Rattle.ps_value.specs.declared.value.Fault.TheVariants.{Value as NoNumber}
-use Rattle.ps_tokens.specs.declared.token.Function.TheVariants.{If, Mod, Quotient, Abs, Not, True, False}
+use Rattle.ps_tokens.specs.declared.token.Function.{Function}
+use Rattle.ps_tokens.specs.declared.token.Function.TheVariants.{If}
 use Rattle.ps_formula.specs.declared.expr.Argument.{Argument}
 use Rattle.ps_formula.specs.Tree.{call, in_row}
 use Rattle.ps_formula.specs.TreeOf.{item_of}
 use Rattle.ps_eval.specs.Items.{Assignment}
-use Rattle.ps_eval.specs.Value.{number_of, items_of, items_in, values_of, value_in}
+use Rattle.ps_eval.specs.Number.{Number}
+use Rattle.ps_eval.specs.Value.{called, number_of, items_of, items_in, values_of, value_in}
 
 pub items_of-push : (xs : List Argument) (x : Argument) (v : Assignment) →
     items_of (in_row (map item_of (xs ++ x ∷ []))) v ≡ items_of (in_row (map item_of xs)) v ++ items_in (item_of x) v
@@ -25,12 +27,6 @@ values_of-push (y ∷ xs) x v = ap (λ ns. value_in (item_of y) v ∷ ns) (value
 
 -- ---- too few arguments, or too many
 
-pub if_few : (xs : List Argument) (v : Assignment) → length xs < 2
-    → Err NoNumber ≡ number_of (call If (in_row (map item_of xs))) v
-if_few [] v h = refl
-if_few (x ∷ []) v h = refl
-if_few (x ∷ y ∷ more) v h = absurd (omega arith)
-
 pub if_many : (xs : List Argument) (v : Assignment) → 4 ≤ length xs
     → Err NoNumber ≡ number_of (call If (in_row (map item_of xs))) v
 if_many [] v h = absurd (omega arith)
@@ -39,50 +35,45 @@ if_many (x ∷ y ∷ []) v h = absurd (omega arith)
 if_many (x ∷ y ∷ z ∷ []) v h = absurd (omega arith)
 if_many (x ∷ y ∷ z ∷ w ∷ more) v h = refl
 
-pub mod_few : (xs : List Argument) (v : Assignment) → length xs < 2
-    → Err NoNumber ≡ number_of (call Mod (in_row (map item_of xs))) v
-mod_few [] v h = refl
-mod_few (x ∷ []) v h = refl
-mod_few (x ∷ y ∷ more) v h = absurd (omega arith)
+-- of a function that takes neither no argument nor one
+pub fewer_than_two : (f : Function) → ((items : List Number) → Err NoNumber ≡ called f items [])
+    → ((items : List Number) (m : Number) → Err NoNumber ≡ called f items (m ∷ []))
+    → (xs : List Argument) (v : Assignment) → length xs < 2
+    → Err NoNumber ≡ number_of (call f (in_row (map item_of xs))) v
+fewer_than_two f none one [] v h = none []
+fewer_than_two f none one (x ∷ []) v h = one (items_of (in_row (map item_of (x ∷ []))) v) (value_in (item_of x) v)
+fewer_than_two f none one (x ∷ y ∷ more) v h = absurd (omega arith)
 
-pub mod_many : (xs : List Argument) (v : Assignment) → 3 ≤ length xs
-    → Err NoNumber ≡ number_of (call Mod (in_row (map item_of xs))) v
-mod_many [] v h = absurd (omega arith)
-mod_many (x ∷ []) v h = absurd (omega arith)
-mod_many (x ∷ y ∷ []) v h = absurd (omega arith)
-mod_many (x ∷ y ∷ z ∷ more) v h = refl
+-- of a function that takes no three arguments and no more
+pub more_than_two : (f : Function)
+    → ((items values : List Number) (m n k : Number) → Err NoNumber ≡ called f items (m ∷ n ∷ k ∷ values))
+    → (xs : List Argument) (v : Assignment) → 3 ≤ length xs
+    → Err NoNumber ≡ number_of (call f (in_row (map item_of xs))) v
+more_than_two f three [] v h = absurd (omega arith)
+more_than_two f three (x ∷ []) v h = absurd (omega arith)
+more_than_two f three (x ∷ y ∷ []) v h = absurd (omega arith)
+more_than_two f three (x ∷ y ∷ z ∷ more) v h =
+    three (items_of (in_row (map item_of (x ∷ y ∷ z ∷ more))) v) (values_of (in_row (map item_of more)) v)
+    (value_in (item_of x) v) (value_in (item_of y) v) (value_in (item_of z) v)
 
-pub quotient_few : (xs : List Argument) (v : Assignment) → length xs < 2
-    → Err NoNumber ≡ number_of (call Quotient (in_row (map item_of xs))) v
-quotient_few [] v h = refl
-quotient_few (x ∷ []) v h = refl
-quotient_few (x ∷ y ∷ more) v h = absurd (omega arith)
+-- of a function that takes no two arguments and no more
+pub more_than_one : (f : Function)
+    → ((items values : List Number) (m n : Number) → Err NoNumber ≡ called f items (m ∷ n ∷ values))
+    → (xs : List Argument) (v : Assignment) → 2 ≤ length xs
+    → Err NoNumber ≡ number_of (call f (in_row (map item_of xs))) v
+more_than_one f two [] v h = absurd (omega arith)
+more_than_one f two (x ∷ []) v h = absurd (omega arith)
+more_than_one f two (x ∷ y ∷ more) v h =
+    two (items_of (in_row (map item_of (x ∷ y ∷ more))) v) (values_of (in_row (map item_of more)) v)
+    (value_in (item_of x) v) (value_in (item_of y) v)
 
-pub quotient_many : (xs : List Argument) (v : Assignment) → 3 ≤ length xs
-    → Err NoNumber ≡ number_of (call Quotient (in_row (map item_of xs))) v
-quotient_many [] v h = absurd (omega arith)
-quotient_many (x ∷ []) v h = absurd (omega arith)
-quotient_many (x ∷ y ∷ []) v h = absurd (omega arith)
-quotient_many (x ∷ y ∷ z ∷ more) v h = refl
-
-pub abs_many : (xs : List Argument) (v : Assignment) → 2 ≤ length xs
-    → Err NoNumber ≡ number_of (call Abs (in_row (map item_of xs))) v
-abs_many [] v h = absurd (omega arith)
-abs_many (x ∷ []) v h = absurd (omega arith)
-abs_many (x ∷ y ∷ more) v h = refl
-
-pub not_many : (xs : List Argument) (v : Assignment) → 2 ≤ length xs
-    → Err NoNumber ≡ number_of (call Not (in_row (map item_of xs))) v
-not_many [] v h = absurd (omega arith)
-not_many (x ∷ []) v h = absurd (omega arith)
-not_many (x ∷ y ∷ more) v h = refl
-
-pub true_many : (xs : List Argument) (v : Assignment) → 1 ≤ length xs
-    → Err NoNumber ≡ number_of (call True (in_row (map item_of xs))) v
-true_many [] v h = absurd (omega arith)
-true_many (x ∷ more) v h = refl
-
-pub false_many : (xs : List Argument) (v : Assignment) → 1 ≤ length xs
-    → Err NoNumber ≡ number_of (call False (in_row (map item_of xs))) v
-false_many [] v h = absurd (omega arith)
-false_many (x ∷ more) v h = refl
+-- of a function that takes no argument
+pub more_than_none : (f g : Function) → f ≡ g
+    → ((items values : List Number) (m : Number) → Err NoNumber ≡ called g items (m ∷ values))
+    → (xs : List Argument) (v : Assignment) → 1 ≤ length xs
+    → Err NoNumber ≡ number_of (call f (in_row (map item_of xs))) v
+more_than_none f g same some [] v h = absurd (omega arith)
+more_than_none f g same some (x ∷ more) v h =
+    some (items_of (in_row (map item_of (x ∷ more))) v) (values_of (in_row (map item_of more)) v)
+    (value_in (item_of x) v)
+    ∙ ap (λ e. number_of (call e (in_row (map item_of (x ∷ more)))) v) (sym same)

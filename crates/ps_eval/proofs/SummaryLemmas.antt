@@ -6,6 +6,7 @@ use Rattle.std.proofs.Math.Bool.{and-true, or-false}
 use Rattle.std.proofs.lemmas.List.Folds.{list_all-append, list_any-append}
 use Rattle.std.specs.Prelude.{not, ◌&&◌, ◌||◌, is_none, true, false}
 use Rattle.std.specs.Int.{int_min, int_max}
+use Rattle.std.specs.Option.{option_or}
 use Rattle.std.proofs.lemmas.List.Sums.{fold-append}
 use Rattle.std.proofs.lemmas.Bool.{cond_both, ltb-false, ltb-true}
 use Rattle.std.proofs.lemmas.Int.{ints}
@@ -21,18 +22,13 @@ numbers_in-append [] ys = refl
 numbers_in-append (Ok n ∷ xs) ys = ap (λ ns. n ∷ ns) (numbers_in-append xs ys)
 numbers_in-append (Err fault ∷ xs) ys = numbers_in-append xs ys
 
--- the fault that is known, or else another
-abbrev pub or_fault : Option Fault → Fault → Option Fault
-or_fault None fault = Some fault
-or_fault (Some first) fault = Some first
-
 pub first_fault-number : (xs : List Number) (n : ℤ) → first_fault (xs ++ Ok n ∷ []) ≡ first_fault xs
 first_fault-number [] n = refl
 first_fault-number (Ok m ∷ xs) n = first_fault-number xs n
 first_fault-number (Err fault ∷ xs) n = refl
 
 pub first_fault-fault : (xs : List Number) (fault : Fault)
-    → first_fault (xs ++ Err fault ∷ []) ≡ or_fault (first_fault xs) fault
+    → first_fault (xs ++ Err fault ∷ []) ≡ option_or (first_fault xs) (Some fault)
 first_fault-fault [] fault = refl
 first_fault-fault (Ok m ∷ xs) fault = first_fault-fault xs fault
 first_fault-fault (Err first ∷ xs) fault = refl
@@ -71,17 +67,6 @@ pub numbers_in-fault : (items : List Number) (fault : Fault) → numbers_in (ite
 numbers_in-fault [] fault = refl
 numbers_in-fault (Ok n ∷ items) fault = ap (λ ns. n ∷ ns) (numbers_in-fault items fault)
 numbers_in-fault (Err first ∷ items) fault = numbers_in-fault items fault
-
-pub first_kept : (items : List Number) (fault : Fault) (o : Option Fault) → o ≡ first_fault items
-    → is_none o ≡ false → o ≡ first_fault (items ++ Err fault ∷ [])
-first_kept items fault (Some first) is some =
-    sym (first_fault-fault items fault ∙ ap (λ p. or_fault p fault) (sym is))
-first_kept items fault None is some = cc
-
-pub first_put : (items : List Number) (fault : Fault) (o : Option Fault) → o ≡ first_fault items
-    → is_none o ≡ true → Some fault ≡ first_fault (items ++ Err fault ∷ [])
-first_put items fault None is none = sym (first_fault-fault items fault ∙ ap (λ p. or_fault p fault) (sym is))
-first_put items fault (Some first) is none = cc
 
 int_min_top : (n : ℤ) → FitsSigned w64 n → n ≡ int_min (pos (2 ^ 63 - 1)) n
 int_min_top (negsuc k) fits = refl

@@ -76,9 +76,7 @@ impl Summary {
             → Summarizes (items ++ Err fault ∷ []) self.new }
         ensures count { self.new.count ≡ self.old.count }
     {
-        if self.fault.is_none() {
-            self.fault = Some(fault);
-        }
+        self.fault = self.fault.or(Some(fault));
     }
 
     /// The operand of one more cell, which may be no item.

@@ -53,9 +53,7 @@ impl Truths {
     fn take_fault(&mut self, fault: Fault)
         ensures { (values : List Number) → Judges values self.old → Judges (values ++ Err fault ∷ []) self.new }
     {
-        if self.fault.is_none() {
-            self.fault = Some(fault);
-        }
+        self.fault = self.fault.or(Some(fault));
     }
 
     /// AND of the values.

@@ -1,55 +1,51 @@
-use Rattle.std.proofs.Common.{◌≡◌, ◌+◌, ◌∷◌, [], ◌++◌, map, take, ap, sym, ◌∙◌, subst, arith}
+use Rattle.std.proofs.Common.{◌≡◌, ◌+◌, ◌∷◌, [], ◌++◌, map, take, ap, refl, sym, ◌∙◌, subst, arith}
 use Rattle.std.proofs.lemmas.List.{take_more}
 use Rattle.ps_formula.specs.Tree.{in_row, call}
 use Rattle.ps_formula.specs.TreeOf.{item_of}
-use Rattle.ps_tokens.specs.declared.token.Function.{Function}
+use Rattle.ps_tokens.specs.declared.token.Function.TheVariants.{If, Mod, Quotient, Abs, Not, True, False}
 use Rattle.ps_eval.specs.Value.{items_of, values_of, number_of}
 use Rattle.ps_eval.specs.Inside.Summarized.{Judges, Summarizes}
-use Rattle.ps_eval.proofs.CallLemmas.{items_of-push, values_of-push, if_few, if_many, mod_few, mod_many}
-use Rattle.ps_eval.proofs.CallLemmas.{quotient_few, quotient_many, abs_many, not_many, true_many, false_many}
+use Rattle.ps_eval.proofs.CallLemmas.{items_of-push, values_of-push, if_many, fewer_than_two, more_than_two}
+use Rattle.ps_eval.proofs.CallLemmas.{more_than_one, more_than_none}
 use Rattle.ps_eval.proofs.tree.+numbers.Goals as goal
 
 pub absolute_of-returns-in_default-2 : goal.absolute_of-returns-in_default-2
 absolute_of-returns-in_default-2 g t c =
-    abs_many c.args.arguments.now (g.K.Look.value_at c.args.look.now) (omega arith)
+    more_than_one Abs (λ items values m n. refl) c.args.arguments.now (g.K.Look.value_at c.args.look.now) (omega arith)
 
 pub negation_of-returns-in_default-2 : goal.negation_of-returns-in_default-2
 negation_of-returns-in_default-2 g t c =
-    not_many c.args.arguments.now (g.K.Look.value_at c.args.look.now) (omega arith)
+    more_than_one Not (λ items values m n. refl) c.args.arguments.now (g.K.Look.value_at c.args.look.now) (omega arith)
 
 pub choice-returns-in_default : goal.choice-returns-in_default
-choice-returns-in_default g t c = if_few c.args.arguments.now (g.K.Look.value_at c.args.look.now) (omega arith)
+choice-returns-in_default g t c = fewer_than_two If (λ items. refl) (λ items m. refl) c.args.arguments.now (g.K.Look.value_at c.args.look.now) (omega arith)
 
 pub choice-returns-in_default-2 : goal.choice-returns-in_default-2
 choice-returns-in_default-2 g t c = if_many c.args.arguments.now (g.K.Look.value_at c.args.look.now) (omega arith)
 
 pub modulo_of-returns-in_default : goal.modulo_of-returns-in_default
-modulo_of-returns-in_default g t c = mod_few c.args.arguments.now (g.K.Look.value_at c.args.look.now) (omega arith)
+modulo_of-returns-in_default g t c = fewer_than_two Mod (λ items. refl) (λ items m. refl) c.args.arguments.now (g.K.Look.value_at c.args.look.now) (omega arith)
 
 pub modulo_of-returns-in_default-2 : goal.modulo_of-returns-in_default-2
-modulo_of-returns-in_default-2 g t c = mod_many c.args.arguments.now (g.K.Look.value_at c.args.look.now) (omega arith)
+modulo_of-returns-in_default-2 g t c = more_than_two Mod (λ items values m n k. refl) c.args.arguments.now (g.K.Look.value_at c.args.look.now) (omega arith)
 
 pub quotient_of-returns-in_default : goal.quotient_of-returns-in_default
 quotient_of-returns-in_default g t c =
-    quotient_few c.args.arguments.now (g.K.Look.value_at c.args.look.now) (omega arith)
+    fewer_than_two Quotient (λ items. refl) (λ items m. refl) c.args.arguments.now (g.K.Look.value_at c.args.look.now) (omega arith)
 
 pub quotient_of-returns-in_default-2 : goal.quotient_of-returns-in_default-2
 quotient_of-returns-in_default-2 g t c =
-    quotient_many c.args.arguments.now (g.K.Look.value_at c.args.look.now) (omega arith)
+    more_than_two Quotient (λ items values m n k. refl) c.args.arguments.now (g.K.Look.value_at c.args.look.now) (omega arith)
 
 pub value_of_call-returns-in_default : goal.value_of_call-returns-in_default
 value_of_call-returns-in_default g t c =
-    let xs = c.args.arguments.now in
-    let v = g.K.Look.value_at c.args.look.now in
-    true_many xs v (omega arith)
-    ∙ ap (λ (f : Function). number_of (call f (in_row (map item_of xs))) v) (sym c.in-True.is)
+    more_than_none c.args.function True c.in-True.is (λ items values m. refl) c.args.arguments.now
+    (g.K.Look.value_at c.args.look.now) (omega arith)
 
 pub value_of_call-returns-in_default-arguments : goal.value_of_call-returns-in_default-arguments
 value_of_call-returns-in_default-arguments g t c =
-    let xs = c.args.arguments.now in
-    let v = g.K.Look.value_at c.args.look.now in
-    false_many xs v (omega arith)
-    ∙ ap (λ (f : Function). number_of (call f (in_row (map item_of xs))) v) (sym c.in-False.is)
+    more_than_none c.args.function False c.in-False.is (λ items values m. refl) c.args.arguments.now
+    (g.K.Look.value_at c.args.look.now) (omega arith)
 
 pub items-loop-argument-preserved : goal.items-loop-argument-preserved
 items-loop-argument-preserved g t c =
