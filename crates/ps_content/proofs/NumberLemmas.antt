@@ -8,6 +8,7 @@ use Rattle.std.specs.Result.{result_ok}
 use Rattle.std.specs.Str.{all_ascii_digits, IsAscii}
 use Rattle.std.specs.Str.Parse.{AllDigits, IsNumeral, ParsesSigned, without_leading_sign, signed_digits_value}
 use Rattle.std.specs.Str.Parse.{digits_value}
+use Rattle.std.proofs.lemmas.Option.{cond_some}
 use Rattle.std.proofs.lemmas.Bool.{ltb-true, lt-ltb, false≢true, eqb-true}
 use Rattle.std.proofs.lemmas.Int.{to_z-of_z}
 use Rattle.std.proofs.lemmas.Str.Ascii.{IsAscii-cons, IsAscii-nil}
@@ -82,10 +83,6 @@ number_of-parsed E bytes (Ok z) parses = ap Some parses.1 ∙ sym
 number_of-parsed E bytes (Err e) parses = sym
     (number_of-none bytes (test_fails (is_number bytes) (λ test. parses (is_number-to bytes test))))
 
-number_cases : (b : Bool) (v z : ℤ) → cond b (Some v) None ≡ Some z → (b ≡ true) × (v ≡ z)
-number_cases true v z e = (refl, cc)
-number_cases false v z e = cc
-
 none_cases : (b : Bool) (v : ℤ) → cond b (Some v) None ≡ None → b ≡ false
 none_cases true v e = cc
 none_cases false v e = refl
@@ -93,7 +90,7 @@ none_cases false v e = refl
 -- an entry that writes a number
 pub is_number-some : (bytes : List ℕ) (z : ℤ) → Some z ≡ number_of bytes → is_number bytes ≡ true
 unfolding number_of
-is_number-some bytes z e = (number_cases (is_number bytes) (signed_digits_value 10 bytes) z (sym e)).0
+is_number-some bytes z e = (cond_some (is_number bytes) (signed_digits_value 10 bytes) z (sym e)).0
 
 pub is_number-none : (bytes : List ℕ) → None ≡ number_of bytes → is_number bytes ≡ false
 unfolding number_of
@@ -109,7 +106,7 @@ pub kept_number : (bytes : List ℕ) (z : ℤ) → Some z ≡ number_of bytes
     → to_z w64 (of_z w64 z) ≡ signed_digits_value 10 bytes
 unfolding number_of
 kept_number bytes z e =
-    let value = (number_cases (is_number bytes) (signed_digits_value 10 bytes) z (sym e)).1 in
+    let value = (cond_some (is_number bytes) (signed_digits_value 10 bytes) z (sym e)).1 in
     rw (← value) (to_z-of_z w64 (signed_digits_value 10 bytes) (is_number-to bytes (is_number-some bytes z e)).1)
 
 ascii_digits : (ds : List ℕ) → AllDigits 10 ds → IsAscii ds

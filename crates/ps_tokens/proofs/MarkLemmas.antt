@@ -4,15 +4,15 @@ use Rattle.std.proofs.Common.{Some, None, List, [], ◌∷◌, ◌++◌, refl, a
 use Rattle.std.proofs.lemmas.Bool.{eqb-true, eq-eqb}
 use Rattle.ps_tokens.specs.Inside.Lexing.{after, unmarked}
 use Rattle.ps_tokens.specs.Text.{mark}
-use Rattle.ps_tokens.proofs.OptionLemmas.{if_some}
+use Rattle.std.proofs.lemmas.Option.{cond_some}
 use Rattle.ps_tokens.proofs.LongestRuns.{Stops}
 
 -- a byte that was found stands there
 pub after-some : (b : ℕ) (s r : List ℕ) → 0 < b → after b s ≡ Some r → s ≡ b ∷ r
 unfolding after
-after-some b [] r h e = absurd (omega (arith, eqb-true 0 b (if_some (0 == b) [] r e).0))
+after-some b [] r h e = absurd (omega (arith, eqb-true 0 b (cond_some (0 == b) [] r e).0))
 after-some b (c ∷ s) r h e =
-    let found = if_some (c == b) s r e in
+    let found = cond_some (c == b) s r e in
     let same = eqb-true c b found.0 in
     ap (λ v. v ∷ s) same ∙ ap (λ v. b ∷ v) found.1
 

@@ -3,21 +3,11 @@ use Rattle.std.proofs.Common.{◌≡◌, ℕ, ◌==◌, Bool, true, false, cond,
 use Rattle.std.specs.Option.{option_map}
 use Rattle.std.proofs.lemmas.Bool.{eqb-true}
 
--- a test that gave a value held
-pub if_some : {X : Type 0} (b : Bool) (x y : X) → cond b (Some x) None ≡ Some y → (b ≡ true) × (x ≡ y)
-if_some true x y e = (refl, cc)
-if_some false x y e = cc
-
 -- a value is that of the test or that of the others
 pub if_some_or : {X P : Type 0} (b : Bool) (x y : X) (o : Option X) → (b ≡ true → x ≡ y → P) → (o ≡ Some y → P)
     → cond b (Some x) o ≡ Some y → P
 if_some_or true x y o this others e = this refl cc
 if_some_or false x y o this others e = others e
-
-pub unless_some : {X : Type 0} (b : Bool) (o : Option X) (y : X) → cond b None o ≡ Some y
-    → (b ≡ false) × (o ≡ Some y)
-unless_some true o y e = cc
-unless_some false o y e = (refl, e)
 
 -- where a mapped option comes from
 pub option_map_from : {X Y P : Type 0} (f : X → Y) (o : Option X) (y : Y) → ((x : X) → o ≡ Some x → f x ≡ y → P)

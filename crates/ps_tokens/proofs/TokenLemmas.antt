@@ -9,6 +9,7 @@ use Rattle.std.specs.Str.Parse.{digits_value}
 use Rattle.std.proofs.lemmas.Bool.{and_parts, eqb-true, ltb-true}
 use Rattle.std.proofs.lemmas.List.{length-take, take-append-drop}
 use Rattle.std.proofs.lemmas.Option.{option_and_then_some}
+use Rattle.std.proofs.lemmas.Option.{cond_some}
 use Rattle.ps_grid.specs.Rectangle.{spanned}
 use Rattle.ps_tokens.specs.Inside.Lexing.{after, bracketed_at, corner_at, digits_at, function_of, letters_at, name_at}
 use Rattle.ps_tokens.specs.Inside.Lexing.{number_in, numeral_at, operator_of_two, range_at, reference_at, sign_at}
@@ -22,7 +23,7 @@ use Rattle.ps_tokens.specs.declared.token.Operator.TheVariants.{LessOrEqual, Gre
 use Rattle.ps_tokens.specs.declared.token.Token.{Token}
 use Rattle.ps_tokens.specs.declared.token.Token.TheVariants.{Numeral, Reference, Range, Name, Symbol, Open, Close}
 use Rattle.ps_tokens.specs.declared.token.Token.TheVariants.{Separator}
-use Rattle.ps_tokens.proofs.OptionLemmas.{if_some, option_map_from}
+use Rattle.ps_tokens.proofs.OptionLemmas.{option_map_from}
 use Rattle.ps_tokens.proofs.CornerLemmas.{TakesCorner, all_digits, corner_at-corner, corner_at-some}
 use Rattle.ps_tokens.proofs.FirstBytes.{goes_on, letter_no_digit, sign_goes_on}
 use Rattle.ps_tokens.proofs.MarkLemmas.{after-some}
@@ -52,7 +53,7 @@ numeral_at-some s x r begins e =
     let w = take (digits_at s) s in
     option_map_from (λ (n : ℕ). (Numeral (pos n), drop (digits_at s) s)) (number_in w) (x, r)
     (λ n found same.
-    let small = if_some _ (digits_value 10 w) n found in
+    let small = cond_some _ (digits_value 10 w) n found in
     let token : Numeral (pos n) ≡ x = ap (λ p. p.0) same in
     let rest : drop (digits_at s) s ≡ r = ap (λ p. p.1) same in
     let taken : TakesToken s (Numeral (pos n)) (drop (digits_at s) s) = record {

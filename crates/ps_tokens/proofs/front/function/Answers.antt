@@ -31,6 +31,7 @@ loop-function-preserved c =
     let fails = not_true _ (λ t.
     let same = (bytes_eq-Decides (str_to_ascii_lowercase c.args.name.now)
     (str_to_ascii_lowercase (function_name (get_or FUNCTIONS i Sum)))).0 t in
-    let yes : false ≡ true = test.1 (same ∙ ap str_to_ascii_lowercase (sym (c.as_bytes.ensures.value ∙ c.name.ensures))) in
+    let name = c.as_bytes.ensures.value ∙ c.name.ensures in
+    let yes : false ≡ true = test.1 (same ∙ ap str_to_ascii_lowercase (sym name)) in
     absurd (cc)) in
     find_step _ FUNCTIONS i Sum _ (omega arith) fails c.loop-function.invariant
