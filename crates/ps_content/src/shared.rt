@@ -51,6 +51,7 @@ impl SharedFormula {
 
 impl Twin for SharedFormula {
     fn twin(&self, alloc: Global) -> Result<SharedFormula, Refusal> {
+        // one more owner takes no memory
         let _ = alloc;
         let formula = self.formula.clone()?;
         Ok(SharedFormula { formula })

@@ -80,7 +80,7 @@ fn canonical_texts(rt: HostRuntime) -> Result<(), Fail> {
         b"@tally",
         b"@choice",
     ] {
-        let found = read_canonical(rt.alloc(), text).ok().ok_or("an answer")?;
+        let found = read_canonical(rt.alloc(), text).ok().ok_or("a result")?;
         assert!(rt; found.is_some());
     }
     for text in [
@@ -96,7 +96,7 @@ fn canonical_texts(rt: HostRuntime) -> Result<(), Fail> {
         b"=SUM([.B2:.A1])",
         b"@tally ",
     ] {
-        let found = read_canonical(rt.alloc(), text).ok().ok_or("an answer")?;
+        let found = read_canonical(rt.alloc(), text).ok().ok_or("a result")?;
         assert!(rt; found.is_none());
     }
     Ok(())

@@ -23,12 +23,12 @@ use std::sync::ledger::{Blank, Ledger};
 /// written, and every further call fails. A settle flushes the writer too, which no clause shows.
 #[derive(Drop)]
 pub struct ConsoleOutput<W: Write + Drop, L: Ledger> {
-    // the writer, and the count of all failures
+    /// the writer, and the count of all failures
     sink: Writing<W, L>,
-    // the bytes put last, of which the writer has the first `sent` already
+    /// the bytes put last, of which the writer has the first `sent` already
     bytes: Vec<u8>,
     sent: usize,
-    // a call failed
+    /// a call failed
     is_stopped: bool,
     ghost within: { vec_len bytes ≤ PIECE_BYTES },
     ghost reserved: { PIECE_BYTES ≤ vec_capacity bytes },

@@ -23,6 +23,8 @@ pub trait Source {
     ghost left: { Self → ℕ };
 
     /// Puts the next bytes at the front of the piece and returns how many.
+    ///
+    /// Cost: linear in the bytes that it returns, but for the time that the device takes.
     fn take(&mut self, piece: &mut [u8]) -> Result<usize, Failed>
         ensures within { IfOk result (λ count. count ≤ length piece.new) }
         ensures bytes { ReadConsumes (remaining self.old) (remaining self.new) result piece.new }
@@ -46,12 +48,16 @@ pub trait Sink {
     ghost failures: { Self → ℕ };
 
     /// Takes bytes from the front of the piece and returns how many.
+    ///
+    /// Cost: linear in the bytes that it takes, but for the time that the device takes.
     fn put(&mut self, piece: &[u8]) -> Result<usize, Failed>
         ensures within { IfOk result (λ count. count ≤ length piece.now) }
         ensures bytes { WriteAppends (contents self.old) (contents self.new) result piece.now }
         ensures counted { failures self.new ≡ failures self.old + failed_put result piece.now };
 
     /// Hands on all that waits. Nothing that was put is lost by it, also where it fails.
+    ///
+    /// Cost: linear in the bytes that wait, but for the time that the device takes.
     fn settle(&mut self) -> Result<(), Failed>
         ensures same { Keeps (contents self.old) (contents self.new) }
         ensures settled { OnOk result (waiting self.new ≡ []) }

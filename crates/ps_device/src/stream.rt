@@ -12,7 +12,7 @@ use std::sync::ledger::{Blank, Ledger};
 #[derive(Drop)]
 pub struct Reading<R: Read + Drop, L: Ledger> {
     reader: R,
-    // how many more reads are made before the source fails for good
+    /// how many more reads are made before the source fails for good
     tries: u64,
     failed: Count<L>,
 }
@@ -46,11 +46,8 @@ impl<R: Read + Drop, L: Ledger> Source for Reading<R, L> {
             self.tries -= 1;
             match self.reader.read(piece) {
                 Ok(count) => return Ok(count),
-                Err(error) => {
-                    if error.kind() != ErrorKind::Interrupted {
-                        break;
-                    }
-                }
+                Err(error) if error.kind() == ErrorKind::Interrupted => {}
+                Err(_) => break,
             }
         }
         self.failed.rise();
@@ -63,7 +60,7 @@ impl<R: Read + Drop, L: Ledger> Source for Reading<R, L> {
 #[derive(Drop)]
 pub struct Writing<W: Write + Drop, L: Ledger> {
     writer: W,
-    // how many more writes and flushes are made before the sink fails for good
+    /// how many more writes and flushes are made before the sink fails for good
     tries: u64,
     failed: Count<L>,
 }
@@ -120,11 +117,8 @@ impl<W: Write + Drop, L: Ledger> Sink for Writing<W, L> {
             match self.writer.write(piece) {
                 Ok(0) => break,
                 Ok(count) => return Ok(count),
-                Err(error) => {
-                    if error.kind() != ErrorKind::Interrupted {
-                        break;
-                    }
-                }
+                Err(error) if error.kind() == ErrorKind::Interrupted => {}
+                Err(_) => break,
             }
         }
         self.failed.rise();
@@ -136,11 +130,8 @@ impl<W: Write + Drop, L: Ledger> Sink for Writing<W, L> {
             self.tries -= 1;
             match self.writer.flush() {
                 Ok(()) => return Ok(()),
-                Err(error) => {
-                    if error.kind() != ErrorKind::Interrupted {
-                        break;
-                    }
-                }
+                Err(error) if error.kind() == ErrorKind::Interrupted => {}
+                Err(_) => break,
             }
         }
         self.failed.rise();

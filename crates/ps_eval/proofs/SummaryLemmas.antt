@@ -1,10 +1,10 @@
 -- One more item in a summary.
-use Rattle.std.proofs.Common.{◌≡◌, ◌+◌, List, [], ◌∷◌, ◌++◌, length, Option, Some, None, Ok, Err, ℤ, pos}
-use Rattle.std.proofs.Common.{◌+ℤ◌, refl, ap, sym, ◌∙◌, arith, length-append}
+use Rattle.std.proofs.Common.{◌≡◌, ◌+◌, List, [], ◌∷◌, ◌++◌, length, Some, Ok, Err, ℤ, pos}
+use Rattle.std.proofs.Common.{◌+ℤ◌, refl, ap, ◌∙◌, arith, length-append}
 use Rattle.std.specs.List.{list_all, list_any}
 use Rattle.std.proofs.Math.Bool.{and-true, or-false}
 use Rattle.std.proofs.lemmas.List.Folds.{list_all-append, list_any-append}
-use Rattle.std.specs.Prelude.{not, ◌&&◌, ◌||◌, is_none, true, false}
+use Rattle.std.specs.Prelude.{not, ◌&&◌, ◌||◌}
 use Rattle.std.specs.Int.{int_min, int_max}
 use Rattle.std.specs.Option.{option_or}
 use Rattle.std.proofs.lemmas.List.Sums.{fold-append}

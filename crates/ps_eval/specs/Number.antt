@@ -67,12 +67,12 @@ operation LessOrEqual a b = Ok (truth (int_le a b))
 operation Greater a b = Ok (truth (int_lt b a))
 operation GreaterOrEqual a b = Ok (truth (int_le b a))
 
--- a fault of the operand is the answer
+-- a fault of the operand is the result
 abbrev pub on_one : (ℤ → Number) → Number → Number
 on_one op (Err fault) = Err fault
 on_one op (Ok a) = op a
 
--- the fault of the first operand is the answer, else that of the second
+-- the fault of the first operand is the result, else that of the second
 abbrev pub on_both : (ℤ → ℤ → Number) → Number → Number → Number
 on_both op (Err fault) y = Err fault
 on_both op (Ok a) (Err fault) = Err fault

@@ -9,6 +9,9 @@
 //! Numbers are whole. All results are exact, with one test of the 64-bit range for each operation, and a sum has one
 //! test at its end. The meter that is lent to each evaluation counts it.
 //!
+//! The contract to use is that of `eval`: the value is what `ev` of `specs/Value.antt` gives for the formula's tree and
+//! the values that the cells show, and the meter has counted one more.
+//!
 //! Cost: no memory, and a walk of the tree and of the cells in its ranges.
 #![tactic(auto)]
 

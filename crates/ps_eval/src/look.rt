@@ -14,6 +14,8 @@ pub trait Look {
     ghost value_at: { Self → ℕ → CellValue };
 
     /// What a cell shows.
+    ///
+    /// Cost: constant.
     fn at(&self, cell: Cell) -> Value
         ensures { result ≡ value_at self.now cell };
 

@@ -231,7 +231,7 @@ fn as_another_spreadsheet_shows(rt: HostRuntime) -> Result<(), Fail> {
     )
 }
 
-/// Items: texts and empty cells are passed over, and SUM, MIN and MAX answer a fault that COUNT passes over.
+/// Items: texts and empty cells are passed over, and SUM, MIN and MAX return a fault that COUNT passes over.
 #[test]
 fn items_pass_over_texts_and_empty_cells(rt: HostRuntime) -> Result<(), Fail> {
     let alloc = rt.alloc();

@@ -30,6 +30,7 @@ impl Model for Total {
 }
 
 impl Total {
+    /// The sum of nothing, 0.
     pub(crate) fn new() -> Total
         ensures { result ≡ pos 0 }
     {

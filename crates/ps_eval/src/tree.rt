@@ -122,6 +122,7 @@ fn choice<K: Look>(arguments: &[Argument], look: &K) -> Result<i64, Fault>
     }
 }
 
+/// MOD of two arguments.
 #[cycle(numbers)]
 fn modulo_of<K: Look>(arguments: &[Argument], look: &K) -> Result<i64, Fault>
     ensures { result ≡ number_of (call Function.Mod (in_row (map item_of arguments.now))) (K.value_at look.now) }
@@ -136,6 +137,7 @@ fn modulo_of<K: Look>(arguments: &[Argument], look: &K) -> Result<i64, Fault>
     }
 }
 
+/// QUOTIENT of two arguments.
 #[cycle(numbers)]
 fn quotient_of<K: Look>(arguments: &[Argument], look: &K) -> Result<i64, Fault>
     ensures { result ≡ number_of (call Function.Quotient (in_row (map item_of arguments.now))) (K.value_at look.now) }
@@ -150,6 +152,7 @@ fn quotient_of<K: Look>(arguments: &[Argument], look: &K) -> Result<i64, Fault>
     }
 }
 
+/// ABS of one argument.
 #[cycle(numbers)]
 fn absolute_of<K: Look>(arguments: &[Argument], look: &K) -> Result<i64, Fault>
     ensures { result ≡ number_of (call Function.Abs (in_row (map item_of arguments.now))) (K.value_at look.now) }
@@ -160,6 +163,7 @@ fn absolute_of<K: Look>(arguments: &[Argument], look: &K) -> Result<i64, Fault>
     }
 }
 
+/// NOT of one argument.
 #[cycle(numbers)]
 fn negation_of<K: Look>(arguments: &[Argument], look: &K) -> Result<i64, Fault>
     ensures { result ≡ number_of (call Function.Not (in_row (map item_of arguments.now))) (K.value_at look.now) }

@@ -1,4 +1,4 @@
--- Whether a cell is cyclic can be decided: where only cells below n refer, a walk of n references tells.
+-- Whether a cell is cyclic can be decided: where only cells below n refer, a walk of n references decides.
 use Rattle.std.proofs.Common.{◌≡◌, ℕ, suc, zero, ◌<◌, Bool, true, false, ◌&&◌, ◌||◌, ◌⊎◌, inl, inr}
 use Rattle.std.proofs.Common.{List, [], ◌∷◌, length, nat_lt, refl, subst, arith, ⊎_elim}
 use Rattle.std.proofs.lemmas.Grind.{common_steps}

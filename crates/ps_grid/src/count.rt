@@ -8,9 +8,9 @@ use std::sync::ledger::{Blank, Book, Ledger, Share};
 /// A count that contracts see. It takes no bytes, has no greatest value and never falls.
 #[derive(Drop)]
 pub struct Count<L: Ledger> {
-    // the count, as the total of a ledger
+    /// the count, as the total of a ledger
     book: Book<L>,
-    // the right to add to the book
+    /// the right to add to the book
     share: Share<L>,
 }
 

@@ -6,6 +6,9 @@
 //! The cell `B3` has column 1 and row 3, so its index is `2 * 104 + 1 = 209`. The rectangle from `A2`
 //! to `B3` has the four cells `A2`, `B2`, `A3`, `B3`, in this order.
 //!
+//! The contract to use: a `Cell` is its index, below `CELLS`, and `Cell::read` finds just the cell that has the name; a
+//! `Rect` is its `Area`, which lies in the grid, and `Rect::cells` walks just the cells that it contains, each once.
+//!
 //! Cost: every call is constant but for the walk of a rectangle, which is its area.
 #![tactic(auto)]
 

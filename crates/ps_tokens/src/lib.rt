@@ -8,6 +8,9 @@
 //! The text `sum( [.B2:.A1] ; 007)` has the tokens `SUM`, `(`, the range of A1 to B2, `;`, 7 and `)`, which
 //! are written `SUM([.A1:.B2];7)`.
 //!
+//! The contract to use: `tokens` returns a list that the text spells, by `Spells` of `specs/Text.antt`, where no two
+//! neighbours in it could be read as one; `put_token` appends the one canonical spelling of a token.
+//!
 //! Cost: each byte of a text is looked at a few times at most, and the list of tokens is reserved once.
 #![tactic(auto)]
 

@@ -19,9 +19,9 @@ use std::marker::Model;
 /// It is kept in place, so it is `Copy` and takes no memory. Labels are ordered by their bytes.
 #[derive(Clone, Copy)]
 pub struct Label {
-    // the bytes, and zeros after them
+    /// the bytes, and zeros after them
     room: [u8; LABEL_BYTES],
-    // how many bytes the text has
+    /// how many bytes the text has
     used: u8,
 }
 

@@ -1,9 +1,9 @@
 use Rattle.std.proofs.Common.{◌≡◌, ◌+◌, ◌∷◌, [], ◌++◌, map, take, ap, refl, sym, ◌∙◌, subst, arith}
 use Rattle.std.proofs.lemmas.List.{take_more}
-use Rattle.ps_formula.specs.Tree.{in_row, call}
+use Rattle.ps_formula.specs.Tree.{in_row}
 use Rattle.ps_formula.specs.TreeOf.{item_of}
 use Rattle.ps_tokens.specs.declared.token.Function.TheVariants.{If, Mod, Quotient, Abs, Not, True, False}
-use Rattle.ps_eval.specs.Value.{items_of, values_of, number_of}
+use Rattle.ps_eval.specs.Value.{items_of, values_of}
 use Rattle.ps_eval.specs.Inside.Summarized.{Judges, Summarizes}
 use Rattle.ps_eval.proofs.CallLemmas.{items_of-push, values_of-push, if_many, fewer_than_two, more_than_two}
 use Rattle.ps_eval.proofs.CallLemmas.{more_than_one, more_than_none}
@@ -18,24 +18,32 @@ negation_of-returns-in_default-2 g t c =
     more_than_one Not (λ items values m n. refl) c.args.arguments.now (g.K.Look.value_at c.args.look.now) (omega arith)
 
 pub choice-returns-in_default : goal.choice-returns-in_default
-choice-returns-in_default g t c = fewer_than_two If (λ items. refl) (λ items m. refl) c.args.arguments.now (g.K.Look.value_at c.args.look.now) (omega arith)
+choice-returns-in_default g t c =
+    fewer_than_two If (λ items. refl) (λ items m. refl)
+    c.args.arguments.now (g.K.Look.value_at c.args.look.now) (omega arith)
 
 pub choice-returns-in_default-2 : goal.choice-returns-in_default-2
 choice-returns-in_default-2 g t c = if_many c.args.arguments.now (g.K.Look.value_at c.args.look.now) (omega arith)
 
 pub modulo_of-returns-in_default : goal.modulo_of-returns-in_default
-modulo_of-returns-in_default g t c = fewer_than_two Mod (λ items. refl) (λ items m. refl) c.args.arguments.now (g.K.Look.value_at c.args.look.now) (omega arith)
+modulo_of-returns-in_default g t c =
+    fewer_than_two Mod (λ items. refl) (λ items m. refl)
+    c.args.arguments.now (g.K.Look.value_at c.args.look.now) (omega arith)
 
 pub modulo_of-returns-in_default-2 : goal.modulo_of-returns-in_default-2
-modulo_of-returns-in_default-2 g t c = more_than_two Mod (λ items values m n k. refl) c.args.arguments.now (g.K.Look.value_at c.args.look.now) (omega arith)
+modulo_of-returns-in_default-2 g t c =
+    more_than_two Mod (λ items values m n k. refl)
+    c.args.arguments.now (g.K.Look.value_at c.args.look.now) (omega arith)
 
 pub quotient_of-returns-in_default : goal.quotient_of-returns-in_default
 quotient_of-returns-in_default g t c =
-    fewer_than_two Quotient (λ items. refl) (λ items m. refl) c.args.arguments.now (g.K.Look.value_at c.args.look.now) (omega arith)
+    fewer_than_two Quotient (λ items. refl) (λ items m. refl)
+    c.args.arguments.now (g.K.Look.value_at c.args.look.now) (omega arith)
 
 pub quotient_of-returns-in_default-2 : goal.quotient_of-returns-in_default-2
 quotient_of-returns-in_default-2 g t c =
-    more_than_two Quotient (λ items values m n k. refl) c.args.arguments.now (g.K.Look.value_at c.args.look.now) (omega arith)
+    more_than_two Quotient (λ items values m n k. refl)
+    c.args.arguments.now (g.K.Look.value_at c.args.look.now) (omega arith)
 
 pub value_of_call-returns-in_default : goal.value_of_call-returns-in_default
 value_of_call-returns-in_default g t c =
