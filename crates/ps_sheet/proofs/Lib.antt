@@ -5,7 +5,6 @@ pub mod EditLemmas
 pub mod FreshEdits
 pub mod ExistsLemmas
 pub mod ListedLemmas
-pub mod ReadyLemmas
 pub mod RoundLemmas
 pub mod SetLemmas
 pub mod SettledLemmas

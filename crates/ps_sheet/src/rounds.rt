@@ -61,8 +61,8 @@ fn is_waiting(value: Value) -> bool
 fn is_free(rect: Rect, shown: &[Value]) -> bool
     ensures { MatchBool result (IsFree rect (shown_at shown.now)) (HasWaiting rect (shown_at shown.now)) }
 {
-    for k in 0..rect.area() {
-        if is_waiting(value_in(shown, rect.nth(k))) {
+    for cell in rect.cells() {
+        if is_waiting(value_in(shown, cell)) {
             return false;
         }
     }

@@ -1,9 +1,9 @@
-use Rattle.std.proofs.Common.{◌≡◌, ℕ, ◌<◌, false}
-use Rattle.ps_grid.specs.Rectangle.{nth_cell}
+use Rattle.std.proofs.Common.{◌≡◌, false}
+use Rattle.std.specs.List.{All}
 use Rattle.ps_sheet.specs.Settled.{shown_at}
 use Rattle.ps_sheet.specs.Rounds.{is_waiting}
 use Rattle.ps_sheet.proofs.rounds.is_free.Given as goal
 
 -- no cell so far waits
-abbrev pub invariant-loop-k : goal.invariant-loop-k
-invariant-loop-k l = (j : ℕ) → j < l.k → is_waiting (shown_at l.shown (nth_cell l.rect j)) ≡ false
+abbrev pub invariant-loop-cell : goal.invariant-loop-cell
+invariant-loop-cell l = All (λ d. is_waiting (shown_at l.shown d) ≡ false) l.yielded
