@@ -1,5 +1,4 @@
 pub mod AcceptLemmas
-pub mod BatchLemmas
 pub mod BitLemmas
 pub mod EditLemmas
 pub mod FreshEdits

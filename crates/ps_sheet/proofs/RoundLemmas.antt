@@ -1,6 +1,6 @@
 -- One value written into the list of the values that are shown.
 use Rattle.std.proofs.Common.{◌≡◌, ◌≢◌, ℕ, ◌+◌, ◌<◌, true, false, List, length, set, sym}
-use Rattle.std.proofs.Common.{ap, ◌∙◌, arith}
+use Rattle.std.proofs.Common.{ap, ◌∙◌, arith, Some}
 use Rattle.std.proofs.lemmas.List.{get_or-set_same, get_or-set_other}
 use Rattle.std.proofs.lemmas.List.Sums.{sum_by-set}
 use Rattle.ps_value.specs.declared.value.Value.{Value}
@@ -9,7 +9,9 @@ use Rattle.ps_formula.specs.Tree.{Tree}
 use Rattle.ps_eval.specs.Value.{ev}
 use Rattle.ps_delta.specs.State.{State}
 use Rattle.ps_sheet.specs.Settled.{content_of}
-use Rattle.ps_content.specs.declared.content.Content.TheVariants.{Formula}
+use Rattle.ps_content.specs.declared.content.Content.{Content}
+use Rattle.ps_content.specs.declared.content.Content.TheVariants.{Blank, Number, Text, Formula, Tally, Choice}
+use Rattle.ps_content.specs.Order.{formula_in}
 use Rattle.ps_eval.specs.Items.{Assignment}
 use Rattle.ps_sheet.specs.Settled.{content_mentions, value_by, value_of, shown_at}
 use Rattle.ps_sheet.specs.Rounds.{as_one, is_waiting, waiting_count, Evaluates, Progress, IsReady, IsHeld}
@@ -29,6 +31,15 @@ evaluates_set s values c x lt is = record {
   here = shown_at-same values c x lt ∙ is;
   others = λ d ne. shown_at-other values c d x ne;
 }
+
+-- a content whose formula is a tree is that formula
+pub formula_in-is : (k : Content) (t : Tree) → formula_in k ≡ Some t → k ≡ Formula t
+formula_in-is Blank t h = cc
+formula_in-is (Number n) t h = cc
+formula_in-is (Text text) t h = cc
+formula_in-is (Formula tree) t h = cc
+formula_in-is Tally t h = cc
+formula_in-is Choice t h = cc
 
 -- a cell with a formula is ready where no cell that the tree mentions waits
 ready_by_tree : (s : State) (v : Assignment) (c : ℕ) (t : Tree) → content_of (s c) ≡ Formula t → TreeIsFree t v

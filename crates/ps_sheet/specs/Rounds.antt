@@ -1,5 +1,5 @@
 -- The way to settled values: formula cells wait, showing #CYCLE!, until all cells that they refer to have a value.
-use Rattle.std.specs.Prelude.{◌≡◌, ◌≢◌, ℕ, Bool, true, false, cond, List, sum_by, take, ◌<◌, ◌≤◌}
+use Rattle.std.specs.Prelude.{◌≡◌, ◌≢◌, ℕ, Bool, true, false, cond, List, sum_by, take, ◌<◌, ◌≤◌, is_some}
 use Rattle.ps_value.specs.declared.value.Value.{Value}
 use Rattle.ps_value.specs.declared.value.Value.TheVariants.{Empty, Num, Err}
 use Rattle.ps_value.specs.declared.value.Fault.{Fault}
@@ -13,6 +13,7 @@ use Rattle.ps_sheet.specs.Settled.{content_of}
 use Rattle.ps_delta.specs.declared.cell_state.CellState.{CellState}
 use Rattle.ps_content.specs.declared.content.Content.{Content}
 use Rattle.ps_content.specs.declared.content.Content.TheVariants.{Blank, Number, Text, Formula, Tally, Choice}
+use Rattle.ps_content.specs.Order.{formula_in}
 use Rattle.ps_eval.specs.Items.{Assignment}
 use Rattle.ps_sheet.specs.Settled.{options_of, refers_to, Cyclic, shown_at, value_of}
 
@@ -31,12 +32,7 @@ is_waiting (Value.Choice o) = false
 is_waiting (Err f) = is_cycle f
 
 abbrev pub is_formula : Content → Bool
-is_formula Blank = false
-is_formula (Number n) = false
-is_formula (Text text) = false
-is_formula (Formula tree) = true
-is_formula Tally = false
-is_formula Choice = false
+is_formula content = is_some (formula_in content)
 
 -- what a cell shows before the first round: a formula waits, and any other content has its value
 abbrev pub first_by : Content → CellState → Value

@@ -1,7 +1,8 @@
 //! What a cell holds, as the sheet reads it.
 
-ghost use Rattle.std.specs.Prelude.{◌≡◌, false, IfSome, IfNone};
+ghost use Rattle.std.specs.Prelude.{◌≡◌};
 ghost use Rattle.std.specs.Option.{option_copied, option_map};
+ghost use Rattle.ps_content.specs.Order.{formula_in};
 ghost use Rattle.ps_sheet.specs.Settled.{content_of, options_of};
 ghost use Rattle.ps_sheet.specs.Rounds.{first_by, first_value, is_formula};
 ghost use Rattle.ps_sheet.specs.Edits.{is_clock_full};
@@ -21,13 +22,9 @@ pub(crate) fn content(state: &CellState) -> Option<&Content>
 
 /// The formula of a cell, if its content is one.
 pub(crate) fn formula_of(state: &CellState) -> Option<&Formula>
-    ensures some { IfSome (option_copied result) (λ tree. content_of state.now ≡ Content.Formula tree) }
-    ensures none { IfNone result (is_formula (content_of state.now) ≡ false) }
+    ensures { option_copied result ≡ formula_in (content_of state.now) }
 {
-    match content(state) {
-        Some(Content::Formula(shared)) => Some(shared.formula()),
-        _ => None,
-    }
+    content(state)?.formula()
 }
 
 /// Whether the content of a cell is a formula.

@@ -1,11 +1,11 @@
 //! What people ask of a sheet.
 
-ghost use Rattle.std.specs.Prelude.{◌≡◌, ◌↔◌, IsTrue, map};
+ghost use Rattle.std.specs.Prelude.{◌≡◌};
 ghost use Rattle.std.specs.Option.{SomeIff};
-ghost use Rattle.std.specs.List.Sorted.{IsStrictlyIncreasing};
 
 use ps_content::Content;
 use ps_grid::Cell;
+use ps_lattice::is_ascending;
 use std::marker::Model;
 
 /// One change of a sheet.
@@ -57,7 +57,7 @@ impl Batch {
     pub fn new(cells: Vec<(Cell, Content)>) -> Option<Batch>
         ensures { SomeIff result (IsBatch cells.items) cells.items }
     {
-        if cells.is_empty() || !are_ascending(&cells) {
+        if cells.is_empty() || !is_ascending(&cells) {
             return None;
         }
         Some(Batch { cells })
@@ -73,18 +73,4 @@ impl Batch {
         let Batch { cells } = self;
         cells
     }
-}
-
-/// Whether the cells are ascending and distinct.
-fn are_ascending(cells: &[(Cell, Content)]) -> bool
-    ensures { IsTrue result ↔ IsStrictlyIncreasing (map (λ e. e.0) cells.now) }
-{
-    for k in 1..cells.len() {
-        let before = cells[k - 1].0.index();
-        let here = cells[k].0.index();
-        if before >= here {
-            return false;
-        }
-    }
-    true
 }

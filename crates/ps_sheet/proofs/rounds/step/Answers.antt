@@ -1,10 +1,11 @@
 use Rattle.std.proofs.Common.{◌<◌, sym, ap, ◌∙◌, subst, arith}
 use Rattle.std.proofs.Common.{set}
+use Rattle.ps_content.specs.Order.{formula_in}
 use Rattle.ps_delta.specs.State.{state_at}
 use Rattle.ps_sheet.specs.Settled.{content_of}
 use Rattle.ps_sheet.specs.Settled.{shown_at}
 use Rattle.ps_sheet.specs.Rounds.{is_waiting, Progress, waiting_count}
-use Rattle.ps_sheet.proofs.RoundLemmas.{IsStep, step_progress, step_fewer}
+use Rattle.ps_sheet.proofs.RoundLemmas.{IsStep, formula_in-is, step_progress, step_fewer}
 use Rattle.ps_sheet.proofs.rounds.step.Given.{Over}
 use Rattle.ps_sheet.proofs.rounds.step.Goals as goal
 use Rattle.ps_sheet.proofs.rounds.step.Goals.{After-eval-value}
@@ -14,7 +15,8 @@ this_step : (g : Over) (c : After-eval-value g)
 this_step g c = record {
   in_range = let i = c.index-place.ensures.in_grid in let e = c.index-place.ensures.index in let w = c.requires.whole in
       omega (arith, i, e, w);
-  content = sym (ap content_of c.at.ensures.value) ∙ c.in-Some.ensures.some;
+  content = formula_in-is _ _
+      (ap (λ x. formula_in (content_of x)) (sym c.at.ensures.value) ∙ sym c.in-Some.ensures);
   waits = sym (ap is_waiting c.value_in.ensures) ∙ (sym c.is_waiting.ensures ∙ c.if-not-is_waiting.false);
   free = c.if-not-is_ready.ensures;
   value = c.eval-value.ensures.value;
