@@ -9,7 +9,8 @@ use Rattle.ps_sheet.specs.Settled.{content_of}
 use Rattle.ps_eval.specs.Items.{Assignment}
 use Rattle.ps_sheet.specs.Settled.{refers_to, value_of, SettledAtLeastOnce}
 use Rattle.ps_sheet.specs.Rounds.{is_waiting, is_formula, first_value, Progress, IsReady, IsHeld, Evaluates}
-use Rattle.ps_sheet.proofs.SettledLemmas.{bool_cases, true_not_false, formula_below, progress_start, progress_step}
+use Rattle.ps_grid.proofs.ChainLemmas.{bool_cases}
+use Rattle.ps_sheet.proofs.SettledLemmas.{true_not_false, formula_below, progress_start, progress_step}
 use Rattle.ps_sheet.proofs.SettledLemmas.{step_done, settled_at_end}
 
 -- how many of the first m cells wait

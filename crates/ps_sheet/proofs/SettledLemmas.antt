@@ -18,13 +18,10 @@ use Rattle.ps_sheet.specs.Settled.{content_mentions, refers_to, Cyclic, value_by
 use Rattle.ps_sheet.specs.Settled.{SettledAtMostOnce}
 use Rattle.ps_sheet.specs.Rounds.{is_cycle, is_waiting, is_formula, first_by, first_value, Progress, IsReady}
 use Rattle.ps_sheet.specs.Rounds.{IsHeld, Evaluates}
+use Rattle.ps_grid.proofs.ChainLemmas.{bool_cases}
 use Rattle.ps_grid.proofs.CycleLemmas.{acyclic_above, stuck_is_cyclic, acyclic_induction}
 use Rattle.ps_eval.proofs.Agreement.{ev-agrees}
 use Rattle.ps_eval.proofs.CycleFaults.{ev-cycle}
-
-pub bool_cases : (b : Bool) → (b ≡ true) ⊎ (b ≡ false)
-bool_cases true = inl refl
-bool_cases false = inr refl
 
 pub true_not_false : (b : Bool) → b ≡ true → b ≡ false → ⊥
 true_not_false b t f = let x : true ≡ false = sym t ∙ f in cc

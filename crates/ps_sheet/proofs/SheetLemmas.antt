@@ -30,7 +30,8 @@ use Rattle.ps_delta.specs.CellLaws.{joined_cell-empty_right}
 use Rattle.ps_delta.proofs.StateLemmas.{joined_state-at}
 use Rattle.ps_delta.proofs.EntryLemmas.{state_of-there}
 use Rattle.ps_delta.proofs.HistoryLemmas.{joined_history-nil, joined_history-push}
-use Rattle.ps_sheet.proofs.SettledLemmas.{bool_cases, true_not_false, not_cyclic, refers_formula, progress_start}
+use Rattle.ps_grid.proofs.ChainLemmas.{bool_cases}
+use Rattle.ps_sheet.proofs.SettledLemmas.{true_not_false, not_cyclic, refers_formula, progress_start}
 use Rattle.ps_sheet.proofs.SettledLemmas.{settled_at_end, settled_at_most_once}
 
 -- the empty sheet: nothing shown is settled

@@ -7,7 +7,7 @@ use Rattle.ps_delta.specs.State.{State, joined_state}
 use Rattle.ps_delta.specs.Deltas.{Entries, state_of, joined_history}
 use Rattle.ps_delta.proofs.StateLemmas.{joined_state-assoc, joined_state-comm}
 use Rattle.ps_delta.proofs.HistoryLemmas.{joined_history-cons, joined_history-contains}
-use Rattle.ps_sheet.proofs.SettledLemmas.{bool_cases}
+use Rattle.ps_grid.proofs.ChainLemmas.{bool_cases}
 use Rattle.ps_world.specs.World.{Numbers, picked}
 
 -- the first delta, in the set or not

@@ -14,7 +14,8 @@ use Rattle.ps_grid.specs.declared.refusal.Refusal.{Refusal}
 use Rattle.ps_delta.specs.State.{State, joined_state}
 use Rattle.ps_delta.specs.Deltas.{Entries, state_of, joined_history}
 use Rattle.ps_delta.proofs.HistoryLemmas.{joined_history-push}
-use Rattle.ps_sheet.proofs.SettledLemmas.{bool_cases, true_not_false}
+use Rattle.ps_grid.proofs.ChainLemmas.{bool_cases}
+use Rattle.ps_sheet.proofs.SettledLemmas.{true_not_false}
 use Rattle.ps_sheet.specs.Sheet.{IsSheet}
 use Rattle.ps_world.specs.World.{Numbers, WorldState, empty_world, picked, joined_of, with_delta, with_taken}
 use Rattle.ps_world.specs.World.{is_up_to, after, after_edit}
