@@ -44,6 +44,19 @@ new_choice y p new e = new (sym (joined_cell-choice y (paired p)) ∙ ap (λ (x 
 pub none_new : (y x : CellState) → ¬ (joined_cell y x ≡ y) → x ≢ empty_cell
 none_new y x new is = new (ap (joined_cell y) is ∙ joined_cell-empty_right y)
 
+-- so a cell of such a part isn't empty
+pub registered_some : (y x : CellState) (r : Option (Assignment Content))
+    → ¬ (joined_registers content_cmp y.register r ≡ y.register) → x ≡ registered r → x ≢ empty_cell
+registered_some y x r new made is = none_new y (registered r) (new_register y r new) (sym made ∙ is)
+
+pub counted_some : (y x : CellState) (t : Counts) → ¬ (joined_tallies y.tally t ≡ y.tally) → x ≡ counted t
+    → x ≢ empty_cell
+counted_some y x t new made is = none_new y (counted t) (new_tally y t new) (sym made ∙ is)
+
+pub paired_some : (y x : CellState) (p : Pairs) → ¬ (joined_choices y.choice p ≡ y.choice) → x ≡ paired p
+    → x ≢ empty_cell
+paired_some y x p new made is = none_new y (paired p) (new_choice y p new) (sym made ∙ is)
+
 -- so no part of an edit is empty
 counted_none : counted map.empty ≡ empty_cell
 unfolding empty_cell

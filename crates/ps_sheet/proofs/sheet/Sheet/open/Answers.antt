@@ -20,8 +20,4 @@ invariant_of-result c =
     }
 
 pub returns-clause-sheet : goal.returns-clause-sheet
-returns-clause-sheet c =
-    let none : map arc_value c.new-2.result.items ≡ [] = ap (map arc_value) c.new-2.ensures.items in
-    sheet_open c.args.replica (map arc_value c.new-2.result.items) c.in_ok-shown.shown.items none
-    ((omega arith, omega arith))
-    c.in_ok-shown.ensures.length c.in_ok-shown.ensures.empty
+returns-clause-sheet c = (invariant_of-result c).sheet
