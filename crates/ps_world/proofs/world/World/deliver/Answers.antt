@@ -1,52 +1,45 @@
-use Rattle.std.proofs.Common.{◌≡◌, ◌-◌, ◌≤◌, length, ap, ◌∙◌, refl, sym, arith, Some}
+use Rattle.std.proofs.Common.{◌≡◌, ◌-◌, ◌≤◌, length, ap, ◌∙◌, refl, sym, arith, set, Some}
 use Rattle.std.specs.Prelude.{map, slice_get}
 use Rattle.std.specs.Option.{option_map}
 use Rattle.std.specs.Arc.{arc_value}
 use Rattle.std.proofs.lemmas.List.{length-map}
 use Rattle.std.proofs.lemmas.Option.{slice_get-map, slice_get_read}
 use Rattle.ps_world.specs.Replicas.{WorldView}
-use Rattle.ps_world.proofs.WorldLemmas.{delivered}
+use Rattle.ps_world.specs.declared.event.Event.TheVariants.{Deliver}
+use Rattle.ps_world.proofs.WorldLemmas.{Goes, delivered}
+use Rattle.ps_world.proofs.world.World.deliver.Given.{Over}
 use Rattle.ps_world.proofs.world.World.deliver.Goals as goal
+use Rattle.ps_world.proofs.world.World.deliver.Goals.{In_ok-take}
+
+-- the world where the replica took the delta
+goes : (g : Over) (c : In_ok-take g) → Goes (Deliver c.args.replica c.args.number)
+    (record { deltas = map arc_value c.self.inside.deltas.items; replicas = c.self.inside.replicas.items })
+    (record {
+      deltas = map arc_value c.self.inside.deltas.items;
+      replicas = set c.self.inside.replicas.items (c.from-2.result - 1) c.take.new.self;
+    })
+goes g c =
+    let w : WorldView = record {
+      deltas = map arc_value c.self.inside.deltas.items;
+      replicas = c.self.inside.replicas.items;
+    } in
+    let i = c.from-2.result - 1 in
+    let high : c.args.number ≤ length w.deltas = omega (arith, length-map c.self.inside.deltas.items arc_value) in
+    let at : slice_get w.replicas i ≡ Some c.index_mut-taker.result.now =
+    slice_get_read c.self.inside.replicas.items _ i c.index_mut-taker.result.now refl (omega arith)
+    c.index_mut-taker.ensures.value in
+    let delta : slice_get w.deltas (c.args.number - 1) ≡ Some (arc_value c.in_ok-delta.delta) =
+    slice_get-map arc_value c.self.inside.deltas.items (c.args.number - 1)
+    ∙ (ap (option_map arc_value)
+    (slice_get_read c.self.inside.deltas.items _ (c.args.number - 1) c.index.result.now refl (omega arith)
+    c.index.ensures)
+    ∙ ap Some (sym c.in_ok-delta.ensures.cases)) in
+    delivered w c.args.replica c.args.number i c.index_mut-taker.result.now c.take.new.self
+    (arc_value c.in_ok-delta.delta) c.self.invariant (omega arith) at (omega arith) high delta
+    c.in_ok-take.ensures.joined c.in_ok-take.ensures.taken c.take.ensures.replica c.in_ok-take.ensures.sheet
 
 pub invariant_of-result : goal.invariant_of-result
-invariant_of-result g c =
-    let w : WorldView = record {
-      deltas = map arc_value c.self.inside.deltas.items;
-      replicas = c.self.inside.replicas.items;
-    } in
-    let i = c.from-2.result - 1 in
-    let high : c.args.number ≤ length w.deltas = omega (arith, length-map c.self.inside.deltas.items arc_value) in
-    let at : slice_get w.replicas i ≡ Some c.index_mut-taker.result.now =
-    slice_get_read c.self.inside.replicas.items _ i c.index_mut-taker.result.now refl (omega arith)
-    c.index_mut-taker.ensures.value in
-    let delta : slice_get w.deltas (c.args.number - 1) ≡ Some (arc_value c.in_ok-delta.delta) =
-    slice_get-map arc_value c.self.inside.deltas.items (c.args.number - 1)
-    ∙ (ap (option_map arc_value)
-    (slice_get_read c.self.inside.deltas.items _ (c.args.number - 1) c.index.result.now refl (omega arith)
-    c.index.ensures)
-    ∙ ap Some (sym c.in_ok-delta.ensures.cases)) in
-    (delivered w c.args.replica c.args.number i c.index_mut-taker.result.now c.take.new.self
-    (arc_value c.in_ok-delta.delta) c.self.invariant (omega arith) at (omega arith) high delta
-    c.in_ok-take.ensures.joined c.in_ok-take.ensures.taken c.take.ensures.replica c.in_ok-take.ensures.sheet).world
+invariant_of-result g c = (goes g c).world
 
 pub returns-clause-follows : goal.returns-clause-follows
-returns-clause-follows g c =
-    let w : WorldView = record {
-      deltas = map arc_value c.self.inside.deltas.items;
-      replicas = c.self.inside.replicas.items;
-    } in
-    let i = c.from-2.result - 1 in
-    let high : c.args.number ≤ length w.deltas = omega (arith, length-map c.self.inside.deltas.items arc_value) in
-    let at : slice_get w.replicas i ≡ Some c.index_mut-taker.result.now =
-    slice_get_read c.self.inside.replicas.items _ i c.index_mut-taker.result.now refl (omega arith)
-    c.index_mut-taker.ensures.value in
-    let delta : slice_get w.deltas (c.args.number - 1) ≡ Some (arc_value c.in_ok-delta.delta) =
-    slice_get-map arc_value c.self.inside.deltas.items (c.args.number - 1)
-    ∙ (ap (option_map arc_value)
-    (slice_get_read c.self.inside.deltas.items _ (c.args.number - 1) c.index.result.now refl (omega arith)
-    c.index.ensures)
-    ∙ ap Some (sym c.in_ok-delta.ensures.cases)) in
-    rw (← c.self.view_is)
-    (delivered w c.args.replica c.args.number i c.index_mut-taker.result.now c.take.new.self
-    (arc_value c.in_ok-delta.delta) c.self.invariant (omega arith) at (omega arith) high delta
-    c.in_ok-take.ensures.joined c.in_ok-take.ensures.taken c.take.ensures.replica c.in_ok-take.ensures.sheet).follows
+returns-clause-follows g c = rw (← c.self.view_is) (goes g c).follows
