@@ -42,8 +42,8 @@ use Rattle.ps_sheet.specs.declared.edit.Edit.TheVariants as edits
 use Rattle.ps_sheet.specs.Edits.{assigned, counted, delta_of_batch, delta_of_edit, holds_choice, holds_tally}
 use Rattle.ps_sheet.specs.Edits.{is_clock_full, paired, refused_if}
 use Rattle.ps_sheet.specs.Settled.{content_of}
-use Rattle.ps_sheet.proofs.EditLemmas.{choice_not_empty, some_choice, some_tally, tally_not_empty}
-use Rattle.ps_sheet.proofs.SetLemmas.{batch_is_delta}
+use Rattle.ps_sheet.proofs.FreshCells.{choice_not_empty, some_choice, some_tally, tally_not_empty}
+use Rattle.ps_sheet.proofs.BatchDeltas.{batch_is_delta}
 use Rattle.ps_session.specs.EditLines.{EditLinesFit, EditsAreLawful, IsEdit}
 use Rattle.ps_session.proofs.RangeLemmas.{IsInRange, choice_in_range, history_in_range}
 

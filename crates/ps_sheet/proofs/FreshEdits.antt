@@ -17,8 +17,8 @@ use Rattle.ps_delta.specs.State.{State, IsBelow, joined_cell}
 use Rattle.ps_delta.specs.Deltas.{Entries, IsDelta, state_of}
 use Rattle.ps_sheet.specs.declared.edit.Edit.TheVariants.{Set, SetAll, Add, Sub, Choose, Unchoose}
 use Rattle.ps_sheet.specs.Edits.{assigned, delta_of_batch, is_clock_full, refused_if, EditsAreFresh}
-use Rattle.ps_sheet.proofs.EditLemmas.{new_one, new_tally, new_choice}
-use Rattle.ps_sheet.proofs.SetLemmas.{batch_new}
+use Rattle.ps_sheet.proofs.FreshCells.{new_one, new_tally, new_choice}
+use Rattle.ps_sheet.proofs.BatchDeltas.{batch_new}
 
 -- an answer that isn't refused
 passed : (b : Bool) (refusal : Refusal) (answer : Result Entries Refusal) (d : Entries)

@@ -1,2 +1,2 @@
-pub mod PickedLemmas
-pub mod WorldLemmas
+pub mod PickedJoins
+pub mod WorldSteps

@@ -1,5 +1,5 @@
 use Rattle.std.proofs.Common.{◌≡◌, ℕ, ◌<◌, length, get_or, nat_cmp, Equal, subst, is_ok}
-use Rattle.ps_sheet.proofs.ListedLemmas.{In-found, In-remove, In-insert_if}
+use Rattle.ps_sheet.proofs.EditedLists.{In-found, In-remove, In-insert_if}
 use Rattle.ps_sheet.proofs.changes.enlist.Goals as goal
 
 pub returns-then-not-holds-clause-others : goal.returns-then-not-holds-clause-others

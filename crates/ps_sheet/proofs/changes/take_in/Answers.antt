@@ -3,7 +3,7 @@ use Rattle.ps_delta.specs.State.{State, joined_state, state_at}
 use Rattle.ps_delta.specs.Deltas.{Entries, state_of}
 use Rattle.ps_sheet.specs.Settled.{shown_at}
 use Rattle.ps_sheet.specs.Rounds.{ListsFormulas}
-use Rattle.ps_sheet.proofs.SheetLemmas.{before_change, in_grid_change, kept_change}
+use Rattle.ps_sheet.proofs.AppendedDeltas.{before_change, in_grid_change, kept_change}
 use Rattle.ps_sheet.proofs.changes.take_in.Goals as goal
 
 -- the grid holds the join of the entries, under the name that the walks go by

@@ -1,6 +1,6 @@
 use Rattle.ps_lattice.specs.Choice.{is_chosen}
 use Rattle.ps_lattice.specs.declared.limits.TheConstants.{OPTIONS}
-use Rattle.ps_sheet.proofs.BitLemmas.{is_bits_of}
+use Rattle.ps_sheet.proofs.SetsAsNumbers.{is_bits_of}
 use Rattle.ps_sheet.proofs.contents.options_of.Goals as goal
 
 pub returns : goal.returns

@@ -1,4 +1,4 @@
-use Rattle.ps_sheet.proofs.AcceptLemmas.{accepted_join}
+use Rattle.ps_sheet.proofs.AcceptedRuns.{accepted_join}
 use Rattle.ps_sheet.proofs.laws.accepted_deltas_join.Goals as goal
 
 pub returns : goal.returns

@@ -1,4 +1,4 @@
-use Rattle.ps_sheet.proofs.AcceptLemmas.{same_taken}
+use Rattle.ps_sheet.proofs.AcceptedRuns.{same_taken}
 use Rattle.ps_sheet.proofs.laws.same_deltas_show_the_same.Goals as goal
 
 pub same_join_shows_the_same-requires : goal.same_join_shows_the_same-requires

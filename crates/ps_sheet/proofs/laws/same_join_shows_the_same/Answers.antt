@@ -1,4 +1,4 @@
-use Rattle.ps_sheet.proofs.SheetLemmas.{same_shown}
+use Rattle.ps_sheet.proofs.AcceptedRuns.{same_shown}
 use Rattle.ps_sheet.proofs.laws.same_join_shows_the_same.Goals as goal
 
 pub returns : goal.returns

@@ -1,4 +1,4 @@
-use Rattle.ps_sheet.proofs.EditLemmas.{registered_some, counted_some, paired_some}
+use Rattle.ps_sheet.proofs.FreshCells.{registered_some, counted_some, paired_some}
 use Rattle.ps_sheet.proofs.made.delta_of.Goals as goal
 
 -- what an edit makes of a cell is new, and so not empty

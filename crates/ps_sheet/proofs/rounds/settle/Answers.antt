@@ -1,6 +1,6 @@
 use Rattle.ps_delta.specs.State.{state_at}
 use Rattle.ps_sheet.specs.Settled.{shown_at}
-use Rattle.ps_sheet.proofs.SettledLemmas.{progress_start, settled_at_end}
+use Rattle.ps_sheet.proofs.SettledValues.{progress_start, settled_at_end}
 use Rattle.ps_sheet.proofs.rounds.settle.Goals as goal
 
 pub loop-init : goal.loop-init

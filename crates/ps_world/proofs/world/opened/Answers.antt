@@ -1,7 +1,7 @@
 use Rattle.std.proofs.Common.{arith, subst, sym}
 use Rattle.ps_world.specs.Replicas.{ReplicaView, AreNew}
 use Rattle.std.proofs.Common.{List}
-use Rattle.ps_world.proofs.WorldLemmas.{new_push}
+use Rattle.ps_world.proofs.WorldSteps.{new_push}
 use Rattle.ps_world.proofs.world.opened.Goals as goal
 
 pub loop-place-preserved : goal.loop-place-preserved

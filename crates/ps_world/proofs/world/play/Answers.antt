@@ -1,6 +1,6 @@
 use Rattle.std.proofs.Common.{subst}
 use Rattle.ps_world.specs.Replicas.{IsWorld}
-use Rattle.ps_world.proofs.WorldLemmas.{shows_settled, same_taken_shows_the_same}
+use Rattle.ps_world.proofs.WorldSteps.{shows_settled, same_taken_shows_the_same}
 use Rattle.ps_world.proofs.world.play.Goals as goal
 
 pub returns-clause-world : goal.returns-clause-world

@@ -9,7 +9,7 @@ use Rattle.ps_sheet.specs.Sheet.{SheetView, IsSheet}
 use Rattle.ps_grid.specs.declared.size.TheConstants.{CELLS}
 use Rattle.std.specs.Vec.{with_items}
 use Rattle.ps_delta.proofs.HistoryLemmas.{joined_history-push}
-use Rattle.ps_sheet.proofs.SheetLemmas.{sheet_after, joined_after}
+use Rattle.ps_sheet.proofs.AppendedDeltas.{sheet_after, joined_after}
 use Rattle.ps_sheet.proofs.sheet.Sheet.append.Given.{Over}
 use Rattle.ps_sheet.proofs.sheet.Sheet.append.Goals as goal
 use Rattle.ps_sheet.proofs.sheet.Sheet.append.Goals.{After-len}

@@ -3,7 +3,7 @@ use Rattle.std.specs.Arc.{arc_value}
 use Rattle.ps_delta.specs.State.{State, IsBelow, joined_state, state_at}
 use Rattle.ps_delta.specs.Deltas.{Entries, joined_history, state_of}
 use Rattle.ps_sheet.specs.Sheet.{SheetView}
-use Rattle.ps_sheet.proofs.SheetLemmas.{below_joined}
+use Rattle.ps_sheet.proofs.AppendedDeltas.{below_joined}
 use Rattle.ps_sheet.proofs.sheet.Sheet.receive.Goals as goal
 
 pub returns-then-covers-clause-joined : goal.returns-then-covers-clause-joined

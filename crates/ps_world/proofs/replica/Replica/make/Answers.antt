@@ -1,5 +1,5 @@
 use Rattle.std.specs.Arc.{arc_value}
-use Rattle.ps_world.proofs.WorldLemmas.{made_joins}
+use Rattle.ps_world.proofs.WorldSteps.{made_joins}
 use Rattle.ps_world.proofs.replica.Replica.make.Goals as goal
 
 pub returns-clause-joined : goal.returns-clause-joined

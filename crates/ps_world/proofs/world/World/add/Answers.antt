@@ -4,7 +4,7 @@ use Rattle.std.specs.Arc.{arc_value}
 use Rattle.std.proofs.lemmas.List.{map-append}
 use Rattle.ps_delta.specs.Deltas.{Entries}
 use Rattle.ps_world.specs.Replicas.{IsWorld, world_of}
-use Rattle.ps_world.proofs.WorldLemmas.{added}
+use Rattle.ps_world.proofs.WorldSteps.{added}
 use Rattle.ps_world.proofs.world.World.add.Goals as goal
 use Rattle.ps_world.proofs.world.World.add.Goals.{In_ok-push}
 

@@ -6,7 +6,7 @@ use Rattle.std.proofs.lemmas.List.{length-map}
 use Rattle.std.proofs.lemmas.Option.{slice_get-map, slice_get_read}
 use Rattle.ps_world.specs.Replicas.{WorldView}
 use Rattle.ps_world.specs.declared.event.Event.TheVariants.{Deliver}
-use Rattle.ps_world.proofs.WorldLemmas.{Goes, delivered}
+use Rattle.ps_world.proofs.WorldSteps.{Goes, delivered}
 use Rattle.ps_world.proofs.world.World.deliver.Given.{Over}
 use Rattle.ps_world.proofs.world.World.deliver.Goals as goal
 use Rattle.ps_world.proofs.world.World.deliver.Goals.{In_ok-take}

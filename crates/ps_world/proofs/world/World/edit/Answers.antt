@@ -6,7 +6,7 @@ use Rattle.std.proofs.lemmas.List.{length-map, map-append}
 use Rattle.std.proofs.lemmas.Option.{slice_get_read}
 use Rattle.ps_world.specs.Replicas.{WorldView}
 use Rattle.ps_world.specs.declared.event.Event.TheVariants.{Edit}
-use Rattle.ps_world.proofs.WorldLemmas.{Goes, edited, refused}
+use Rattle.ps_world.proofs.WorldSteps.{Goes, edited, refused}
 use Rattle.ps_world.proofs.world.World.edit.Given.{Over}
 use Rattle.ps_world.proofs.world.World.edit.Goals as goal
 use Rattle.ps_world.proofs.world.World.edit.Goals.{In-None, In_ok-push-in-Some}

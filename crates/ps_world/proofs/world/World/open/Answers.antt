@@ -1,7 +1,7 @@
 use Rattle.std.proofs.Common.{ap}
 use Rattle.std.specs.Prelude.{map}
 use Rattle.std.specs.Arc.{arc_value}
-use Rattle.ps_world.proofs.WorldLemmas.{new_state, new_world}
+use Rattle.ps_world.proofs.WorldSteps.{new_state, new_world}
 use Rattle.ps_world.proofs.world.World.open.Goals as goal
 
 pub invariant_of-result : goal.invariant_of-result

@@ -15,7 +15,7 @@ use Rattle.ps_delta.specs.State.{State, joined_state}
 use Rattle.ps_delta.specs.Deltas.{Entries, state_of, joined_history}
 use Rattle.ps_delta.proofs.HistoryLemmas.{joined_history-push}
 use Rattle.ps_grid.proofs.ChainLemmas.{bool_cases}
-use Rattle.ps_sheet.proofs.SettledLemmas.{true_not_false}
+use Rattle.ps_sheet.proofs.SettledValues.{true_not_false}
 use Rattle.ps_sheet.specs.Sheet.{IsSheet}
 use Rattle.ps_world.specs.World.{Numbers, WorldState, empty_world, picked, joined_of, with_delta, with_taken}
 use Rattle.ps_world.specs.World.{is_up_to, after, after_edit}
@@ -29,8 +29,8 @@ use Rattle.std.specs.Result.{IsErr}
 use Rattle.ps_world.specs.Replicas.{ReplicaView, WorldView, replica_at, has_taken, world_of, IsReplica, IsWorld}
 use Rattle.ps_world.specs.Replicas.{IsNew, AreNew, Follows, ShowsSettled, SameTakenShowTheSame}
 use Rattle.ps_sheet.specs.Settled.{IsSettled, shown_at}
-use Rattle.ps_sheet.proofs.SheetLemmas.{same_shown}
-use Rattle.ps_world.proofs.PickedLemmas.{picked-append, joined_more}
+use Rattle.ps_sheet.proofs.AcceptedRuns.{same_shown}
+use Rattle.ps_world.proofs.PickedJoins.{picked-append, joined_more}
 
 -- the last of a list with one more at its end
 get_seam : {X : Type 0} (h : List X) (d : X) → slice_get (h ++ d ∷ []) (length h) ≡ Some d

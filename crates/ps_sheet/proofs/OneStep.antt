@@ -1,4 +1,4 @@
--- One value written into the list of the values that are shown.
+-- One step of a round: a cell gets its value, the way to settled values is kept, and one cell less waits.
 use Rattle.std.proofs.Common.{◌≡◌, ◌≢◌, ℕ, ◌+◌, ◌<◌, true, false, List, length, set, sym}
 use Rattle.std.proofs.Common.{ap, ◌∙◌, arith, Some}
 use Rattle.std.proofs.lemmas.List.{get_or-set_same, get_or-set_other}
@@ -16,7 +16,7 @@ use Rattle.ps_eval.specs.Items.{Assignment}
 use Rattle.ps_sheet.specs.Settled.{content_mentions, value_by, value_of, shown_at}
 use Rattle.ps_sheet.specs.Rounds.{as_one, is_waiting, waiting_count, Evaluates, Progress, IsReady, IsHeld}
 use Rattle.ps_sheet.specs.Rounds.{TreeIsFree, TreeHasWaiting}
-use Rattle.ps_sheet.proofs.SettledLemmas.{progress_step, step_done}
+use Rattle.ps_sheet.proofs.SettledValues.{progress_step, step_done}
 
 shown_at-same : (values : List Value) (c : ℕ) (x : Value) → c < length values → shown_at (set values c x) c ≡ x
 shown_at-same values c x lt = get_or-set_same values c x Empty lt

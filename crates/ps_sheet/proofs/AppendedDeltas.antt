@@ -5,7 +5,7 @@ use Rattle.std.proofs.Common.{subst}
 use Rattle.std.specs.List.{All}
 use Rattle.std.proofs.Math.ListN.{get_or-append}
 use Rattle.std.proofs.Math.Seq.{get_or-append_seam, take-append_seam}
-use Rattle.std.proofs.lemmas.List.{take-append-le, same_lists, get_or_default}
+use Rattle.std.proofs.lemmas.List.{take-append-le}
 use Rattle.std.proofs.lemmas.List.Folds.{list_any_none}
 use Rattle.std.proofs.lemmas.List.Elements.{All-weaker}
 use Rattle.std.proofs.lemmas.Grind.{common_steps}
@@ -13,33 +13,23 @@ use Rattle.std.proofs.lemmas.Bool.{cases_lt}
 use Rattle.ps_grid.specs.declared.size.TheConstants.{CELLS}
 use Rattle.ps_grid.specs.Chains.{In}
 use Rattle.ps_value.specs.declared.value.Value.{Value}
-use Rattle.ps_value.specs.declared.value.Value.TheVariants.{Empty}
 use Rattle.ps_delta.specs.declared.cell_state.CellState.{CellState}
 use Rattle.ps_content.specs.declared.content.Content.{Content}
 use Rattle.ps_content.specs.declared.content.Content.TheVariants.{Blank, Number, Text, Formula, Tally, Choice}
-use Rattle.ps_delta.specs.State.{State, IsBelow, IsInGrid, empty_cell, empty_state, joined_cell, joined_state}
+use Rattle.ps_delta.specs.State.{State, IsBelow, IsInGrid, empty_cell, joined_cell, joined_state}
 use Rattle.ps_delta.specs.Deltas.{Entries, state_of, joined_history}
 use Rattle.ps_sheet.specs.Settled.{content_of}
-use Rattle.ps_lattice.specs.declared.limits.TheConstants.{REPLICAS}
 use Rattle.ps_eval.specs.Items.{Assignment}
 use Rattle.ps_sheet.specs.Settled.{value_by, IsSettled, shown_at}
-use Rattle.ps_sheet.specs.Rounds.{is_waiting, is_formula, first_by, first_value, ListsFormulas}
+use Rattle.ps_sheet.specs.Rounds.{is_formula, first_by, first_value, ListsFormulas}
 use Rattle.ps_sheet.specs.Changes.{names}
 use Rattle.ps_sheet.specs.Sheet.{SheetView, IsFresh, IsSheet}
 use Rattle.ps_delta.specs.CellLaws.{joined_cell-empty_right}
 use Rattle.ps_delta.proofs.StateLemmas.{joined_state-at}
 use Rattle.ps_delta.proofs.EntryLemmas.{state_of-there}
-use Rattle.ps_delta.proofs.HistoryLemmas.{joined_history-nil, joined_history-push}
+use Rattle.ps_delta.proofs.HistoryLemmas.{joined_history-push}
 use Rattle.ps_grid.proofs.ChainLemmas.{bool_cases}
-use Rattle.ps_sheet.proofs.SettledLemmas.{true_not_false, not_cyclic, refers_formula, progress_start}
-use Rattle.ps_sheet.proofs.SettledLemmas.{settled_at_end, settled_at_most_once}
-
--- the empty sheet: nothing shown is settled
-pub settled_empty : (v : Assignment) → ((c : ℕ) → v c ≡ Empty) → IsSettled empty_state v
-unfolding empty_state empty_cell
-settled_empty v blank =
-    settled_at_end empty_state v (λ c out. refl) (progress_start empty_state v blank)
-    (λ c waits. absurd (true_not_false (is_waiting (v c)) waits (ap is_waiting (blank c))))
+use Rattle.ps_sheet.proofs.SettledValues.{true_not_false, not_cyclic, refers_formula}
 
 nothing : (c : ℕ) → state_of [] c ≡ empty_cell
 unfolding state_of
@@ -143,30 +133,6 @@ sheet_push x d shown sheet new all settled whole =
 pub below_joined : (s t : State) → IsBelow t s → s ≡ joined_state s t
 below_joined s t below = sym below
 
--- the empty state has no formula
-pub lists_none : (cells : List ℕ) → ListsFormulas empty_state cells
-unfolding empty_state empty_cell
-lists_none cells c h = absurd (true_not_false false h refl)
-
-in_grid_empty : IsInGrid empty_state
-unfolding empty_state
-in_grid_empty c out = refl
-
--- a sheet of no delta that shows nothing
-pub sheet_open : (replica : ℕ) (history : List Entries) (shown : List Value) → history ≡ []
-    → (1 ≤ replica) × (replica ≤ REPLICAS) → length shown ≡ CELLS → ((c : ℕ) → shown_at shown c ≡ Empty)
-    → IsSheet (record { replica = replica; history = history; shown = shown })
-sheet_open replica history shown none range whole blank = record {
-  settled = subst (λ (h : List Entries). IsSettled (joined_history h) (shown_at shown)) (sym none)
-      (subst (λ (s : State). IsSettled s (shown_at shown)) (sym joined_history-nil)
-      (settled_empty (shown_at shown) blank));
-  fresh = subst IsFresh (sym none) (λ k lt. absurd (omega arith));
-  in_grid = subst (λ (h : List Entries). IsInGrid (joined_history h)) (sym none)
-      (subst IsInGrid (sym joined_history-nil) in_grid_empty);
-  whole = whole;
-  replica = range;
-}
-
 -- what is known of a change: the state after it, and the entries that it names
 module _ (s t : State) (d : Entries) (is : t ≡ joined_state s (state_of d)) where
   pub before_change : (formulas : List ℕ) → ListsFormulas s formulas
@@ -209,18 +175,3 @@ joined_after h d e s t history pushed before same after =
     after ∙ (ap (λ (u : State). joined_state u (state_of e)) before
     ∙ (ap (λ (q : Entries). joined_state (joined_history h) (state_of q)) same
     ∙ (sym (joined_history-push h d) ∙ ap joined_history (sym pushed))))
-
--- two lists of one length that give each cell the same value are equal
-same_values : (xs ys : List Value) → length xs ≡ length ys → ((c : ℕ) → shown_at xs c ≡ shown_at ys c) → xs ≡ ys
-same_values xs ys lengths same =
-    same_lists xs ys lengths
-    (λ k d lt. get_or_default xs k d Empty lt ∙
-    (same k ∙ get_or_default ys k Empty d (let e = lengths in omega arith)))
-
--- two sheets whose joined histories are equal show the same
-pub same_shown : (a b : SheetView) → IsSheet a → IsSheet b → joined_history a.history ≡ joined_history b.history
-    → a.shown ≡ b.shown
-same_shown a b of_a of_b same =
-    same_values a.shown b.shown (of_a.whole ∙ sym of_b.whole)
-    (settled_at_most_once (joined_history a.history) (shown_at a.shown) (shown_at b.shown) of_a.in_grid of_a.settled
-    (subst (λ (s : State). IsSettled s (shown_at b.shown)) (sym same) of_b.settled))

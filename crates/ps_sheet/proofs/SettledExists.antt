@@ -10,8 +10,8 @@ use Rattle.ps_eval.specs.Items.{Assignment}
 use Rattle.ps_sheet.specs.Settled.{refers_to, value_of, SettledAtLeastOnce}
 use Rattle.ps_sheet.specs.Rounds.{is_waiting, is_formula, first_value, Progress, IsReady, IsHeld, Evaluates}
 use Rattle.ps_grid.proofs.ChainLemmas.{bool_cases}
-use Rattle.ps_sheet.proofs.SettledLemmas.{true_not_false, formula_below, progress_start, progress_step}
-use Rattle.ps_sheet.proofs.SettledLemmas.{step_done, settled_at_end}
+use Rattle.ps_sheet.proofs.SettledValues.{true_not_false, formula_below, progress_start, progress_step}
+use Rattle.ps_sheet.proofs.SettledValues.{step_done, settled_at_end}
 
 -- how many of the first m cells wait
 waiting_below : Assignment → ℕ → ℕ

@@ -24,7 +24,7 @@ use Rattle.ps_delta.specs.Deltas.{IsDelta, state_of}
 use Rattle.ps_delta.proofs.EntryLemmas.{state_of-here}
 use Rattle.ps_sheet.specs.Batches.{IsBatch}
 use Rattle.ps_sheet.specs.Edits.{assigned, is_clock_full, delta_of_batch, refused_if}
-use Rattle.ps_sheet.proofs.EditLemmas.{new_at, new_register}
+use Rattle.ps_sheet.proofs.FreshCells.{new_at, new_register}
 
 -- a full clock among the cells refuses the batch
 pub any_full_refuses : (r : ℕ) (s : State) (cells : List (ℕ × Content))

@@ -1,4 +1,4 @@
--- The delta of an edit is new: it isn't below the state that it was made over.
+-- A cell of an edit's delta changes the cell of the state that the delta was made over, and so isn't empty.
 use Rattle.std.proofs.Common.{◌≡◌, ◌≢◌, ℕ, [], ◌∷◌, Option, refl, sym, ap, ◌∙◌}
 use Rattle.std.specs.FinMap as map
 use Rattle.ps_lattice.specs.declared.register.Assignment.{Assignment}
