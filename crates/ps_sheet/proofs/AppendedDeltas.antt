@@ -21,8 +21,8 @@ use Rattle.ps_delta.specs.Deltas.{Entries, state_of, joined_history}
 use Rattle.ps_sheet.specs.Settled.{content_of}
 use Rattle.ps_eval.specs.Items.{Assignment}
 use Rattle.ps_sheet.specs.Settled.{value_by, IsSettled, shown_at}
-use Rattle.ps_sheet.specs.Rounds.{is_formula, first_by, first_value, ListsFormulas}
-use Rattle.ps_sheet.specs.Changes.{names}
+use Rattle.ps_sheet.specs.Inside.Rounds.{is_formula, first_by, first_value, ListsFormulas}
+use Rattle.ps_sheet.specs.Inside.Rounds.{names}
 use Rattle.ps_sheet.specs.Sheet.{SheetView, IsFresh, IsSheet}
 use Rattle.ps_delta.specs.CellLaws.{joined_cell-empty_right}
 use Rattle.ps_delta.proofs.StateLemmas.{joined_state-at}

@@ -10,7 +10,7 @@ use Rattle.ps_delta.specs.Deltas.{Entries, joined_history}
 use Rattle.ps_lattice.specs.declared.limits.TheConstants.{REPLICAS}
 use Rattle.ps_eval.specs.Items.{Assignment}
 use Rattle.ps_sheet.specs.Settled.{IsSettled, shown_at}
-use Rattle.ps_sheet.specs.Rounds.{is_waiting, ListsFormulas}
+use Rattle.ps_sheet.specs.Inside.Rounds.{is_waiting, ListsFormulas}
 use Rattle.ps_sheet.specs.Sheet.{IsFresh, IsSheet}
 use Rattle.ps_delta.proofs.HistoryLemmas.{joined_history-nil}
 use Rattle.ps_sheet.proofs.SettledValues.{true_not_false, progress_start}

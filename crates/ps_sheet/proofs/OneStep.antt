@@ -14,8 +14,8 @@ use Rattle.ps_content.specs.declared.content.Content.TheVariants.{Blank, Number,
 use Rattle.ps_content.specs.Order.{formula_in}
 use Rattle.ps_eval.specs.Items.{Assignment}
 use Rattle.ps_sheet.specs.Settled.{content_mentions, value_by, value_of, shown_at}
-use Rattle.ps_sheet.specs.Rounds.{as_one, is_waiting, waiting_count, Evaluates, Progress, IsReady, IsHeld}
-use Rattle.ps_sheet.specs.Rounds.{TreeIsFree, TreeHasWaiting}
+use Rattle.ps_sheet.specs.Inside.Rounds.{as_one, is_waiting, waiting_count, Evaluates, Progress, IsReady, IsHeld}
+use Rattle.ps_sheet.specs.Inside.Rounds.{TreeIsFree, TreeHasWaiting}
 use Rattle.ps_sheet.proofs.SettledValues.{progress_step, step_done}
 
 shown_at-same : (values : List Value) (c : ℕ) (x : Value) → c < length values → shown_at (set values c x) c ≡ x

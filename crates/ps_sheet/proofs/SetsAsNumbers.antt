@@ -7,7 +7,7 @@ use Rattle.std.proofs.Math.Numerals.{add-one}
 use Rattle.std.proofs.lemmas.Bool.{cases_eq}
 use Rattle.std.proofs.lemmas.Nat.{pow_pos}
 use Rattle.std.proofs.lemmas.Nat.Bits.{same_from_bits_below, bit_at-suc, bit_at_lowest, bit_at-lt, and_pow}
-use Rattle.ps_sheet.specs.Bits.{bits_of}
+use Rattle.ps_sheet.specs.Settled.{bits_of}
 use Rattle.ps_grid.proofs.ChainLemmas.{bool_cases}
 
 as_number : Bool → ℕ

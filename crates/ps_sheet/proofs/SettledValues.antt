@@ -16,8 +16,8 @@ use Rattle.ps_grid.specs.Chains.{OnlyBelow}
 use Rattle.ps_eval.specs.Items.{Assignment}
 use Rattle.ps_sheet.specs.Settled.{content_mentions, refers_to, Cyclic, value_by, value_of, IsSettled}
 use Rattle.ps_sheet.specs.Settled.{SettledAtMostOnce}
-use Rattle.ps_sheet.specs.Rounds.{is_cycle, is_waiting, is_formula, first_by, first_value, Progress, IsReady}
-use Rattle.ps_sheet.specs.Rounds.{IsHeld, Evaluates}
+use Rattle.ps_sheet.specs.Inside.Rounds.{is_cycle, is_waiting, is_formula, first_by, first_value, Progress, IsReady}
+use Rattle.ps_sheet.specs.Inside.Rounds.{IsHeld, Evaluates}
 use Rattle.ps_grid.proofs.ChainLemmas.{bool_cases}
 use Rattle.ps_grid.proofs.CycleLemmas.{acyclic_above, stuck_is_cyclic, acyclic_induction}
 use Rattle.ps_eval.proofs.Agreement.{ev-agrees}

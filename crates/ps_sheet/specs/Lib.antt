@@ -1,9 +1,6 @@
 pub mod Batches
-pub mod Bits
-pub mod Changes
 pub mod Edits
-pub mod Kept
-pub mod Rounds
+pub mod Inside
 pub mod Settled
 pub mod Sheet
 pub mod SheetCode

@@ -1,5 +1,5 @@
 -- What a sheet shows: references of a cell, the value of a cell, and settled values.
-use Rattle.std.specs.Prelude.{◌≡◌, ℕ, ◌↔◌, Bool, false, List, slice_index_or}
+use Rattle.std.specs.Prelude.{◌≡◌, ℕ, zero, suc, ◌+◌, ◌*◌, ◌↔◌, Bool, false, cond, List, slice_index_or}
 use Rattle.ps_grid.specs.Chains.{References, IsCyclic}
 use Rattle.ps_value.specs.declared.value.Value.{Value}
 use Rattle.ps_value.specs.declared.value.Value.TheVariants.{Empty, Num, Err}
@@ -11,7 +11,6 @@ use Rattle.ps_lattice.specs.Tally.{value_of as tally_value}
 use Rattle.ps_lattice.specs.Choice.{Pairs, is_chosen}
 use Rattle.ps_lattice.specs.declared.limits.TheConstants.{OPTIONS}
 use Rattle.std.specs.Option.{option_map_or}
-use Rattle.ps_sheet.specs.Bits.{bits_of}
 use Rattle.ps_delta.specs.State.{State, IsInGrid}
 use Rattle.ps_delta.specs.declared.cell_state.CellState.{CellState}
 use Rattle.ps_content.specs.declared.content.Content.{Content}
@@ -37,6 +36,11 @@ refers_to s c d = content_mentions (content_of (s c)) d
 -- some chain of references from the cell holds a cell twice
 abbrev pub Cyclic : State → ℕ → Type 0
 Cyclic s c = IsCyclic (refers_to s) c
+
+-- the number below 2 ^ n whose bit k is 1 where k passes the test
+unfoldable pub bits_of : (ℕ → Bool) → ℕ → ℕ
+bits_of p zero = 0
+bits_of p (suc n) = cond (p 0) 1 0 + 2 * bits_of (λ k. p (k + 1)) n
 
 -- the options that are in, as a number: bit k for option k
 abbrev pub options_of : Pairs → ℕ

@@ -7,8 +7,8 @@ ghost use Rattle.ps_grid.specs.Chains.{In};
 ghost use Rattle.ps_delta.specs.State.{IsInGrid, joined_state, state_at};
 ghost use Rattle.ps_delta.specs.Deltas.{state_of};
 ghost use Rattle.ps_sheet.specs.Settled.{content_of, IsSettled, shown_at};
-ghost use Rattle.ps_sheet.specs.Rounds.{first_value, is_formula, ListsFormulas};
-ghost use Rattle.ps_sheet.specs.Changes.{names, restarted};
+ghost use Rattle.ps_sheet.specs.Inside.Rounds.{first_value, is_formula, ListsFormulas};
+ghost use Rattle.ps_sheet.specs.Inside.Rounds.{names, restarted};
 
 use crate::contents::{first_of, holds_formula};
 use crate::rounds::settle;

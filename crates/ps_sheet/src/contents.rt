@@ -4,7 +4,7 @@ ghost use Rattle.std.specs.Prelude.{◌≡◌};
 ghost use Rattle.std.specs.Option.{option_copied, option_map};
 ghost use Rattle.ps_content.specs.Order.{formula_in};
 ghost use Rattle.ps_sheet.specs.Settled.{content_of, options_of};
-ghost use Rattle.ps_sheet.specs.Rounds.{first_by, first_value, is_formula};
+ghost use Rattle.ps_sheet.specs.Inside.Rounds.{first_by, first_value, is_formula};
 ghost use Rattle.ps_sheet.specs.Edits.{is_clock_full};
 
 use ps_content::Content;

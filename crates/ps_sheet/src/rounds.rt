@@ -6,8 +6,9 @@ ghost use Rattle.std.specs.Bool.{OnTrue, OnFalse};
 ghost use Rattle.std.specs.Option.{option_copied};
 ghost use Rattle.ps_delta.specs.State.{IsInGrid, state_at};
 ghost use Rattle.ps_sheet.specs.Settled.{content_of, shown_at, IsSettled};
-ghost use Rattle.ps_sheet.specs.Rounds.{first_value, is_formula, is_waiting, waiting_count, ListsFormulas, Progress};
-ghost use Rattle.ps_sheet.specs.Rounds.{AllHeld, HasWaiting, IsFree, IsHeld, TreeHasWaiting, TreeIsFree};
+ghost use Rattle.ps_sheet.specs.Inside.Rounds.{first_value, is_formula, is_waiting, waiting_count, ListsFormulas};
+ghost use Rattle.ps_sheet.specs.Inside.Rounds.{Progress, AllHeld, HasWaiting, IsFree, IsHeld, TreeHasWaiting};
+ghost use Rattle.ps_sheet.specs.Inside.Rounds.{TreeIsFree};
 
 use crate::contents::formula_of;
 use ps_delta::Grid;

@@ -55,7 +55,7 @@ impl Model for Sheet {
 
     ghost coded = { sheet_code };
 
-    ghost use Rattle.ps_sheet.specs.Kept.{view_of, IsKept};
+    ghost use Rattle.ps_sheet.specs.Inside.Kept.{view_of, IsKept};
 
     ghost view = { view_of };
 

@@ -1,3 +1,4 @@
+pub mod Inside
 pub mod Replicas
 pub mod World
 pub mod WorldCode

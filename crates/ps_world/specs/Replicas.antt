@@ -1,14 +1,13 @@
 -- The world of replicas, as contracts see it.
-use Rattle.std.specs.Prelude.{◌≡◌, ℕ, zero, suc, ◌≤◌, Bool, true, false, List, [], length, slice_get}
+use Rattle.std.specs.Prelude.{◌≡◌, ℕ, zero, suc, ◌≤◌, Bool, true, false, List, length, slice_get}
 use Rattle.std.specs.Prelude.{Option, Some, None}
 use Rattle.std.specs.Option.{option_map_or}
 use Rattle.std.specs.Ordering.{nat_cmp}
-use Rattle.std.specs.BTreeSet.{BTreeSet, IsEmpty, contains}
+use Rattle.std.specs.BTreeSet.{BTreeSet, contains}
 use Rattle.ps_delta.specs.Deltas.{Entries, joined_history}
 use Rattle.ps_sheet.specs.Settled.{IsSettled, shown_at}
 use Rattle.ps_sheet.specs.Sheet.{SheetView, IsSheet}
-use Rattle.ps_world.specs.World.{WorldState, joined_of, after}
-use Rattle.ps_world.specs.declared.event.Event.{Event}
+use Rattle.ps_world.specs.World.{WorldState, joined_of}
 
 -- a replica's sheet, and the numbers of the deltas that it took
 pub record ReplicaView : Type 0 where
@@ -43,22 +42,6 @@ pub record IsReplica (w : WorldState) (r : ℕ) (x : ReplicaView) : Type 0 where
 -- so is each replica of the world
 abbrev pub IsWorld : WorldView → Type 0
 IsWorld w = (r : ℕ) (x : ReplicaView) → replica_at w.replicas r ≡ Some x → IsReplica (world_of w) r x
-
--- the world v is the world w after the event
-pub record Follows (e : Event) (w v : WorldView) : Type 0 where
-  pub replicas : length v.replicas ≡ length w.replicas
-  pub state : world_of v ≡ after (length w.replicas) (world_of w) e
-
--- an empty sheet of replica r, where nothing was taken yet
-pub record IsNew (r : ℕ) (x : ReplicaView) : Type 0 where
-  pub sheet : IsSheet x.sheet
-  pub own : x.sheet.replica ≡ r
-  pub history : x.sheet.history ≡ []
-  pub taken : IsEmpty x.taken
-
--- so is each replica of a list
-abbrev pub AreNew : List ReplicaView → Type 0
-AreNew replicas = (r : ℕ) (x : ReplicaView) → replica_at replicas r ≡ Some x → IsNew r x
 
 -- each sheet shows the settled values of the join of the deltas that its replica took
 abbrev pub ShowsSettled : WorldView → Type 0

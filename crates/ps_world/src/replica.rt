@@ -44,7 +44,7 @@ impl Model for Replica {
 impl Replica {
     ghost use Rattle.ps_sheet.specs.Edits.{delta_of_edit};
     ghost use Rattle.ps_sheet.specs.Sheet.{IsSheet};
-    ghost use Rattle.ps_world.specs.Replicas.{IsNew};
+    ghost use Rattle.ps_world.specs.Inside.Steps.{IsNew};
 
     /// A replica, 1 to 32, that took nothing yet.
     pub(crate) fn open(alloc: Global, replica: u8) -> Result<Replica, Refusal>

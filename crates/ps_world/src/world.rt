@@ -3,7 +3,8 @@
 ghost use Rattle.std.specs.Prelude.{◌≡◌, ◌⊎◌, ◌↔◌, ◌<◌, ◌≤◌, IfOk, IfErr, OnOk, length};
 ghost use Rattle.std.specs.Option.{option_map, option_copied};
 ghost use Rattle.ps_grid.specs.declared.refusal.Refusal.{Refusal};
-ghost use Rattle.ps_world.specs.Replicas.{AreNew, IsWorld, SameTakenShowTheSame, ShowsSettled, replica_at, world_of};
+ghost use Rattle.ps_world.specs.Replicas.{IsWorld, SameTakenShowTheSame, ShowsSettled, replica_at, world_of};
+ghost use Rattle.ps_world.specs.Inside.Steps.{AreNew};
 ghost use Rattle.ps_world.specs.World.{played};
 
 use crate::event::Event;
@@ -49,7 +50,7 @@ impl Model for World {
 
 impl World {
     ghost use Rattle.ps_world.specs.World.{empty_world};
-    ghost use Rattle.ps_world.specs.Replicas.{Follows};
+    ghost use Rattle.ps_world.specs.Inside.Steps.{Follows};
 
     // Empty sheets of as many replicas, and no deltas.
     fn open(alloc: Global, replicas: u8) -> Result<World, Refusal>

@@ -2,8 +2,8 @@ use Rattle.std.proofs.Common.{◌≡◌, ◌+◌, ◌-◌, ◌≤◌, ◌⊎◌,
 use Rattle.ps_grid.specs.Chains.{In}
 use Rattle.ps_delta.specs.State.{state_at}
 use Rattle.ps_sheet.specs.Settled.{content_of}
-use Rattle.ps_sheet.specs.Rounds.{is_formula}
-use Rattle.ps_sheet.specs.Changes.{names}
+use Rattle.ps_sheet.specs.Inside.Rounds.{is_formula}
+use Rattle.ps_sheet.specs.Inside.Rounds.{names}
 use Rattle.ps_sheet.proofs.changes.enlist_all.Given as goal
 
 -- each formula cell is in the list, or is named later on

@@ -2,7 +2,7 @@ use Rattle.std.proofs.Common.{◌≡◌, ℕ, take, nat_eq}
 use Rattle.std.specs.List.{list_any}
 use Rattle.ps_delta.specs.State.{state_at}
 use Rattle.ps_sheet.specs.Settled.{shown_at}
-use Rattle.ps_sheet.specs.Changes.{restarted}
+use Rattle.ps_sheet.specs.Inside.Rounds.{restarted}
 use Rattle.ps_sheet.proofs.changes.restart_listed.Given as goal
 
 -- the cells so far show their first values

@@ -1,7 +1,7 @@
 use Rattle.std.proofs.Common.{◌≡◌, ℕ, take}
 use Rattle.ps_delta.specs.State.{state_at}
 use Rattle.ps_sheet.specs.Settled.{shown_at}
-use Rattle.ps_sheet.specs.Changes.{names, restarted}
+use Rattle.ps_sheet.specs.Inside.Rounds.{names, restarted}
 use Rattle.ps_sheet.proofs.changes.restart_named.Given as goal
 
 -- the cells named so far show their first values

@@ -2,7 +2,7 @@ use Rattle.std.proofs.Common.{◌≡◌, ℕ, List, sym, ap, ◌∙◌, subst}
 use Rattle.ps_delta.specs.State.{State, joined_state, state_at}
 use Rattle.ps_delta.specs.Deltas.{Entries, state_of}
 use Rattle.ps_sheet.specs.Settled.{shown_at}
-use Rattle.ps_sheet.specs.Rounds.{ListsFormulas}
+use Rattle.ps_sheet.specs.Inside.Rounds.{ListsFormulas}
 use Rattle.ps_sheet.proofs.AppendedDeltas.{before_change, in_grid_change, kept_change}
 use Rattle.ps_sheet.proofs.changes.take_in.Goals as goal
 

@@ -9,7 +9,7 @@ use Rattle.ps_grid.proofs.ChainLemmas.{All-In}
 use Rattle.ps_grid.specs.Chains.{In}
 use Rattle.ps_delta.proofs.GridLemmas.{In-at}
 use Rattle.ps_sheet.specs.Settled.{shown_at}
-use Rattle.ps_sheet.specs.Rounds.{is_waiting}
+use Rattle.ps_sheet.specs.Inside.Rounds.{is_waiting}
 use Rattle.ps_sheet.proofs.rounds.is_free.Goals as goal
 
 pub returns : goal.returns

@@ -1,7 +1,7 @@
 use Rattle.std.proofs.Common.{◌≡◌, false}
 use Rattle.std.specs.List.{All}
 use Rattle.ps_sheet.specs.Settled.{shown_at}
-use Rattle.ps_sheet.specs.Rounds.{is_waiting}
+use Rattle.ps_sheet.specs.Inside.Rounds.{is_waiting}
 use Rattle.ps_sheet.proofs.rounds.is_free.Given as goal
 
 -- no cell so far waits

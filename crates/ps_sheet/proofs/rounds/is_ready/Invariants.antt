@@ -2,7 +2,7 @@ use Rattle.std.proofs.Common.{◌≡◌, ℕ, true, false, take}
 use Rattle.std.specs.List.{list_any}
 use Rattle.ps_grid.specs.Rectangle.{is_inside}
 use Rattle.ps_sheet.specs.Settled.{shown_at}
-use Rattle.ps_sheet.specs.Rounds.{is_waiting}
+use Rattle.ps_sheet.specs.Inside.Rounds.{is_waiting}
 use Rattle.ps_sheet.proofs.rounds.is_ready.Given as goal
 
 -- no cell of the rectangles so far waits

@@ -1,5 +1,5 @@
 use Rattle.ps_delta.specs.State.{state_at}
-use Rattle.ps_sheet.specs.Rounds.{IsRound}
+use Rattle.ps_sheet.specs.Inside.Rounds.{IsRound}
 use Rattle.ps_sheet.proofs.rounds.round.Given as goal
 
 abbrev pub invariant-loop-cell : goal.invariant-loop-cell

@@ -1,6 +1,6 @@
 use Rattle.ps_delta.specs.State.{state_at}
 use Rattle.ps_sheet.specs.Settled.{shown_at}
-use Rattle.ps_sheet.specs.Rounds.{Progress, waiting_count}
+use Rattle.ps_sheet.specs.Inside.Rounds.{Progress, waiting_count}
 use Rattle.ps_sheet.proofs.rounds.settle.Given as goal
 
 -- the way is kept

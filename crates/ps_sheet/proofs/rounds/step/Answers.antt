@@ -4,7 +4,7 @@ use Rattle.ps_content.specs.Order.{formula_in}
 use Rattle.ps_delta.specs.State.{state_at}
 use Rattle.ps_sheet.specs.Settled.{content_of}
 use Rattle.ps_sheet.specs.Settled.{shown_at}
-use Rattle.ps_sheet.specs.Rounds.{is_waiting, Progress, waiting_count}
+use Rattle.ps_sheet.specs.Inside.Rounds.{is_waiting, Progress, waiting_count}
 use Rattle.ps_sheet.proofs.OneStep.{IsStep, formula_in-is, step_progress, step_fewer}
 use Rattle.ps_sheet.proofs.rounds.step.Given.{Over}
 use Rattle.ps_sheet.proofs.rounds.step.Goals as goal

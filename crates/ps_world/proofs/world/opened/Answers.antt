@@ -1,5 +1,6 @@
 use Rattle.std.proofs.Common.{arith, subst, sym}
-use Rattle.ps_world.specs.Replicas.{ReplicaView, AreNew}
+use Rattle.ps_world.specs.Replicas.{ReplicaView}
+use Rattle.ps_world.specs.Inside.Steps.{AreNew}
 use Rattle.std.proofs.Common.{List}
 use Rattle.ps_world.proofs.WorldSteps.{new_push}
 use Rattle.ps_world.proofs.world.opened.Goals as goal

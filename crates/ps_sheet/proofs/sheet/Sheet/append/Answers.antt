@@ -4,7 +4,7 @@ use Rattle.std.specs.Arc.{arc_value}
 use Rattle.ps_value.specs.declared.value.Value.{Value}
 use Rattle.ps_delta.specs.State.{IsInGrid, IsBelow, state_at}
 use Rattle.ps_delta.specs.Deltas.{Entries, joined_history, state_of}
-use Rattle.ps_sheet.specs.Kept.{view_of}
+use Rattle.ps_sheet.specs.Inside.Kept.{view_of}
 use Rattle.ps_sheet.specs.Sheet.{SheetView, IsSheet}
 use Rattle.ps_grid.specs.declared.size.TheConstants.{CELLS}
 use Rattle.std.specs.Vec.{with_items}

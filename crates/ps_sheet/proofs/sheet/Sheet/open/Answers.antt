@@ -2,7 +2,7 @@ use Rattle.std.proofs.Common.{◌≡◌, [], map, sym, ap, ◌∙◌, subst, ari
 use Rattle.std.specs.Arc.{arc_value}
 use Rattle.ps_delta.specs.State.{State}
 use Rattle.ps_delta.specs.Deltas.{joined_history}
-use Rattle.ps_sheet.specs.Rounds.{ListsFormulas}
+use Rattle.ps_sheet.specs.Inside.Rounds.{ListsFormulas}
 use Rattle.ps_delta.proofs.HistoryLemmas.{joined_history-nil}
 use Rattle.ps_sheet.proofs.EmptySheets.{sheet_open, lists_none}
 use Rattle.ps_sheet.proofs.sheet.Sheet.open.Goals as goal

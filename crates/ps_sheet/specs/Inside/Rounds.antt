@@ -1,5 +1,5 @@
 -- The way to settled values: formula cells wait, showing #CYCLE!, until all cells that they refer to have a value.
-use Rattle.std.specs.Prelude.{◌≡◌, ◌≢◌, ℕ, Bool, true, false, cond, List, sum_by, take, ◌<◌, ◌≤◌, is_some}
+use Rattle.std.specs.Prelude.{◌≡◌, ◌≢◌, ℕ, Bool, true, false, cond, List, sum_by, take, ◌<◌, ◌≤◌, is_some, nat_eq}
 use Rattle.ps_value.specs.declared.value.Value.{Value}
 use Rattle.ps_value.specs.declared.value.Value.TheVariants.{Empty, Num, Err}
 use Rattle.ps_value.specs.declared.value.Fault.{Fault}
@@ -8,7 +8,9 @@ use Rattle.ps_grid.specs.Rectangle.{Area, is_inside}
 use Rattle.ps_formula.specs.Tree.{Tree}
 use Rattle.ps_formula.specs.References.{mentions}
 use Rattle.ps_lattice.specs.Tally.{value_of as tally_value}
+use Rattle.std.specs.List.{list_any}
 use Rattle.ps_delta.specs.State.{State}
+use Rattle.ps_delta.specs.Deltas.{Entries}
 use Rattle.ps_sheet.specs.Settled.{content_of}
 use Rattle.ps_delta.specs.declared.cell_state.CellState.{CellState}
 use Rattle.ps_content.specs.declared.content.Content.{Content}
@@ -45,6 +47,14 @@ first_by Choice x = Value.Choice (options_of x.choice)
 
 abbrev pub first_value : CellState → Value
 first_value x = first_by (content_of x) x
+
+-- whether the entries name the cell
+abbrev pub names : Entries → ℕ → Bool
+names entries c = list_any (λ e. nat_eq c e.0) entries
+
+-- what a cell shows where it was restarted, and where not
+abbrev pub restarted : State → Bool → Assignment → Assignment
+restarted s is_restarted v c = cond is_restarted (first_value (s c)) (v c)
 
 -- on the way: formula cells alone wait; each other cell has its value, refers to none that waits, and is not cyclic
 pub record Progress (s : State) (v : Assignment) : Type 0 where

@@ -3,7 +3,7 @@ use Rattle.std.specs.Prelude.{◌≡◌, map}
 use Rattle.std.specs.Arc.{arc_value}
 use Rattle.ps_delta.specs.State.{state_at}
 use Rattle.ps_delta.specs.Deltas.{joined_history}
-use Rattle.ps_sheet.specs.Rounds.{ListsFormulas}
+use Rattle.ps_sheet.specs.Inside.Rounds.{ListsFormulas}
 use Rattle.ps_sheet.specs.Sheet.{SheetView, IsSheet}
 use Rattle.ps_sheet.specs.declared.sheet.Sheet.TheInside.{Inside}
 
