@@ -36,13 +36,13 @@ pub struct Report {
 #[derive(Drop)]
 pub struct Sheet {
     replica: u8,
-    // the accepted deltas that changed the state
+    /// the accepted deltas that changed the state
     history: Vec<Arc<Delta>>,
-    // their join
+    /// their join
     grid: Grid,
-    // the cells that hold a formula
+    /// the cells that hold a formula
     formulas: Vec<Cell>,
-    // what each cell shows
+    /// what each cell shows
     shown: Vec<Value>,
 }
 

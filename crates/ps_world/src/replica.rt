@@ -59,8 +59,8 @@ impl Replica {
         })
     }
 
-    /// Makes an edit here and takes its delta with this number. Hands the delta on; none where the edit is refused, and
-    /// then nothing is changed. Refused only for lack of memory.
+    /// Makes an edit here and takes its delta with this number. Returns the delta; none where the edit is refused, and
+    /// then nothing is changed. Refused only when out of memory.
     pub(crate) fn make<L: Ledger>(
         &mut self,
         alloc: Global,
@@ -90,7 +90,7 @@ impl Replica {
         Ok(Some(newest(&self.sheet)?))
     }
 
-    /// Receives a delta and takes it with its number. Refused only for lack of memory.
+    /// Receives a delta and takes it with its number. Refused only when out of memory.
     pub(crate) fn take<L: Ledger>(
         &mut self,
         alloc: Global,
@@ -125,7 +125,7 @@ impl Replica {
     }
 }
 
-// The last delta of a history that has one.
+/// The last delta of a history that has one.
 fn newest(sheet: &Sheet) -> Result<Arc<Delta>, Refusal>
     requires { 0 < length sheet.now.history }
     ensures newest { let h = sheet.now.history in IfOk result (λ d. slice_get h (length h - 1) ≡ Some (arc_value d)) }

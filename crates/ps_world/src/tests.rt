@@ -16,7 +16,7 @@ use std::process::Abort;
 use std::sync::Arc;
 use std::sync::ledger::{Blank, Ledger};
 
-// One event, all of them at A1.
+/// One event, all of them at A1.
 #[derive(Clone, Copy)]
 enum Step {
     Set(u8, &'static str),
@@ -30,7 +30,7 @@ fn cell(index: usize) -> Result<Cell, Refusal> {
     Cell::from_index(index).ok_or(Refusal::Cell)
 }
 
-// The delta that assigns a number to A1, stamped with time 1 and replica 1.
+/// The delta that assigns a number to A1, stamped with time 1 and replica 1.
 fn assigned(alloc: Global, number: i64) -> Result<Arc<Delta>, Refusal> {
     let register = Register::from_parts(Assignment {
         time: 1,
@@ -62,7 +62,7 @@ fn event_of(alloc: Global, step: Step) -> Result<Event, Refusal> {
     }
 }
 
-// Plays the events with a meter of its own.
+/// Plays the events with a meter of its own.
 fn metered<L: Ledger>(
     blank: Blank,
     alloc: Global,
@@ -89,7 +89,7 @@ fn run_steps(alloc: Global, replicas: u8, steps: &[Step]) -> Result<World, Refus
     run(alloc, replicas, events)
 }
 
-// What a replica took, its version and what it shows at A1.
+/// What a replica took, its version and what it shows at A1.
 fn check(
     rt: &impl Abort,
     world: &World,
@@ -163,7 +163,7 @@ fn equal_stamps_show_the_greater_content(rt: HostRuntime) -> Result<(), Refusal>
     check(&rt, &world, 2, &[1, 2], 1, Value::Num(4))
 }
 
-// The k-th edit of the long world: two after one another at the same cell and replica, then the next ones.
+/// The k-th edit of the long world: two after one another at the same cell and replica, then the next ones.
 fn edit_of(alloc: Global, k: usize) -> Result<Edit, Refusal> {
     let at = cell(k / 2 % 4)?;
     Ok(match k % 6 {
@@ -178,21 +178,21 @@ fn edit_of(alloc: Global, k: usize) -> Result<Edit, Refusal> {
 
 const EDITS: usize = 20;
 
-// The replica of the k-th edit: each cell is edited at one replica after another.
+/// The replica of the k-th edit: each cell is edited at one replica after another.
 fn editor(k: usize) -> u8
     requires { k < EDITS }
 {
     ((k / 2 + k / 8) % 4) as u8 + 1
 }
 
-// Twice the same delivery.
+/// Twice the same delivery.
 fn twice(events: &mut Vec<Event>, replica: u8, number: usize) -> Result<(), Refusal> {
     events.push(Event::Deliver(replica, number))?;
     events.push(Event::Deliver(replica, number))?;
     Ok(())
 }
 
-// Twenty edits, each delivered at once to one replica; in the end all are delivered to all, the last ones first.
+/// Twenty edits, each delivered at once to one replica; in the end all are delivered to all, the last ones first.
 fn long_script(alloc: Global) -> Result<Vec<Event>, Refusal> {
     let mut events = Vec::new(alloc);
     for k in 0..EDITS {
@@ -207,7 +207,7 @@ fn long_script(alloc: Global) -> Result<Vec<Event>, Refusal> {
     Ok(events)
 }
 
-// Two replicas took the same deltas and show the same values.
+/// Two replicas took the same deltas and show the same values.
 fn check_equal(rt: &impl Abort, world: &World, replica: u8, other: u8) -> Result<(), Refusal> {
     let numbers = world.taken(replica).ok_or(Refusal::Replica)?;
     assert!(rt; numbers.len() == EDITS);

@@ -25,7 +25,7 @@ use std::sync::ledger::Ledger;
 /// A contract sees it as its `WorldView`, and the world that a list of events makes as a `WorldState`.
 #[derive(Drop)]
 pub struct World {
-    // in the order of their numbers
+    /// in the order of their numbers
     deltas: Vec<Arc<Delta>>,
     replicas: Vec<Replica>,
 }
@@ -52,7 +52,7 @@ impl World {
     ghost use Rattle.ps_world.specs.World.{empty_world};
     ghost use Rattle.ps_world.specs.Inside.Steps.{Follows};
 
-    // Empty sheets of as many replicas, and no deltas.
+    /// Empty sheets of as many replicas, and no deltas.
     fn open(alloc: Global, replicas: u8) -> Result<World, Refusal>
         ensures replicas { IfOk result (λ w. length w.replicas ≡ replicas) }
         ensures empty { IfOk result (λ w. world_of w ≡ empty_world) }
@@ -70,7 +70,7 @@ impl World {
         })
     }
 
-    // The world after an event. Refused only out of memory.
+    /// The world after an event. Refused only out of memory.
     fn after<L: Ledger>(
         self,
         alloc: Global,
@@ -87,7 +87,7 @@ impl World {
         }
     }
 
-    // Makes an edit at a replica.
+    /// Makes an edit at a replica.
     fn edit<L: Ledger>(
         self,
         alloc: Global,
@@ -116,7 +116,7 @@ impl World {
         }
     }
 
-    // Adds the delta of an untrusted peer.
+    /// Adds the delta of an untrusted peer.
     fn add(self, delta: Arc<Delta>) -> Result<World, Refusal>
         ensures follows { IfOk result (Follows (Event.Foreign delta) self) }
         ensures memory { IfErr result (λ e. e ≡ Refusal.Memory) }
@@ -129,7 +129,7 @@ impl World {
         Ok(World { deltas, replicas })
     }
 
-    // Delivers a delta to a replica.
+    /// Delivers a delta to a replica.
     fn deliver<L: Ledger>(
         self,
         alloc: Global,
@@ -176,7 +176,7 @@ impl World {
         Some(self.replica(replica)?.taken())
     }
 
-    // The replica with a number.
+    /// The replica with a number.
     fn replica(&self, replica: u8) -> Option<&Replica>
         ensures replica { option_copied result ≡ replica_at self.now.replicas replica }
         ensures world { IsWorld self.now }
@@ -185,7 +185,7 @@ impl World {
     }
 }
 
-// The replica with a number in the list of all.
+/// The replica with a number in the list of all.
 fn numbered(replicas: &[Replica], replica: u8) -> Option<&Replica>
     ensures { option_copied result ≡ replica_at replicas.now replica }
 {
@@ -230,7 +230,7 @@ pub fn play<L: Ledger>(
     Ok(world)
 }
 
-// New replicas, 1 to n.
+/// New replicas, 1 to n.
 fn opened(alloc: Global, n: u8) -> Result<Vec<Replica>, Refusal>
     requires { n ≤ REPLICAS }
     ensures length { IfOk result (λ v. length v.items ≡ n) }

@@ -58,7 +58,7 @@ fn a_range_over_its_own_cell_is_a_cycle(rt: HostRuntime) -> Result<(), Refusal> 
     play(&rt, rt.alloc(), 1, &steps)
 }
 
-// A cycle of `A1` and `B1`, with `E1` above it, and `C1` and `D1` without one, with `F1` above them.
+/// A cycle of `A1` and `B1`, with `E1` above it, and `C1` and `D1` without one, with `F1` above them.
 static CLOSED_LEFT: [(&str, &str); 6] = [
     ("A1", "=[.B1]"),
     ("B1", "=[.A1]"),
@@ -68,7 +68,7 @@ static CLOSED_LEFT: [(&str, &str); 6] = [
     ("F1", "=[.C1]+1"),
 ];
 
-// `D1` closes a cycle and `B1` opens one, and the other way round.
+/// `D1` closes a cycle and `B1` opens one, and the other way round.
 static OVER: [(&str, Part); 2] = [
     ("B1", Assigned(2, 2, "4")),
     ("D1", Assigned(2, 2, "=[.C1]")),
@@ -128,13 +128,13 @@ fn formulas_take_faults_texts_and_blanks(rt: HostRuntime) -> Result<(), Refusal>
     play(&rt, rt.alloc(), 1, &steps)
 }
 
-// The formula that adds 1 to the cell of column A in a row.
+/// The formula that adds 1 to the cell of column A in a row.
 fn one_more(alloc: Global, row: u16) -> Result<Content, Refusal> {
     let entry = format!(in alloc; "=[.A{row}]+1")?;
     read_entry(alloc, entry.as_bytes())
 }
 
-// The first n cells of column A, each one more than the cell below it.
+/// The first n cells of column A, each one more than the cell below it.
 fn chain(rt: &impl Abort, alloc: Global, n: u16) -> Result<Batch, Refusal>
     requires { n < 1024 }
 {

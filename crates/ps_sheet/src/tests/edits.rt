@@ -47,7 +47,7 @@ fn an_option_comes_back_by_an_unseen_pair(rt: HostRuntime) -> Result<(), Refusal
     play(&rt, rt.alloc(), 1, &steps)
 }
 
-// A full counter, a set without a sequence left, and a register without a time left.
+/// A full counter, a set without a sequence left, and a register without a time left.
 static FULL: [(&str, Part); 3] = [
     ("A1", Counted(1, 1_099_511_627_776, 7)),
     ("B1", Paired(5, 1, 256)),
@@ -85,7 +85,7 @@ fn each_refusal_changes_nothing(rt: HostRuntime) -> Result<(), Refusal> {
     play(&rt, rt.alloc(), 1, &steps)
 }
 
-/// After a refused growth the sheet is as it was, and the refusal says so; a sheet tells its replica and its history.
+/// After a refused growth the sheet is as it was, and the refusal says so; a sheet returns its replica and its history.
 #[test]
 fn a_refused_growth_changes_nothing(rt: HostRuntime) -> Result<(), Refusal> {
     let alloc = rt.alloc();

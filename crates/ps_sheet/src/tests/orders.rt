@@ -42,7 +42,7 @@ fn equal_stamps_show_the_greater_content(rt: HostRuntime) -> Result<(), Refusal>
     Ok(())
 }
 
-// Six deltas of three replicas, honest and not.
+/// Six deltas of three replicas, honest and not.
 static SIX: [&[(&str, Part)]; 6] = [
     &[
         ("A1", Assigned(1, 1, "=[.B1]")),
@@ -55,7 +55,7 @@ static SIX: [&[(&str, Part)]; 6] = [
     &[("D1", Assigned(9, 3, "=SUM([.A1:.C1])"))],
 ];
 
-// Takes the six deltas in the n-th of the 720 orders, and the first of them again.
+/// Takes the six deltas in the n-th of the 720 orders, and the first of them again.
 fn take_in_order(
     rt: &impl Abort,
     alloc: Global,

@@ -23,7 +23,7 @@ pub(crate) const CYCLE: Value = Value::Err(Fault::Cycle);
 /// What is asked of a cell.
 #[derive(Clone, Copy)]
 pub(crate) enum Asked {
-    // To hold what this entry says.
+    /// To hold what this entry says.
     Set(&'static str),
     Add(u64),
     Sub(u64),
@@ -34,28 +34,28 @@ pub(crate) enum Asked {
 /// What a delta has for a cell.
 #[derive(Clone, Copy)]
 pub(crate) enum Part {
-    // What an entry says, with a time and a replica.
+    /// What an entry says, with a time and a replica.
     Assigned(u64, u8, &'static str),
-    // What a replica added and subtracted.
+    /// What a replica added and subtracted.
     Counted(u8, u64, u64),
-    // A pair that is in: its option, replica and sequence.
+    /// A pair that is in: its option, replica and sequence.
     Paired(u8, u8, u16),
 }
 
 /// A step of a script.
 #[derive(Clone, Copy)]
 pub(crate) enum Step {
-    // Asks for a change of a cell, and has this answer: the version or a refusal.
+    /// Asks for a change of a cell, and has this answer: the version or a refusal.
     Ask(&'static str, Asked, Result<u64, Refusal>),
-    // Types these entries into these cells as one batch.
+    /// Types these entries into these cells as one batch.
     Type(&'static [(&'static str, &'static str)], Result<u64, Refusal>),
-    // Receives a delta of one cell.
+    /// Receives a delta of one cell.
     Get(&'static str, Part, Result<u64, Refusal>),
-    // Receives a delta of several cells.
+    /// Receives a delta of several cells.
     GetAll(&'static [(&'static str, Part)], Result<u64, Refusal>),
-    // Looks at a cell.
+    /// Looks at a cell.
     Show(&'static str, Value),
-    // Looks at a cell that shows a text.
+    /// Looks at a cell that shows a text.
     ShowText(&'static str, &'static str),
 }
 
@@ -63,7 +63,7 @@ pub(crate) fn cell(rt: &impl Abort, name: &str) -> Cell {
     Cell::read(name.as_bytes()).expect(rt, "a cell")
 }
 
-// The edit with a meter of its own; the version after it.
+/// The edit with a meter of its own; the version after it.
 fn edited<L: Ledger>(
     blank: Blank,
     alloc: Global,
@@ -78,7 +78,7 @@ fn edited<L: Ledger>(
     Ok(sheet.edit(alloc, edit, &mut meter)?.version)
 }
 
-// The delta received with a meter of its own; the version after it.
+/// The delta received with a meter of its own; the version after it.
 fn received<L: Ledger>(
     blank: Blank,
     alloc: Global,
