@@ -1,5 +1,5 @@
 -- Lists of cells in order.
-use Rattle.std.proofs.Common.{ℕ, zero, suc, ◌+◌, ◌<◌, ◌≤◌, List, [], ◌∷◌, ◌++◌, length, get_or, take, arith, add-one}
+use Rattle.std.proofs.Common.{ℕ, zero, suc, ◌+◌, ◌<◌, ◌≤◌, List, [], ◌∷◌, ◌++◌, length, get_or, arith, add-one}
 use Rattle.std.proofs.Common.{◌≡◌, true, refl, map as each}
 use Rattle.std.specs.Ordering.{nat_cmp, is_lt}
 use Rattle.std.specs.Cmp.{nat_cmp_total}
@@ -52,11 +52,6 @@ increasing_from_rising n (c ∷ cs) r zero h =
 increasing_from_rising n (c ∷ cs) r (suc k) h =
     let p : get_or cs k 0 < get_or cs (k + 1) 0 = increasing_from_rising (c + 1) cs r.1 k (omega (arith, h)) in
     rw add-one (rw add-one at p)
-
--- the first cell alone says where they ascend from
-pub Rising-from_first : (m n : ℕ) (cs : List ℕ) → Rising n cs → (0 < length cs → m ≤ get_or cs 0 0) → Rising m cs
-Rising-from_first m n [] r h = tt
-Rising-from_first m n (c ∷ cs) r h = (h (omega arith), r.1)
 
 is_less : (x y : ℕ) → is_lt (nat_cmp x y) ≡ true → x < y
 is_less x y h = grind (arith, nat_tests)

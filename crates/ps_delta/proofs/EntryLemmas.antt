@@ -1,32 +1,5 @@
 -- The state that entries stand for.
-use Rattle.std.proofs.Common.{
-  ◌≡◌,
-  ◌≢◌,
-  ◌⊎◌,
-  ℕ,
-  zero,
-  suc,
-  ◌+◌,
-  ◌<◌,
-  ◌≤◌,
-  [],
-  ◌∷◌,
-  ◌++◌,
-  length,
-  get_or,
-  take,
-  if◌then◌else◌,
-  refl,
-  sym,
-  ap,
-  ◌∙◌,
-  eq-eqb,
-  ne_eqb,
-  arith,
-  inl,
-  inr,
-  ⊎_elim,
-}
+use Rattle.std.proofs.Common.{◌≡◌, ◌≢◌, ℕ, zero, suc, ◌+◌, ◌<◌, ◌≤◌, [], ◌∷◌, ◌++◌, length, get_or, take, if◌then◌else◌, refl, sym, ap, ◌∙◌, eq-eqb, ne_eqb, arith, ⊎_elim}
 use Rattle.std.proofs.lemmas.Bool.{cases_eq}
 use Rattle.std.proofs.Math.Path.{fun_ext}
 use Rattle.ps_delta.specs.declared.cell_state.CellState.{CellState}
@@ -88,22 +61,6 @@ state_of-at n (e ∷ es) zero d r h = state_of-here e es e.0 refl
 state_of-at n (e ∷ es) (suc i) d r h =
     state_of-there e es (get_or es i d).0 (λ p. omega (arith, p, entry_at (e.0 + 1) es i d r.1 (omega (arith, h))))
     ∙ state_of-at (e.0 + 1) es i d r.1 (omega (arith, h))
-
--- an entry before all others is joined to their state
-cons_at : (e : ℕ × CellState) (rest : Entries) (c : ℕ) → Rising (e.0 + 1) (cells_of rest) → (e.0 ≡ c) ⊎ (e.0 ≢ c)
-    → state_of (e ∷ rest) c ≡ joined_cell (state_of (e ∷ []) c) (state_of rest c)
-cons_at e rest c r (inl p) =
-    state_of-here e rest c p ∙ sym (joined_cell-empty_right e.1)
-    ∙ ap (λ x. joined_cell x empty_cell) (sym (state_of-here e [] c p))
-    ∙ ap (joined_cell (state_of (e ∷ []) c)) (sym (state_of-rising (e.0 + 1) rest c r (omega (arith, p))))
-cons_at e rest c r (inr p) =
-    state_of-there e rest c p ∙ sym (joined_cell-empty (state_of rest c))
-    ∙ ap (λ x. joined_cell x (state_of rest c)) (sym (state_of-there e [] c p ∙ nothing c))
-
-pub state_of-cons : (e : ℕ × CellState) (rest : Entries) → Rising (e.0 + 1) (cells_of rest)
-    → state_of (e ∷ rest) ≡ joined_state (state_of (e ∷ [])) (state_of rest)
-unfolding joined_state
-state_of-cons e rest r = fun_ext (λ c. cons_at e rest c r (cases_eq e.0 c))
 
 -- an entry after all others is joined to their state
 push_at : (es : Entries) (e : ℕ × CellState) (c : ℕ) → Under e.0 (cells_of es)

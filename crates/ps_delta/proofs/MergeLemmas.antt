@@ -1,41 +1,18 @@
--- Two lists of entries merged, one entry after another.
-use Rattle.std.proofs.Common.{
-  ◌≡◌,
-  ◌≢◌,
-  ℕ,
-  zero,
-  suc,
-  map,
-  ◌+◌,
-  ◌<◌,
-  ◌≤◌,
-  List,
-  [],
-  ◌∷◌,
-  ◌++◌,
-  length,
-  get_or,
-  take,
-  drop,
-  refl,
-  sym,
-  ap,
-  ◌∙◌,
-  ◌⊎◌,
-  inl,
-  inr,
-  Some,
-  None,
-  slice_get,
-  subst,
-  arith,
-}
+-- Two lists of entries merged, and the join of a list of deltas.
+use Rattle.std.proofs.Common.{◌≡◌, ◌≢◌, ℕ, zero, suc, map as each, ◌+◌, ◌<◌, Bool, true, false, cond, List, [], ◌∷◌, ◌++◌, length, get_or, take, refl, sym, ap, ◌∙◌, ⊎_elim, Option, Some, None, unwrap_or, subst, arith}
 use Rattle.std.proofs.lemmas.Bool.{cases_eq}
-use Rattle.std.proofs.lemmas.List.{length-map, map-append, take_more}
+use Rattle.std.proofs.lemmas.Bool.Decides.{nat_tests}
+use Rattle.std.proofs.lemmas.List.{length-map, take_more}
 use Rattle.std.proofs.Math.Path.{fun_ext}
-use Rattle.std.proofs.lemmas.List.Elements.{All-nil, All-push, All-drop, All-map, recursion_from_All}
+use Rattle.std.proofs.lemmas.List.Elements.{All-nil}
 use Rattle.std.specs.List.{All}
+use Rattle.std.specs.Ordering.{nat_cmp, eq_by_cmp}
+use Rattle.std.specs.Cmp.{nat_cmp_total}
+use Rattle.std.specs.FinMap as map
+use Rattle.std.specs.FinMap.{nat_cmp-IsAntisymmetric}
 use Rattle.ps_grid.specs.declared.size.TheConstants.{CELLS}
+use Rattle.ps_lattice.specs.Maps.{both_of, joined_maps}
+use Rattle.ps_lattice.proofs.Merging.{merged, All-merged, sorted_merged, find-merged, entries-joined}
 use Rattle.ps_delta.specs.declared.cell_state.CellState.{CellState}
 use Rattle.ps_delta.specs.State.{State, empty_cell, joined_cell, joined_state}
 use Rattle.ps_delta.specs.CellLaws.{
@@ -46,115 +23,15 @@ use Rattle.ps_delta.specs.CellLaws.{
   joined_cell-empty_right,
 }
 use Rattle.ps_delta.specs.Deltas.{Entries, cells_of, AreEntries, AreInGrid, IsDelta, state_of, joined_history}
-use Rattle.ps_delta.specs.Order.{Rising, Under, IsFirst}
 use Rattle.ps_delta.proofs.CellLists.{
-  Rising-weaker,
-  Rising-push,
-  Rising-from_first,
   rising_from_increasing,
   increasing_from_rising,
+  rising_from_sorted,
+  sorted_from_rising,
 }
-use Rattle.ps_delta.proofs.EntryLemmas.{
-  state_of-nil,
-  state_of-here,
-  state_of-there,
-  state_of-under,
-  state_of-cons,
-  state_of-push,
-}
+use Rattle.ps_delta.proofs.EntryLemmas.{state_of-nil, state_of-here, state_of-there, state_of-under}
 use Rattle.ps_delta.proofs.HistoryLemmas.{joined_history-nil, joined_history-push}
-use Rattle.ps_delta.proofs.StateLemmas.{
-  joined_state-comm,
-  joined_state-assoc,
-  joined_state-empty,
-  joined_state-empty_right,
-  joined_state-at,
-}
-
--- what is in `all`, and what is left of two lists
-pub record Merging (left right all mine theirs : Entries) : Type 0 where
-  pub state : joined_state (state_of all) (joined_state (state_of mine) (state_of theirs))
-      ≡ joined_state (state_of left) (state_of right)
-  pub rising : Rising 0 (cells_of all)
-  pub before : All (λ d. Rising (d.0 + 1) (cells_of mine) × Rising (d.0 + 1) (cells_of theirs)) all
-  pub none_empty : All (λ d. d.1 ≢ empty_cell) all
-  pub in_grid : AreInGrid all
-  pub mine_entries : AreEntries mine × AreInGrid mine
-  pub theirs_entries : AreEntries theirs × AreInGrid theirs
-
-pub merging_start : (left right : Entries) → AreEntries left × AreInGrid left → AreEntries right × AreInGrid right
-    → Merging left right [] left right
-merging_start left right l r = record {
-  state = ap (λ s. joined_state s (joined_state (state_of left) (state_of right))) state_of-nil
-      ∙ joined_state-empty (joined_state (state_of left) (state_of right));
-  rising = tt;
-  before = All-nil (λ d. Rising (d.0 + 1) (cells_of left) × Rising (d.0 + 1) (cells_of right));
-  none_empty = All-nil (λ d. d.1 ≢ empty_cell);
-  in_grid = All-nil (λ d. d.0 < CELLS);
-  mine_entries = l;
-  theirs_entries = r;
-}
-
-rest_entries : (es : Entries) (i n : ℕ) → Rising n (cells_of (drop i es)) → AreEntries es × AreInGrid es
-    → AreEntries (drop i es) × AreInGrid (drop i es)
-rest_entries es i n r h = (
-  record {
-    ascending = increasing_from_rising n (cells_of (drop i es)) r;
-    none_empty = All-drop (λ d. d.1 ≢ empty_cell) i es h.0.none_empty;
-  },
-  All-drop (λ d. d.0 < CELLS) i es h.1,
-)
-
-cells_of-push : (es : Entries) (e : ℕ × CellState) → cells_of es ++ e.0 ∷ [] ≡ cells_of (es ++ e ∷ [])
-cells_of-push es e = sym (map-append (λ d. d.0) es (e ∷ []))
-
-pub merging_step : (left right all mine theirs : Entries) (e : ℕ × CellState) (i j : ℕ)
-    → Merging left right all mine theirs
-    → IsFirst mine theirs e i j → Merging left right (all ++ e ∷ []) (drop i mine) (drop j theirs)
-merging_step left right all mine theirs e i j m f =
-    let below : All (λ d. d.0 < e.0) all =
-    (λ k d h. let low : (get_or all k d).0 + 1 ≤ e.0 = f.lowest ((get_or all k d).0 + 1) (m.before k d h).0
-    (m.before k d h).1 in
-    let lower : (get_or all k d).0 < e.0 = omega (arith, low) in lower) in
-    let under : Under e.0 (cells_of all) = recursion_from_All (λ c. c < e.0) (cells_of all)
-    (All-map (λ c. c < e.0) (λ d. d.0) all below) in
-    record {
-      state =
-          ap (λ s. joined_state s (joined_state (state_of (drop i mine)) (state_of (drop j theirs))))
-          (state_of-push all e under)
-          ∙ joined_state-assoc (state_of all) (state_of (e ∷ []))
-          (joined_state (state_of (drop i mine)) (state_of (drop j theirs)))
-          ∙ ap (joined_state (state_of all)) (sym f.state) ∙ m.state;
-      rising = subst (Rising 0) (cells_of-push all e) (Rising-push 0 (cells_of all) e.0 m.rising under (omega arith));
-      before = All-push (λ d. Rising (d.0 + 1) (cells_of (drop i mine))
-          × Rising (d.0 + 1) (cells_of (drop j theirs))) all e
-          (λ k d h. let low : (get_or all k d).0 < e.0 = below k d h in
-          let weak : (get_or all k d).0 + 1 ≤ e.0 + 1 = omega (arith, low) in (
-            Rising-weaker ((get_or all k d).0 + 1) (e.0 + 1) (cells_of (drop i mine)) weak f.left_after,
-            Rising-weaker ((get_or all k d).0 + 1) (e.0 + 1) (cells_of (drop j theirs)) weak f.right_after,
-          ))
-          (f.left_after, f.right_after);
-      none_empty = All-push (λ d. d.1 ≢ empty_cell) all e m.none_empty f.none_empty;
-      in_grid = All-push (λ d. d.0 < CELLS) all e m.in_grid f.in_grid;
-      mine_entries = rest_entries mine i (e.0 + 1) f.left_after m.mine_entries;
-      theirs_entries = rest_entries theirs j (e.0 + 1) f.right_after m.theirs_entries;
-    }
-
--- nothing is left
-pub merging_end : (left right all mine theirs : Entries) → Merging left right all mine theirs → mine ≡ [] → theirs ≡ []
-    → state_of all ≡ joined_state (state_of left) (state_of right)
-merging_end left right all mine theirs m p q =
-    sym (joined_state-empty_right (state_of all))
-    ∙ ap (joined_state (state_of all)) (sym (joined_state-empty_right (state_of []) ∙ state_of-nil)
-    ∙ ap (joined_state (state_of [])) (sym state_of-nil))
-    ∙ ap (joined_state (state_of all)) (ap (λ es. joined_state (state_of es) (state_of [])) (sym p)
-    ∙ ap (λ es. joined_state (state_of mine) (state_of es)) (sym q))
-    ∙ m.state
-
-pub merging_entries : (left right all mine theirs : Entries) → Merging left right all mine theirs
-    → AreEntries all × AreInGrid all
-merging_entries left right all mine theirs m =
-    (record { ascending = increasing_from_rising 0 (cells_of all) m.rising; none_empty = m.none_empty }, m.in_grid)
+use Rattle.ps_delta.proofs.StateLemmas.{joined_state-at}
 
 -- a join is empty only where both parts are
 none_joined : (x y : CellState) → x ≢ empty_cell → joined_cell x y ≢ empty_cell
@@ -162,164 +39,77 @@ none_joined x y h e =
     h (sym (joined_cell-empty_right x) ∙ ap (joined_cell x) (sym e) ∙ sym (joined_cell-assoc x x y)
     ∙ ap (λ z. joined_cell z y) (joined_cell-idem x) ∙ e)
 
-rising_rest : (e : ℕ × CellState) (rest : Entries) → AreEntries (e ∷ rest) → Rising (e.0 + 1) (cells_of rest)
-rising_rest e rest h = (rising_from_increasing 0 (cells_of (e ∷ rest)) h.ascending (λ _. omega arith)).1
+tie_here : (c d : ℕ) → d ≡ c → eq_by_cmp nat_cmp c d ≡ true
+tie_here c d p = grind (arith, nat_tests)
 
-rising_all : (es : Entries) → AreEntries es → Rising 0 (cells_of es)
-rising_all es h = rising_from_increasing 0 (cells_of es) h.ascending (λ _. omega arith)
+tie_there : (c d : ℕ) → d ≢ c → eq_by_cmp nat_cmp c d ≡ false
+tie_there c d p = grind (arith, nat_tests)
+
+-- the state of a cell is what a search by its key finds, and nothing is the empty cell state
+state_of-find : (es : Entries) (c : ℕ) → state_of es c ≡ unwrap_or (map.find nat_cmp c es) empty_cell
+state_of-find [] c = state_of-under 0 [] c tt (omega arith)
+state_of-find (e ∷ es) c =
+    let found : Bool → CellState = λ b. unwrap_or (cond b (Some e.1) (map.find nat_cmp c es)) empty_cell in
+    ⊎_elim
+    (λ p. state_of-here e es c p ∙ sym (ap found (tie_here c e.0 p)))
+    (λ p. state_of-there e es c p ∙ state_of-find es c ∙ sym (ap found (tie_there c e.0 p)))
+    (cases_eq e.0 c)
+
+both_found : (a b : Option CellState)
+    → unwrap_or (both_of joined_cell a b) empty_cell ≡ joined_cell (unwrap_or a empty_cell) (unwrap_or b empty_cell)
+both_found None None = sym (joined_cell-empty empty_cell)
+both_found None (Some y) = sym (joined_cell-empty y)
+both_found (Some x) None = sym (joined_cell-empty_right x)
+both_found (Some x) (Some y) = refl
+
+pub entries_sorted : (es : Entries) → AreEntries es → map.is_sorted nat_cmp es ≡ true
+entries_sorted es h =
+    sorted_from_rising 0 es (rising_from_increasing 0 (cells_of es) h.ascending (λ _. omega arith))
+
+pub entries_of : {es : Entries} → IsDelta es → AreEntries es
+entries_of d = record { ascending = d.ascending; none_empty = d.none_empty }
+
+-- a cell of the grid with a state that isn't empty
+abbrev IsEntry : ℕ × CellState → Type 0
+IsEntry e = (e.1 ≢ empty_cell) × (e.0 < CELLS)
+
+are_all : (es : Entries) → AreEntries es × AreInGrid es → All IsEntry es
+are_all es h k d within = (h.0.none_empty k d within, h.1 k d within)
+
+module _ (left right all : Entries) (l : AreEntries left × AreInGrid left) (r : AreEntries right × AreInGrid right)
+    (is : all ≡ map.entries (joined_maps joined_cell (map.from_sorted {R = nat_cmp} left)
+    (map.from_sorted {R = nat_cmp} right))) where
+  is_merged : all ≡ merged nat_cmp joined_cell left right
+  is_merged = is ∙ sym (entries-joined nat_cmp joined_cell nat_cmp_total nat_cmp-IsAntisymmetric left right
+      (entries_sorted left l.0) (entries_sorted right r.0))
+
+  -- the merged list stands for the join
+  pub state_of-merged : state_of all ≡ joined_state (state_of left) (state_of right)
+  unfolding joined_state
+  state_of-merged = fun_ext (λ c.
+      state_of-find all c
+      ∙ ap (λ es. unwrap_or (map.find nat_cmp c es) empty_cell) is_merged
+      ∙ ap (λ o. unwrap_or o empty_cell) (find-merged nat_cmp joined_cell nat_cmp_total c left right
+      (entries_sorted left l.0) (entries_sorted right r.0))
+      ∙ both_found (map.find nat_cmp c left) (map.find nat_cmp c right)
+      ∙ sym (λ i. joined_cell (state_of-find left c i) (state_of-find right c i)))
+
+  pub entries-merged : AreEntries all × AreInGrid all
+  entries-merged =
+      let entries = subst (All IsEntry) (sym is_merged)
+      (All-merged nat_cmp joined_cell IsEntry (λ a b p q. (none_joined a.1 b.1 p.0, p.1)) left right
+      (are_all left l) (are_all right r)) in
+      let sorted = ap (map.is_sorted nat_cmp) is_merged ∙ sorted_merged nat_cmp joined_cell nat_cmp_total left right
+      (entries_sorted left l.0) (entries_sorted right r.0) in (
+        record {
+          ascending = increasing_from_rising 0 (cells_of all) (rising_from_sorted all sorted);
+          none_empty = λ k d within. (entries k d within).0;
+        },
+        λ k d within. (entries k d within).1,
+      )
 
 first_some : (e : ℕ × CellState) (rest : Entries) → AreEntries (e ∷ rest) → e.1 ≢ empty_cell
 first_some e rest h = h.none_empty 0 e (omega arith)
-
-first_in_grid : (e : ℕ × CellState) (rest : Entries) → AreInGrid (e ∷ rest) → e.0 < CELLS
-first_in_grid e rest h = h 0 e (omega arith)
-
--- the second and the third of four change places
-crossed : (s u t v : State) → joined_state (joined_state s u) (joined_state t v)
-    ≡ joined_state (joined_state s t) (joined_state u v)
-crossed s u t v =
-    joined_state-assoc s u (joined_state t v)
-    ∙ ap (joined_state s) (sym (joined_state-assoc u t v) ∙ ap (λ f. joined_state f v) (joined_state-comm u t)
-    ∙ joined_state-assoc t u v)
-    ∙ sym (joined_state-assoc s t (joined_state u v))
-
--- two entries of one cell, joined
-one_at : (a b : ℕ × CellState) (c : ℕ) → a.0 ≡ b.0 → (a.0 ≡ c) ⊎ (a.0 ≢ c)
-    → state_of ((a.0, joined_cell a.1 b.1) ∷ []) c ≡ joined_cell (state_of (a ∷ []) c) (state_of (b ∷ []) c)
-one_at a b c h (inl p) =
-    state_of-here (a.0, joined_cell a.1 b.1) [] c p
-    ∙ ap (λ x. joined_cell x b.1) (sym (state_of-here a [] c p))
-    ∙ ap (joined_cell (state_of (a ∷ []) c)) (sym (state_of-here b [] c (sym h ∙ p)))
-one_at a b c h (inr p) =
-    state_of-there (a.0, joined_cell a.1 b.1) [] c p ∙ state_of-under 0 [] c tt (omega arith)
-    ∙ sym (joined_cell-empty empty_cell)
-    ∙ ap (λ x. joined_cell x empty_cell) (sym (state_of-there a [] c p ∙ state_of-under 0 [] c tt (omega arith)))
-    ∙ ap (joined_cell (state_of (a ∷ []) c)) (sym (state_of-there b [] c (λ q. p (h ∙ q))
-    ∙ state_of-under 0 [] c tt (omega arith)))
-
-one_joined : (a b : ℕ × CellState) → a.0 ≡ b.0 → state_of ((a.0, joined_cell a.1 b.1) ∷ [])
-    ≡ joined_state (state_of (a ∷ [])) (state_of (b ∷ []))
-unfolding joined_state
-one_joined a b h = fun_ext (λ c. one_at a b c h (cases_eq a.0 c))
-
--- the first cell is the left one's
-pub first_left : (e : ℕ × CellState) (rest right : Entries) → AreEntries (e ∷ rest) × AreInGrid (e ∷ rest)
-    → AreEntries right
-    → (0 < length (cells_of right) → e.0 + 1 ≤ get_or (cells_of right) 0 0) → IsFirst (e ∷ rest) right e 1 0
-first_left e rest right l r h = record {
-  state = ap (λ s. joined_state s (state_of right)) (state_of-cons e rest (rising_rest e rest l.0))
-      ∙ joined_state-assoc (state_of (e ∷ [])) (state_of rest) (state_of right);
-  left_after = rising_rest e rest l.0;
-  right_after = Rising-from_first (e.0 + 1) 0 (cells_of right) (rising_all right r) h;
-  lowest = λ n p q. p.0;
-  none_empty = first_some e rest l.0;
-  in_grid = first_in_grid e rest l.1;
-  left_within = omega arith;
-  right_within = omega arith;
-  some = omega arith;
-}
-
--- the first cell is the right one's
-pub first_right : (e : ℕ × CellState) (left rest : Entries) → AreEntries left
-    → AreEntries (e ∷ rest) × AreInGrid (e ∷ rest)
-    → (0 < length (cells_of left) → e.0 + 1 ≤ get_or (cells_of left) 0 0) → IsFirst left (e ∷ rest) e 0 1
-first_right e left rest l r h = record {
-  state = joined_state-comm (state_of left) (state_of (e ∷ rest))
-      ∙ ap (λ s. joined_state s (state_of left)) (state_of-cons e rest (rising_rest e rest r.0))
-      ∙ joined_state-assoc (state_of (e ∷ [])) (state_of rest) (state_of left)
-      ∙ ap (joined_state (state_of (e ∷ []))) (joined_state-comm (state_of rest) (state_of left));
-  left_after = Rising-from_first (e.0 + 1) 0 (cells_of left) (rising_all left l) h;
-  right_after = rising_rest e rest r.0;
-  lowest = λ n p q. q.0;
-  none_empty = first_some e rest r.0;
-  in_grid = first_in_grid e rest r.1;
-  left_within = omega arith;
-  right_within = omega arith;
-  some = omega arith;
-}
-
--- both lists begin with the first cell
-pub first_both : (a b : ℕ × CellState) (left right : Entries) → AreEntries (a ∷ left) × AreInGrid (a ∷ left)
-    → AreEntries (b ∷ right)
-    → a.0 ≡ b.0 → IsFirst (a ∷ left) (b ∷ right) (a.0, joined_cell a.1 b.1) 1 1
-first_both a b left right l r h =
-    let s : State = state_of (a ∷ []) in
-    let t : State = state_of (b ∷ []) in
-    let u : State = state_of left in
-    let v : State = state_of right in
-    record {
-      state =
-          ap (λ f. joined_state f (state_of (b ∷ right))) (state_of-cons a left (rising_rest a left l.0))
-          ∙ ap (joined_state (joined_state s u)) (state_of-cons b right (rising_rest b right r))
-          ∙ crossed s u t v ∙ ap (λ f. joined_state f (joined_state u v)) (sym (one_joined a b h));
-      left_after = rising_rest a left l.0;
-      right_after = subst (λ c. Rising (c + 1) (cells_of right)) (sym h) (rising_rest b right r);
-      lowest = λ n p q. p.0;
-      none_empty = none_joined a.1 b.1 (first_some a left l.0);
-      in_grid = first_in_grid a left l.1;
-      left_within = omega arith;
-      right_within = omega arith;
-      some = omega arith;
-    }
-
-nothing_before : (e : ℕ × CellState) → 0 < length (cells_of []) → e.0 + 1 ≤ get_or (cells_of []) 0 0
-nothing_before e h = absurd (omega (arith, h))
-
--- the cases of two lists by their first entries
-pub only_left : (left right : Entries) (e : ℕ × CellState) → AreEntries left × AreInGrid left → AreEntries right
-    → Some e ≡ slice_get left 0 → slice_get right 0 ≡ None → IsFirst left right e 1 0
-only_left [] right e l r p q = cc
-only_left (a ∷ left) (b ∷ right) e l r p q = cc
-only_left (a ∷ left) [] e l r p q =
-    let is : a ≡ e = cc in
-    subst (λ d. IsFirst (a ∷ left) [] d 1 0) is (first_left a left [] l r (nothing_before a))
-
-pub only_right : (left right : Entries) (e : ℕ × CellState) → AreEntries left → AreEntries right × AreInGrid right
-    → slice_get left 0 ≡ None → Some e ≡ slice_get right 0 → IsFirst left right e 0 1
-only_right left [] e l r p q = cc
-only_right (a ∷ left) (b ∷ right) e l r p q = cc
-only_right [] (b ∷ right) e l r p q =
-    let is : b ≡ e = cc in
-    subst (λ d. IsFirst [] (b ∷ right) d 0 1) is (first_right b [] right l r (nothing_before b))
-
-pub left_lower : (left right : Entries) (a b : ℕ × CellState) → AreEntries left × AreInGrid left → AreEntries right
-    → Some a ≡ slice_get left 0 → Some b ≡ slice_get right 0 → a.0 < b.0 → IsFirst left right a 1 0
-left_lower [] right a b l r p q h = cc
-left_lower (a' ∷ left) [] a b l r p q h = cc
-left_lower (a' ∷ left) (b' ∷ right) a b l r p q h =
-    let is : a' ≡ a = cc in
-    let is' : b' ≡ b = cc in
-    let low : a'.0 < b'.0 = subst (λ d. d.0 < b'.0) (sym is) (subst (λ d. a.0 < d.0) (sym is') h) in
-    subst (λ d. IsFirst (a' ∷ left) (b' ∷ right) d 1 0) is
-    (first_left a' left (b' ∷ right) l r (λ _. omega (arith, low)))
-
-pub right_lower : (left right : Entries) (a b : ℕ × CellState) → AreEntries left → AreEntries right × AreInGrid right
-    → Some a ≡ slice_get left 0 → Some b ≡ slice_get right 0 → b.0 < a.0 → IsFirst left right b 0 1
-right_lower [] right a b l r p q h = cc
-right_lower (a' ∷ left) [] a b l r p q h = cc
-right_lower (a' ∷ left) (b' ∷ right) a b l r p q h =
-    let is : a' ≡ a = cc in
-    let is' : b' ≡ b = cc in
-    let low : b'.0 < a'.0 = subst (λ d. b'.0 < d.0) (sym is) (subst (λ d. d.0 < a.0) (sym is') h) in
-    subst (λ d. IsFirst (a' ∷ left) (b' ∷ right) d 0 1) is'
-    (first_right b' (a' ∷ left) right l r (λ _. omega (arith, low)))
-
-pub same_cell : (left right : Entries) (a b : ℕ × CellState) → AreEntries left × AreInGrid left → AreEntries right
-    → Some a ≡ slice_get left 0 → Some b ≡ slice_get right 0 → a.0 ≡ b.0
-    → IsFirst left right (a.0, joined_cell a.1 b.1) 1 1
-same_cell [] right a b l r p q h = cc
-same_cell (a' ∷ left) [] a b l r p q h = cc
-same_cell (a' ∷ left) (b' ∷ right) a b l r p q h =
-    let is : a' ≡ a = cc in
-    let is' : b' ≡ b = cc in
-    let same : a'.0 ≡ b'.0 = ap (λ d. d.0) is ∙ h ∙ ap (λ d. d.0) (sym is') in
-    subst (λ d. IsFirst (a' ∷ left) (b' ∷ right) (d.0, joined_cell d.1 b.1) 1 1) is
-    (subst (λ d. IsFirst (a' ∷ left) (b' ∷ right) (a'.0, joined_cell a'.1 d.1) 1 1) is'
-    (first_both a' b' left right l r same))
-
-pub both_empty : (es : Entries) → slice_get es 0 ≡ None → es ≡ []
-both_empty [] p = refl
-both_empty (e ∷ es) p = cc
 
 -- a join with a delta has a cell
 some_merged : (s : State) (m es : Entries) → AreEntries es → 0 < length es → state_of m ≡ joined_state s (state_of es)
@@ -358,10 +148,10 @@ joined_more deltas i cells more delta within is d state entries j = record {
       ∙ ap joined_history (sym (take_more deltas i delta within));
   entries = entries;
   some = λ _. some_merged (state_of cells) more delta
-      (record { ascending = d.ascending; none_empty = d.none_empty }) d.some state;
+      (entries_of d) d.some state;
 }
 
-mapped_at : {X : Type 0} (f : X → Entries) (xs : List X) (i : ℕ) (d : X) → get_or (map f xs) i (f d) ≡ f (get_or xs i d)
+mapped_at : {X : Type 0} (f : X → Entries) (xs : List X) (i : ℕ) (d : X) → get_or (each f xs) i (f d) ≡ f (get_or xs i d)
 mapped_at f [] i d = refl
 mapped_at f (x ∷ xs) zero d = refl
 mapped_at f (x ∷ xs) (suc i) d = mapped_at f xs i d
@@ -370,8 +160,8 @@ mapped_at f (x ∷ xs) (suc i) d = mapped_at f xs i d
 pub joined_more_of : {X : Type 0} (f : X → Entries) (xs : List X) (i : ℕ) (x : X) (cells more delta : Entries)
     → i < length xs
     → x ≡ get_or xs i x → delta ≡ f x → IsDelta delta → state_of more ≡ joined_state (state_of cells) (state_of delta)
-    → AreEntries more × AreInGrid more → Joined (map f xs) i cells → Joined (map f xs) (i + 1) more
+    → AreEntries more × AreInGrid more → Joined (each f xs) i cells → Joined (each f xs) (i + 1) more
 joined_more_of f xs i x cells more delta within is same d state entries j =
-    let inside : i < length (map f xs) = rw length-map within in
-    joined_more (map f xs) i cells more delta inside
-    (same ∙ ap f is ∙ sym (mapped_at f xs i x) ∙ ap (get_or (map f xs) i) (sym same)) d state entries j
+    let inside : i < length (each f xs) = rw length-map within in
+    joined_more (each f xs) i cells more delta inside
+    (same ∙ ap f is ∙ sym (mapped_at f xs i x) ∙ ap (get_or (each f xs) i) (sym same)) d state entries j

@@ -5,7 +5,7 @@ ghost use Rattle.ps_delta.specs.State.{empty_cell, joined_cell};
 
 use ps_content::Content;
 use ps_grid::{Refusal, Twin};
-use ps_lattice::{Choice, Join, Register, Tally};
+use ps_lattice::{Choice, Join, Merge, Register, Tally};
 use std::alloc::Global;
 
 /// The state of a cell. All three parts are kept, whichever of them is shown.
@@ -112,3 +112,5 @@ impl Join for CellState {
 
     ghost idempotent = { joined_cell-idem };
 }
+
+impl Merge for CellState {}

@@ -9,9 +9,8 @@ ghost use Rattle.ps_delta.specs.State.{empty_cell, joined_state};
 ghost use Rattle.ps_delta.specs.Deltas.{AreEntries, AreInGrid, IsDelta, joined_history, state_of};
 
 use crate::cell_state::CellState;
-use crate::merge;
-use ps_grid::{Cell, Refusal, Twin};
-use ps_lattice::is_ascending;
+use ps_grid::{Cell, Refusal};
+use ps_lattice::{is_ascending, merge_entries};
 use std::alloc::Global;
 use std::marker::Model;
 use std::sync::Arc;
@@ -64,7 +63,7 @@ impl Delta {
     {
         let mut cells = Vec::new(alloc);
         for delta in deltas {
-            cells = merge::merged(alloc, &cells, delta.parts())?;
+            cells = merge_entries(alloc, &cells, delta.parts())?;
         }
         Ok(Delta { cells })
     }

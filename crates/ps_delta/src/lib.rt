@@ -24,7 +24,6 @@ mod cell_state;
 mod delta;
 mod grid;
 mod laws;
-mod merge;
 mod touched;
 
 pub use cell_state::CellState;

@@ -15,3 +15,9 @@ pub trait Twin: Sized {
         ensures equal { IfOk result (λ t. t ≡ self.now) }
         ensures memory { (e : Refusal) → result ≡ Err e → e ≡ Refusal.Memory };
 }
+
+impl Twin for bool {
+    fn twin(&self, _alloc: Global) -> Result<bool, Refusal> {
+        Ok(*self)
+    }
+}

@@ -1,5 +1,6 @@
 -- What a merged list is seen as, and that it is in range.
 use Rattle.std.proofs.Common.{◌≡◌, Bool, true, ◌&&◌, List, sym, ap, ◌∙◌}
+use Rattle.std.proofs.lemmas.List.Sums.{AllPass-from_list_all, list_all-from_AllPass}
 use Rattle.std.specs.List.{list_all}
 use Rattle.std.specs.declared.cmp.Ordering.{Ordering}
 use Rattle.std.specs.Cmp.{IsTotalOrder}
@@ -8,7 +9,7 @@ use Rattle.std.specs.FinMap.{IsAntisymmetric}
 use Rattle.ps_lattice.specs.Maps.{joined_maps}
 use Rattle.ps_lattice.proofs.Rising.{and_left, and_right, and_both}
 use Rattle.ps_lattice.proofs.Views.{from_entries_of, entries_rise}
-use Rattle.ps_lattice.proofs.Merging.{list_all-merged, entries-joined}
+use Rattle.ps_lattice.proofs.Merging.{merged, All-merged, entries-joined}
 
 module _ {K X : Type 0} (R : K → K → Ordering) (f : X → X → X) (xs ys zs : List (K × X))
     (is : zs ≡ map.entries (joined_maps f (map.from_sorted {R = R} xs) (map.from_sorted {R = R} ys))) where
@@ -34,4 +35,5 @@ module _ {K X : Type 0} (R : K → K → Ordering) (f : X → X → X) (xs ys zs
       (ap (λ es. map.is_sorted R es) is ∙ entries_rise R (joined_maps f (map.from_sorted {R = R} xs)
       (map.from_sorted {R = R} ys)))
       (ap (list_all fits) (is ∙ sym (entries-joined R f o same xs ys sx sy))
-      ∙ list_all-merged R f fits keeps xs ys ax ay)
+      ∙ list_all-from_AllPass fits (merged R f xs ys) (All-merged R f (λ e. fits e ≡ true) keeps xs ys
+      (AllPass-from_list_all fits xs ax) (AllPass-from_list_all fits ys ay)))

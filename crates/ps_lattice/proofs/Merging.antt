@@ -2,7 +2,8 @@
 use Rattle.std.proofs.Common.{◌≡◌, ℕ, ◌≤◌, length, drop, append-nil, Bool, true, false, cond, List, [], ◌∷◌, ◌++◌}
 use Rattle.std.proofs.Common.{Option, Some, None, refl, sym, ap, ◌∙◌}
 use Rattle.std.proofs.lemmas.List.{drop_all}
-use Rattle.std.specs.List.{list_all}
+use Rattle.std.proofs.lemmas.List.Elements.{All-from_recursion, recursion_from_All}
+use Rattle.std.specs.List.{All, AllByRecursion}
 use Rattle.std.specs.declared.cmp.Ordering.{Ordering}
 use Rattle.std.specs.declared.cmp.Ordering.TheVariants.{Less, Equal, Greater}
 use Rattle.std.specs.Ordering.{is_eq, is_lt, eq_by_cmp, ordering_reverse}
@@ -64,26 +65,28 @@ module _ {K X : Type 0} (R : K → K → Ordering) (f : X → X → X) where
       ap (λ l. (all ++ drop i xs) ++ l) gone ∙ append-nil (all ++ drop i xs)
       ∙ sym (ap (λ l. all ++ l) (ap (merged R f (drop i xs)) gone ∙ merged-nil (drop i xs))) ∙ e
 
-  module _ (p : K × X → Bool) (keeps : (a b : K × X) → p a ≡ true → p b ≡ true → p (a.0, f a.1 b.1) ≡ true) where
-    list_all_step : (x : K × X) (xs : List (K × X)) → p x ≡ true
-        → ((ys : List (K × X)) → list_all p ys ≡ true → list_all p (merged R f xs ys) ≡ true)
-        → (ys : List (K × X)) → list_all p ys ≡ true → list_all p (merged R f (x ∷ xs) ys) ≡ true
-    list_all_step x xs px before [] hy = and_both (p x) _ px (before [] refl)
-    list_all_step x xs px before (y ∷ ys) hy =
-        elim (R x.0 y.0) as (λ r. list_all p (by_order r (x ∷ merged R f xs (y ∷ ys))
-        ((x.0, f x.1 y.1) ∷ merged R f xs ys) (y ∷ merged R f (x ∷ xs) ys)) ≡ true) [
-          | Less ↦ and_both (p x) _ px (before (y ∷ ys) hy)
-          | Equal ↦ and_both (p (x.0, f x.1 y.1)) _ (keeps x y px (and_left (p y) _ hy))
-              (before ys (and_right (p y) _ hy))
-          | Greater ↦ and_both (p y) _ (and_left (p y) _ hy) (list_all_step x xs px before ys (and_right (p y) _ hy))
+  module _ (P : K × X → Type 0) (keeps : (a b : K × X) → P a → P b → P (a.0, f a.1 b.1)) where
+    all_step : (x : K × X) (xs : List (K × X)) → P x
+        → ((ys : List (K × X)) → AllByRecursion P ys → AllByRecursion P (merged R f xs ys))
+        → (ys : List (K × X)) → AllByRecursion P ys → AllByRecursion P (merged R f (x ∷ xs) ys)
+    all_step x xs px before [] hy = (px, before [] tt)
+    all_step x xs px before (y ∷ ys) hy =
+        elim (R x.0 y.0) as (λ r. AllByRecursion P (by_order r (x ∷ merged R f xs (y ∷ ys))
+        ((x.0, f x.1 y.1) ∷ merged R f xs ys) (y ∷ merged R f (x ∷ xs) ys))) [
+          | Less ↦ (px, before (y ∷ ys) hy)
+          | Equal ↦ (keeps x y px hy.0, before ys hy.1)
+          | Greater ↦ (hy.0, all_step x xs px before ys hy.1)
         ]
 
+    all_by_recursion : (xs ys : List (K × X)) → AllByRecursion P xs → AllByRecursion P ys
+        → AllByRecursion P (merged R f xs ys)
+    all_by_recursion [] ys hx hy = hy
+    all_by_recursion (x ∷ xs) ys hx hy = all_step x xs hx.0 (λ ys hy. all_by_recursion xs ys hx.1 hy) ys hy
+
     -- a fact of each entry that joining keeps is a fact of the merged list
-    pub list_all-merged : (xs ys : List (K × X)) → list_all p xs ≡ true → list_all p ys ≡ true
-        → list_all p (merged R f xs ys) ≡ true
-    list_all-merged [] ys hx hy = hy
-    list_all-merged (x ∷ xs) ys hx hy =
-        list_all_step x xs (and_left (p x) _ hx) (λ ys hy. list_all-merged xs ys (and_right (p x) _ hx) hy) ys hy
+    pub All-merged : (xs ys : List (K × X)) → All P xs → All P ys → All P (merged R f xs ys)
+    All-merged xs ys hx hy = All-from_recursion P (merged R f xs ys)
+        (all_by_recursion xs ys (recursion_from_All P xs hx) (recursion_from_All P ys hy))
 
 module _ {K X : Type 0} (R : K → K → Ordering) (f : X → X → X) (o : IsTotalOrder R) where
   below_step : (k : K) (x : K × X) (xs : List (K × X)) → is_lt (R k x.0) ≡ true

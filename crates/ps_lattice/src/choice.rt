@@ -72,17 +72,36 @@ impl Linear for Pair {
     ghost no_ties = { pairs_apart };
 }
 
-impl Merge for bool {
+/// A mark joined with another one is set where either is.
+impl Join for bool {
     ghost use Rattle.std.specs.Prelude.{◌||◌};
+    ghost use Rattle.ps_lattice.specs.ChoiceLaws.{removals_is_join};
 
-    ghost merged = { ◌||◌ };
+    ghost joined = { ◌||◌ };
 
-    fn merged(self, other: bool) -> bool {
-        self | other
+    ghost associative = { removals_is_join.associative };
+
+    ghost commutative = { removals_is_join.commutative };
+
+    ghost idempotent = { removals_is_join.idempotent };
+
+    fn join(&mut self, _alloc: Global, other: &Self) -> Result<(), Refusal> {
+        *self |= *other;
+        Ok(())
     }
 
-    fn covers(self, other: bool) -> bool {
-        self || !other
+    fn below(&self, other: &Self) -> bool {
+        !*self || *other
+    }
+}
+
+impl Merge for bool {
+    fn append<K: Copy>(
+        _alloc: Global,
+        list: &mut Vec<(K, bool)>,
+        entries: &[(K, bool)],
+    ) -> Result<(), Refusal> {
+        Ok(list.extend_from_slice(entries)?)
     }
 }
 

@@ -1,26 +1,35 @@
 //! Lists of keys and values in the order of their keys: what counters and choices are kept as, and deltas listed in.
 
-ghost use Rattle.std.specs.Prelude.{◌≡◌, ◌↔◌, IsTrue, IfOk, IfErr};
+ghost use Rattle.std.specs.Prelude.{◌≡◌, ◌↔◌, ◌++◌, IsTrue, IfOk, IfErr, OnOk};
 ghost use Rattle.std.specs.FinMap as map;
 ghost use Rattle.ps_lattice.specs.Maps.{both_of, joined_maps};
 ghost use Rattle.ps_grid.specs.declared.refusal.Refusal.{Refusal};
 
-use crate::join::Linear;
-use ps_grid::Refusal;
+use crate::join::{Join, Linear};
+use ps_grid::{Refusal, Twin};
 use std::alloc::Global;
 use std::cmp::Ordering;
 
-/// A value that joins with another one without memory.
-pub(crate) trait Merge: Copy {
-    ghost merged: { Self → Self → Self };
-
-    /// The join of the two values.
-    fn merged(self, other: Self) -> Self
-        ensures { result ≡ merged self other };
-
-    /// Whether joining the other value in changes nothing.
-    fn covers(self, other: Self) -> bool
-        ensures { IsTrue result ↔ (merged self other ≡ self) };
+/// A value of the lists that `merge_entries` merges.
+pub trait Merge: Join + Twin + Drop {
+    /// Adds the entries at the end of the list, one by one; values that need no memory may go in at once.
+    ///
+    /// Refused only when out of memory.
+    ///
+    /// Cost: linear in the entries, with their values.
+    fn append<K: Copy>(
+        alloc: Global,
+        list: &mut Vec<(K, Self)>,
+        entries: &[(K, Self)],
+    ) -> Result<(), Refusal>
+        ensures ok { OnOk result (list.new.items ≡ list.old.items ++ entries.now) }
+        ensures memory { IfErr result (λ e. e ≡ Refusal.Memory) }
+    {
+        for entry in entries {
+            list.push(twin_of(alloc, entry)?)?;
+        }
+        Ok(())
+    }
 }
 
 /// Whether the keys ascend, each once.
@@ -48,8 +57,10 @@ pub(crate) fn value_at<K: Ord + Copy, X: Copy>(entries: &[(K, X)], key: K) -> Op
     }
 }
 
-/// Both lists merged; values at one key are joined.
-pub(crate) fn merge_entries<K: Linear + Copy, X: Merge>(
+/// Both lists merged in the order of their keys; values at one key are joined.
+///
+/// Cost: linear in both lists, with their values.
+pub fn merge_entries<K: Linear + Copy, X: Merge>(
     alloc: Global,
     mine: &[(K, X)],
     theirs: &[(K, X)],
@@ -57,7 +68,7 @@ pub(crate) fn merge_entries<K: Linear + Copy, X: Merge>(
     requires mine { IsTrue (map.is_sorted K.cmp mine.now) }
     requires theirs { IsTrue (map.is_sorted K.cmp theirs.now) }
     ensures ok { IfOk result (λ v. v.items
-        ≡ map.entries (joined_maps X.merged (map.from_sorted {R = K.cmp} mine.now)
+        ≡ map.entries (joined_maps X.joined (map.from_sorted {R = K.cmp} mine.now)
         (map.from_sorted {R = K.cmp} theirs.now))) }
     ensures memory { IfErr result (λ e. e ≡ Refusal.Memory) }
 {
@@ -66,31 +77,41 @@ pub(crate) fn merge_entries<K: Linear + Copy, X: Merge>(
     while i < mine.len() && j < theirs.len() {
         match mine[i].0.cmp(&theirs[j].0) {
             Ordering::Less => {
-                all.push(mine[i])?;
+                all.push(twin_of(alloc, &mine[i])?)?;
                 i += 1;
             }
             Ordering::Greater => {
-                all.push(theirs[j])?;
+                all.push(twin_of(alloc, &theirs[j])?)?;
                 j += 1;
             }
             Ordering::Equal => {
-                all.push((mine[i].0, mine[i].1.merged(theirs[j].1)))?;
+                let mut both = mine[i].1.twin(alloc)?;
+                both.join(alloc, &theirs[j].1)?;
+                all.push((mine[i].0, both))?;
                 i += 1;
                 j += 1;
             }
         }
     }
-    all.extend_from_slice(&mine[i..])?;
-    all.extend_from_slice(&theirs[j..])?;
+    X::append(alloc, &mut all, &mine[i..])?;
+    X::append(alloc, &mut all, &theirs[j..])?;
     Ok(all)
 }
 
+/// An equal entry.
+fn twin_of<K: Copy, X: Twin>(alloc: Global, entry: &(K, X)) -> Result<(K, X), Refusal>
+    ensures ok { IfOk result (λ e. e ≡ entry.now) }
+    ensures memory { IfErr result (λ e. e ≡ Refusal.Memory) }
+{
+    Ok((entry.0, entry.1.twin(alloc)?))
+}
+
 /// Whether joining the first list into the second one changes nothing.
-pub(crate) fn is_below<K: Linear + Copy, X: Merge>(mine: &[(K, X)], theirs: &[(K, X)]) -> bool
+pub(crate) fn is_below<K: Linear + Copy, X: Join + Copy>(mine: &[(K, X)], theirs: &[(K, X)]) -> bool
     requires mine { IsTrue (map.is_sorted K.cmp mine.now) }
     requires theirs { IsTrue (map.is_sorted K.cmp theirs.now) }
     ensures { IsTrue result
-        ↔ (joined_maps X.merged (map.from_sorted {R = K.cmp} theirs.now) (map.from_sorted {R = K.cmp} mine.now)
+        ↔ (joined_maps X.joined (map.from_sorted {R = K.cmp} theirs.now) (map.from_sorted {R = K.cmp} mine.now)
         ≡ map.from_sorted {R = K.cmp} theirs.now) }
 {
     for (key, value) in mine {
@@ -102,11 +123,11 @@ pub(crate) fn is_below<K: Linear + Copy, X: Merge>(mine: &[(K, X)], theirs: &[(K
 }
 
 /// Whether joining the value into what is there changes nothing.
-fn covers_at<X: Merge>(there: Option<X>, value: X) -> bool
-    ensures { IsTrue result ↔ (both_of X.merged there (Some value) ≡ there) }
+fn covers_at<X: Join + Copy>(there: Option<X>, value: X) -> bool
+    ensures { IsTrue result ↔ (both_of X.joined there (Some value) ≡ there) }
 {
     match there {
-        Some(there) => there.covers(value),
+        Some(there) => value.below(&there),
         None => false,
     }
 }

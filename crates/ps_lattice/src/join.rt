@@ -4,7 +4,7 @@ ghost use Rattle.std.specs.Prelude.{◌≡◌, ◌↔◌, IsTrue, OnOk, OnErr, I
 ghost use Rattle.ps_grid.specs.declared.refusal.Refusal.{Refusal};
 ghost use Rattle.std.specs.declared.cmp.Ordering.{Ordering};
 
-use ps_grid::Refusal;
+use ps_grid::{Cell, Refusal};
 use std::alloc::Global;
 
 /// A join-semilattice: any two states have a least state above both, their join.
@@ -42,6 +42,12 @@ pub trait Linear: Ord {
 }
 
 impl Linear for u8 {
+    ghost use Rattle.std.specs.FinMap.{nat_cmp-IsAntisymmetric};
+
+    ghost no_ties = { nat_cmp-IsAntisymmetric };
+}
+
+impl Linear for Cell {
     ghost use Rattle.std.specs.FinMap.{nat_cmp-IsAntisymmetric};
 
     ghost no_ties = { nat_cmp-IsAntisymmetric };

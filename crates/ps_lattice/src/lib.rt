@@ -8,7 +8,8 @@
 //!
 //! The contract to use: `Join` joins two states, and says whether one is below the other; its three laws have no
 //! premise. Each edit's clause `ok` names the delta that it makes, the next clause the state that this makes, and
-//! `fresh` says that it changes something. `parts` and `from_parts` take a state apart and put it together.
+//! `fresh` says that it changes something. `parts` and `from_parts` take a state apart and put it together. A layer
+//! above that keeps states by key in a sorted list joins two such lists by `merge_entries`.
 //!
 //! Replica 1 adds 5 to an empty counter: the delta holds `(1, P = 5, N = 0)`. Replica 2 subtracts 2 from the same
 //! empty counter: `(2, P = 0, N = 2)`. Joined in either order, and again, the counter shows 3.
@@ -27,7 +28,7 @@ mod tally;
 mod tests;
 
 pub use choice::{Choice, Pair};
-pub use entries::is_ascending;
+pub use entries::{Merge, is_ascending, merge_entries};
 pub use join::{Join, Linear};
 pub use laws::{choices_join_by_union, empty_is_least, tallies_join_by_maximum};
 pub use limits::{AMOUNT_LIMIT, COUNT_LIMIT, LAST_TIME, OPTIONS, REPLICAS, SEQUENCES};

@@ -24,20 +24,43 @@ pub struct Count {
     pub subtracted: u64,
 }
 
-impl Merge for Count {
+impl Twin for Count {
+    fn twin(&self, _alloc: Global) -> Result<Self, Refusal> {
+        Ok(*self)
+    }
+}
+
+/// Each count joined with another one is the greater of the two.
+impl Join for Count {
     ghost use Rattle.ps_lattice.specs.Tally.{greater_counts};
+    ghost use Rattle.ps_lattice.specs.TallyLaws.{counts_is_join};
 
-    ghost merged = { greater_counts };
+    ghost joined = { greater_counts };
 
-    fn merged(self, other: Count) -> Count {
-        Count {
-            added: self.added.max(other.added),
-            subtracted: self.subtracted.max(other.subtracted),
-        }
+    ghost associative = { counts_is_join.associative };
+
+    ghost commutative = { counts_is_join.commutative };
+
+    ghost idempotent = { counts_is_join.idempotent };
+
+    fn join(&mut self, _alloc: Global, other: &Self) -> Result<(), Refusal> {
+        self.added = self.added.max(other.added);
+        self.subtracted = self.subtracted.max(other.subtracted);
+        Ok(())
     }
 
-    fn covers(self, other: Count) -> bool {
-        other.added <= self.added && other.subtracted <= self.subtracted
+    fn below(&self, other: &Self) -> bool {
+        self.added <= other.added && self.subtracted <= other.subtracted
+    }
+}
+
+impl Merge for Count {
+    fn append<K: Copy>(
+        _alloc: Global,
+        list: &mut Vec<(K, Count)>,
+        entries: &[(K, Count)],
+    ) -> Result<(), Refusal> {
+        Ok(list.extend_from_slice(entries)?)
     }
 }
 

@@ -11,17 +11,17 @@ returns-then-not-covers_at g c = (
   λ below.
       let e = c.loop-key-item.result in
       let covered =
-      below_is_covered g.K.Ord.cmp g.X.Merge.merged g.met.K.Ord.total g.met.K.Linear.no_ties c.args.theirs.now
+      below_is_covered g.K.Ord.cmp g.X.Join.joined g.met.K.Ord.total g.met.K.Linear.no_ties c.args.theirs.now
       c.args.mine.now c.requires.theirs c.requires.mine c.loop-key.key-index e
       (omega arith) c.loop-key-item.is below in
       sym c.if-not-covers_at.true
-      ∙ c.covers_at.ensures.1 (subst (λ a. both_of g.X.Merge.merged a (Some e.1) ≡ a) (sym c.value_at.ensures) covered),
+      ∙ c.covers_at.ensures.1 (subst (λ a. both_of g.X.Join.joined a (Some e.1) ≡ a) (sym c.value_at.ensures) covered),
 )
 
 -- no entry changes anything
 pub returns : goal.returns
 returns g c = (
-  λ _. covered_is_below g.K.Ord.cmp g.X.Merge.merged g.met.K.Ord.total g.met.K.Linear.no_ties c.args.theirs.now
+  λ _. covered_is_below g.K.Ord.cmp g.X.Join.joined g.met.K.Ord.total g.met.K.Linear.no_ties c.args.theirs.now
       c.args.mine.now c.requires.theirs c.requires.mine (λ k d low high. c.loop-key.invariant k d low (omega arith)),
   λ _. refl,
 )

@@ -8,7 +8,7 @@ use Rattle.ps_lattice.proofs.entries.merge_entries.Goals.{then-loop-i-test+else-
 pub returns-clause-ok : goal.returns-clause-ok
 returns-clause-ok g c =
     let R = g.K.Ord.cmp in
-    let f = g.X.Merge.merged in
+    let f = g.X.Join.joined in
     let all = c.loop-i.all.items in
     let mine = c.args.mine.now in
     let theirs = c.args.theirs.now in
@@ -21,7 +21,7 @@ returns-clause-ok g c =
           ended_right R f all mine theirs total i j w.if-j-theirs.false c.loop-i.invariant.so_far
       | else-loop-i-test w ↦ ended_left R f all mine theirs total i j w.loop-i-test.false c.loop-i.invariant.so_far
     ] in
-    c.in_ok-extend_from_slice-2.ensures.items
-    ∙ ap (λ l. l ++ take (length theirs - j) (drop j theirs)) c.in_ok-extend_from_slice.ensures.items
+    c.in_ok-append-2.ensures.ok
+    ∙ ap (λ l. l ++ take (length theirs - j) (drop j theirs)) c.in_ok-append.ensures.ok
     ∙ (λ k. (all ++ take_rest mine i k) ++ take_rest theirs j k)
     ∙ joined ∙ entries-joined R f g.met.K.Ord.total g.met.K.Linear.no_ties mine theirs c.requires.mine c.requires.theirs

@@ -7,8 +7,8 @@ abbrev pub invariant-loop-i : goal.invariant-loop-i
 invariant-loop-i g l = record {
   in_mine : l.i ≤ length l.mine;
   in_theirs : l.j ≤ length l.theirs;
-  so_far : l.all.items ++ merged g.K.Ord.cmp g.X.Merge.merged (drop l.i l.mine) (drop l.j l.theirs)
-      ≡ merged g.K.Ord.cmp g.X.Merge.merged l.mine l.theirs;
+  so_far : l.all.items ++ merged g.K.Ord.cmp g.X.Join.joined (drop l.i l.mine) (drop l.j l.theirs)
+      ≡ merged g.K.Ord.cmp g.X.Join.joined l.mine l.theirs;
 }
 
 abbrev pub decreases-loop-i : goal.decreases-loop-i
