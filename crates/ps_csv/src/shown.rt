@@ -2,6 +2,7 @@
 
 ghost use Rattle.std.specs.Prelude.{◌≡◌, ◌⊎◌, ◌<◌, ◌∷◌, ◌++◌, [], ℕ, List, length, take, IfOk, IfErr, OnOk, OnErr};
 ghost use Rattle.std.specs.Io.KnownBytes.{Appends};
+ghost use Rattle.ps_grid.specs.Blanks.{IsBlankOf};
 ghost use Rattle.csv.specs.Records.{fields_of, partial_of};
 ghost use Rattle.ps_value.specs.Shown.{shown_text};
 ghost use Rattle.csv.specs.Writing.{default_writer, row_text};
@@ -65,9 +66,7 @@ fn text_with<G: Look, L: Ledger>(
     look: &G,
     rect: Rect,
 ) -> Result<Vec<u8>, Refusal>
-    requires name { blank.name ≡ L.name }
-    requires parts { blank.parts ≡ L.parts }
-    requires some { 0 < L.parts }
+    requires { IsBlankOf blank L.name L.parts }
     ensures text { IfOk result (λ t. t.items ≡ exported (G.value_at look.now) rect) }
     ensures memory { IfErr result (λ e. e ≡ Refusal.Memory) }
 {

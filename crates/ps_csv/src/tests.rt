@@ -2,6 +2,7 @@
 //! are worked by hand from the rules.
 
 ghost use Rattle.std.specs.Prelude.{◌≡◌, ◌<◌, None, length, if◌then◌else◌};
+ghost use Rattle.ps_grid.specs.Blanks.{IsBlankOf};
 
 use crate::{ImportFault, Imported, exported_text, import};
 use ps_device::{Failed, MemorySource, Source};
@@ -70,9 +71,7 @@ fn taken<S: Source, L: Ledger>(
     source: &mut S,
     sheet: &mut Sheet,
 ) -> Result<Imported, ImportFault>
-    requires name { blank.name ≡ L.name }
-    requires parts { blank.parts ≡ L.parts }
-    requires some { 0 < L.parts }
+    requires { IsBlankOf blank L.name L.parts }
 {
     let mut meter = Meter::<L>::new(blank);
     import(alloc, source, sheet, &mut meter)

@@ -3,6 +3,7 @@
 //! table is what another spreadsheet shows.
 
 ghost use Rattle.std.specs.Prelude.{◌≡◌, ◌<◌};
+ghost use Rattle.ps_grid.specs.Blanks.{IsBlankOf};
 
 use crate::{Look, Meter, eval};
 use ps_formula::Formula;
@@ -62,9 +63,7 @@ fn label(text: &str) -> Result<Value, &'static str> {
 }
 
 fn evaluated<L: Ledger>(blank: Blank, formula: &Formula, board: &Board) -> Value
-    requires name { blank.name ≡ L.name }
-    requires parts { blank.parts ≡ L.parts }
-    requires some { 0 < L.parts }
+    requires { IsBlankOf blank L.name L.parts }
 {
     let mut meter = Meter::<L>::new(blank);
     eval(formula, board, &mut meter)
@@ -348,12 +347,8 @@ fn counted_together<L: Ledger, M: Ledger>(
     formula: &Formula,
     board: &Board,
 ) -> Value
-    requires first_name { first.name ≡ L.name }
-    requires first_parts { first.parts ≡ L.parts }
-    requires first_some { 0 < L.parts }
-    requires second_name { second.name ≡ M.name }
-    requires second_parts { second.parts ≡ M.parts }
-    requires second_some { 0 < M.parts }
+    requires first { IsBlankOf first L.name L.parts }
+    requires second { IsBlankOf second M.name M.parts }
 {
     let mut all = Meter::<L>::new(first);
     let mut worker = Meter::<M>::new(second);

@@ -14,7 +14,8 @@ use Rattle.std.proofs.lemmas.List.Sums.{sum_by-cons, sum_by-take-drop}
 use borrow.Author.Tests.{leb-true, le-leb}
 use Rattle.std.proofs.Common.{lit≤}
 use Rattle.ps_lattice.specs.declared.tally.Count.{Count}
-use Rattle.ps_lattice.specs.declared.limits.TheConstants.{REPLICAS, AMOUNT_LIMIT, COUNT_LIMIT}
+use Rattle.ps_grid.specs.declared.parties.TheConstants.{REPLICAS}
+use Rattle.ps_lattice.specs.declared.limits.TheConstants.{AMOUNT_LIMIT, COUNT_LIMIT}
 use Rattle.ps_lattice.specs.Maps.{raised}
 use Rattle.ps_lattice.specs.Tally.{Counts, added, subtracted, greater_counts, joined_tallies, with_counts, counts_of}
 use Rattle.ps_lattice.specs.Tally.{is_amount, is_count, is_tally}

@@ -10,8 +10,8 @@ ghost use Rattle.ps_lattice.specs.Choice.{last_sequence, with_pair, withdrawn, j
 
 use crate::entries::{self, Merge};
 use crate::join::{Join, Linear};
-use crate::limits::{OPTIONS, REPLICAS, SEQUENCES, is_replica};
-use ps_grid::{Refusal, Twin};
+use crate::limits::{OPTIONS, SEQUENCES, is_replica};
+use ps_grid::{REPLICAS, Refusal, Twin};
 use std::alloc::{AllocError, Global};
 use std::cmp::Ordering;
 use std::marker::Model;

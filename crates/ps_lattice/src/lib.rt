@@ -31,6 +31,6 @@ pub use choice::{Choice, Pair};
 pub use entries::{Merge, is_ascending, merge_entries};
 pub use join::{Join, Linear};
 pub use laws::{choices_join_by_union, empty_is_least, tallies_join_by_maximum};
-pub use limits::{AMOUNT_LIMIT, COUNT_LIMIT, LAST_TIME, OPTIONS, REPLICAS, SEQUENCES};
+pub use limits::{AMOUNT_LIMIT, COUNT_LIMIT, LAST_TIME, OPTIONS, SEQUENCES};
 pub use register::{Assignment, Register};
 pub use tally::{Count, Tally};

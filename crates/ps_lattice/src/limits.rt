@@ -3,8 +3,7 @@
 ghost use Rattle.std.specs.Prelude.{◌≡◌};
 ghost use Rattle.ps_lattice.specs.Limits.{is_replica};
 
-/// Replicas are 1 to this number.
-pub const REPLICAS: u8 = 32;
+use ps_grid::REPLICAS;
 
 /// The last time of a register's stamp; times begin at 1.
 ///

@@ -5,8 +5,8 @@ ghost use Rattle.std.specs.Option.{SomeIff, option_copied};
 ghost use Rattle.ps_lattice.specs.Register.{assignment_cmp, joined_registers, time_of, is_stamp};
 
 use crate::join::{Join, Linear};
-use crate::limits::{LAST_TIME, REPLICAS, is_replica};
-use ps_grid::{Refusal, Twin};
+use crate::limits::{LAST_TIME, is_replica};
+use ps_grid::{REPLICAS, Refusal, Twin};
 use std::alloc::Global;
 use std::cmp::Ordering;
 use std::marker::Model;

@@ -10,8 +10,8 @@ ghost use Rattle.ps_lattice.specs.Tally.{is_tally, is_count, is_amount};
 
 use crate::entries::{self, Merge};
 use crate::join::Join;
-use crate::limits::{AMOUNT_LIMIT, COUNT_LIMIT, REPLICAS, is_replica};
-use ps_grid::{Refusal, Twin};
+use crate::limits::{AMOUNT_LIMIT, COUNT_LIMIT, is_replica};
+use ps_grid::{REPLICAS, Refusal, Twin};
 use std::alloc::Global;
 use std::marker::Model;
 

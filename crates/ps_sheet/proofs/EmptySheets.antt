@@ -7,7 +7,7 @@ use Rattle.ps_value.specs.declared.value.Value.{Value}
 use Rattle.ps_value.specs.declared.value.Value.TheVariants.{Empty}
 use Rattle.ps_delta.specs.State.{State, IsInGrid, empty_cell, empty_state}
 use Rattle.ps_delta.specs.Deltas.{Entries, joined_history}
-use Rattle.ps_lattice.specs.declared.limits.TheConstants.{REPLICAS}
+use Rattle.ps_grid.specs.declared.parties.TheConstants.{REPLICAS}
 use Rattle.ps_eval.specs.Items.{Assignment}
 use Rattle.ps_sheet.specs.Settled.{IsSettled, shown_at}
 use Rattle.ps_sheet.specs.Inside.Rounds.{is_waiting, ListsFormulas}

@@ -5,7 +5,7 @@ use Rattle.ps_grid.specs.declared.size.TheConstants.{CELLS}
 use Rattle.ps_value.specs.declared.value.Value.{Value}
 use Rattle.ps_delta.specs.State.{IsInGrid, IsBelow}
 use Rattle.ps_delta.specs.Deltas.{Entries, state_of, joined_history}
-use Rattle.ps_lattice.specs.declared.limits.TheConstants.{REPLICAS}
+use Rattle.ps_grid.specs.declared.parties.TheConstants.{REPLICAS}
 use Rattle.ps_sheet.specs.Settled.{IsSettled, shown_at}
 
 -- the replica, the accepted deltas that changed the state, and what each cell shows

@@ -16,8 +16,8 @@ use crate::contents::{content, is_clock_full};
 use crate::edit::Edit;
 use ps_content::Content;
 use ps_delta::{CellState, Delta, Grid};
-use ps_grid::{Cell, Refusal};
-use ps_lattice::{AMOUNT_LIMIT, Choice, OPTIONS, REPLICAS, Register, Tally};
+use ps_grid::{REPLICAS, Cell, Refusal};
+use ps_lattice::{AMOUNT_LIMIT, Choice, OPTIONS, Register, Tally};
 use std::alloc::Global;
 
 /// The delta of an edit at the replica over the grid, or the first refusal that holds.

@@ -3,6 +3,7 @@
 ghost use Rattle.std.specs.Prelude.{◌≡◌, ◌+◌, ◌<◌, ◌≤◌, ◌⊎◌, ◌↔◌, ℕ, List, [], ◌∷◌, ◌++◌, length, map};
 ghost use Rattle.std.specs.Prelude.{IfOk, IfErr, IsOk, IsOkAnd, IsErrOf, OnOk, OnErr, vec_len, vec_capacity};
 ghost use Rattle.std.specs.Arc.{arc_value};
+ghost use Rattle.ps_grid.specs.declared.parties.TheConstants.{WORKERS};
 ghost use Rattle.ps_delta.specs.State.{IsBelow, joined_state};
 ghost use Rattle.ps_delta.specs.Deltas.{joined_history, state_of};
 ghost use Rattle.ps_sheet.specs.Settled.{Cyclic, shown_at};
@@ -15,8 +16,7 @@ use crate::made::delta_of;
 use crate::rounds::value_in;
 use ps_delta::{Delta, Grid};
 use ps_eval::{Look, Meter};
-use ps_grid::{CELLS, Cell, Refusal};
-use ps_lattice::REPLICAS;
+use ps_grid::{CELLS, REPLICAS, Cell, Refusal};
 use ps_value::{Fault, Operand, Value};
 use std::alloc::Global;
 use std::marker::Model;
@@ -80,13 +80,13 @@ impl Sheet {
     ghost use Rattle.ps_sheet.specs.Edits.{delta_of_edit};
     ghost use Rattle.ps_sheet.specs.Sheet.{IsSheet, Takes};
 
-    /// The empty sheet of a replica, 1 to 32. The workers, 1 to 16, are not used yet.
+    /// The empty sheet of a replica, 1 to 32. The workers, 1 to `WORKERS`, are not used yet.
     ///
     /// Refused where the replica is out of range, and where memory runs out.
     ///
     /// Cost: linear in the cells of the grid.
     pub fn open(alloc: Global, replica: u8, workers: usize) -> Result<Sheet, Refusal>
-        requires workers { (1 ≤ workers) × (workers ≤ 16) }
+        requires workers { (1 ≤ workers) × (workers ≤ WORKERS) }
         ensures opened { IfOk result (λ s. (s.history ≡ []) × (s.replica ≡ replica)) }
         ensures sheet { IfOk result IsSheet }
         ensures replica { (result ≡ Err Refusal.Replica) ↔ ((replica < 1) ⊎ (REPLICAS < replica)) }

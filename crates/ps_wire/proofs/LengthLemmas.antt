@@ -27,7 +27,8 @@ use Rattle.ps_grid.specs.declared.size.TheConstants.{CELLS, LETTERS}
 use Rattle.ps_lattice.specs.declared.register.Assignment.{Assignment}
 use Rattle.ps_lattice.specs.declared.tally.Count.{Count}
 use Rattle.ps_lattice.specs.declared.choice.Pair.{Pair}
-use Rattle.ps_lattice.specs.declared.limits.TheConstants.{REPLICAS, SEQUENCES, LAST_TIME, COUNT_LIMIT}
+use Rattle.ps_grid.specs.declared.parties.TheConstants.{REPLICAS}
+use Rattle.ps_lattice.specs.declared.limits.TheConstants.{SEQUENCES, LAST_TIME, COUNT_LIMIT}
 use Rattle.ps_lattice.specs.Register.{is_stamp}
 use Rattle.ps_lattice.specs.Tally.{is_count, is_tally}
 use Rattle.ps_lattice.specs.Choice.{is_pair, is_choice, pair_cmp}

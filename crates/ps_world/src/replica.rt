@@ -11,8 +11,7 @@ ghost use Rattle.ps_delta.specs.Deltas.{joined_history, state_of};
 
 use ps_delta::Delta;
 use ps_eval::Meter;
-use ps_grid::Refusal;
-use ps_lattice::REPLICAS;
+use ps_grid::{REPLICAS, Refusal};
 use ps_sheet::{Edit, Sheet};
 use std::alloc::Global;
 use std::collections::BTreeSet;

@@ -1,6 +1,7 @@
 //! Small worlds with what each replica took and shows, worked by hand from the rules; a long one whose sheets agree.
 
 ghost use Rattle.std.specs.Prelude.{◌≡◌, ◌<◌};
+ghost use Rattle.ps_grid.specs.Blanks.{IsBlankOf};
 
 use crate::{Event, World, play};
 use ps_content::{Content, read_entry};
@@ -69,9 +70,7 @@ fn metered<L: Ledger>(
     replicas: u8,
     events: Vec<Event>,
 ) -> Result<World, Refusal>
-    requires name { blank.name ≡ L.name }
-    requires parts { blank.parts ≡ L.parts }
-    requires some { 0 < L.parts }
+    requires { IsBlankOf blank L.name L.parts }
 {
     let mut meter = Meter::<L>::new(blank);
     play(alloc, replicas, events, &mut meter)

@@ -1,6 +1,7 @@
 //! Scripts: steps at a sheet, with what each returns and what the cells show then.
 
 ghost use Rattle.std.specs.Prelude.{◌≡◌, ◌<◌};
+ghost use Rattle.ps_grid.specs.Blanks.{IsBlankOf};
 
 use crate::{Batch, Edit, Sheet};
 use Asked::{Add, Choose, Set, Sub, Unchoose};
@@ -70,9 +71,7 @@ fn edited<L: Ledger>(
     sheet: &mut Sheet,
     edit: Edit,
 ) -> Result<u64, Refusal>
-    requires name { blank.name ≡ L.name }
-    requires parts { blank.parts ≡ L.parts }
-    requires some { 0 < L.parts }
+    requires { IsBlankOf blank L.name L.parts }
 {
     let mut meter = Meter::<L>::new(blank);
     Ok(sheet.edit(alloc, edit, &mut meter)?.version)
@@ -85,9 +84,7 @@ fn received<L: Ledger>(
     sheet: &mut Sheet,
     delta: Arc<Delta>,
 ) -> Result<u64, Refusal>
-    requires name { blank.name ≡ L.name }
-    requires parts { blank.parts ≡ L.parts }
-    requires some { 0 < L.parts }
+    requires { IsBlankOf blank L.name L.parts }
 {
     let mut meter = Meter::<L>::new(blank);
     Ok(sheet.receive(alloc, delta, &mut meter)?.version)
