@@ -69,78 +69,27 @@ stands_after after_value = true
 stands_after after_comma = false
 stands_after after_key = false
 
--- a token at its place
+-- a token at its place; one clause of a place tells a string that is a key, and so splits the tokens
 placed : (p : Place) (t : Token) (c : Bool) (k : Place → List Token) (w : ℕ)
     → ((next : Place) → cost (stands_after next) (k next) ≤ w)
     → cost (stands_after p) (place_token p t c k) ≤ width t + w
-placed fresh begin_object c k w h = omega (arith, h fresh)
-placed fresh end_object c k w h = omega (arith, h after_value)
-placed fresh begin_array c k w h = omega (arith, h fresh)
-placed fresh end_array c k w h = omega (arith, h after_value)
-placed fresh (key s) c k w h = omega arith
 placed fresh (string s) true k w h = omega (arith, h after_key)
-placed fresh (string s) false k w h = omega (arith, h after_value)
-placed fresh (number s) c k w h = omega (arith, h after_value)
-placed fresh (boolean b) c k w h = omega (arith, h after_value)
-placed fresh null c k w h = omega (arith, h after_value)
-placed fresh bad c k w h = omega arith
-placed after_value begin_object c k w h = omega arith
-placed after_value end_object c k w h = omega (arith, h after_value)
-placed after_value begin_array c k w h = omega arith
-placed after_value end_array c k w h = omega (arith, h after_value)
-placed after_value (key s) c k w h = omega arith
-placed after_value (string s) true k w h = omega arith
-placed after_value (string s) false k w h = omega arith
-placed after_value (number s) c k w h = omega arith
-placed after_value (boolean b) c k w h = omega arith
-placed after_value null c k w h = omega arith
-placed after_value bad c k w h = omega arith
-placed after_comma begin_object c k w h = omega (arith, h fresh)
-placed after_comma end_object c k w h = omega arith
-placed after_comma begin_array c k w h = omega (arith, h fresh)
-placed after_comma end_array c k w h = omega arith
-placed after_comma (key s) c k w h = omega arith
+placed fresh t c k w h = omega (arith, h fresh, h after_value)
 placed after_comma (string s) true k w h = omega (arith, h after_key)
-placed after_comma (string s) false k w h = omega (arith, h after_value)
-placed after_comma (number s) c k w h = omega (arith, h after_value)
-placed after_comma (boolean b) c k w h = omega (arith, h after_value)
-placed after_comma null c k w h = omega (arith, h after_value)
-placed after_comma bad c k w h = omega arith
-placed after_key begin_object c k w h = omega arith
-placed after_key end_object c k w h = omega arith
-placed after_key begin_array c k w h = omega arith
-placed after_key end_array c k w h = omega arith
-placed after_key (key s) c k w h = omega arith
+placed after_comma t c k w h = omega (arith, h fresh, h after_value)
+placed after_value (string s) true k w h = omega arith
+placed after_value t c k w h = omega (arith, h after_value)
 placed after_key (string s) true k w h = omega arith
-placed after_key (string s) false k w h = omega arith
-placed after_key (number s) c k w h = omega arith
-placed after_key (boolean b) c k w h = omega arith
-placed after_key null c k w h = omega arith
-placed after_key bad c k w h = omega arith
+placed after_key t c k w h = omega arith
 
 -- the commas between lexemes pay for those that are printed
 pub punctuated : (p : Place) (ls : List Lexeme) → cost (stands_after p) (punctuate p ls) ≤ weight ls
 unfolding punctuate
-punctuated fresh [] = omega arith
-punctuated after_value [] = omega arith
-punctuated after_comma [] = omega arith
-punctuated after_key [] = omega arith
-punctuated fresh (token t ∷ ls) =
-    placed fresh t (begins_colon ls) (λ next. punctuate next ls) (weight ls) (λ next. punctuated next ls)
-punctuated after_value (token t ∷ ls) =
-    placed after_value t (begins_colon ls) (λ next. punctuate next ls) (weight ls) (λ next. punctuated next ls)
-punctuated after_comma (token t ∷ ls) =
-    placed after_comma t (begins_colon ls) (λ next. punctuate next ls) (weight ls) (λ next. punctuated next ls)
-punctuated after_key (token t ∷ ls) =
-    placed after_key t (begins_colon ls) (λ next. punctuate next ls) (weight ls) (λ next. punctuated next ls)
-punctuated fresh (comma ∷ ls) = omega arith
 punctuated after_value (comma ∷ ls) = omega (arith, one_comma (punctuate after_comma ls), punctuated after_comma ls)
-punctuated after_comma (comma ∷ ls) = omega arith
-punctuated after_key (comma ∷ ls) = omega arith
-punctuated fresh (colon ∷ ls) = omega arith
-punctuated after_value (colon ∷ ls) = omega arith
-punctuated after_comma (colon ∷ ls) = omega arith
 punctuated after_key (colon ∷ ls) = omega (arith, punctuated fresh ls)
+punctuated p (token t ∷ ls) =
+    placed p t (begins_colon ls) (λ next. punctuate next ls) (weight ls) (λ next. punctuated next ls)
+punctuated p ls = omega arith
 
 -- ---- values
 

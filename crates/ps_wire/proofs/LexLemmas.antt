@@ -246,19 +246,13 @@ byte_pays between space x xs e h = omega (arith, h between)
 byte_pays between other x xs e h =
     let goes : run (x ∷ xs) ≡ 1 + run xs = ap (λ k. run_byte k (run xs)) e in
     omega (arith, h in_word, word_width (x ∷ xs), goes)
-byte_pays in_word quote x xs e h =
-    let goes : run (x ∷ xs) ≡ 1 + run xs = ap (λ k. run_byte k (run xs)) e in
-    omega (arith, h in_word, goes)
-byte_pays in_word backslash x xs e h =
-    let goes : run (x ∷ xs) ≡ 1 + run xs = ap (λ k. run_byte k (run xs)) e in
-    omega (arith, h in_word, goes)
 byte_pays in_word operator x xs e h =
     let goes : run (x ∷ xs) ≡ 0 = ap (λ k. run_byte k (run xs)) e in
     omega (arith, h between, operator_weight x (lex between xs), goes)
 byte_pays in_word space x xs e h =
     let goes : run (x ∷ xs) ≡ 0 = ap (λ k. run_byte k (run xs)) e in
     omega (arith, h between, goes)
-byte_pays in_word other x xs e h =
+byte_pays in_word c x xs e h =
     let goes : run (x ∷ xs) ≡ 1 + run xs = ap (λ k. run_byte k (run xs)) e in
     omega (arith, h in_word, goes)
 byte_pays in_string quote x xs e h =
@@ -267,13 +261,7 @@ byte_pays in_string quote x xs e h =
 byte_pays in_string backslash x xs e h =
     let goes : span in_string (x ∷ xs) ≡ 1 + span in_escape xs = ap (λ k. span_byte in_string k (λ n. span n xs)) e in
     omega (arith, h in_escape, goes)
-byte_pays in_string operator x xs e h =
-    let goes : span in_string (x ∷ xs) ≡ 1 + span in_string xs = ap (λ k. span_byte in_string k (λ n. span n xs)) e in
-    omega (arith, h in_string, goes)
-byte_pays in_string space x xs e h =
-    let goes : span in_string (x ∷ xs) ≡ 1 + span in_string xs = ap (λ k. span_byte in_string k (λ n. span n xs)) e in
-    omega (arith, h in_string, goes)
-byte_pays in_string other x xs e h =
+byte_pays in_string c x xs e h =
     let goes : span in_string (x ∷ xs) ≡ 1 + span in_string xs = ap (λ k. span_byte in_string k (λ n. span n xs)) e in
     omega (arith, h in_string, goes)
 byte_pays in_escape c x xs e h =
