@@ -1,14 +1,12 @@
 -- Counters and sets as arrays.
-use Rattle.std.proofs.Common.{◌≡◌, ℕ, Bool, true, false, List, map, IsTrue, refl, sym, ap, ◌∙◌}
-use Rattle.std.specs.Ordering.{nat_cmp}
+use Rattle.std.proofs.Common.{◌≡◌, ℕ, Bool, true, false, ◌&&◌, List, map, IsTrue, refl, sym, ap, ◌∙◌}
+use Rattle.std.specs.declared.cmp.Ordering.{Ordering}
 use Rattle.std.specs.List.{list_all}
 use Rattle.std.proofs.lemmas.Bool.{and_parts}
 use Rattle.std.specs.FinMap as maps
 use Rattle.serde_json.specs.Data.{Data}
 use Rattle.ps_lattice.specs.declared.tally.Count.{Count}
 use Rattle.ps_lattice.specs.declared.choice.Pair.{Pair}
-use Rattle.ps_lattice.specs.Tally.{Counts, is_count, is_tally}
-use Rattle.ps_lattice.specs.Choice.{Pairs, is_pair, is_choice, pair_cmp}
 use Rattle.ps_lattice.proofs.Views.{entries_of}
 use Rattle.ps_wire.specs.Value.{array_of, count_value, pair_value, gone_number}
 use Rattle.ps_wire.proofs.ArrayLemmas.{array_of-injective, map-injective}
@@ -46,45 +44,33 @@ pub pairs-injective : (xs ys : List (Pair × Bool)) → map pair_value xs ≡ ma
 pairs-injective xs ys e =
     map-injective pair_value Any (λ x y _ _. pair_value-injective x y) xs ys (λ _ _ _. tt) (λ _ _ _. tt) e
 
-module _ (value : Data) (values : List Data) (is : value ≡ array_of values) where
-  -- the values stand for good counts, or there is no counter that the value stands for
-  pub tally_found : (all : List (ℕ × Count)) → values ≡ map count_value all → IsTrue (is_tally all)
-      → (value ≡ array_of (map count_value (maps.entries (maps.from_sorted {R = nat_cmp} all))))
-      × IsTrue (is_tally (maps.entries (maps.from_sorted {R = nat_cmp} all)))
-  tally_found all read good =
-      let same = entries_of nat_cmp all (and_parts (maps.is_sorted nat_cmp all) (list_all is_count all) good).0 in
-      (rw (← same) (is ∙ ap array_of read), rw (← same) good)
+-- the array `value`, of `values`, as the entries of a map: each is written by `item`, and good ones pass `good`
+module _ {K X : Type 0} (R : K → K → Ordering) (good : K × X → Bool) (item : K × X → Data)
+    (same_items : (xs ys : List (K × X)) → map item xs ≡ map item ys → xs ≡ ys)
+    (value : Data) (values : List Data) (is : value ≡ array_of values) where
+  -- a map of good entries
+  abbrev IsGood : List (K × X) → Type 0
+  IsGood all = IsTrue (maps.is_sorted R all && list_all good all)
 
-  pub tally_none : (all : List (ℕ × Count)) → values ≡ map count_value all → (IsTrue (is_tally all) → ⊥)
-      → (t : Counts) → IsTrue (is_tally (maps.entries t)) → value ≡ array_of (map count_value (maps.entries t)) → ⊥
-  tally_none all read bad t good e =
-      let same = counts-injective all (maps.entries t)
-      (sym read ∙ array_of-injective values (map count_value (maps.entries t)) (sym is ∙ e)) in
-      bad (rw same good)
+  -- the value stands for no map of good entries
+  abbrev NoMap : Type 0
+  NoMap = (m : maps.FinMap R X) → IsGood (maps.entries m) → value ≡ array_of (map item (maps.entries m)) → ⊥
 
-  pub tally_refused : ((all : List (ℕ × Count)) → IsTrue (list_all is_count all) → values ≡ map count_value all → ⊥)
-      → (t : Counts) → IsTrue (is_tally (maps.entries t)) → value ≡ array_of (map count_value (maps.entries t)) → ⊥
-  tally_refused none t good e =
-      none (maps.entries t) (and_parts (maps.is_sorted nat_cmp (maps.entries t)) _ good).1
-      (array_of-injective values (map count_value (maps.entries t)) (sym is ∙ e))
+  -- the values stand for good entries, or there is no map that the value stands for
+  pub map_found : (all : List (K × X)) → values ≡ map item all → IsGood all
+      → (value ≡ array_of (map item (maps.entries (maps.from_sorted {R = R} all))))
+      × IsGood (maps.entries (maps.from_sorted {R = R} all))
+  map_found all read well =
+      let same = entries_of R all (and_parts (maps.is_sorted R all) (list_all good all) well).0 in
+      (rw (← same) (is ∙ ap array_of read), rw (← same) well)
 
-  -- and so for pairs
-  pub choice_found : (all : List (Pair × Bool)) → values ≡ map pair_value all → IsTrue (is_choice all)
-      → (value ≡ array_of (map pair_value (maps.entries (maps.from_sorted {R = pair_cmp} all))))
-      × IsTrue (is_choice (maps.entries (maps.from_sorted {R = pair_cmp} all)))
-  choice_found all read good =
-      let same = entries_of pair_cmp all (and_parts (maps.is_sorted pair_cmp all) (list_all is_pair all) good).0 in
-      (rw (← same) (is ∙ ap array_of read), rw (← same) good)
+  pub map_none : (all : List (K × X)) → values ≡ map item all → (IsGood all → ⊥) → NoMap
+  map_none all read bad m well e =
+      let same = same_items all (maps.entries m)
+      (sym read ∙ array_of-injective values (map item (maps.entries m)) (sym is ∙ e)) in
+      bad (rw same well)
 
-  pub choice_none : (all : List (Pair × Bool)) → values ≡ map pair_value all → (IsTrue (is_choice all) → ⊥)
-      → (c : Pairs) → IsTrue (is_choice (maps.entries c)) → value ≡ array_of (map pair_value (maps.entries c)) → ⊥
-  choice_none all read bad c good e =
-      let same = pairs-injective all (maps.entries c)
-      (sym read ∙ array_of-injective values (map pair_value (maps.entries c)) (sym is ∙ e)) in
-      bad (rw same good)
-
-  pub choice_refused : ((all : List (Pair × Bool)) → IsTrue (list_all is_pair all) → values ≡ map pair_value all → ⊥)
-      → (c : Pairs) → IsTrue (is_choice (maps.entries c)) → value ≡ array_of (map pair_value (maps.entries c)) → ⊥
-  choice_refused none c good e =
-      none (maps.entries c) (and_parts (maps.is_sorted pair_cmp (maps.entries c)) _ good).1
-      (array_of-injective values (map pair_value (maps.entries c)) (sym is ∙ e))
+  pub map_refused : ((all : List (K × X)) → IsTrue (list_all good all) → values ≡ map item all → ⊥) → NoMap
+  map_refused none m well e =
+      none (maps.entries m) (and_parts (maps.is_sorted R (maps.entries m)) _ well).1
+      (array_of-injective values (map item (maps.entries m)) (sym is ∙ e))

@@ -1,22 +1,23 @@
-use Rattle.std.proofs.Common.{rules, map}
-use Rattle.serde_json.specs.View.{view}
-use Rattle.ps_wire.proofs.PartLemmas.{tally_found, tally_none, tally_refused}
+use Rattle.std.proofs.Common.{rules}
+use Rattle.std.specs.Ordering.{nat_cmp}
+use Rattle.ps_lattice.specs.Tally.{is_count}
+use Rattle.ps_wire.specs.Value.{count_value}
+use Rattle.ps_wire.proofs.PartLemmas.{counts-injective, map_found, map_none, map_refused}
 use Rattle.ps_wire.proofs.states.read_tally.Goals as goal
 
 pub returns-in_err-counts-clause-refused : goal.returns-in_err-counts-clause-refused
 returns-in_err-counts-clause-refused c =
-    let none = tally_refused (view c.args.value.now) (map view c.in_ok-items.field-0.now)
-    c.in_ok-items.ensures.found in
+    let none = map_refused nat_cmp is_count count_value counts-injective _ _ c.in_ok-items.ensures.found in
     search (rules, none)
 
 pub returns-clause-found : goal.returns-clause-found
 returns-clause-found c =
-    let found = tally_found (view c.args.value.now) (map view c.in_ok-items.field-0.now) c.in_ok-items.ensures.found
+    let found = map_found nat_cmp is_count count_value counts-injective _ _ c.in_ok-items.ensures.found
     c.in_ok-counts.counts.items c.in_ok-counts.ensures.found in
     search (rules, found)
 
 pub returns-clause-refused : goal.returns-clause-refused
 returns-clause-refused c =
-    let none = tally_none (view c.args.value.now) (map view c.in_ok-items.field-0.now) c.in_ok-items.ensures.found
+    let none = map_none nat_cmp is_count count_value counts-injective _ _ c.in_ok-items.ensures.found
     c.in_ok-counts.counts.items c.in_ok-counts.ensures.found in
     search (rules, none)
