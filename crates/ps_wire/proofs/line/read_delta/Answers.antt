@@ -1,31 +1,30 @@
-use Rattle.std.proofs.Common.{rules, map}
-use Rattle.serde_json.specs.View.{view}
+use Rattle.std.proofs.Common.{rules}
 use Rattle.ps_wire.proofs.LineLemmas.{no_array, no_cells, no_delta, stands_for}
 use Rattle.ps_wire.proofs.ArrayLemmas.{refused_so}
 use Rattle.ps_wire.proofs.line.read_delta.Goals as goal
 
 pub returns-in_err-items-clause-refused : goal.returns-in_err-items-clause-refused
 returns-in_err-items-clause-refused c =
-    let none = no_array (view c.args.value.now) c.in_err-items.ensures.refused.1 in
+    let none = no_array _ c.in_err-items.ensures.refused.1 in
     search (rules, none)
 
 pub returns-in_err-cells-clause-refused : goal.returns-in_err-cells-clause-refused
 returns-in_err-cells-clause-refused c =
     let none = refused_so c.in_err-cells.field-0.0
-    (no_cells (view c.args.value.now) (map view c.in_ok-items.field-0.now) c.in_ok-items.ensures.found)
+    (no_cells _ _ c.in_ok-items.ensures.found)
     c.in_err-cells.ensures.refused in
     search (rules, none)
 
 pub returns-clause-found : goal.returns-clause-found
 returns-clause-found c =
-    let found = stands_for (view c.args.value.now) (map view c.in_ok-items.field-0.now) c.in_ok-items.ensures.found
+    let found = stands_for _ _ c.in_ok-items.ensures.found
     c.in_ok-cells.cells.items c.in_ok-cells.ensures.found c.in_ok-cells.ensures.in_grid
     c.in_ok-cells.ensures.states in
     search (rules, found)
 
 pub returns-clause-refused : goal.returns-clause-refused
 returns-clause-refused c =
-    let none = no_delta (view c.args.value.now) (map view c.in_ok-items.field-0.now) c.in_ok-items.ensures.found
+    let none = no_delta _ _ c.in_ok-items.ensures.found
     c.in_ok-cells.cells.items c.in_ok-cells.ensures.found c.in_ok-cells.ensures.in_grid
     c.in_ok-cells.ensures.states in
     search (rules, none)
