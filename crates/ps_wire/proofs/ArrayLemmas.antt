@@ -61,6 +61,16 @@ All-list_all p [] h k d within = absurd (omega arith)
 All-list_all p (y ∷ ys) h zero d within = (and_parts (p y) (list_all p ys) h).0
 All-list_all p (y ∷ ys) h (suc k) d within = All-list_all p ys (and_parts (p y) (list_all p ys) h).1 k d (omega arith)
 
+-- an array stands for no good items where one of its values stands for no good item
+pub no_items_by : {Y : Type 0} (g : Y → Data) (good : Y → Bool) (values : List Value) (i : ℕ) (d : Value)
+    → i < length values → ((y : Y) → good y ≡ true → view (get_or values i d) ≡ g y → ⊥)
+    → (value : Data) → value ≡ array_of (each view values)
+    → (ys : List Y) → list_all good ys ≡ true → value ≡ array_of (each g ys) → ⊥
+no_items_by g good values i d within none value is ys well e =
+    let same = array_of-injective (each view values) (each g ys) (sym is ∙ e) in
+    let here = read_at view g (λ y. good y ≡ true) values ys i d within same (All-list_all good ys well) in
+    none here.0 here.1 here.2
+
 -- where equal values come from equal items, lists of equal values come from equal lists
 pub map-injective : {X : Type 0} (f : X → Data) (Good : X → Type 0)
     → ((x y : X) → Good x → Good y → f x ≡ f y → x ≡ y)

@@ -1,5 +1,5 @@
 -- Counters and sets as arrays.
-use Rattle.std.proofs.Common.{◌≡◌, ℕ, Bool, true, false, ◌&&◌, List, map, IsTrue, refl, sym, ap, ◌∙◌}
+use Rattle.std.proofs.Common.{◌≡◌, ℕ, Bool, true, false, ◌&&◌, List, map, IsTrue, refl, sym, ◌∙◌}
 use Rattle.std.specs.declared.cmp.Ordering.{Ordering}
 use Rattle.std.specs.List.{list_all}
 use Rattle.std.proofs.lemmas.Bool.{and_parts}
@@ -44,11 +44,9 @@ pub pairs-injective : (xs ys : List (Pair × Bool)) → map pair_value xs ≡ ma
 pairs-injective xs ys e =
     map-injective pair_value Any (λ x y _ _. pair_value-injective x y) xs ys (λ _ _ _. tt) (λ _ _ _. tt) e
 
--- the array `value`, of `values`, as the entries of a map: each is written by `item`, and good ones pass `good`
-module _ {K X : Type 0} (R : K → K → Ordering) (good : K × X → Bool) (item : K × X → Data)
-    (same_items : (xs ys : List (K × X)) → map item xs ≡ map item ys → xs ≡ ys)
-    (value : Data) (values : List Data) (is : value ≡ array_of values) where
-  -- a map of good entries
+-- a value as the entries of a map: each is written by `item`, and good ones pass `good`
+module _ {K X : Type 0} (R : K → K → Ordering) (good : K × X → Bool) (item : K × X → Data) (value : Data) where
+  -- what a map of good entries lists
   abbrev IsGood : List (K × X) → Type 0
   IsGood all = IsTrue (maps.is_sorted R all && list_all good all)
 
@@ -56,21 +54,22 @@ module _ {K X : Type 0} (R : K → K → Ordering) (good : K × X → Bool) (ite
   abbrev NoMap : Type 0
   NoMap = (m : maps.FinMap R X) → IsGood (maps.entries m) → value ≡ array_of (map item (maps.entries m)) → ⊥
 
-  -- the values stand for good entries, or there is no map that the value stands for
-  pub map_found : (all : List (K × X)) → values ≡ map item all → IsGood all
+  -- the value stands for a map where its items stand for good entries, ..
+  pub map_found : (all : List (K × X)) → value ≡ array_of (map item all) → IsGood all
       → (value ≡ array_of (map item (maps.entries (maps.from_sorted {R = R} all))))
       × IsGood (maps.entries (maps.from_sorted {R = R} all))
   map_found all read well =
       let same = entries_of R all (and_parts (maps.is_sorted R all) (list_all good all) well).0 in
-      (rw (← same) (is ∙ ap array_of read), rw (← same) well)
+      (rw (← same) read, rw (← same) well)
 
-  pub map_none : (all : List (K × X)) → values ≡ map item all → (IsGood all → ⊥) → NoMap
-  map_none all read bad m well e =
+  -- .. and for none where they stand for bad ones, ..
+  pub map_none : ((xs ys : List (K × X)) → map item xs ≡ map item ys → xs ≡ ys)
+      → (all : List (K × X)) → value ≡ array_of (map item all) → (IsGood all → ⊥) → NoMap
+  map_none same_items all read bad m well e =
       let same = same_items all (maps.entries m)
-      (sym read ∙ array_of-injective values (map item (maps.entries m)) (sym is ∙ e)) in
+      (array_of-injective (map item all) (map item (maps.entries m)) (sym read ∙ e)) in
       bad (rw same well)
 
-  pub map_refused : ((all : List (K × X)) → IsTrue (list_all good all) → values ≡ map item all → ⊥) → NoMap
-  map_refused none m well e =
-      none (maps.entries m) (and_parts (maps.is_sorted R (maps.entries m)) _ well).1
-      (array_of-injective values (map item (maps.entries m)) (sym is ∙ e))
+  -- .. or for no entries at all
+  pub map_refused : ((all : List (K × X)) → IsTrue (list_all good all) → value ≡ array_of (map item all) → ⊥) → NoMap
+  map_refused none m well = none (maps.entries m) (and_parts (maps.is_sorted R (maps.entries m)) _ well).1

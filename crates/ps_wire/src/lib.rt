@@ -18,6 +18,7 @@
 #![tactic(auto)]
 
 mod cells;
+mod entries;
 mod laws;
 mod line;
 mod parts;

@@ -1,53 +1,23 @@
 //! The JSON values of deltas.
 
-ghost use Rattle.std.specs.Prelude.{◌≡◌, [], ◌∷◌, map as each, IsUtf8, IfOk, IfErr};
+ghost use Rattle.std.specs.Prelude.{◌≡◌, map as each, IsUtf8, IfOk, IfErr};
 ghost use Rattle.std.specs.List.{All};
 ghost use Rattle.serde_json.specs.Data.{string};
 ghost use Rattle.serde_json.specs.View.{view};
 ghost use Rattle.ps_grid.specs.Place.{cell_name};
 ghost use Rattle.ps_grid.specs.declared.refusal.Refusal.TheVariants.{Memory};
 ghost use Rattle.ps_content.specs.Content.{canonical_text, IsContent};
-ghost use Rattle.ps_wire.specs.Value.{array_of, whole, register_value, count_value, pair_value, cell_value};
-ghost use Rattle.ps_wire.specs.Value.{delta_value, gone_number, IsRegister, IsState, StandsFor};
+ghost use Rattle.ps_wire.specs.Value.{array_of, register_value, cell_value};
+ghost use Rattle.ps_wire.specs.Value.{delta_value, IsRegister, IsState, StandsFor};
 
+use crate::entries::entries_value;
+use crate::parts::{four, three};
 use ps_content::Content;
 use ps_delta::{CellState, Delta};
 use ps_grid::{Cell, Refusal};
-use ps_lattice::{Count, Pair, Register};
+use ps_lattice::Register;
 use serde_json::Value;
 use std::alloc::Global;
-
-/// An array of three.
-fn three(alloc: Global, first: Value, second: Value, third: Value) -> Result<Value, Refusal>
-    ensures value { IfOk result (λ v. view v ≡ array_of (view first ∷ view second ∷ view third ∷ [])) }
-    ensures memory { IfErr result (λ e. e ≡ Memory) }
-{
-    let mut items = Vec::with_capacity(alloc, 3)?;
-    items.push(first)?;
-    items.push(second)?;
-    items.push(third)?;
-    Ok(Value::Array(items))
-}
-
-/// An array of four.
-fn four(
-    alloc: Global,
-    first: Value,
-    second: Value,
-    third: Value,
-    fourth: Value,
-) -> Result<Value, Refusal>
-    ensures value { IfOk result (λ v. view v
-        ≡ array_of (view first ∷ view second ∷ view third ∷ view fourth ∷ [])) }
-    ensures memory { IfErr result (λ e. e ≡ Memory) }
-{
-    let mut items = Vec::with_capacity(alloc, 4)?;
-    items.push(first)?;
-    items.push(second)?;
-    items.push(third)?;
-    items.push(fourth)?;
-    Ok(Value::Array(items))
-}
 
 /// The value of a text.
 fn text_value(text: Vec<u8>) -> Value
@@ -95,64 +65,6 @@ fn register_value(alloc: Global, register: &Register<Content>) -> Result<Value, 
     }
 }
 
-/// A replica with its two counts.
-fn count_value(alloc: Global, entry: &(u8, Count)) -> Result<Value, Refusal>
-    ensures value { IfOk result (λ v. view v ≡ count_value entry.now) }
-    ensures memory { IfErr result (λ e. e ≡ Memory) }
-{
-    three(
-        alloc,
-        Value::from(entry.0),
-        Value::from(entry.1.added),
-        Value::from(entry.1.subtracted),
-    )
-}
-
-/// A counter: an array of replicas with their counts.
-fn counts_value(alloc: Global, counts: &[(u8, Count)]) -> Result<Value, Refusal>
-    ensures value { IfOk result (λ v. view v ≡ array_of (each count_value counts.now)) }
-    ensures memory { IfErr result (λ e. e ≡ Memory) }
-{
-    let mut items = Vec::new(alloc);
-    for entry in counts {
-        items.push(count_value(alloc, entry)?)?;
-    }
-    Ok(Value::Array(items))
-}
-
-/// A pair, and whether it is gone.
-fn pair_value(alloc: Global, entry: &(Pair, bool)) -> Result<Value, Refusal>
-    ensures value { IfOk result (λ v. view v ≡ pair_value entry.now) }
-    ensures memory { IfErr result (λ e. e ≡ Memory) }
-{
-    four(
-        alloc,
-        Value::from(entry.0.option),
-        Value::from(entry.0.replica),
-        Value::from(entry.0.sequence),
-        Value::from(gone_number(entry.1)),
-    )
-}
-
-/// 0 for what is added alone, 1 for what is removed too.
-fn gone_number(gone: bool) -> u8
-    ensures { result ≡ gone_number gone }
-{
-    if gone { 1 } else { 0 }
-}
-
-/// A set: an array of pairs.
-fn pairs_value(alloc: Global, pairs: &[(Pair, bool)]) -> Result<Value, Refusal>
-    ensures value { IfOk result (λ v. view v ≡ array_of (each pair_value pairs.now)) }
-    ensures memory { IfErr result (λ e. e ≡ Memory) }
-{
-    let mut items = Vec::new(alloc);
-    for entry in pairs {
-        items.push(pair_value(alloc, entry)?)?;
-    }
-    Ok(Value::Array(items))
-}
-
 /// A cell with its state.
 #[tactic(auto, unfolding(crate::specs::Value::cell_value))]
 fn cell_value(alloc: Global, entry: &(Cell, CellState)) -> Result<Value, Refusal>
@@ -165,8 +77,8 @@ fn cell_value(alloc: Global, entry: &(Cell, CellState)) -> Result<Value, Refusal
         alloc,
         name_value(alloc, entry.0)?,
         register_value(alloc, register)?,
-        counts_value(alloc, tally.parts())?,
-        pairs_value(alloc, choice.parts())?,
+        entries_value(alloc, tally.parts())?,
+        entries_value(alloc, choice.parts())?,
     )
 }
 
@@ -176,7 +88,7 @@ fn cells_value(alloc: Global, cells: &[(Cell, CellState)]) -> Result<Value, Refu
     ensures states { IfOk result (λ _. All (λ e. IsState e.1) cells.now) }
     ensures memory { IfErr result (λ e. e ≡ Memory) }
 {
-    let mut items = Vec::new(alloc);
+    let mut items = Vec::with_capacity(alloc, cells.len())?;
     for entry in cells {
         items.push(cell_value(alloc, entry)?)?;
     }

@@ -1,8 +1,0 @@
-use Rattle.std.proofs.Common.{◌≡◌, map, take}
-use Rattle.serde_json.specs.View.{view}
-use Rattle.ps_wire.specs.Value.{pair_value}
-use Rattle.ps_wire.proofs.values.pairs_value.Given as goal
-
--- the items stand for the pairs so far
-abbrev pub invariant-loop-entry : goal.invariant-loop-entry
-invariant-loop-entry l = map view l.items.items ≡ map pair_value (take l.entry-index l.pairs)
