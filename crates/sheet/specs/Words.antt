@@ -6,6 +6,7 @@ use Rattle.clap.specs.Words.{with_subcommand}
 use Rattle.clap.specs.Simple.{on_top}
 use Rattle.clap.specs.declared.builder.action.ArgAction.TheVariants.{Set}
 use Rattle.clap.specs.declared.builder.value_parser.ValueParser.TheVariants as vp
+use Rattle.ps_grid.specs.declared.parties.TheConstants.{REPLICAS, WORKERS}
 use Rattle.sheet.specs.declared.options.Options.{Options}
 use Rattle.sheet.specs.declared.options.Options.TheVariants.{Run, Table}
 
@@ -19,11 +20,11 @@ number_option id most = record (new_rule id) {
 }
 
 abbrev pub run_app : App
-run_app = with_rule (with_rule (new_app (codes "run")) (number_option (codes "workers") 16)) (number_option (codes
-    "replica") 32)
+run_app = with_rule (with_rule (new_app (codes "run")) (number_option (codes "workers") WORKERS)) (number_option (codes
+    "replica") REPLICAS)
 
 abbrev pub table_app : App
-table_app = with_rule (new_app (codes "table")) (number_option (codes "workers") 16)
+table_app = with_rule (new_app (codes "table")) (number_option (codes "workers") WORKERS)
 
 -- the program has one of the commands, and a version
 abbrev pub sheet_app : App

@@ -1,7 +1,8 @@
 //! The command `table`: a table of entries in, the table of its settled values out.
-ghost use Rattle.std.specs.Prelude.{◌≡◌, ◌≢◌, ◌<◌, ◌≤◌, ◌⊎◌, ℕ, List, [], IfErr, IfOk, OnOk, Err, take};
-ghost use Rattle.std.specs.Io.KnownBytes.{Appends, Consumes, IsAtEnd};
+ghost use Rattle.std.specs.Prelude.{◌≡◌, ◌≢◌, ◌<◌, ◌≤◌, ◌⊎◌, ℕ, List, [], IfErr, IfOk, OnOk, OnErr, Err, take};
+ghost use Rattle.std.specs.Io.KnownBytes.{Appends, Consumes, IsAtEnd, Keeps};
 ghost use Rattle.std.specs.Option.{SomeIff};
+ghost use Rattle.ps_grid.specs.declared.parties.TheConstants.{WORKERS};
 ghost use Rattle.ps_grid.specs.declared.size.TheConstants.{COLUMNS, ROWS};
 ghost use Rattle.sheet.specs.Tables.{IsCauseOf, IsTableOf, from_first, table_of};
 ghost use Rattle.sheet.specs.declared.fault.ProgramFault.TheVariants.{Refused};
@@ -16,8 +17,8 @@ use std::alloc::Global;
 use std::sync::ledger::Ledger;
 
 /// Takes a table of entries into an empty sheet of replica 1, and writes the shown values from A1 to the last record
-/// and the most fields that a record has; nothing where there is no record. The workers are 1 to 16. At the end all
-/// that was written is handed on.
+/// and the most fields that a record has; nothing where there is no record. At the end all that was written is handed
+/// on.
 ///
 /// Refused as an import or an export is: `Device` where one of the two fails, `Csv` where the source has too many
 /// bytes, and for the first fault of the table in reading order; `Memory` in place of any of them. That `csv`'s own
@@ -32,7 +33,7 @@ pub fn table_on<S: Source, K: Sink, L: Ledger>(
     meter: &mut Meter<L>,
     workers: u8,
 ) -> Result<(), ProgramFault>
-    requires workers { (1 ≤ workers) × (workers ≤ 16) }
+    requires workers { (1 ≤ workers) × (workers ≤ WORKERS) }
     ensures done { OnOk result ((bytes : List ℕ) × (text : List ℕ)
         × Consumes (S.remaining source.old) (S.remaining source.new) bytes × IsAtEnd (S.remaining source.new)
         × IsTableOf bytes text × Appends (K.contents sink.old) (K.contents sink.new) text) }
@@ -59,10 +60,24 @@ pub fn table_on<S: Source, K: Sink, L: Ledger>(
         Ok(()) => {}
         Err(refusal) => return Err(ProgramFault::Refused(refusal)),
     }
-    match sink.settle() {
+    match hand_on(sink) {
         Ok(()) => Ok(()),
-        Err(_) => Err(ProgramFault::Refused(Refusal::Device)),
+        Err(refusal) => Err(ProgramFault::Refused(refusal)),
     }
+}
+
+/// Hands on all that was written.
+fn hand_on<K: Sink>(sink: &mut K) -> Result<(), Refusal>
+    ensures same { Keeps (K.contents sink.old) (K.contents sink.new) }
+    ensures settled { OnOk result (K.waiting sink.new ≡ []) }
+    ensures calm { OnOk result (K.failures sink.new ≡ K.failures sink.old) }
+    ensures failed { OnErr result (K.failures sink.old < K.failures sink.new) }
+    ensures refused { IfErr result (λ e. e ≡ Refusal.Device) }
+{
+    if sink.settle().is_err() {
+        return Err(Refusal::Device);
+    }
+    Ok(())
 }
 
 /// Writes the table of what the sheet shows from A1 to the last record and the most fields.

@@ -17,6 +17,7 @@ use crate::help::{RUN_HELP, TABLE_HELP};
 use crate::options::{Options, RunOptions, TableOptions};
 use clap::builder::ValueParser;
 use clap::{Arg, ArgAction, ArgMatches, Command, Error};
+use ps_grid::{REPLICAS, WORKERS};
 use std::alloc::{AllocError, Global};
 
 /// What `--version` prints after the program's name.
@@ -39,10 +40,12 @@ fn run_command<'a>(alloc: Global) -> Result<Command<'a>, AllocError>
     ensures app { IfOk result (λ command. app_of command ≡ run_app) }
     ensures local { IfOk result (λ command. (fields_of command).has_globals ≡ false) }
 {
-    let workers = number_option(alloc, "workers", 16).help(
+    let workers = number_option(alloc, "workers", WORKERS as u8).help(
         "how many threads may evaluate formulas, 1 to 16; one does for now",
     );
-    let replica = number_option(alloc, "replica", 32).help("the number of this replica, 1 to 32");
+    let replica = number_option(alloc, "replica", REPLICAS).help(
+        "the number of this replica, 1 to 32",
+    );
     Command::new(alloc, "run")
         .about("answers each line of standard input on standard output")
         .after_help(RUN_HELP)
@@ -55,7 +58,7 @@ fn table_command<'a>(alloc: Global) -> Result<Command<'a>, AllocError>
     ensures app { IfOk result (λ command. app_of command ≡ table_app) }
     ensures local { IfOk result (λ command. (fields_of command).has_globals ≡ false) }
 {
-    let workers = number_option(alloc, "workers", 16).help(
+    let workers = number_option(alloc, "workers", WORKERS as u8).help(
         "how many threads may evaluate formulas, 1 to 16; one does for now",
     );
     Command::new(alloc, "table")
@@ -92,8 +95,8 @@ fn run_options(matches: &ArgMatches<'_>) -> Option<Options>
     ensures { IfSome result (λ options. (name_of options ≡ codes "run")
         × GivesNumbers (rows_of (found_of matches.now)) options) }
 {
-    let workers = number_of(matches, "workers", 16)?;
-    let replica = number_of(matches, "replica", 32)?;
+    let workers = number_of(matches, "workers", WORKERS as u8)?;
+    let replica = number_of(matches, "replica", REPLICAS)?;
     Some(Options::Run(RunOptions { workers, replica }))
 }
 
@@ -102,7 +105,7 @@ fn table_options(matches: &ArgMatches<'_>) -> Option<Options>
     ensures { IfSome result (λ options. (name_of options ≡ codes "table")
         × GivesNumbers (rows_of (found_of matches.now)) options) }
 {
-    let workers = number_of(matches, "workers", 16)?;
+    let workers = number_of(matches, "workers", WORKERS as u8)?;
     Some(Options::Table(TableOptions { workers }))
 }
 

@@ -55,8 +55,8 @@ filled_table bytes records fields empty filled opened taken settled = record {
 whole : (old new : Option (List ℕ)) (text : List ℕ) → Appends old new text → Appends old new (take (length text) text)
 whole old new text appends = subst (λ t. Appends old new t) (sym (take-length text)) appends
 
-pub returns-in-Ok-settle-clause-done : goal.returns-in-Ok-settle-clause-done
-returns-in-Ok-settle-clause-done g c =
+pub returns-in-Ok-hand_on-clause-done : goal.returns-in-Ok-hand_on-clause-done
+returns-in-Ok-hand_on-clause-done g c =
     let imported = c.in-Ok-import.ensures.imported in (
       imported.0,
       table_of c.in-Ok-import.imported.records c.in-Ok-import.imported.fields c.import.new.sheet,
@@ -64,7 +64,7 @@ returns-in-Ok-settle-clause-done g c =
       imported.2,
       filled_table imported.0 c.in-Ok-import.imported.records c.in-Ok-import.imported.fields c.in-Ok.sheet
           c.import.new.sheet (search rules) imported.3 (search rules),
-      Appends-keeps _ _ _ _ c.in-Ok-put_table.ensures.written c.in-Ok-settle.ensures.same,
+      Appends-keeps _ _ _ _ c.in-Ok-put_table.ensures.written c.in-Ok-hand_on.ensures.same,
     )
 
 pub returns-in-Err-import-clause-refused : goal.returns-in-Err-import-clause-refused
@@ -104,5 +104,5 @@ returns-clause-device g c told =
       imported.2,
       filled_table imported.0 c.in-Ok-import.imported.records c.in-Ok-import.imported.fields c.in-Ok.sheet
           c.import.new.sheet (search rules) imported.3 (search rules),
-      whole _ _ _ (Appends-keeps _ _ _ _ c.in-Ok-put_table.ensures.written c.in-Err-settle.ensures.same),
+      whole _ _ _ (Appends-keeps _ _ _ _ c.in-Ok-put_table.ensures.written c.in-Err-hand_on.ensures.same),
     )
