@@ -11,8 +11,8 @@ use Rattle.ps_session.specs.Kept.{kept}
 use Rattle.ps_session.specs.Feeding.{Ends, Reading}
 use Rattle.ps_session.specs.Transcript.{Answered, Answering, Cut, IsBehindLine, Run, Stopped, Transcribed, answered_count}
 use Rattle.ps_session.specs.Transcript.{has_reply, stream_of, with_last}
-use Rattle.ps_session.specs.Stands.{Stands}
-use Rattle.ps_session.specs.Holds.{Holds, as_one}
+use Rattle.ps_session.specs.Inside.Stands.{Stands}
+use Rattle.ps_session.specs.Inside.Holds.{Holds, as_one}
 use Rattle.ps_session.specs.declared.session.Line.{Line}
 use Rattle.ps_session.specs.declared.session.Line.TheVariants as lines
 use Rattle.ps_session.proofs.HoldsLemmas.{fits_kept}

@@ -7,7 +7,7 @@ use Rattle.ps_session.specs.declared.session.TheConstants.{LINE_LIMIT}
 use Rattle.ps_session.specs.Kept.{kept}
 use Rattle.ps_session.specs.Feeding.{without_return}
 use Rattle.ps_session.specs.Transcript.{Answering, Handles, Replies, has_reply, is_filled}
-use Rattle.ps_session.specs.Holds.{Replied, as_one}
+use Rattle.ps_session.specs.Inside.Holds.{Replied, as_one}
 
 pub fits_kept : (raw line : List ℕ) → kept raw ≡ Some line → (nat_le (length raw) LINE_LIMIT ≡ true) × (raw ≡ line)
 fits_kept raw line is = go (nat_le (length raw) LINE_LIMIT) refl is

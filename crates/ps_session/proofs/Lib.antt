@@ -6,9 +6,9 @@ mod TurnLemmas
 mod EndLemmas
 mod ReadLemmas
 mod AnswerLemmas
-mod KeptLemmas
+mod ReplicaAndLinesStay
 mod WordLemmas
-mod CommandLemmas
+mod WordCounts
 pub mod ReadingLaws
 mod SplitLemmas
 mod AskedLemmas

@@ -1,4 +1,4 @@
--- Where no reply is for want of memory, the replica, the history and the bytes decide the transcript.
+-- Where no reply is out of memory, the replica, the history and the bytes decide the transcript.
 use Rattle.std.proofs.Common.{◌≡◌, ◌<◌, ◌∙◌, inl, inr, refl, sym, ap, ap₂, subst, ℕ, Bool, true, false, List, [], ◌∷◌}
 use Rattle.std.proofs.Common.{◌++◌, length, nat_le, Result, Ok, Err}
 use Rattle.std.specs.Prelude.{MatchBool, unwrap_or}

@@ -14,7 +14,7 @@ use Rattle.ps_session.specs.Kept.{kept, kept_after}
 use Rattle.ps_session.specs.Feeding.{HasNoFeed}
 use Rattle.ps_session.specs.Transcript.{Answering, Run, stream_of, has_reply, answered_count}
 use Rattle.ps_session.specs.Transcript.{Cut}
-use Rattle.ps_session.specs.Stands.{Stands}
+use Rattle.ps_session.specs.Inside.Stands.{Stands}
 
 -- a run with one more line
 pub Run-push : {State : Type 0} (Line : Answering State) (lines : List (List ℕ)) (old middle new : State) (text reply

@@ -7,8 +7,8 @@ use Rattle.std.proofs.lemmas.List.{take-append-drop}
 use Rattle.ps_session.specs.Kept.{kept_after}
 use Rattle.ps_session.specs.Feeding.{Feeds, HasNoFeed, Reading}
 use Rattle.ps_session.specs.Transcript.{Answering, Cut, has_reply}
-use Rattle.ps_session.specs.Stands.{Stands}
-use Rattle.ps_session.specs.Holds.{Holds, as_one}
+use Rattle.ps_session.specs.Inside.Stands.{Stands}
+use Rattle.ps_session.specs.Inside.Holds.{Holds, as_one}
 use Rattle.ps_session.specs.declared.session.Line.{Line}
 use Rattle.ps_session.specs.declared.session.Line.TheVariants as lines
 use Rattle.ps_session.proofs.RunLemmas.{cut_line, kept_cut, stands_line, stands_part}

@@ -61,7 +61,7 @@ abbrev pub Assigns : ℕ → List ℕ → Read Command → Type 0
 Assigns c entry read = (content : Read Content) × Reads (kind_of entry) entry content
     × (read ≡ with_part (λ x. commands.Edit (edits.Set c x)) content)
 
--- `set`: a cell, and behind its space the entry
+-- `set`: a cell, and after its space the entry
 abbrev pub ReadsSet : List (List ℕ) → List ℕ → Read Command → Type 0
 ReadsSet [] entry read = read ≡ Err refusals.Command
 ReadsSet (cell ∷ others) entry read = AtCell cell read (λ c. Assigns c entry read)
@@ -94,15 +94,15 @@ pub record ReadsDelta (bytes : List ℕ) (read : Read Entries) : Type 0 where
   pub only : (d : Entries) → IsLine bytes d → MatchResult read (λ found. found ≡ d) (λ e. e ≡ refusals.Memory)
   pub refused : IfErr read (λ e. (e ≡ refusals.Delta) ⊎ (e ≡ refusals.Memory))
 
--- the delta of a line is taken in
-abbrev pub TakesIn : List ℕ → Read Command → Type 0
-TakesIn bytes read =
+-- the delta that these bytes are a line of is pushed
+abbrev pub Pushes : List ℕ → Read Command → Type 0
+Pushes bytes read =
     (delta : Read Entries) × ReadsDelta bytes delta × (read ≡ with_part (λ d. commands.Push d) delta)
 
--- `push`: all behind its space is the line
+-- `push`: all after its space is the line
 abbrev pub ReadsPush : List (List ℕ) → List ℕ → Read Command → Type 0
 ReadsPush [] line read = read ≡ Err refusals.Command
-ReadsPush (word ∷ others) line read = TakesIn line read
+ReadsPush (word ∷ others) line read = Pushes line read
 
 -- a word that writes no number is refused as a version; else its number decides
 abbrev pub AtNumber : Option ℕ → Read Command → (ℕ → Type 0) → Type 0
@@ -121,7 +121,7 @@ ReadsPull (from ∷ most ∷ []) read =
     AtNumber (group_size (whole_number most)) read (λ m. read ≡ Ok (commands.Pull n (Some m))))
 ReadsPull _ read = read ≡ Err refusals.Command
 
--- a verb, the words behind it, and all that stands there
+-- a verb, the words after it, and all that stands there
 abbrev pub ReadsVerb : Option Verb → List (List ℕ) → List ℕ → Read Command → Type 0
 ReadsVerb None others behind read = read ≡ Err refusals.Command
 ReadsVerb (Some Get) others behind read = ReadsGet others read

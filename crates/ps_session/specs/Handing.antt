@@ -30,7 +30,7 @@ pub record IsGreatest (deltas : List Entries) (most n : ℕ) (line : List ℕ) :
 abbrev pub HasNone : List Entries → ℕ → Type 0
 HasNone deltas most = (k : ℕ) (line : List ℕ) → 1 ≤ k → k ≤ most → ¬ IsGroupLine deltas k line
 
--- of the deltas behind the version `from`, the greatest number up to `most` whose line isn't too long
+-- of the deltas after the version `from`, the greatest number up to `most` whose line isn't too long
 abbrev pub HandsGroup : ℕ → ℕ → List Entries → List ℕ → Type 0
 HandsGroup from most deltas text =
     ((n : ℕ) × (line : List ℕ) × IsGreatest deltas most n line × (text ≡ handed_text (from + n) line))

@@ -15,7 +15,7 @@ pub record IsSameSheet (a b : SheetView) : Type 0 where
   pub replica : a.replica ≡ b.replica
   pub history : a.history ≡ b.history
 
--- LAW: where no reply is for want of memory, the replica, the history and the bytes decide the replies and the history
+-- LAW: where no reply is out of memory, the replica, the history and the bytes decide the replies and the history
 -- afterwards
 abbrev pub TranscriptIsDecided : Type 0
 TranscriptIsDecided =

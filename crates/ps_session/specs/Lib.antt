@@ -1,9 +1,8 @@
 pub mod Kept
 pub mod Feeding
 pub mod Transcript
-pub mod Stands
 pub mod Replies
-pub mod Holds
+pub mod Inside
 pub mod Words
 pub mod Commands
 pub mod Handing

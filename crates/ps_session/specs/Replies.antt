@@ -17,7 +17,7 @@ value_text value = codes "val " ++ (shown_text value ++ 10 ∷ [])
 abbrev pub rows_text : ℕ → List ℕ → List ℕ
 rows_text count table = codes "rows " ++ decimal count ++ 10 ∷ table
 
--- the version behind a delta, and its line
+-- the version after a delta, and its line
 abbrev pub handed_text : ℕ → List ℕ → List ℕ
 handed_text last line = codes "delta " ++ decimal last ++ (codes " " ++ line) ++ 10 ∷ []
 

@@ -1,5 +1,4 @@
--- The transcript of a session: which lines the bytes hold, what each is answered, and what the answers leave. It
--- knows
+-- The transcript of a session: which lines the bytes hold, what each is answered, and what the answers leave. It knows
 -- nothing of the pieces in which the bytes came.
 use Rattle.std.specs.Prelude.{◌≡◌, ◌⊎◌, ◌<◌, ◌^◌, ◌-◌, ℕ, Bool, true, false, List, [], ◌∷◌, ◌++◌, length, take, min}
 use Rattle.std.specs.Prelude.{Option, if◌then◌else◌, nat_le, MatchBool, count_by, flat_map}
@@ -86,12 +85,12 @@ pub record Answered {State : Type 0} (Line : Answering State) (first : State) (w
   pub run : Run Line first lines text last
   pub sent : Appends written contents text
 
--- what stands behind a line: the end, or its line feed and more
+-- what stands after a line: the end, or its line feed and more
 abbrev pub IsBehindLine : Type 0 → List ℕ → Type 0
 IsBehindLine ended [] = ended
 IsBehindLine ended (b ∷ bs) = b ≡ 10
 
--- the reply to one line was cut: all lines before it were answered, the state is the one behind it
+-- the reply to one line was cut: all lines before it were answered, the state is the one after it
 pub record Cut {State : Type 0} (Line : Answering State) (ended : Type 0) (first : State) (written : Option (List ℕ))
     (read : List ℕ)
     (last : State) (contents : Option (List ℕ)) : Type 0 where

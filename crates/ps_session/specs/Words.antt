@@ -11,7 +11,7 @@ parts separator text = slice_split (λ b. b == separator) text
 abbrev pub first_part : ℕ → List ℕ → List ℕ
 first_part separator text = before_first (λ b. b == separator) text
 
--- all behind the first such byte, others of them too
+-- all after the first such byte, others of them too
 abbrev pub behind_part : ℕ → List ℕ → List ℕ
 behind_part separator text = after_first (λ b. b == separator) text
 

@@ -56,7 +56,7 @@ fn obey<L: Ledger>(
     }
 }
 
-/// Carries out an edit, and tells the version or the refusal.
+/// Carries out an edit: the reply has the new version, or the refusal.
 fn carry_out<L: Ledger>(alloc: Global, edit: Edit, sheet: &mut Sheet, meter: &mut Meter<L>) -> Reply
     ensures edited { Edited (delta_of_edit sheet.old.replica (joined_history sheet.old.history) edit) sheet.old.history
         (reply_text result) sheet.new.history
@@ -76,23 +76,15 @@ fn show_table(alloc: Global, rect: Rect, sheet: &Sheet) -> Reply
         × (reply_text result ≡ rows_text rect.height (exported v rect)))
         ⊎ (reply_text result ≡ refusal_text Refusal.Memory) }
 {
+    // The call brings that the sheet is one, so that what it shows is settled.
     let _ = sheet.version();
     match exported_text(alloc, sheet, rect) {
-        Ok(table) => Reply::Rows(height(rect), table),
+        Ok(table) => Reply::Rows(rect.height() as u64, table),
         Err(refusal) => Reply::Refused(refusal),
     }
 }
 
-/// How many rows the rectangle has.
-fn height(rect: Rect) -> u64
-    ensures { result ≡ rect.height }
-{
-    let upper = rect.top_left().row() as u64;
-    let lower = rect.bottom_right().row() as u64;
-    lower - upper + 1
-}
-
-/// Accepts a delta made elsewhere, and tells the version.
+/// Accepts a delta made elsewhere: the reply has the new version.
 fn take_in<L: Ledger>(alloc: Global, delta: Delta, sheet: &mut Sheet, meter: &mut Meter<L>) -> Reply
     ensures taken { (Takes delta sheet.old.history sheet.new.history
         × (reply_text result ≡ done_text (length sheet.new.history)))

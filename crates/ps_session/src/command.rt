@@ -3,7 +3,7 @@ ghost use Rattle.std.specs.Prelude.{◌≡◌, ◌∷◌, Err, Ok, Some};
 ghost use Rattle.std.specs.Option.{ok_or};
 ghost use Rattle.ps_session.specs.Words.{behind_word, parts, whole_number, words};
 ghost use Rattle.ps_session.specs.Commands.{AtCell, ReadsCorners, ReadsGet, ReadsLine, ReadsPair, ReadsPull};
-ghost use Rattle.ps_session.specs.Commands.{ReadsRows, ReadsSet, ReadsVerb, TakesIn, TakesMemoryToRead, group_size};
+ghost use Rattle.ps_session.specs.Commands.{ReadsRows, ReadsSet, ReadsVerb, Pushes, TakesMemoryToRead, group_size};
 
 use crate::verb::Verb;
 use crate::words::{read_whole, split_part, split_word};
@@ -46,7 +46,7 @@ impl Command {
     /// - `choose <cell> <option>` and `unchoose <cell> <option>`, to change its set;
     /// - `rows <cell>:<cell>`, to show a rectangle;
     /// - `pull <from>` and `pull <from> <most>`, to hand out deltas;
-    /// - `push <line>`, to take in the delta that all behind the space is a line of.
+    /// - `push <line>`, to take in the delta that all after the space is a line of.
     ///
     /// Exactly one space stands between two words; an entry may hold more. Of several refusals the first is told:
     /// another first word, a word too few or too many (`Command`), no cell (`Cell`), no digits or a number of more
@@ -177,7 +177,7 @@ fn read_corners(corners: &[u8]) -> Result<Command, Refusal>
 }
 
 fn read_push(alloc: Global, line: &[u8]) -> Result<Command, Refusal>
-    ensures { TakesIn line.now result }
+    ensures { Pushes line.now result }
 {
     let delta = decode(alloc, line)?;
     Ok(Command::Push(delta))

@@ -80,7 +80,7 @@ fn text_of(alloc: Global, line: &[u8]) -> Result<Vec<u8>, Refusal> {
     Ok(text)
 }
 
-/// The entry is all behind the second space, and nothing where there is none.
+/// The entry is all after the second space, and nothing where there is none.
 #[test]
 fn entries(rt: HostRuntime) -> Result<(), Fail> {
     for (line, want) in [

@@ -18,7 +18,7 @@ pub enum Reply {
     Shown(Value),
     /// `rows` and how many lines a table has, and then the lines, each with its line feed.
     Rows(u64, Vec<u8>),
-    /// `delta`, the version behind it and its line.
+    /// `delta`, the version after it and its line.
     Delta(u64, Vec<u8>),
     /// `end` and the version.
     End(u64),
@@ -52,6 +52,7 @@ fn send_value<K: Sink>(value: Value, sink: &mut K) -> Result<(), Failed>
     Ok(())
 }
 
+/// Writes `val` and what a cell shows.
 fn send_shown<K: Sink>(value: Value, sink: &mut K) -> Result<(), Failed>
     ensures sent { Sends (K.contents sink.old) (K.contents sink.new) result
         (codes "val " ++ (shown_text value ++ 10 ∷ [])) }
@@ -63,7 +64,9 @@ fn send_shown<K: Sink>(value: Value, sink: &mut K) -> Result<(), Failed>
     Ok(())
 }
 
-/// Writes a reply and its line feed. The number of writes is constant.
+/// Writes a reply and its line feed; where the sink fails, a beginning of that.
+///
+/// Cost: O(n) in the n bytes of the reply, in a constant number of pieces.
 pub fn send<K: Sink>(reply: &Reply, sink: &mut K) -> Result<(), Failed>
     ensures sent { Sends (K.contents sink.old) (K.contents sink.new) result (reply_text reply.now) }
     ensures calm { OnOk result (K.failures sink.new ≡ K.failures sink.old) }
@@ -96,7 +99,7 @@ fn send_number<K: Sink>(word: &[u8], number: u64, sink: &mut K) -> Result<(), Fa
     send_pieces(pieces.as_slice(), sink)
 }
 
-/// Writes a word with its space, a number, a text behind a space, and a line feed.
+/// Writes a word with its space, a number, a text after a space, and a line feed.
 fn send_words<K: Sink>(word: &[u8], number: u64, text: &[u8], sink: &mut K) -> Result<(), Failed>
     ensures sent { Sends (K.contents sink.old) (K.contents sink.new) result
         (word.now ++ decimal number ++ (codes " " ++ text.now) ++ 10 ∷ []) }

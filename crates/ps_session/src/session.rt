@@ -58,7 +58,7 @@ impl Model for Session {
     ghost invariant = { λ s. (vec_len s.bytes ≤ LINE_LIMIT) × (LINE_LIMIT ≤ vec_capacity s.bytes) };
 }
 
-/// Drops a line that has ended, and tells whether the line that goes on is too long.
+/// Drops a line that has ended, and returns whether the line that goes on is too long.
 fn begin(bytes: &mut Vec<u8>, too_long: bool, ended: bool) -> bool
     ensures held { held result bytes.new.items ≡ (if ended then Some [] else held too_long bytes.old.items) }
     ensures fits { vec_len bytes.new ≤ vec_len bytes.old }
@@ -71,13 +71,14 @@ fn begin(bytes: &mut Vec<u8>, too_long: bool, ended: bool) -> bool
     too_long
 }
 
+/// What a line is once it has ended.
 fn ended_line(too_long: bool) -> Line
     ensures { result ≡ (if too_long then Line.TooLong else Line.Full) }
 {
     if too_long { Line::TooLong } else { Line::Full }
 }
 
-/// Adds a part to a line that may be too long, and tells whether it is now.
+/// Adds a part to a line that may be too long, and returns whether it is now.
 fn keep(bytes: &mut Vec<u8>, too_long: bool, part: &[u8]) -> bool
     requires fits { vec_len bytes.old ≤ LINE_LIMIT }
     requires room { LINE_LIMIT ≤ vec_capacity bytes.old }
@@ -95,7 +96,9 @@ fn keep(bytes: &mut Vec<u8>, too_long: bool, part: &[u8]) -> bool
 impl Session {
     ghost use Rattle.ps_session.specs.Feeding.{Ends, Feeds, without_return};
 
-    /// Takes the room of one line.
+    /// A session that has read nothing. Refused out of memory.
+    ///
+    /// Cost: the room of one line.
     pub fn new(alloc: Global) -> Result<Session, AllocError>
         ensures { IfOk result (λ s. s.pending ≡ Some []) }
     {
@@ -106,7 +109,9 @@ impl Session {
         })
     }
 
-    /// Takes bytes up to the next line feed, or all where there is none. No memory; linear in the bytes taken.
+    /// Takes bytes up to the next line feed, or all where there is none.
+    ///
+    /// Cost: O(n) in the n bytes taken, and no memory.
     pub fn feed(&mut self, piece: &[u8]) -> Fed
         ensures within { result.taken ≤ length piece.now }
         ensures some { 0 < length piece.now → 0 < result.taken }
@@ -134,6 +139,8 @@ impl Session {
     }
 
     /// At the end of the input: what remains without a line feed.
+    ///
+    /// Cost: constant.
     pub fn end(&mut self) -> Line
         ensures { Ends self.old self.new result }
     {
@@ -151,6 +158,8 @@ impl Session {
     }
 
     /// The line that ended last, without a carriage return at its end.
+    ///
+    /// Cost: constant.
     pub fn line(&self) -> &[u8]
         ensures { result.now ≡ without_return self.now.line }
     {

@@ -14,10 +14,10 @@ use ps_sheet::Sheet;
 use std::alloc::Global;
 use std::sync::ledger::Ledger;
 
-/// Answers each line of a source on a sink by a sheet, to the end of the input, and tells how many lines had a reply;
+/// Answers each line of a source on a sink by a sheet, to the end of the input, and returns how many lines had a reply;
 /// 2^64 - 1 stands for more.
 ///
-/// A line whose reply can't be written has been carried out all the same. After a fault the sheet is the one behind the
+/// A line whose reply can't be written has been carried out all the same. After a fault the sheet is the one after the
 /// last line that was carried out.
 ///
 /// Where each delta of the history has a line, as in an empty one, it stays so, and no pull is refused as too long.
@@ -54,6 +54,7 @@ pub fn run<S: Source, K: Sink, L: Ledger>(
     ensures source_failed { result ≡ Err RunFault.Source → S.failures source.old < S.failures source.new }
 {
     let answered = talk(alloc, source, sink, sheet, meter);
+    // The call brings that the sheet is one still (`IsSheet`).
     let _ = sheet.version();
     answered
 }

@@ -2,7 +2,7 @@ use crate::session::{LINE_LIMIT, Line, Session};
 use std::alloc::{AllocError, Global};
 use std::test::Fail;
 
-/// The lines of a text that comes in two pieces, each with a bar behind it.
+/// The lines of a text that comes in two pieces, each with a bar after it.
 fn lines_of(alloc: Global, first: &[u8], second: &[u8]) -> Result<Vec<u8>, AllocError> {
     let mut session = Session::new(alloc)?;
     let mut found = Vec::new(alloc);

@@ -6,7 +6,7 @@ ghost use Rattle.std.specs.Option.{option_map_or};
 ghost use Rattle.ps_session.specs.Words.{behind_part, behind_word, first_part, first_word, parts, whole_number};
 ghost use Rattle.ps_session.specs.Words.{words};
 
-/// The bytes before the first space, and those behind it where there is one.
+/// The bytes before the first space, and those after it where there is one.
 pub(crate) fn split_word(text: &[u8]) -> (&[u8], Option<&[u8]>)
     ensures word { result.0.now ≡ first_word text.now }
     ensures words { words text.now ≡ result.0.now ∷ option_map_or (λ rest. words rest.now) result.1 [] }
@@ -15,7 +15,7 @@ pub(crate) fn split_word(text: &[u8]) -> (&[u8], Option<&[u8]>)
     split_part(text, b' ')
 }
 
-/// The bytes before the first separator, and those behind it where there is one.
+/// The bytes before the first separator, and those after it where there is one.
 pub(crate) fn split_part(text: &[u8], separator: u8) -> (&[u8], Option<&[u8]>)
     ensures part { result.0.now ≡ first_part separator text.now }
     ensures parts { parts separator text.now
@@ -28,6 +28,7 @@ pub(crate) fn split_part(text: &[u8], separator: u8) -> (&[u8], Option<&[u8]>)
     }
 }
 
+/// The place of the first separator, where there is one.
 fn first_place(text: &[u8], separator: u8) -> Option<usize>
     ensures { result ≡ position (λ b. b == separator) text.now }
 {
@@ -47,6 +48,7 @@ pub(crate) fn read_whole(word: &[u8]) -> Option<u64>
     }
 }
 
+/// Whether each byte of a word is a decimal digit.
 fn are_digits(word: &[u8]) -> bool
     ensures { result ≡ list_all is_ascii_digit word.now }
 {

@@ -41,6 +41,8 @@ pub fn fault_of_import(fault: ImportFault) -> ProgramFault
 }
 
 /// The exit status: 1 where a device failed, else 3.
+///
+/// Cost: constant.
 pub fn status_of(fault: &ProgramFault) -> u8
     ensures { result ≡ exit_status fault.now }
 {

@@ -1,4 +1,4 @@
-//! What `--help` tells.
+//! What `--help` prints.
 
 /// What stands below the options of `sheet run --help`.
 pub const RUN_HELP: &str = "\

@@ -2,7 +2,7 @@
 //!
 //! `sheet run` opens an empty sheet and answers each line of standard input on standard output; `sheet table` reads a
 //! table of CSV and writes the table of its settled values.
-//! [`read_words`] reads the command line: its contract ties the command and the numbers that it answers to the matches
+//! [`read_words`] reads the command line: its contract ties the command and the numbers that it returns to the matches
 //! that `clap` finds in the words. A [`ProgramFault`] is what ends the program early, and [`status_of`] its exit
 //! status: 0 where all went well, 1 where a device failed, 2 for a command line that is none, 3 for any other refusal.
 #![tactic(auto)]

@@ -19,7 +19,7 @@ use std::sync::ledger::Ledger;
 
 /// The sheet that a session begins with: an empty one, of the replica that was asked for.
 ///
-/// Refused only for lack of memory.
+/// Refused only out of memory.
 ///
 /// Cost: that of [`Sheet::open`].
 pub fn open_sheet(alloc: Global, options: RunOptions) -> Result<Sheet, Refusal>

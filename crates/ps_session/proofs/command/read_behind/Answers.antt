@@ -1,4 +1,4 @@
-use Rattle.ps_session.proofs.CommandLemmas.{push_reads}
+use Rattle.ps_session.proofs.WordCounts.{push_reads}
 use Rattle.ps_session.proofs.command.read_behind.Goals as goal
 
 pub returns-in-Push : goal.returns-in-Push

@@ -1,4 +1,4 @@
-use Rattle.ps_session.proofs.CommandLemmas.{corners_more}
+use Rattle.ps_session.proofs.WordCounts.{corners_more}
 use Rattle.ps_session.proofs.command.read_corners.Goals as goal
 
 pub returns-in_default-Some : goal.returns-in_default-Some

@@ -1,4 +1,4 @@
-use Rattle.ps_session.proofs.CommandLemmas.{get_more}
+use Rattle.ps_session.proofs.WordCounts.{get_more}
 use Rattle.ps_session.proofs.command.read_get.Goals as goal
 
 pub returns-in_default-Some : goal.returns-in_default-Some

@@ -1,4 +1,4 @@
-use Rattle.ps_session.proofs.CommandLemmas.{pull_more}
+use Rattle.ps_session.proofs.WordCounts.{pull_more}
 use Rattle.ps_session.proofs.command.read_group.Goals as goal
 
 pub returns-in_default-Some : goal.returns-in_default-Some

@@ -1,4 +1,4 @@
-use Rattle.ps_session.proofs.CommandLemmas.{pair_more}
+use Rattle.ps_session.proofs.WordCounts.{pair_more}
 use Rattle.ps_session.proofs.command.read_pair.Goals as goal
 
 pub returns-in_default-Some : goal.returns-in_default-Some

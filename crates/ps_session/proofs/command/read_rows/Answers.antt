@@ -1,4 +1,4 @@
-use Rattle.ps_session.proofs.CommandLemmas.{rows_more}
+use Rattle.ps_session.proofs.WordCounts.{rows_more}
 use Rattle.ps_session.proofs.command.read_rows.Goals as goal
 
 pub returns-in_default-Some : goal.returns-in_default-Some

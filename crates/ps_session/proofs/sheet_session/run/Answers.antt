@@ -1,6 +1,6 @@
 use Rattle.std.proofs.Common.{subst, ◌≤◌}
 use Rattle.ps_lattice.specs.declared.limits.TheConstants.{REPLICAS}
-use Rattle.ps_session.proofs.KeptLemmas.{session_keeps}
+use Rattle.ps_session.proofs.ReplicaAndLinesStay.{session_keeps}
 use Rattle.ps_session.proofs.sheet_session.run.Goals as goal
 
 pub returns-clause-replica : goal.returns-clause-replica

@@ -28,7 +28,7 @@ pieces-preserved g c = (
         (stands_settled _ first written _ _ _ _ _ _ c.in-Ok.ensures.same (c.pieces.invariant.0.2 first written s)),
   ),
   omega (arith, c.in-Ok-take.ensures.counted, c.pieces.invariant.1),
-  c.in-Ok-serve.ensures.calm ∙ omega (arith, c.in-Ok.ensures.counted, c.pieces.invariant.2),
+  c.in-Ok-serve.ensures.calm ∙ c.in-Ok.ensures.calm ∙ c.pieces.invariant.2,
 )
 
 pub returns-in-Err-serve-clause-sink : goal.returns-in-Err-serve-clause-sink

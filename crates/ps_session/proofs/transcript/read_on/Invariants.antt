@@ -1,6 +1,6 @@
 use Rattle.std.proofs.Common.{◌≡◌, ℕ, [], List, Option}
 use Rattle.std.specs.Io.KnownBytes.{Consumes}
-use Rattle.ps_session.specs.Stands.{Stands}
+use Rattle.ps_session.specs.Inside.Stands.{Stands}
 use Rattle.ps_session.specs.Transcript.{Lines}
 use Rattle.ps_session.proofs.transcript.read_on.Given as goal
 
@@ -8,10 +8,10 @@ abbrev pub invariant-pieces : goal.invariant-pieces
 invariant-pieces g l = ((read : List ℕ) × Consumes (g.S.Source.remaining l.fn.source) (g.S.Source.remaining l.source)
     read
     × ((first : g.row.B.Denot) (written : Option (List ℕ))
-    → Stands (Lines g.B.Board.answers) first written [] l.fn.board l.fn.session.pending (g.K.Sink.contents l.fn.sink)
-    l.fn.answered
-    → Stands (Lines g.B.Board.answers) first written read l.board l.session.pending (g.K.Sink.contents l.sink)
-    l.answered))
+    → Stands (Lines g.B.Board.answers) first written [] l.fn.board l.fn.exchange.session.pending (g.K.Sink.contents l.fn.sink)
+    l.fn.exchange.answered
+    → Stands (Lines g.B.Board.answers) first written read l.board l.exchange.session.pending (g.K.Sink.contents l.sink)
+    l.exchange.answered))
     × (g.S.Source.failures l.source ≡ g.S.Source.failures l.fn.source)
     × (g.K.Sink.failures l.sink ≡ g.K.Sink.failures l.fn.sink)
 

@@ -30,13 +30,13 @@ returns-in-Err-finish-clause-sink g c = λ is.
           c.args.board.now _ _ c.in-Ok.ensures)))),
     )
 
-pub returns-in-Ok-settle-clause-transcribed : goal.returns-in-Ok-settle-clause-transcribed
-returns-in-Ok-settle-clause-transcribed g c =
+pub returns-in-Ok-hand_on-clause-transcribed : goal.returns-in-Ok-hand_on-clause-transcribed
+returns-in-Ok-hand_on-clause-transcribed g c =
     let r = c.in_ok-read_on.ensures.read in (
       r.0,
       r.1,
       r.2,
-      transcribed_settled _ c.args.board.now _ r.0 _ _ _ _ c.in-Ok-settle.ensures.same
+      transcribed_settled _ c.args.board.now _ r.0 _ _ _ _ c.in-Ok-hand_on.ensures.same
           (c.in-Ok-finish.ensures.transcribed c.args.board.now _ r.0 (r.3 c.args.board.now _ (stands_first _
           c.args.board.now _ _ c.in-Ok.ensures))),
     )
@@ -49,7 +49,7 @@ returns-clause-sink g c = λ is.
       inr (inr (
         r.2,
         _,
-        transcribed_settled _ c.args.board.now _ r.0 _ _ _ _ c.in-Err-settle.ensures.same
+        transcribed_settled _ c.args.board.now _ r.0 _ _ _ _ c.in-Err-hand_on.ensures.same
             (c.in-Ok-finish.ensures.transcribed c.args.board.now _ r.0 (r.3 c.args.board.now _ (stands_first _
             c.args.board.now _ _ c.in-Ok.ensures))),
       )),

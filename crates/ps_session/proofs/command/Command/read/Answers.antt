@@ -1,4 +1,4 @@
-use Rattle.ps_session.proofs.CommandLemmas.{line_alone}
+use Rattle.ps_session.proofs.WordCounts.{line_alone}
 use Rattle.ps_session.proofs.command.Command.read.Goals as goal
 
 pub returns-in-None-clause-read : goal.returns-in-None-clause-read

@@ -3,7 +3,7 @@ use Rattle.std.proofs.Common.{◌≡◌, ℕ, List, [], ◌∷◌, Some, Err, re
 use Rattle.ps_grid.specs.declared.refusal.Refusal.{Refusal}
 use Rattle.ps_grid.specs.declared.refusal.Refusal.TheVariants as refusals
 use Rattle.ps_session.specs.Commands.{verb_of, ReadsCorners, ReadsGet, ReadsLine, ReadsPair, ReadsPull, ReadsRows}
-use Rattle.ps_session.specs.Commands.{Read, ReadsPush, ReadsVerb, TakesIn}
+use Rattle.ps_session.specs.Commands.{Read, ReadsPush, ReadsVerb, Pushes}
 use Rattle.ps_session.specs.declared.command.Command.{Command}
 use Rattle.ps_session.specs.Words.{behind_word, first_word, parts, words}
 use Rattle.ps_session.specs.declared.verb.Verb.{Verb}
@@ -27,7 +27,7 @@ corners_more first last rest = rw (parts_are_some 58 rest).are refl
 pub pull_more : (from most rest : List ℕ) → ReadsPull (from ∷ most ∷ words rest) (Err refusals.Command)
 pull_more from most rest = rw (parts_are_some 32 rest).are refl
 
-pub push_reads : (line : List ℕ) (read : Read Command) → TakesIn line read → ReadsPush (words line) line read
+pub push_reads : (line : List ℕ) (read : Read Command) → Pushes line read → ReadsPush (words line) line read
 push_reads line read reads = rw (parts_are_some 32 line).are reads
 
 pub verb_alone : (verb : Verb) (entry : List ℕ) → ReadsVerb (Some verb) [] entry (Err refusals.Command)
