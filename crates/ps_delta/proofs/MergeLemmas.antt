@@ -1,5 +1,7 @@
 -- Two lists of entries merged, and the join of a list of deltas.
-use Rattle.std.proofs.Common.{◌≡◌, ◌≢◌, ℕ, zero, suc, map as each, ◌+◌, ◌<◌, Bool, true, false, cond, List, [], ◌∷◌, ◌++◌, length, get_or, take, refl, sym, ap, ◌∙◌, ⊎_elim, Option, Some, None, unwrap_or, subst, arith}
+use Rattle.std.proofs.Common.{◌≡◌, ◌≢◌, ℕ, zero, suc, map as each, ◌+◌, ◌<◌, Bool, true, false, cond, List, [], ◌∷◌}
+use Rattle.std.proofs.Common.{◌++◌, length, get_or, take, refl, sym, ap, ◌∙◌, ⊎_elim, Option, Some, None, unwrap_or}
+use Rattle.std.proofs.Common.{subst, arith}
 use Rattle.std.proofs.lemmas.Bool.{cases_eq}
 use Rattle.std.proofs.lemmas.Bool.Decides.{nat_tests}
 use Rattle.std.proofs.lemmas.List.{length-map, take_more}
@@ -151,7 +153,8 @@ joined_more deltas i cells more delta within is d state entries j = record {
       (entries_of d) d.some state;
 }
 
-mapped_at : {X : Type 0} (f : X → Entries) (xs : List X) (i : ℕ) (d : X) → get_or (each f xs) i (f d) ≡ f (get_or xs i d)
+mapped_at : {X : Type 0} (f : X → Entries) (xs : List X) (i : ℕ) (d : X)
+    → get_or (each f xs) i (f d) ≡ f (get_or xs i d)
 mapped_at f [] i d = refl
 mapped_at f (x ∷ xs) zero d = refl
 mapped_at f (x ∷ xs) (suc i) d = mapped_at f xs i d

@@ -16,7 +16,8 @@ use Rattle.std.proofs.lemmas.List.Folds.{list_any_at}
 use Rattle.ps_grid.specs.declared.refusal.Refusal.{Refusal}
 use Rattle.ps_grid.specs.declared.size.TheConstants.{CELLS, COLUMNS}
 use Rattle.ps_lattice.specs.declared.choice.Pair.{Pair}
-use Rattle.ps_lattice.specs.declared.limits.TheConstants.{COUNT_LIMIT, LAST_TIME, OPTIONS, REPLICAS, SEQUENCES}
+use Rattle.ps_grid.specs.declared.parties.TheConstants.{REPLICAS}
+use Rattle.ps_lattice.specs.declared.limits.TheConstants.{COUNT_LIMIT, LAST_TIME, OPTIONS, SEQUENCES}
 use Rattle.ps_lattice.specs.declared.tally.Count.{Count}
 use Rattle.ps_lattice.specs.Register.{is_stamp, time_of}
 use Rattle.ps_lattice.specs.Tally.{Counts, added, counts_of, is_amount, is_count, is_tally, subtracted}

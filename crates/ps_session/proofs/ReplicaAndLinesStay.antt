@@ -4,7 +4,7 @@ use Rattle.std.proofs.Common.{Option, length, nat_le, Result, Ok, Err}
 use Rattle.std.specs.Prelude.{IfOk, MatchBool}
 use Rattle.std.specs.List.{All}
 use Rattle.std.proofs.lemmas.List.Elements.{All-push}
-use Rattle.ps_lattice.specs.declared.limits.TheConstants.{REPLICAS}
+use Rattle.ps_grid.specs.declared.parties.TheConstants.{REPLICAS}
 use Rattle.ps_grid.specs.declared.refusal.Refusal.{Refusal}
 use Rattle.ps_delta.specs.Deltas.{Entries, joined_history}
 use Rattle.ps_wire.specs.Value.{IsLawful}

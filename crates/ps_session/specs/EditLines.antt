@@ -2,7 +2,7 @@
 use Rattle.std.specs.Prelude.{◌≡◌, ◌+◌, ◌<◌, ◌≤◌, ℕ, List, length, drop, Ok}
 use Rattle.std.specs.List.{All}
 use Rattle.ps_grid.specs.declared.size.TheConstants.{CELLS, COLUMNS}
-use Rattle.ps_lattice.specs.declared.limits.TheConstants.{REPLICAS}
+use Rattle.ps_grid.specs.declared.parties.TheConstants.{REPLICAS}
 use Rattle.ps_content.specs.Content.{IsContent}
 use Rattle.ps_delta.specs.State.{State}
 use Rattle.ps_delta.specs.Deltas.{Entries, joined_history}

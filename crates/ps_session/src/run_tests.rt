@@ -1,5 +1,6 @@
 //! Sessions of a sheet, from bytes to bytes. The expected replies are worked by hand.
 ghost use Rattle.std.specs.Prelude.{◌≡◌, ◌<◌};
+ghost use Rattle.ps_grid.specs.Blanks.{IsBlankOf};
 
 use crate::run;
 use ps_device::{MemorySink, MemorySource, Reading, Source};
@@ -20,12 +21,8 @@ fn answered<S: Source, K: Ledger, L: Ledger>(
     output: Blank,
     count: Blank,
 ) -> Result<Vec<u8>, Refusal>
-    requires output_name { output.name ≡ K.name }
-    requires output_parts { output.parts ≡ K.parts }
-    requires output_some { 0 < K.parts }
-    requires count_name { count.name ≡ L.name }
-    requires count_parts { count.parts ≡ L.parts }
-    requires count_some { 0 < L.parts }
+    requires output { IsBlankOf output K.name K.parts }
+    requires count { IsBlankOf count L.name L.parts }
 {
     let mut sheet = Sheet::open(alloc, 1, 1)?;
     let mut meter = Meter::<L>::new(count);
@@ -52,9 +49,7 @@ impl Read for Trickle<'_> {
 }
 
 fn answered_slowly<J: Ledger>(alloc: Global, input: Blank, text: &[u8]) -> Result<Vec<u8>, Refusal>
-    requires name { input.name ≡ J.name }
-    requires parts { input.parts ≡ J.parts }
-    requires some { 0 < J.parts }
+    requires { IsBlankOf input J.name J.parts }
 {
     let mut source = Reading::<Trickle, J>::new(Trickle(text), input);
     answered::<Reading<Trickle, J>, Brand, Brand>(alloc, &mut source, Blank::new(1), Blank::new(1))

@@ -1,5 +1,6 @@
 //! Devices that fail in the middle of a session.
 ghost use Rattle.std.specs.Prelude.{◌≡◌, ◌<◌};
+ghost use Rattle.ps_grid.specs.Blanks.{IsBlankOf};
 
 use ps_device::{Reading, Writing};
 use ps_eval::Meter;
@@ -76,15 +77,9 @@ fn ended<I: Ledger, O: Ledger, M: Ledger>(
     output: Blank,
     count: Blank,
 ) -> Result<SessionEnd, Refusal>
-    requires input_name { input.name ≡ I.name }
-    requires input_parts { input.parts ≡ I.parts }
-    requires input_some { 0 < I.parts }
-    requires output_name { output.name ≡ O.name }
-    requires output_parts { output.parts ≡ O.parts }
-    requires output_some { 0 < O.parts }
-    requires count_name { count.name ≡ M.name }
-    requires count_parts { count.parts ≡ M.parts }
-    requires count_some { 0 < M.parts }
+    requires input { IsBlankOf input I.name I.parts }
+    requires output { IsBlankOf output O.name O.parts }
+    requires count { IsBlankOf count M.name M.parts }
 {
     let mut source = Reading::<Given, I>::new(given, input);
     let mut sink = Writing::<Keeper, O>::new(keeper, output);

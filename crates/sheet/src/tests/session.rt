@@ -1,5 +1,6 @@
 //! Scripts from bytes to bytes: what a session on an empty sheet writes.
 ghost use Rattle.std.specs.Prelude.{◌≡◌, ◌<◌};
+ghost use Rattle.ps_grid.specs.Blanks.{IsBlankOf};
 
 use ps_device::{MemorySink, Reading};
 use ps_eval::Meter;
@@ -41,15 +42,9 @@ fn written<I: Ledger, O: Ledger, M: Ledger>(
     output: Blank,
     count: Blank,
 ) -> Result<Vec<u8>, Refusal>
-    requires input_name { input.name ≡ I.name }
-    requires input_parts { input.parts ≡ I.parts }
-    requires input_some { 0 < I.parts }
-    requires output_name { output.name ≡ O.name }
-    requires output_parts { output.parts ≡ O.parts }
-    requires output_some { 0 < O.parts }
-    requires count_name { count.name ≡ M.name }
-    requires count_parts { count.parts ≡ M.parts }
-    requires count_some { 0 < M.parts }
+    requires input { IsBlankOf input I.name I.parts }
+    requires output { IsBlankOf output O.name O.parts }
+    requires count { IsBlankOf count M.name M.parts }
 {
     let mut source = Reading::<Parts, I>::new(parts, input);
     let mut sink = MemorySink::<O>::new(alloc, output);

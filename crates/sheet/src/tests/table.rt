@@ -1,5 +1,6 @@
 //! Tables in, and the tables of their settled values out.
 ghost use Rattle.std.specs.Prelude.{◌≡◌, ◌<◌};
+ghost use Rattle.ps_grid.specs.Blanks.{IsBlankOf};
 
 use crate::{ProgramFault, table_on};
 use ps_device::{MemorySink, MemorySource};
@@ -16,12 +17,8 @@ fn filled<O: Ledger, M: Ledger>(
     output: Blank,
     count: Blank,
 ) -> Result<Vec<u8>, ProgramFault>
-    requires output_name { output.name ≡ O.name }
-    requires output_parts { output.parts ≡ O.parts }
-    requires output_some { 0 < O.parts }
-    requires count_name { count.name ≡ M.name }
-    requires count_parts { count.parts ≡ M.parts }
-    requires count_some { 0 < M.parts }
+    requires output { IsBlankOf output O.name O.parts }
+    requires count { IsBlankOf count M.name M.parts }
 {
     let mut source = MemorySource::new(table);
     let mut sink = MemorySink::<O>::new(alloc, output);

@@ -1,5 +1,5 @@
 use Rattle.std.proofs.Common.{subst, ◌≤◌}
-use Rattle.ps_lattice.specs.declared.limits.TheConstants.{REPLICAS}
+use Rattle.ps_grid.specs.declared.parties.TheConstants.{REPLICAS}
 use Rattle.ps_session.proofs.ReplicaAndLinesStay.{session_keeps}
 use Rattle.ps_session.proofs.sheet_session.run.Goals as goal
 
