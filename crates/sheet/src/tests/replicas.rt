@@ -87,7 +87,7 @@ fn page_second_together(rt: HostRuntime) -> Result<(), Fail> {
 
 /// Two replicas assign one cell at the same time: both show the text of the greater replica.
 #[test]
-fn row_11(rt: HostRuntime) -> Result<(), Fail> {
+fn one_cell_assigned_at_one_time(rt: HostRuntime) -> Result<(), Fail> {
     let first = b"set A1 x\npush [[\"A1\",[1,2,\"'y\"],[],[]]]\nget A1\n";
     assert!(rt; has_replies_at(rt.alloc(), 1, first, b"ok 1\nok 2\nval y\n")?);
     let second = b"set A1 y\npush [[\"A1\",[1,1,\"'x\"],[],[]]]\nget A1\n";
@@ -97,7 +97,7 @@ fn row_11(rt: HostRuntime) -> Result<(), Fail> {
 
 /// A counter of two replicas, with a delta that comes again and again, and the delta of a subtraction.
 #[test]
-fn row_13(rt: HostRuntime) -> Result<(), Fail> {
+fn a_counter_of_two_replicas(rt: HostRuntime) -> Result<(), Fail> {
     let script = b"push [[\"A1\",[1,1,\"@tally\"],[],[]]]\n\
         push [[\"A1\",null,[[1,5,0]],[]]]\n\
         sub A1 2\n\

@@ -5,7 +5,7 @@ use std::test::Fail;
 
 /// No input: no output.
 #[test]
-fn row_1(rt: HostRuntime) -> Result<(), Fail> {
+fn no_input_has_no_output(rt: HostRuntime) -> Result<(), Fail> {
     let script = b"";
     let expected = b"";
     assert!(rt; has_replies(rt.alloc(), script, expected)?);
@@ -14,7 +14,7 @@ fn row_1(rt: HostRuntime) -> Result<(), Fail> {
 
 /// A formula refers to a number.
 #[test]
-fn row_2(rt: HostRuntime) -> Result<(), Fail> {
+fn a_formula_shows_its_value(rt: HostRuntime) -> Result<(), Fail> {
     let script = b"set A1 5\n\
         set B1 =[.A1]*2\n\
         get B1\n";
@@ -27,7 +27,7 @@ fn row_2(rt: HostRuntime) -> Result<(), Fail> {
 
 /// A cycle of two cells, a cell that refers to it, and a number that ends the cycle.
 #[test]
-fn row_3(rt: HostRuntime) -> Result<(), Fail> {
+fn a_number_ends_a_cycle(rt: HostRuntime) -> Result<(), Fail> {
     let script = b"set A1 =[.B1]\n\
         set B1 =[.A1]\n\
         set C1 =[.A1]+1\n\
@@ -52,7 +52,7 @@ fn row_3(rt: HostRuntime) -> Result<(), Fail> {
 
 /// A range that holds its own cell.
 #[test]
-fn row_4(rt: HostRuntime) -> Result<(), Fail> {
+fn a_range_over_its_own_cell_is_a_cycle(rt: HostRuntime) -> Result<(), Fail> {
     let script = b"set A2 =SUM([.A1:.A3])\n\
         get A2\n";
     let expected = b"ok 1\n\
@@ -63,7 +63,7 @@ fn row_4(rt: HostRuntime) -> Result<(), Fail> {
 
 /// A reference in an untaken branch is a reference.
 #[test]
-fn row_5(rt: HostRuntime) -> Result<(), Fail> {
+fn an_untaken_branch_is_referred_to(rt: HostRuntime) -> Result<(), Fail> {
     let script = b"set A1 =IF(1;2;[.A1])\n\
         get A1\n\
         set A1 =COUNT([.A1])\n\
@@ -82,7 +82,7 @@ fn row_5(rt: HostRuntime) -> Result<(), Fail> {
 
 /// The ends of the 64-bit numbers.
 #[test]
-fn row_7(rt: HostRuntime) -> Result<(), Fail> {
+fn numbers_end_at_64_bits(rt: HostRuntime) -> Result<(), Fail> {
     let script = b"set A1 =9223372036854775807+1\n\
         get A1\n\
         set A1 =SUM(9223372036854775807;1;-1)\n\
@@ -105,7 +105,7 @@ fn row_7(rt: HostRuntime) -> Result<(), Fail> {
 
 /// Division: the sign of a remainder, cutting towards zero, and its faults.
 #[test]
-fn row_8(rt: HostRuntime) -> Result<(), Fail> {
+fn divisions_of_each_sign(rt: HostRuntime) -> Result<(), Fail> {
     let script = b"set B1 =MOD(-7;3)\n\
         get B1\n\
         set B1 =MOD(7;-3)\n\
@@ -140,7 +140,7 @@ fn row_8(rt: HostRuntime) -> Result<(), Fail> {
 
 /// A fault, a text and a number as items of a range.
 #[test]
-fn row_9(rt: HostRuntime) -> Result<(), Fail> {
+fn items_pass_over_texts(rt: HostRuntime) -> Result<(), Fail> {
     let script = b"set A1 =MOD(1;0)\n\
         set A2 x\n\
         set A3 4\n\
@@ -173,7 +173,7 @@ fn row_9(rt: HostRuntime) -> Result<(), Fail> {
 
 /// A formula in a loose spelling; comparisons group from the left.
 #[test]
-fn row_10(rt: HostRuntime) -> Result<(), Fail> {
+fn a_formula_is_kept_as_its_canonical_text(rt: HostRuntime) -> Result<(), Fail> {
     let script = b"set A1 of:= - 2 * sum ( [.$C$2:.B1] ; 007 )\n\
         get A1\n\
         pull 0\n\
@@ -194,7 +194,7 @@ fn row_10(rt: HostRuntime) -> Result<(), Fail> {
 
 /// The last cell and cells past the edges; each refusal in its turn; an empty cell shows nothing.
 #[test]
-fn row_15(rt: HostRuntime) -> Result<(), Fail> {
+fn cells_past_the_edges_are_refused(rt: HostRuntime) -> Result<(), Fail> {
     let script = b"set CZ1024 1\n\
         set A1025 1\n\
         set DA1 1\n\
@@ -221,7 +221,7 @@ fn row_15(rt: HostRuntime) -> Result<(), Fail> {
 
 /// A formula counts the options of a set, and the shown values of a rectangle are a table.
 #[test]
-fn row_18(rt: HostRuntime) -> Result<(), Fail> {
+fn a_formula_counts_the_options_of_a_set(rt: HostRuntime) -> Result<(), Fail> {
     let script = b"set A1 5\n\
         set B1 @choice\n\
         choose B1 4\n\
@@ -251,7 +251,7 @@ fn row_18(rt: HostRuntime) -> Result<(), Fail> {
 
 /// Entries that are refused, and a text of a digit.
 #[test]
-fn row_20(rt: HostRuntime) -> Result<(), Fail> {
+fn entries_that_are_refused(rt: HostRuntime) -> Result<(), Fail> {
     let script = b"set A1 '\n\
         set A1 =\n\
         set A1 =SUM()\n\
@@ -275,7 +275,7 @@ fn row_20(rt: HostRuntime) -> Result<(), Fail> {
 /// Cells of two cycles, and cells above them: a delta ends one cycle and closes another, and the next one the other way
 /// round.
 #[test]
-fn row_6(rt: HostRuntime) -> Result<(), Fail> {
+fn one_delta_ends_a_cycle_and_closes_another(rt: HostRuntime) -> Result<(), Fail> {
     let script = b"set A1 =[.B1]\n\
         set B1 =[.A1]\n\
         set C1 =[.D1]\n\
@@ -328,7 +328,7 @@ fn row_6(rt: HostRuntime) -> Result<(), Fail> {
 
 /// Two contents at one stamp, in both orders.
 #[test]
-fn row_12(rt: HostRuntime) -> Result<(), Fail> {
+fn equal_stamps_show_the_greater_content(rt: HostRuntime) -> Result<(), Fail> {
     let script = b"push [[\"A1\",[1,1,\"3\"],[],[]]]\n\
         push [[\"A1\",[1,1,\"4\"],[],[]]]\n\
         get A1\n";
@@ -341,7 +341,7 @@ fn row_12(rt: HostRuntime) -> Result<(), Fail> {
 
 /// Two contents at one stamp, the greater one first.
 #[test]
-fn row_12_the_other_way(rt: HostRuntime) -> Result<(), Fail> {
+fn equal_stamps_in_the_other_order(rt: HostRuntime) -> Result<(), Fail> {
     let script = b"push [[\"A1\",[1,1,\"4\"],[],[]]]\n\
         push [[\"A1\",[1,1,\"3\"],[],[]]]\n\
         get A1\n";
@@ -354,7 +354,7 @@ fn row_12_the_other_way(rt: HostRuntime) -> Result<(), Fail> {
 
 /// The last time of a register, and a time past it.
 #[test]
-fn row_19(rt: HostRuntime) -> Result<(), Fail> {
+fn no_edit_follows_the_last_time(rt: HostRuntime) -> Result<(), Fail> {
     let script = b"push [[\"A1\",[9007199254740991,2,\"1\"],[],[]]]\n\
         set A1 2\n\
         get A1\n\
@@ -415,7 +415,7 @@ fn a_full_set(rt: HostRuntime) -> Result<(), Fail> {
 /// A set: an option goes in and out, comes back by a pair that wasn't observed, and one that isn't in can't be taken
 /// out.
 #[test]
-fn row_14(rt: HostRuntime) -> Result<(), Fail> {
+fn an_option_is_taken_out_and_comes_back(rt: HostRuntime) -> Result<(), Fail> {
     let script = b"set A1 @choice\n\
         choose A1 7\n\
         unchoose A1 7\n\

@@ -39,7 +39,7 @@ fn written(alloc: Global, table: &[u8]) -> Result<Vec<u8>, ProgramFault> {
 
 /// A formula and a text with a comma, a record of empty fields, and no record at all.
 #[test]
-fn row_17(rt: HostRuntime) -> Result<(), Fail> {
+fn a_table_shows_its_settled_values(rt: HostRuntime) -> Result<(), Fail> {
     for (table, text) in [
         (
             b"2,=[.A1]*3\n\"x,y\",@tally\n".as_slice(),
