@@ -9,7 +9,8 @@ use Rattle.std.proofs.lemmas.List.{take-append-drop}
 use Rattle.ps_device.proofs.DeviceLemmas.{Appends-append, Appends-keeps, Appends-nil, rest-range}
 use Rattle.ps_session.specs.Kept.{kept}
 use Rattle.ps_session.specs.Feeding.{Ends, Reading}
-use Rattle.ps_session.specs.Transcript.{Answered, Answering, Cut, IsBehindLine, Run, Stopped, Transcribed, answered_count}
+use Rattle.ps_session.specs.Transcript.{Answered, Answering, Cut, IsBehindLine, Run, Stopped, Transcribed}
+use Rattle.ps_session.specs.Transcript.{answered_count}
 use Rattle.ps_session.specs.Transcript.{has_reply, stream_of, with_last}
 use Rattle.ps_session.specs.Inside.Stands.{Stands}
 use Rattle.ps_session.specs.Inside.Holds.{Holds, as_one}
@@ -136,7 +137,8 @@ module _ {State : Type 0} (Handles : Answering State) (first : State) (written :
         record { lines = s.lines; rest = s.rest; text = s.text; split = s.split; run = s.run; sent = s.sent }
 
     -- what was put was handed on
-    pub stands_settled : (board : State) (pending contents after : Option (List ℕ)) (answered : ℕ) → Keeps contents after
+    pub stands_settled : (board : State) (pending contents after : Option (List ℕ)) (answered : ℕ)
+        → Keeps contents after
         → Stands Handles first written read board pending contents answered
         → Stands Handles first written read board pending after answered
     stands_settled board pending contents after answered same s = record {

@@ -22,7 +22,7 @@ use Rattle.ps_grid.specs.declared.refusal.Refusal.TheVariants as refusals
 abbrev IsFilled : ℕ × CellState → Type 0
 IsFilled e = e.1 ≢ empty_cell
 
--- a first cell isn't in entries that begin behind it
+-- a first cell isn't in entries that begin after it
 lower_first : (a : ℕ × CellState) (rest others : Entries) → IsFilled a → Rising (a.0 + 1) (cells_of others)
     → state_of (a ∷ rest) a.0 ≡ state_of others a.0 → ⊥
 lower_first a rest others filled rising same =

@@ -146,7 +146,8 @@ module _ (first last : SheetView) (written contents : Option (List ℕ)) where
       → (result ≡ Err faults.Memory → source × sink × (last ≡ first))
       → Keeps first last
   session_keeps Read ended source sink (Ok answered) all cut some none = transcribed_keeps all.0 answered all.3
-  session_keeps Read ended source sink (Err faults.Sink) all cut some none = stopped_keeps (cut refl).0 ended (cut refl).2
+  session_keeps Read ended source sink (Err faults.Sink) all cut some none =
+      stopped_keeps (cut refl).0 ended (cut refl).2
   session_keeps Read ended source sink (Err faults.Source) all cut some none =
       answered_all_keeps (some refl).0 (some refl).2
   session_keeps Read ended source sink (Err faults.Memory) all cut some none = unchanged first last (none refl).2

@@ -122,7 +122,7 @@ module _ {State : Type 0} (Line : Answering State) (first : State) (written : Op
     counted = answered-push s.lines (s.rest ++ part) answered counted s.counted rises;
   }
 
-  -- a reply that was cut, with more of the input behind its line
+  -- a reply that was cut, with more of the input after its line
   pub cut_line : (read : List ℕ) (last new : State) (pending contents after : Option (List ℕ)) (answered : ℕ) (part
       more reply : List ℕ) (count : ℕ)
       → (s : Stands Line first written read last pending contents answered) → HasNoFeed part

@@ -9,7 +9,7 @@ use Rattle.std.proofs.Math.ListN.{get_or}
 use Rattle.ps_device.proofs.DeviceLemmas.{Appends-append, cut_after}
 use Rattle.ps_device.specs.Device.{Sends}
 
--- a second piece behind one that was sent whole
+-- a second piece after one that was sent whole
 pub Sends-behind : (E : Type 0) (old middle new : Option (List ℕ)) (first second : List ℕ) (result : Result (Unit
     {0}) E)
     → Appends old middle first → Sends middle new result second → Sends old new result (first ++ second)

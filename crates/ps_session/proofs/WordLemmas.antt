@@ -25,7 +25,7 @@ no_position : (b : Bool) (m : ℕ) → cond b (Some m) None ≡ None → b ≡ f
 no_position true m e = cc
 no_position false m e = refl
 
--- a text with a separator is its first part, and then the parts behind the separator
+-- a text with a separator is its first part, and then the parts after the separator
 pub parts_at : (separator : ℕ) (text : List ℕ) (place : ℕ) → position (λ b. b == separator) text ≡ Some place
     → parts separator text
     ≡ take place text ∷ parts separator (take (length text - (place + 1)) (drop (place + 1) text))

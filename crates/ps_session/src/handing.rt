@@ -69,7 +69,7 @@ fn group_line(alloc: Global, deltas: &[Arc<Delta>]) -> Result<Vec<u8>, Refusal>
     ensures refused { IfErr result (λ e. (e ≡ Refusal.TooLong) ⊎ (e ≡ Refusal.Memory)) }
 {
     let delta = Delta::joined(alloc, deltas)?;
-    // The call brings that the delta is in order and in range, as its line asks.
+    // The call brings that the parts are a delta (`IsDelta`), as its line asks.
     let _ = delta.parts();
     let mut line = Vec::new(alloc);
     encode(alloc, &delta, &mut line)?;

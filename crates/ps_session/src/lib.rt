@@ -1,15 +1,21 @@
-//! Lines in, replies out.
+//! Sessions: lines in, replies out.
 //!
 //! A [`Session`] puts bytes together to lines, in whatever pieces they come. A [`Board`] answers a line; [`talk`] is
 //! the whole way from a source of bytes to a sink: it reads the source to its end and writes the reply to each line,
-//! in order. What it promises is told by a definition of its own, the transcript (`specs/Transcript.antt`), which knows
-//! nothing of pieces.
+//! in order. A [`Command`] is what a line asks for. A sheet is a board, and [`run`] is the talk of a sheet.
 //!
-//! A [`Command`] is what a line asks for. A sheet is a board, and [`run`] is the talk of a sheet: the line `set A1 5`
-//! is answered `ok 1`, `get A1` then `val 5`, and `pull 0` the line of the delta that another sheet may be pushed,
-//! `delta 1 [["A1",[1,1,"5"],[],[]]]`.
+//! It is not a connection: it opens no device, and knows one peer. What a sheet does with an edit or a delta, it leaves
+//! to the sheet.
 //!
-//! Reading takes no memory beyond the room of one line; a line costs its bytes and what its board takes.
+//! The contract to use is that of [`run`]: at the end of the input, all that was read and all that was written are a
+//! transcript (`specs/Transcript.antt`) of the sheet before and after, which knows nothing of pieces. Where the source
+//! failed, the complete lines were answered and their replies handed on; where the sink failed, the reply to one line
+//! was cut. A line is answered as out of memory only where it takes some.
+//!
+//! The line `set A1 5` is answered `ok 1`, `get A1` then `val 5`, and `pull 0` the line of the delta that another sheet
+//! may be pushed, `delta 1 [["A1",[1,1,"5"],[],[]]]`.
+//!
+//! Cost: reading takes no memory beyond the room of one line; a line costs its bytes and what its board takes.
 #![tactic(auto)]
 
 mod answers;

@@ -2,7 +2,8 @@
 ghost use Rattle.std.specs.Prelude.{◌≡◌, ◌≢◌, [], ◌<◌, ◌≤◌, ◌++◌, ◌+◌, ◌-◌, ◌^◌, ℕ, min, List, Option, Result, Ok};
 ghost use Rattle.std.specs.Prelude.{Err, IfOk, OnOk, OnErr, ⊤, length, take, MatchResult};
 ghost use Rattle.std.specs.Io.KnownBytes.{Consumes, IsAtEnd, Keeps};
-ghost use Rattle.ps_session.specs.Transcript.{Answered, Cut, Lines, Replies, Stopped, Transcribed, has_reply, is_filled};
+ghost use Rattle.ps_session.specs.Transcript.{Answered, Cut, Lines, Replies, Stopped, Transcribed};
+ghost use Rattle.ps_session.specs.Transcript.{has_reply, is_filled};
 ghost use Rattle.ps_session.specs.Replies.{refusal_text, reply_text};
 ghost use Rattle.ps_device.specs.Device.{Sends};
 ghost use Rattle.ps_session.specs.Inside.Stands.{CutsShort, GoesOn, Stands};
@@ -253,8 +254,8 @@ fn read_on<S: Source, B: Board<M>, M, K: Sink>(
 /// Answers each line of a source on a sink, to the end of the input, and returns how many lines had a reply; 2^64 - 1
 /// stands for more.
 ///
-/// The input is read in pieces of at most `PIECE_BYTES` bytes, and where a line is cut doesn't matter. Before each read,
-/// and at the end, all replies are handed on.
+/// The input is read in pieces of at most `PIECE_BYTES` bytes, and where a line is cut doesn't matter. Before each
+/// read, and at the end, all replies are handed on.
 ///
 /// Cost: O(n) in the n bytes of the input and the replies, what the board takes for each line, and the room of one
 /// line.

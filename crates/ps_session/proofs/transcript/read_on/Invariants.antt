@@ -8,7 +8,8 @@ abbrev pub invariant-pieces : goal.invariant-pieces
 invariant-pieces g l = ((read : List ℕ) × Consumes (g.S.Source.remaining l.fn.source) (g.S.Source.remaining l.source)
     read
     × ((first : g.row.B.Denot) (written : Option (List ℕ))
-    → Stands (Lines g.B.Board.answers) first written [] l.fn.board l.fn.exchange.session.pending (g.K.Sink.contents l.fn.sink)
+    → Stands (Lines g.B.Board.answers) first written [] l.fn.board l.fn.exchange.session.pending
+    (g.K.Sink.contents l.fn.sink)
     l.fn.exchange.answered
     → Stands (Lines g.B.Board.answers) first written read l.board l.exchange.session.pending (g.K.Sink.contents l.sink)
     l.exchange.answered))

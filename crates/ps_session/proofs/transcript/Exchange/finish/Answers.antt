@@ -7,8 +7,8 @@ returns-in_err-close-in_default g c =
     let p = err_from_is_err_and c.from_residual.result c.from_residual.ensures.1 in
     rw (p.1) (record {
       transcribed = tt;
-      cut = λ first written read s. end_cut _ first written read c.args.board.now _ c.args.self.now.session c.end.new.self
-          _ _ _
+      cut = λ first written read s. end_cut _ first written read c.args.board.now _ c.args.self.now.session
+          c.end.new.self _ _ _
           c.end.result c.in_default.not-None c.end.ensures c.in_err-close-in_default.ensures.replied s;
       calm = tt;
       failed = c.in_err-close-in_default.ensures.failed;
