@@ -237,7 +237,8 @@ pub reading_fails : (s : State) (bytes : List ℕ) (a b : ByteRecordsIntoIter (B
     → IsReading s bytes a t → Gave a b (Some (Err error)) → f ≡ fault_of_kind (error_kind error) error
     → IsOfCsv s bytes f
 reading_fails s bytes a b t error f on gave is =
-    subst (λ (x : ImportFault). IsOfCsv s bytes x) (sym is) (explained s bytes a b t (error_kind error) error refl on gave)
+    subst (λ (x : ImportFault). IsOfCsv s bytes x) (sym is)
+    (explained s bytes a b t (error_kind error) error refl on gave)
 
 pub reading_ends : (s : State) (bytes : List ℕ) (a b : ByteRecordsIntoIter (Bor (List ℕ))) (t : Table)
     → IsReading s bytes a t → Gave a b None → (table : List Record) × IsTable bytes table × HasRead s table t

@@ -83,7 +83,8 @@ int_max_top (negsuc k) fits =
 pub lowest_next : (items : List Number) (n : ℤ) → FitsSigned w64 n →
     least_or (pos (2 ^ 63 - 1)) (numbers_in (items ++ Ok n ∷ [])) ≡
     int_min (least_or (pos (2 ^ 63 - 1)) (numbers_in items)) n
-lowest_next items n fits = ap (least_or (pos (2 ^ 63 - 1))) (numbers_in-append items (Ok n ∷ [])) ∙ push (numbers_in items)
+lowest_next items n fits =
+    ap (least_or (pos (2 ^ 63 - 1))) (numbers_in-append items (Ok n ∷ [])) ∙ push (numbers_in items)
   where
     push : (ns : List ℤ) → least_or (pos (2 ^ 63 - 1)) (ns ++ n ∷ []) ≡ int_min (least_or (pos (2 ^ 63 - 1)) ns) n
     push [] = int_min_top n fits
@@ -92,8 +93,10 @@ lowest_next items n fits = ap (least_or (pos (2 ^ 63 - 1))) (numbers_in-append i
 pub highest_next : (items : List Number) (n : ℤ) → FitsSigned w64 n →
     greatest_or (negsuc (2 ^ 63 - 1)) (numbers_in (items ++ Ok n ∷ [])) ≡
     int_max (greatest_or (negsuc (2 ^ 63 - 1)) (numbers_in items)) n
-highest_next items n fits = ap (greatest_or (negsuc (2 ^ 63 - 1))) (numbers_in-append items (Ok n ∷ [])) ∙ push (numbers_in items)
+highest_next items n fits =
+    ap (greatest_or (negsuc (2 ^ 63 - 1))) (numbers_in-append items (Ok n ∷ [])) ∙ push (numbers_in items)
   where
-    push : (ns : List ℤ) → greatest_or (negsuc (2 ^ 63 - 1)) (ns ++ n ∷ []) ≡ int_max (greatest_or (negsuc (2 ^ 63 - 1)) ns) n
+    push : (ns : List ℤ)
+        → greatest_or (negsuc (2 ^ 63 - 1)) (ns ++ n ∷ []) ≡ int_max (greatest_or (negsuc (2 ^ 63 - 1)) ns) n
     push [] = int_max_top n fits
     push (m ∷ ns) = fold-append int_max m ns (n ∷ [])

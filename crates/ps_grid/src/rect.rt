@@ -144,16 +144,6 @@ impl Rect {
     {
         Cell::at(self.left as usize + across, self.top as usize + down)
     }
-
-    /// The k-th cell of the rectangle, counted from 0, row by row.
-    ///
-    /// Cost: constant.
-    pub fn nth(self, k: usize) -> Cell
-        requires { k < area self }
-        ensures { result ≡ nth_cell self k }
-    {
-        self.at(k % self.width as usize, k / self.width as usize)
-    }
 }
 
 /// A walk of a rectangle, row by row. A contract sees it as the list of the cells that are still to come.

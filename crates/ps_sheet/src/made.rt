@@ -16,7 +16,7 @@ use crate::contents::{content, is_clock_full};
 use crate::edit::Edit;
 use ps_content::Content;
 use ps_delta::{CellState, Delta, Grid};
-use ps_grid::{REPLICAS, Cell, Refusal};
+use ps_grid::{Cell, REPLICAS, Refusal};
 use ps_lattice::{AMOUNT_LIMIT, Choice, OPTIONS, Register, Tally};
 use std::alloc::Global;
 

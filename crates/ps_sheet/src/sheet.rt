@@ -16,7 +16,7 @@ use crate::made::delta_of;
 use crate::rounds::value_in;
 use ps_delta::{Delta, Grid};
 use ps_eval::{Look, Meter};
-use ps_grid::{CELLS, REPLICAS, Cell, Refusal};
+use ps_grid::{CELLS, Cell, REPLICAS, Refusal};
 use ps_value::{Fault, Operand, Value};
 use std::alloc::Global;
 use std::marker::Model;
