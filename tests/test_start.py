@@ -32,6 +32,7 @@ class Examples(ProgramTest):
         self.assertEqual(shell(TABLE_EXAMPLE), Ended(0, lines("2,6", '"x,y",0')))
 
     def test_two_replicas_that_edit_apart_and_meet(self):
+        self.assertIn(TWO_REPLICAS.strip(), (TOP / "README.md").read_text())
         folder = self.folder()
         os.symlink(SHEET, folder / "sheet")
         first, second = ["ok 1", "ok 2"], ["ok 1", "ok 2", "ok 2", "ok 2"]
@@ -85,6 +86,9 @@ class Help(ProgramTest):
 
     def test_help_of_table_names_its_option(self):
         self.assert_tells(["table", "--help"], "Usage: sheet table", "--workers")
+
+    def test_the_version_is_told(self):
+        self.assertEqual(run("--version"), Ended(0, b"sheet 0.1.0\n"))
 
     def test_the_short_option_and_the_command_help_tell_the_same(self):
         for words in ([], ["run"], ["table"]):
