@@ -173,7 +173,7 @@ fn of_cell(alloc: Global, cell: Cell, state: CellState) -> Result<Delta, Refusal
     ensures delta { IfOk result IsDelta }
     ensures memory { IfErr result (λ e. e ≡ Refusal.Memory) }
 {
-    let mut cells = Vec::new(alloc);
+    let mut cells = Vec::with_capacity(alloc, 1)?;
     cells.push((cell, state))?;
     match Delta::new(cells) {
         Some(delta) => Ok(delta),
