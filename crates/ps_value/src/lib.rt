@@ -8,16 +8,19 @@
 //! The contract to use is that of `write_shown`: it writes exactly `shown_text` of the value, or returns `Device`, and
 //! that only where the sink's count of failures rose.
 //!
-//! Cost: a value is copied in constant time and takes no memory.
+//! Cost: a value is copied in constant time and takes no memory. A `SharedLabel` is a label on the heap that any number
+//! of owners share: one allocation for all of them.
 #![tactic(auto)]
 
 mod label;
 mod operand;
+mod shared;
 mod shown;
 mod value;
 
 pub use label::Label;
 pub use operand::Operand;
+pub use shared::SharedLabel;
 pub use shown::write_shown;
 pub use value::{Fault, Value};
 
