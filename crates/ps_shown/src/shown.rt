@@ -1,0 +1,97 @@
+//! What each cell shows.
+ghost use Rattle.std.specs.Prelude.{◌≡◌, ◌+◌, ◌*◌, ◌<◌, ◌≤◌, List, take, drop, length, IfOk, IfErr};
+ghost use Rattle.ps_grid.specs.declared.size.TheConstants.{CELLS as ALL};
+ghost use Rattle.ps_grid.specs.declared.refusal.Refusal.TheVariants.{Memory};
+ghost use Rattle.ps_value.specs.declared.value.Value.TheVariants.{Empty as Nothing};
+ghost use Rattle.ps_value.specs.Operand.{operand_of};
+ghost use Rattle.ps_shown.specs.Kept.{value_of};
+ghost use Rattle.ps_shown.specs.Shown.{place_of, shown_at, with_value};
+
+use crate::kept::Kept;
+use ps_grid::{COLUMNS, Cell, Refusal};
+use ps_value::{Operand, Value};
+use std::alloc::Global;
+use std::marker::Model;
+use std::mem;
+
+/// How far apart two neighbours of a row lie: the rows, and a few places more, so that the cells of a row don't share
+/// one set of the processor's cache.
+const STRIDE: usize = 1_028;
+
+/// How many places a table has.
+const PLACES: usize = STRIDE * COLUMNS;
+
+/// What each cell shows. A contract sees it as a list, and speaks of it by `shown_at`, the value that each cell shows.
+#[derive(Drop)]
+pub struct Shown {
+    /// what is kept of each cell, column after column
+    kept: Vec<Kept>,
+}
+
+impl Model for Shown {
+    ghost use Rattle.std.specs.Prelude.{◌≡◌, List, length};
+    ghost use Rattle.ps_shown.specs.declared.kept.Kept.{Kept};
+    ghost use Rattle.ps_shown.specs.declared.shown.TheConstants.{PLACES};
+
+    ghost Value = { List Kept };
+
+    ghost view = { λ s. s.kept.items };
+
+    ghost invariant = { λ s. length s.kept.items ≡ PLACES };
+}
+
+/// Where a cell lies.
+#[inline]
+fn place(cell: Cell) -> usize
+    ensures place { result ≡ place_of cell }
+    ensures within { result < PLACES }
+    ensures in_grid { cell < ALL }
+{
+    let index = cell.index();
+    index % COLUMNS * STRIDE + index / COLUMNS
+}
+
+impl Shown {
+    /// The table where each cell shows nothing. Refused only when out of memory.
+    ///
+    /// Cost: linear in the cells of the grid, and one allocation of 1.7 MB.
+    pub fn new(alloc: Global) -> Result<Shown, Refusal>
+        ensures empty { IfOk result (λ s. shown_at s ≡ λ _. Nothing) }
+        ensures memory { IfErr result (λ e. e ≡ Memory) }
+    {
+        let mut kept = Vec::with_capacity(alloc, PLACES)?;
+        for _ in 0..PLACES {
+            kept.push(Kept::Empty)?;
+        }
+        Ok(Shown { kept })
+    }
+
+    /// What a cell shows.
+    ///
+    /// Cost: constant.
+    pub fn at(&self, cell: Cell) -> Value
+        ensures { result ≡ shown_at self.now cell }
+    {
+        self.kept[place(cell)].value()
+    }
+
+    /// What evaluation reads of what a cell shows.
+    ///
+    /// Cost: constant.
+    #[inline]
+    pub fn operand(&self, cell: Cell) -> Operand
+        ensures { result ≡ operand_of (shown_at self.now cell) }
+    {
+        self.kept[place(cell)].operand()
+    }
+
+    /// Puts what a cell shows from now on, and returns what was kept of it. It takes no memory.
+    ///
+    /// Cost: constant.
+    pub fn put(&mut self, cell: Cell, kept: Kept) -> Kept
+        ensures shown { shown_at self.new ≡ with_value (shown_at self.old) cell (value_of kept) }
+        ensures old { value_of result ≡ shown_at self.old cell }
+    {
+        mem::replace(&mut self.kept[place(cell)], kept)
+    }
+}
