@@ -1,13 +1,15 @@
 -- What the reader takes is what the grammar says: where it reads a tree, some first tokens have that tree.
-use Rattle.std.proofs.Common.{◌≡◌, ℕ, zero, suc, cond, refl, sym, ap, ◌∙◌, subst, List, [], ◌∷◌, ◌++◌, length}
+use Rattle.std.proofs.Common.{◌≡◌, ℕ, zero, suc, ◌+◌, ◌-◌, ◌≤◌, cond, refl, sym, ap, ◌∙◌, subst, List, [], ◌∷◌, ◌++◌, length}
+use Rattle.std.proofs.Common.{append-nil, arith}
 use Rattle.std.specs.Prelude.{Some, None, option_and_then}
 use Rattle.std.proofs.lemmas.Option.{option_and_then_some, cond_some}
 use Rattle.std.proofs.lemmas.List.{append_assoc}
 use Rattle.ps_tokens.specs.declared.token.Function.{Function}
+use Rattle.ps_tokens.specs.declared.token.Operator.{Operator}
 use Rattle.ps_tokens.specs.declared.token.Token.{Token}
 use Rattle.ps_tokens.specs.declared.token.Token.TheVariants.{Numeral, Reference, Range, Name, Symbol, Open, Close}
 use Rattle.ps_tokens.specs.declared.token.Token.TheVariants.{Separator}
-use Rattle.ps_formula.specs.Grammar.{Has, More, Arguments, Argument, accepts, takes_ranges, a_numeral, a_reference}
+use Rattle.ps_formula.specs.Grammar.{Has, More, Arguments, Argument, accepts, takes_ranges, level_of, a_numeral, a_reference}
 use Rattle.ps_formula.specs.Grammar.{a_sign, a_group, a_bare_call, a_call, a_chain, no_more, one_more, last_argument}
 use Rattle.ps_formula.specs.Grammar.{next_argument, a_comparison, a_range}
 use Rattle.ps_formula.specs.Canonical.{symbol_of}
@@ -16,7 +18,7 @@ use Rattle.ps_formula.specs.Inside.Reading.{argument_at}
 use Rattle.ps_formula.specs.Inside.Reading.{closed_at, range_at, operator_at, sign_of}
 use Rattle.ps_formula.specs.Tree.{Tree, Item, Items, number, reference, signed, joined, group, call, expression}
 use Rattle.ps_formula.specs.Tree.{range, no_items, item_and, in_row}
-use Rattle.ps_formula.proofs.FirstTokens.{either_way_cases, closed_at-some}
+use Rattle.ps_formula.proofs.FirstTokens.{either_way_cases, closed_at-some, Stops, operator_at-none}
 use Rattle.ps_formula.proofs.FirstTokens.{range_at-some, operator_at-some, sign_of-some, cut_twice}
 use Rattle.ps_formula.proofs.ArgumentLists.{listed, in_row-listed, length-listed}
 
@@ -24,11 +26,6 @@ pub record Takes (l : ℕ) (ts : List Token) (x : Tree × List Token) : Type 0 w
   pub front : List Token
   pub splits : ts ≡ front ++ x.1
   pub has : Has l front x.0
-
-pub record TakesMore (l : ℕ) (a : Tree) (ts : List Token) (x : Tree × List Token) : Type 0 where
-  pub front : List Token
-  pub splits : ts ≡ front ++ x.1
-  pub has : More l a front x.0
 
 pub record TakesArgument (f : Function) (ts : List Token) (x : Item × List Token) : Type 0 where
   pub front : List Token
@@ -72,45 +69,98 @@ arguments_taken f before ts i x a (goes_on us separated others) = record {
   all = others.all ∙ append_assoc before (i.0 ∷ []) (listed others.items);
 }
 
+-- the operator at the front, if one stands there, joins operands of the level below this one or of a looser one
+abbrev MayGoOn : ℕ → List Token → Type 0
+MayGoOn l (Symbol o ∷ ts) = l ≤ suc (level_of o)
+MayGoOn l _ = Unit {0}
+
+may_go_on-zero : (ts : List Token) → MayGoOn 0 ts
+may_go_on-zero (Symbol o ∷ ts) = omega arith
+may_go_on-zero [] = tt
+may_go_on-zero (_ ∷ ts) = tt
+
+may_go_on-stops : (l : ℕ) (ts : List Token) → Stops l ts → MayGoOn (suc l) ts
+may_go_on-stops l (Symbol o ∷ ts) h = omega (arith, h)
+may_go_on-stops l [] h = tt
+may_go_on-stops l (_ ∷ ts) h = tt
+
+has_above_by : {k : ℕ} {ts : List Token} {a : Tree} → Has k ts a → (d l : ℕ) → d + k ≡ l → Has l ts a
+has_above_by {k} {ts} {a} h zero l e = let same : k ≡ l = omega (arith, e) in subst (λ v. Has v ts a) same h
+has_above_by h (suc d) zero e = absurd (omega (arith, e))
+has_above_by {k} {ts} {a} h (suc d) (suc l) e =
+    subst (λ v. Has (suc l) v a) (append-nil ts) (a_chain (has_above_by h d l (omega (arith, e))) no_more)
+
+-- an expression of a level is one of each looser level
+has_above : {k l : ℕ} {ts : List Token} {a : Tree} → Has k ts a → k ≤ l → Has l ts a
+has_above {k} {l} h below = has_above_by h (l - k) l (omega (arith, below))
+
+more_joined : {l : ℕ} {a b t : Tree} {o : Operator} {us vs : List Token} → More l a us t → level_of o ≡ l → Has l vs b
+    → More l a (us ++ (Symbol o ∷ vs)) (joined t o b)
+more_joined {l} {a} {b} {o = o} {vs = vs} no_more e h =
+    subst (λ v. More l a (Symbol o ∷ v) (joined a o b)) (append-nil vs) (one_more e h no_more)
+more_joined {l} {a} {b} {t} {o} {vs = vs} (one_more {o = p} {ts = ts} {us = us} here operand others) e h =
+    subst (λ v. More l a (Symbol p ∷ v) (joined t o b)) (sym (append_assoc ts us (Symbol o ∷ vs)))
+    (one_more here operand (more_joined others e h))
+
+-- one more operand after an expression
+has_joined : {l : ℕ} {a b : Tree} {o : Operator} {ts vs : List Token} → Has (suc l) ts a → level_of o ≡ l → Has l vs b
+    → Has (suc l) (ts ++ (Symbol o ∷ vs)) (joined a o b)
+has_joined {l} {a} {b} {o} {vs = vs} (a_chain {ts = ts} {us = us} h more) e k =
+    subst (λ v. Has (suc l) v (joined a o b)) (sym (append_assoc ts us (Symbol o ∷ vs)))
+    (a_chain h (more_joined more e k))
+
+-- the reader stops before an operator of its own level or of a looser one
+stops_more : (n l : ℕ) (a : Tree) (ts : List Token) (x : Tree × List Token) → more_at n l a ts ≡ Some x → Stops l x.1
+unfolding level_at
+stops_more zero l a ts x e = cc
+stops_more (suc n) l a ts x e =
+    either_way_cases (operator_at l ts) (Some (a, ts)) (Some x)
+    (λ o. option_and_then (λ b. more_at n l (joined a o.0 b.0) b.1) (level_at n (level_of o.0) o.1)) e
+    (λ none ends. let same : (a, ts) ≡ x = cc in subst (λ y. Stops l y.1) same (operator_at-none l ts none))
+    (λ o some rest.
+    option_and_then_some (λ b. more_at n l (joined a o.0 b.0) b.1) (level_at n (level_of o.0) o.1) x rest
+    (λ b found rest'. stops_more n l (joined a o.0 b.0) b.1 x rest'))
+
+stops_level : (n l : ℕ) (ts : List Token) (x : Tree × List Token) → level_at n l ts ≡ Some x → Stops l x.1
+unfolding level_at
+stops_level zero l ts x e = cc
+stops_level (suc n) l ts x e =
+    option_and_then_some (λ a. more_at n l a.0 a.1) (prefixed_at n ts) x e
+    (λ a found rest. stops_more n l a.0 a.1 x rest)
+
 mutual
   unfolding level_at
 
   pub takes_level : (n l : ℕ) (ts : List Token) (x : Tree × List Token) → level_at n l ts ≡ Some x → Takes l ts x
   takes_level zero l ts x e = cc
-  takes_level (suc n) zero ts x e = takes_prefixed n ts x e
-  takes_level (suc n) (suc l) ts x e =
-      option_and_then_some (λ a. more_at n l a.0 a.1) (level_at n l ts) x e
+  takes_level (suc n) l ts x e =
+      option_and_then_some (λ a. more_at n l a.0 a.1) (prefixed_at n ts) x e
       (λ a found rest.
-      let first = takes_level n l ts a found in
-      let others = takes_more n l a.0 a.1 x rest in
-      record {
-        front = first.front ++ others.front;
-        splits = cut_twice ts first.front a.1 others.front x.1 first.splits others.splits;
-        has = a_chain first.has others.has;
-      })
+      let first = takes_prefixed n ts a found in
+      subst (λ v. Takes l v x) (sym first.splits)
+      (takes_more n l a.0 a.1 x rest 0 first.front first.has (omega arith) (may_go_on-zero a.1)))
 
+  -- the tokens of the operand stand in front
   takes_more : (n l : ℕ) (a : Tree) (ts : List Token) (x : Tree × List Token) → more_at n l a ts ≡ Some x
-      → TakesMore l a ts x
-  takes_more zero l a ts x e = cc
-  takes_more (suc n) l a ts x e =
+      → (k : ℕ) (front : List Token) → Has k front a → k ≤ l → MayGoOn k ts → Takes l (front ++ ts) x
+  takes_more zero l a ts x e k front has below turns = cc
+  takes_more (suc n) l a ts x e k front has below turns =
       either_way_cases (operator_at l ts) (Some (a, ts)) (Some x)
-      (λ o. option_and_then (λ b. more_at n l (joined a o.0 b.0) b.1) (level_at n l o.1)) e
-      (λ none ends. let same : (a, ts) ≡ x = cc in subst (λ y. TakesMore l a ts y) same
-      (record { front = []; splits = refl; has = no_more }))
+      (λ o. option_and_then (λ b. more_at n l (joined a o.0 b.0) b.1) (level_at n (level_of o.0) o.1)) e
+      (λ none ends. let same : (a, ts) ≡ x = cc in subst (λ y. Takes l (front ++ ts) y) same
+      (record { front = front; splits = refl; has = has_above has below }))
       (λ o some rest.
       let sign = operator_at-some l ts o some in
-      option_and_then_some (λ b. more_at n l (joined a o.0 b.0) b.1) (level_at n l o.1) x rest
+      option_and_then_some (λ b. more_at n l (joined a o.0 b.0) b.1) (level_at n (level_of o.0) o.1) x rest
       (λ b found rest'.
-      let operand = takes_level n l o.1 b found in
-      let others = takes_more n l (joined a o.0 b.0) b.1 x rest' in
-      record {
-        front = Symbol o.0 ∷ operand.front ++ others.front;
-        splits =
-            sign.0
-            ∙ ap (λ v. Symbol o.0 ∷ v)
-            (cut_twice o.1 operand.front b.1 others.front x.1 operand.splits others.splits);
-        has = one_more sign.1 operand.has others.has;
-      }))
+      let operand = takes_level n (level_of o.0) o.1 b found in
+      let left = has_above has (subst (MayGoOn k) sign.0 turns) in
+      let all = cut_twice (front ++ ts) front ts (Symbol o.0 ∷ operand.front) b.1 refl
+      (sign.0 ∙ ap (λ v. Symbol o.0 ∷ v) operand.splits) in
+      subst (λ v. Takes l v x) (sym all)
+      (takes_more n l (joined a o.0 b.0) b.1 x rest' (suc (level_of o.0)) (front ++ (Symbol o.0 ∷ operand.front))
+      (has_joined left refl operand.has) sign.1
+      (may_go_on-stops (level_of o.0) b.1 (stops_level n (level_of o.0) o.1 b found)))))
 
   takes_prefixed : (n : ℕ) (ts : List Token) (x : Tree × List Token) → prefixed_at n ts ≡ Some x → Takes 0 ts x
   takes_prefixed zero ts x e = cc

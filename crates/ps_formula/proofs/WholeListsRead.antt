@@ -8,7 +8,7 @@ use Rattle.ps_grid.specs.declared.refusal.Refusal.{Refusal}
 use Rattle.ps_grid.specs.declared.refusal.Refusal.TheVariants.{Formula}
 use Rattle.ps_formula.specs.Tree.{Tree, reference}
 use Rattle.ps_formula.proofs.ReaderIsSound.{takes_level}
-use Rattle.ps_formula.proofs.ReaderIsComplete.{again_level}
+use Rattle.ps_formula.proofs.ReaderIsComplete.{again_level, all_read}
 
 -- the tree that was read
 abbrev tree_in : Option (Tree × List Token) → Tree
@@ -24,7 +24,9 @@ read_whole n ts a (x ∷ rest) e none = absurd (omega (arith, none))
 
 pub reads_whole : (ts : List Token) (t : Tree) → Has 3 ts t → level_at (8 * length ts + 4) 3 ts ≡ Some (t, [])
 reads_whole ts t h =
-    ap (level_at (8 * length ts + 4) 3) (sym (append-nil ts)) ∙ again_level h (8 * length ts + 4) [] (omega arith) tt
+    let n = 8 * length ts + 4 in
+    let goes = again_level h n 3 [] (omega arith) (omega arith) tt in
+    ap (level_at n 3) (sym (append-nil ts)) ∙ all_read n 3 ts [] t goes (omega arith) tt
 
 -- a list of tokens has one tree
 pub one_tree_of : (ts : List Token) (t u : Tree) → Has 3 ts t → Has 3 ts u → t ≡ u

@@ -87,12 +87,12 @@ fn range(tokens: &[Token]) -> Option<(Rect, &[Token])>
     }
 }
 
-/// An operator of the level, and what stands after it.
-fn operator(level: usize, tokens: &[Token]) -> Option<(Operator, &[Token])>
-    ensures { option_map (λ x. (x.0, x.1.now)) result ≡ operator_at level tokens.now }
+/// An operator that joins operands of a level below this one, and what stands after it.
+fn operator(loosest: usize, tokens: &[Token]) -> Option<(Operator, &[Token])>
+    ensures { option_map (λ x. (x.0, x.1.now)) result ≡ operator_at loosest tokens.now }
 {
     match tokens {
-        [Token::Symbol(operator), rest @ ..] if level_of(*operator) == level => Some((
+        [Token::Symbol(operator), rest @ ..] if level_of(*operator) < loosest => Some((
             *operator, rest,
         )),
         _ => None,
@@ -113,38 +113,35 @@ fn level(
     if depth == 0 {
         return Err(Refusal::Formula);
     }
-    if loosest == 0 {
-        return prefixed(alloc, depth - 1, tokens);
-    }
-    let (left, rest) = level(alloc, depth - 1, loosest - 1, tokens)?;
-    more(alloc, depth - 1, loosest - 1, left, rest)
+    let (left, rest) = prefixed(alloc, depth - 1, tokens)?;
+    more(alloc, depth - 1, loosest, left, rest)
 }
 
-/// The operand with any number of further operands of the level, each after an operator.
+/// The operand with any number of further operands, each after an operator of a level below the loosest.
 #[cycle(parser)]
 #[tactic(auto, unfolding(crate::specs::Inside::Reading::level_at))]
 fn more(
     alloc: Global,
     depth: usize,
-    operands: usize,
+    loosest: usize,
     left: Expr,
     tokens: &[Token],
 ) -> Result<(Expr, &[Token]), Refusal>
-    ensures { Gives (λ x. (tree_of x.0, x.1.now)) result (more_at depth operands (tree_of left) tokens.now) }
+    ensures { Gives (λ x. (tree_of x.0, x.1.now)) result (more_at depth loosest (tree_of left) tokens.now) }
 {
     if depth == 0 {
         return Err(Refusal::Formula);
     }
-    let Some((operator, rest)) = operator(operands, tokens) else {
+    let Some((operator, rest)) = operator(loosest, tokens) else {
         return Ok((left, tokens));
     };
-    let (right, rest) = level(alloc, depth - 1, operands, rest)?;
+    let (right, rest) = level(alloc, depth - 1, level_of(operator), rest)?;
     let left = Box::new(alloc, left)?;
     let right = Box::new(alloc, right)?;
     more(
         alloc,
         depth - 1,
-        operands,
+        loosest,
         Expr::Infix(left, operator, right),
         rest,
     )

@@ -1,6 +1,6 @@
 -- How the reader works, from the first token on and with a bound on the depth of its calls. This is no part of what a
 -- formula is: the grammar says that, and `read` and its laws speak of the grammar alone.
-use Rattle.std.specs.Prelude.{◌≡◌, ℕ, zero, suc, ◌++◌, ◌==◌, if◌then◌else◌, List, [], ◌∷◌, length, option_and_then}
+use Rattle.std.specs.Prelude.{◌≡◌, ℕ, zero, suc, ◌++◌, nat_lt, if◌then◌else◌, List, [], ◌∷◌, length, option_and_then}
 use Rattle.std.specs.Prelude.{Option, Some, None, Result, Ok, Err}
 use Rattle.ps_grid.specs.Rectangle.{Area}
 use Rattle.ps_grid.specs.declared.refusal.Refusal.{Refusal}
@@ -41,8 +41,9 @@ abbrev pub range_at : List Token → Option (Area × List Token)
 range_at (Range r ∷ ts) = Some (r, ts)
 range_at _ = None
 
+-- an operator that joins operands of a level below l
 abbrev pub operator_at : ℕ → List Token → Option (Operator × List Token)
-operator_at l (Symbol o ∷ ts) = if level_of o == l then Some (o, ts) else None
+operator_at l (Symbol o ∷ ts) = if nat_lt (level_of o) l then Some (o, ts) else None
 operator_at l _ = None
 
 abbrev pub sign_of : Operator → Option Sign
@@ -53,14 +54,14 @@ sign_of _ = None
 unfoldable mutual
   pub level_at : ℕ → ℕ → List Token → Option (Tree × List Token)
   level_at zero l ts = None
-  level_at (suc n) zero ts = prefixed_at n ts
-  level_at (suc n) (suc l) ts = option_and_then (λ a. more_at n l a.0 a.1) (level_at n l ts)
+  level_at (suc n) l ts = option_and_then (λ a. more_at n l a.0 a.1) (prefixed_at n ts)
 
+  -- the operand goes on as far as the operators of levels below l do, each with an operand of its own level
   pub more_at : ℕ → ℕ → Tree → List Token → Option (Tree × List Token)
   more_at zero l a ts = None
   more_at (suc n) l a ts =
       either_way (operator_at l ts) (Some (a, ts))
-      (λ x. option_and_then (λ b. more_at n l (joined a x.0 b.0) b.1) (level_at n l x.1))
+      (λ x. option_and_then (λ b. more_at n l (joined a x.0 b.0) b.1) (level_at n (level_of x.0) x.1))
 
   pub prefixed_at : ℕ → List Token → Option (Tree × List Token)
   prefixed_at zero ts = None
