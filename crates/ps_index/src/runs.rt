@@ -5,7 +5,7 @@
 
 ghost use Rattle.std.specs.Prelude.{◌≡◌, ℕ, ◌+◌, ◌*◌, ◌/◌, ◌%◌, ◌<◌, ◌≤◌, true, false};
 ghost use Rattle.ps_grid.specs.Rectangle.{LiesInGrid};
-ghost use Rattle.ps_index.specs.Places.{covers_place, covered};
+ghost use Rattle.ps_index.specs.Inside.Places.{covers_place, covered};
 
 use ps_grid::{COLUMNS, ROWS, Rect};
 
@@ -15,15 +15,20 @@ pub(crate) const STRIDE: usize = ROWS + 1;
 /// The places of all columns.
 pub(crate) const PLACES: usize = COLUMNS * STRIDE;
 
-// The sides of a rectangle: its first and last column, from 0, and its first and last row, from 1.
+/// The sides of a rectangle: its first and last column, from 0, and its first and last row, from 1.
 #[derive(Clone, Copy)]
 struct Sides {
+    /// the first column
     left: usize,
+    /// the last column
     right: usize,
+    /// the first row
     top: usize,
+    /// the last row
     bottom: usize,
 }
 
+/// Where the sides of a rectangle lie.
 fn sides_of(rect: Rect) -> Sides
     ensures left { result.left ≡ rect.left }
     ensures right { result.right + 1 ≡ rect.left + rect.width }
@@ -31,6 +36,7 @@ fn sides_of(rect: Rect) -> Sides
     ensures bottom { result.bottom ≡ rect.top + rect.height }
     ensures in_grid { LiesInGrid rect }
 {
+    // known by its contract: the rectangle is in the grid
     let _area = rect.area();
     let first = rect.top_left();
     let last = rect.bottom_right();
@@ -42,7 +48,7 @@ fn sides_of(rect: Rect) -> Sides
     }
 }
 
-// The first place of the rectangle from a place on; behind all places if there is none.
+/// The first place of the rectangle from a place on; `PLACES` if there is none.
 fn first_in(rect: Rect, place: usize) -> usize
     requires place { place ≤ PLACES }
     ensures from { place ≤ result }
@@ -64,7 +70,7 @@ fn first_in(rect: Rect, place: usize) -> usize
     }
 }
 
-/// The first place from this one on that a rectangle covers; behind all places if there is none.
+/// The first place from this one on that a rectangle covers; `PLACES` if there is none.
 pub(crate) fn next_place(rects: &[Rect], place: usize) -> usize
     requires place { place ≤ PLACES }
     ensures from { place ≤ result }
@@ -79,13 +85,13 @@ pub(crate) fn next_place(rects: &[Rect], place: usize) -> usize
     first
 }
 
-// The place behind the rectangle's rows, where it covers the place; else the place.
+/// The place after the rectangle's rows, where it covers the place; else the place.
 fn passed(rect: Rect, place: usize) -> usize
     requires place { place ≤ PLACES }
     ensures from { place ≤ result }
     ensures to { result ≤ PLACES }
     ensures all_before { (q : ℕ) → place ≤ q → q < result → covers_place rect q ≡ true }
-    ensures behind { result ≡ place → covers_place rect place ≡ false }
+    ensures moves { result ≡ place → covers_place rect place ≡ false }
     ensures column { place < result → result ≤ place / STRIDE * STRIDE + STRIDE }
 {
     let sides = sides_of(rect);
@@ -98,13 +104,13 @@ fn passed(rect: Rect, place: usize) -> usize
     }
 }
 
-// A place up to which all is covered from this one on; this one only where it isn't covered.
+/// A place up to which all is covered from this one on; this one only where it isn't covered.
 fn passed_all(rects: &[Rect], place: usize) -> usize
     requires place { place ≤ PLACES }
     ensures from { place ≤ result }
     ensures to { result ≤ PLACES }
     ensures all_before { (q : ℕ) → place ≤ q → q < result → covered rects.now q ≡ true }
-    ensures behind { result ≡ place → covered rects.now place ≡ false }
+    ensures moves { result ≡ place → covered rects.now place ≡ false }
 {
     for rect in rects {
         let next = passed(*rect, place);
@@ -121,7 +127,7 @@ pub(crate) fn run_end(rects: &[Rect], place: usize) -> usize
     ensures from { place ≤ result }
     ensures to { result ≤ PLACES }
     ensures all_before { (q : ℕ) → place ≤ q → q < result → covered rects.now q ≡ true }
-    ensures behind { covered rects.now result ≡ false }
+    ensures uncovered { covered rects.now result ≡ false }
 {
     let mut end = place;
     loop {

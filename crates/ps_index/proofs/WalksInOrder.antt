@@ -1,0 +1,304 @@
+-- A walk goes through the cells that refer to a row, in order.
+use Rattle.std.proofs.Common.{◌≡◌, ℕ, ◌+◌, ◌-◌, ◌<◌, ◌≤◌, ◌⊎◌, inl, inr, sym, ◌∙◌, ap, refl, arith, Bool, true, false}
+use Rattle.std.proofs.Common.{List, [], ◌∷◌, length, get_or, set, min}
+use Rattle.std.specs.Prelude.{Option, None, Some, ⊤}
+use Rattle.std.specs.Option.{SomeIff}
+use Rattle.std.specs.Iterator.{YieldsFirst, MakesProgress, item_count}
+use Rattle.std.proofs.lemmas.Bool.{cases_lt}
+use Rattle.std.proofs.lemmas.List.{get_or-set_same, get_or-set_other}
+use Rattle.ps_grid.specs.declared.size.TheConstants.{CELLS, ROWS}
+use Rattle.ps_index.specs.declared.span.Span.{Span}
+use Rattle.ps_index.proofs.CellsPassing.{cells_from-end, cells_from-first, cells_from-none}
+use Rattle.ps_index.proofs.ColumnsSorted.{by_cell_within, ends_rise, within_key}
+use Rattle.ps_index.proofs.KeysOnTheWay.{OnTheWay, key_of_within, on_the_way}
+use Rattle.ps_index.specs.Inside.Columns.{IsColumn, IsSpan, key_at}
+use Rattle.ps_index.specs.Inside.Nodes.{key_of}
+use Rattle.ps_index.specs.Inside.Walks.{IsHead, IsLooked, IsRuns, IsWalk}
+use Rattle.ps_index.specs.Spans.{cell_of, cells_from, holds, refers_at}
+use Rattle.ps_index.proofs.BoolTests.{true_or_false}
+use Rattle.ps_index.proofs.SpansCounted.{holds_both, refers_at-some, refers_at-true}
+
+-- ---- the runs
+
+get_set : (xs : List ℕ) (n r v : ℕ) → n < length xs → r < n → get_or (set xs n v) r 0 ≡ get_or xs r 0
+get_set xs n r v lt below = get_or-set_other xs n r v 0 (λ (e : r ≡ n). absurd (omega arith))
+
+pub runs_none : (column : List ℕ) (Looked : ℕ → Type 0) (starts ends : List ℕ) → ((key : ℕ) → Looked key → ⊥)
+    → IsRuns column Looked starts ends 0
+runs_none column Looked starts ends never = record {
+  few = omega arith;
+  sound = λ (r : ℕ) (lt : r < 0). absurd (omega arith);
+  complete = λ (key : ℕ) (looked : Looked key). absurd (never key looked);
+}
+
+pub runs_skip : (column : List ℕ) (Looked More : ℕ → Type 0) (starts ends : List ℕ) (runs : ℕ)
+    → IsRuns column Looked starts ends runs
+    → ((key : ℕ) → More key → key ≤ ROWS → get_or column (key - 1) 0 < get_or column key 0 → Looked key)
+    → IsRuns column More starts ends runs
+runs_skip column Looked More starts ends runs is less = record {
+  few = is.few;
+  sound = is.sound;
+  complete = λ (key : ℕ) (more : More key) (small : key ≤ ROWS)
+      (some : get_or column (key - 1) 0 < get_or column key 0).
+      is.complete key (less key more small some) small some;
+}
+
+pub runs_push : (column : List ℕ) (Looked More : ℕ → Type 0) (starts ends : List ℕ) (runs key : ℕ)
+    → IsRuns column Looked starts ends runs
+    → runs ≤ 10 → length starts ≡ 11 → length ends ≡ 11 → 1 ≤ key → key ≤ ROWS
+    → ((k : ℕ) → More k → (Looked k) ⊎ (k ≡ key))
+    → IsRuns column More (set starts runs (get_or column (key - 1) 0)) (set ends runs (get_or column key 0)) (runs + 1)
+runs_push column Looked More starts ends runs key is room len len' some small one_more =
+    let a = get_or column (key - 1) 0 in
+    let b = get_or column key 0 in
+    record {
+      few = omega arith;
+      sound = λ (r : ℕ) (lt : r < runs + 1). elim (cases_lt r runs) [
+        | inl below ↦ (let s = is.sound r below in (
+          s.0,
+          s.1,
+          s.2,
+          get_set starts runs r a (omega arith) below ∙ s.3,
+          get_set ends runs r b (omega arith) below
+              ∙ s.4,
+        ))
+        | inr above ↦ (let at : r ≡ runs = omega arith in (
+          key,
+          some,
+          small,
+          ap (λ q. get_or (set starts runs a) q 0) at ∙ get_or-set_same starts runs a 0 (omega arith),
+          ap (λ q. get_or (set ends runs b) q 0) at ∙ get_or-set_same ends runs b 0 (omega arith),
+        ))
+      ];
+      complete = λ (k : ℕ) (more : More k) (little : k ≤ ROWS) (full : get_or column (k - 1) 0 < get_or column k 0).
+          elim (one_more k more) [
+            | inl old ↦ (let s = is.complete k old little full in (
+              s.0,
+              omega (arith, s.1),
+              get_set starts runs s.0 a (omega arith) s.1
+                  ∙ s.2,
+              get_set ends runs s.0 b (omega arith) s.1 ∙ s.3,
+            ))
+            | inr e ↦ (
+              runs,
+              omega arith,
+              get_or-set_same starts runs a 0 (omega arith) ∙ ap (λ q. get_or column (q - 1) 0) (sym e),
+              get_or-set_same ends runs b 0 (omega arith) ∙ ap (λ q. get_or column q 0) (sym e),
+            )
+          ];
+    }
+
+-- ---- the heads
+
+pub head_start : (spans : List Span) (y : ℕ) (starts ends : List ℕ) (least : ℕ)
+    → IsHead spans y starts starts ends 0 least CELLS
+head_start spans y starts ends least = record {
+  forward = λ (r : ℕ) (lt : r < 0). absurd (omega arith);
+  rising = λ (r : ℕ) (lt : r < 0). absurd (omega arith);
+  passed = λ (r i : ℕ) (d : Span) (lt : r < 0). absurd (omega arith);
+  lowest = λ (r : ℕ) (d : Span) (lt : r < 0). absurd (omega arith);
+  there = inl refl;
+}
+
+module _ (spans : List Span) (y : ℕ) (before starts ends : List ℕ) (n least first start : ℕ)
+    (is : IsHead spans y before starts ends n least first) (len : n < length starts)
+    (same : get_or starts n 0 ≡ get_or before n 0)
+    (from : get_or starts n 0 ≤ start) (to : start ≤ get_or ends n 0)
+    (gone : (i : ℕ) (d : Span) → get_or starts n 0 ≤ i → i < start → holds (get_or spans i d) y ≡ true
+    → cell_of spans i d < least) where
+  at_r : (r : ℕ) → r < n + 1 → ((r < n) × (get_or (set starts n start) r 0 ≡ get_or starts r 0))
+      ⊎ ((r ≡ n) × (get_or (set starts n start) r 0 ≡ start))
+  at_r r lt = elim (cases_lt r n) [
+    | inl below ↦ inl (below, get_set starts n r start len below)
+    | inr above ↦ (let e : r ≡ n = omega arith in
+        inr (e, ap (λ q. get_or (set starts n start) q 0) e ∙ get_or-set_same starts n start 0 len))
+  ]
+
+  head_more : (first' : ℕ) → first' ≤ first
+      → ((d : Span) → start < get_or ends n 0 → first' ≤ cell_of spans start d)
+      → ((first' ≡ CELLS) ⊎ ((i : ℕ) × (i < length spans)
+      × ((d : Span) → (holds (get_or spans i d) y ≡ true) × (cell_of spans i d ≡ first') × (least ≤ first'))))
+      → IsHead spans y before (set starts n start) ends (n + 1) least first'
+  head_more first' le low there = record {
+    forward = λ (r : ℕ) (lt : r < n + 1). elim (at_r r lt) [
+      | inl h ↦ (let f : get_or before r 0 ≤ get_or starts r 0 = is.forward r h.0 in omega (arith, h.1))
+      | inr h ↦ (let e : get_or before r 0 ≡ get_or before n 0 = ap (λ q. get_or before q 0) h.0 in omega (arith, h.1))
+    ];
+    rising = λ (r : ℕ) (lt : r < n + 1). elim (at_r r lt) [
+      | inl h ↦ (let f : get_or starts r 0 ≤ get_or ends r 0 = is.rising r h.0 in omega (arith, h.1))
+      | inr h ↦ (let e : get_or ends r 0 ≡ get_or ends n 0 = ap (λ q. get_or ends q 0) h.0 in omega (arith, h.1))
+    ];
+    passed = λ (r i : ℕ) (d : Span) (lt : r < n + 1) (lo : get_or before r 0 ≤ i)
+        (hi : i < get_or (set starts n start) r 0)
+        (has : holds (get_or spans i d) y ≡ true). elim (at_r r lt) [
+          | inl h ↦ is.passed r i d h.0 lo (omega (arith, h.1)) has
+          | inr h ↦ (let e : get_or before r 0 ≡ get_or before n 0 = ap (λ q. get_or before q 0) h.0 in
+              gone i d (omega arith) (omega (arith, h.1)) has)
+        ];
+    lowest = λ (r : ℕ) (d : Span) (lt : r < n + 1) (some : get_or (set starts n start) r 0 < get_or ends r 0).
+        elim (at_r r lt) [
+          | inl h ↦ (let l : first ≤ cell_of spans (get_or starts r 0) d = is.lowest r d h.0 (omega (arith, h.1)) in
+              rw (h.1) (omega arith))
+          | inr h ↦ (let e : get_or ends r 0 ≡ get_or ends n 0 = ap (λ q. get_or ends q 0) h.0 in
+              rw (h.1) (low d (omega (arith, h.1))))
+        ];
+    there = there;
+  }
+
+  -- the run has come to its end
+  pub head_end : start ≡ get_or ends n 0 → IsHead spans y before (set starts n start) ends (n + 1) least first
+  head_end done = head_more first (omega arith) (λ (d : Span) (lt : start < get_or ends n 0). absurd (omega arith))
+      is.there
+
+  -- the run has a first span
+  pub head_found : (cell : ℕ) → start < length spans → ((d : Span) → cell_of spans start d ≡ cell)
+      → ((d : Span) → holds (get_or spans start d) y ≡ true) → least ≤ cell
+      → IsHead spans y before (set starts n start) ends (n + 1) least (min first cell)
+  head_found cell within at has from_least = elim (cases_lt cell first) [
+    | inl lt ↦ (let e : min first cell ≡ cell = omega arith in rw e
+        (head_more cell (omega arith) (λ (d : Span) (lt' : start < get_or ends n 0). omega (arith, at d))
+        (inr (start, within, λ (d : Span). (has d, at d, from_least)))))
+    | inr ge ↦ (let e : min first cell ≡ first = omega arith in rw e
+        (head_more first (omega arith) (λ (d : Span) (lt' : start < get_or ends n 0). omega (arith, at d)) is.there))
+  ]
+
+-- ---- the walk
+
+abbrev any_span : List Span → ℕ → Span
+any_span spans i = record { from = 0; to = 0; cell = 0 }
+
+module _ (spans : List Span) (y : ℕ) (before starts ends : List ℕ) (runs least first : ℕ)
+    (walk : IsWalk spans y before ends runs least) (head : IsHead spans y before starts ends runs least first) where
+  -- what is still to come is in what is left of a run
+  left_over : (i : ℕ) (d : Span) → i < length spans → holds (get_or spans i d) y ≡ true → least ≤ cell_of spans i d
+      → (r : ℕ) × (r < runs) × (get_or starts r 0 ≤ i) × (i < get_or ends r 0)
+  left_over i d within has le =
+      let found = walk.whole i d within has le in (
+        found.0,
+        found.1,
+        elim (cases_lt i (get_or starts found.0 0)) [
+          | inl lt ↦ absurd (let gone : cell_of spans i d < least = head.passed found.0 i d found.1 found.2 lt has in
+              omega arith)
+          | inr ge ↦ ge
+        ],
+        found.3,
+      )
+
+  not_before : (q : ℕ) → least ≤ q → q < first → refers_at spans y q ≡ false
+  not_before q from to = elim (true_or_false (refers_at spans y q)) [
+    | inr e ↦ e
+    | inl e ↦ absurd (
+        let found = refers_at-some spans y q e in
+        let run = left_over found.0 (any_span spans found.0) found.1 (found.2 (any_span spans found.0)).0
+        (let c = (found.2 (any_span spans found.0)).1 in omega (arith, c)) in
+        let low : first ≤ cell_of spans (get_or starts run.0 0) (any_span spans found.0) =
+        head.lowest run.0 (any_span spans found.0) run.1 (omega (arith, run.2, run.3)) in
+        let order : cell_of spans (get_or starts run.0 0) (any_span spans found.0) ≤ cell_of spans found.0
+        (any_span spans found.0) =
+        walk.by_cell run.0 (get_or starts run.0 0) found.0 (any_span spans found.0) run.1
+        (head.forward run.0 run.1) run.2 run.3 in
+        omega (arith, (found.2 (any_span spans found.0)).1))
+  ]
+
+  pub first_in_grid : first ≤ CELLS
+  first_in_grid = elim head.there [
+    | inl e ↦ omega arith
+    | inr h ↦ (let d = any_span spans h.0 in let c : cell_of spans h.0 d < CELLS = walk.in_grid h.0 d h.1 in
+        omega (arith, (h.2 d).1))
+  ]
+
+  pub IsWalk-next : IsWalk spans y starts ends runs (first + 1)
+  IsWalk-next = record {
+    few = walk.few;
+    rising = head.rising;
+    within = walk.within;
+    by_cell = λ (r i j : ℕ) (d : Span) (lt : r < runs) (from : get_or starts r 0 ≤ i) (le : i ≤ j)
+        (to : j < get_or ends r 0).
+        (let f : get_or before r 0 ≤ get_or starts r 0 = head.forward r lt in
+        walk.by_cell r i j d lt (omega arith) le to);
+    whole = λ (i : ℕ) (d : Span) (within : i < length spans) (has : holds (get_or spans i d) y ≡ true)
+        (le : first + 1 ≤ cell_of spans i d).
+        left_over i d within has (elim head.there [
+          | inl e ↦ absurd (let c : cell_of spans i d < CELLS = walk.in_grid i d within in omega arith)
+          | inr h ↦ (let l : least ≤ first = (h.2 d).2 in omega arith)
+        ]);
+    in_grid = walk.in_grid;
+  }
+
+  pub walk_ends : CELLS ≤ first → cells_from (refers_at spans y) least CELLS ≡ []
+  walk_ends ge = elim (cases_lt CELLS least) [
+    | inl lt ↦ cells_from-end (refers_at spans y) least CELLS (omega arith)
+    | inr le ↦ cells_from-none (refers_at spans y) least CELLS le (λ (q : ℕ) (from : least ≤ q) (to : q < CELLS).
+        not_before q from (omega arith))
+  ]
+
+  pub walk_gives : first < CELLS → cells_from (refers_at spans y) least CELLS ≡ first ∷ cells_from (refers_at spans y)
+      (first + 1) CELLS
+  walk_gives lt = elim head.there [
+    | inl e ↦ absurd (omega arith)
+    | inr h ↦ cells_from-first (refers_at spans y) least CELLS first (h.2 (any_span spans h.0)).2 lt
+        (refers_at-true spans y first h.0 h.1 (λ (d : Span). ((h.2 d).0, (h.2 d).1))) not_before
+  ]
+
+  pub walk_yields : (v : List ℕ) (r : Option ℕ) → cells_from (refers_at spans y) least CELLS ≡ v
+      → SomeIff r (first < CELLS) first
+      → YieldsFirst {S = List ℕ} {A = ℕ} (λ rest. rest) v r (cells_from (refers_at spans y) (first + 1) CELLS)
+  walk_yields v None e not_there =
+      let past : CELLS ≤ first = elim (cases_lt first CELLS) [ inl lt ↦ absurd (not_there lt) | inr ge ↦ ge ] in
+      (sym e ∙ walk_ends past, cells_from-end (refers_at spans y) (first + 1) CELLS (omega arith))
+  walk_yields v (Some x) e is = sym e ∙ walk_gives is.0 ∙ ap (λ n. n ∷ cells_from (refers_at spans y) (first + 1) CELLS)
+      (sym is.1)
+
+pub walk_goes : (v w : List ℕ) (r : Option ℕ) → YieldsFirst {S = List ℕ} {A = ℕ} (λ rest. rest) v r w
+    → MakesProgress {S = List ℕ} {A = ℕ} (λ rest. ⊤) (item_count {S = List ℕ} {A = ℕ} (λ rest. rest)) v r w
+walk_goes v w None e = record { on = λ fin. tt; keeps = tt; rests = λ fin. tt }
+walk_goes v w (Some x) e = record { on = λ fin. (tt, fin, omega (arith, ap length e)); keeps = tt; rests = λ fin. tt }
+
+-- ---- the walk's beginning
+
+pub looked_narrow : (b : Bool) (y key : ℕ) → b ≡ false → IsLooked b y key → key ≡ y
+looked_narrow false y key e looked = looked
+looked_narrow true y key e looked = absurd (cc)
+
+pub looked_wide : (b : Bool) (y key : ℕ) → b ≡ true → IsLooked b y key → IsLooked true y key
+looked_wide true y key e looked = looked
+looked_wide false y key e looked = absurd (cc)
+
+looked : (b : Bool) (s : Span) (y : ℕ) → IsSpan s → (b ≡ false → s.from ≡ s.to) → s.from ≤ y → y ≤ s.to
+    → IsLooked b y (key_of s.from s.to)
+looked true s y is narrow from to =
+    let way : OnTheWay y (key_of s.from s.to) = on_the_way s.from s.to y is.first from to is.in_rows in
+    (way.level, way.within, way.node, way.above)
+looked false s y is narrow from to =
+    let one : s.from ≡ s.to = narrow refl in
+    omega (arith, key_of_within s.from s.to (omega arith))
+
+pub IsWalk-start : (spans : List Span) (column : List ℕ) (ranges : Bool) (y : ℕ) (starts ends : List ℕ) (runs : ℕ)
+    → IsColumn spans column ranges → IsRuns column (IsLooked ranges y) starts ends runs
+    → IsWalk spans y starts ends runs 0
+IsWalk-start spans column ranges y starts ends runs col is = record {
+  few = is.few;
+  rising = λ (r : ℕ) (lt : r < runs). let s = is.sound r lt in
+      omega (arith, s.3, s.4, ends_rise spans column ranges col (s.0 - 1) s.0 (any_span spans 0) (omega arith) s.2);
+  within = λ (r : ℕ) (lt : r < runs). let s = is.sound r lt in omega (arith, s.4, col.within s.0 s.2);
+  by_cell = λ (r i j : ℕ) (d : Span) (lt : r < runs) (from : get_or starts r 0 ≤ i) (le : i ≤ j)
+      (to : j < get_or ends r 0).
+      let s = is.sound r lt in by_cell_within spans column ranges col s.0 i j d s.1 s.2 (omega (arith, s.3)) le
+      (omega (arith, s.4));
+  whole = λ (i : ℕ) (d : Span) (within : i < length spans) (has : holds (get_or spans i d) y ≡ true)
+      (le : 0 ≤ cell_of spans i d).
+      let span : IsSpan (get_or spans i d) = col.each i d within in
+      let at : ((get_or spans i d).from ≤ y) × (y ≤ (get_or spans i d).to) = holds_both (get_or spans i d) y has in
+      let k : ℕ = key_at spans i d in
+      let some : ((get_or spans i d).from ≤ k) × (k ≤ (get_or spans i d).to) =
+      key_of_within (get_or spans i d).from (get_or spans i d).to span.ordered in
+      let one : 1 ≤ k = omega (arith, some.0, span.first) in
+      let small : k ≤ ROWS = omega (arith, some.1, span.in_rows) in
+      let b : (get_or column (k - 1) 0 ≤ i) × (i < get_or column k 0) =
+      within_key spans column ranges col k i d one small within refl in
+      let found = is.complete k
+      (looked ranges (get_or spans i d) y span (λ (off : ranges ≡ false). col.narrow off i d within) at.0 at.1)
+      small (omega (arith, b.0, b.1)) in
+      (found.0, found.1, omega (arith, found.2, b.0), omega (arith, found.3, b.1));
+  in_grid = λ (i : ℕ) (d : Span) (within : i < length spans). (col.each i d within).in_grid;
+}

@@ -1,0 +1,30 @@
+-- How a column keeps its spans.
+use Rattle.std.specs.Prelude.{◌≡◌, ℕ, ◌+◌, ◌<◌, ◌≤◌, Bool, false, nat_lt, nat_le, List, length, get_or}
+use Rattle.ps_grid.specs.declared.size.TheConstants.{CELLS, ROWS}
+use Rattle.ps_index.specs.declared.span.Span.{Span}
+use Rattle.ps_index.specs.Inside.Nodes.{key_of}
+use Rattle.ps_index.specs.Spans.{cell_of}
+
+-- at least one row, and none outside the grid
+pub record IsSpan (s : Span) : Type 0 where
+  pub first : 1 ≤ s.from
+  pub ordered : s.from ≤ s.to
+  pub in_rows : s.to ≤ ROWS
+  pub in_grid : s.cell < CELLS
+
+-- the row at which a span is kept
+abbrev pub key_at : List Span → ℕ → Span → ℕ
+key_at spans i d = key_of (get_or spans i d).from (get_or spans i d).to
+
+-- the spans stand row by row of those at which they are kept, and by their cells at each: those up to row j are the
+-- first `ends j` ones; where there are no ranges each has one row
+pub record IsColumn (spans : List Span) (ends : List ℕ) (ranges : Bool) : Type 0 where
+  pub size : length ends ≡ ROWS + 1
+  pub within : (j : ℕ) → j ≤ ROWS → get_or ends j 0 ≤ length spans
+  pub placed : (i j : ℕ) (d : Span) → i < length spans → j ≤ ROWS
+      → nat_le (key_at spans i d) j ≡ nat_lt i (get_or ends j 0)
+  pub by_cell : (i j : ℕ) (d : Span) → i ≤ j → j < length spans → key_at spans i d ≡ key_at spans j d
+      → cell_of spans i d ≤ cell_of spans j d
+  pub each : (i : ℕ) (d : Span) → i < length spans → IsSpan (get_or spans i d)
+  pub narrow : ranges ≡ false → (i : ℕ) (d : Span) → i < length spans
+      → (get_or spans i d).from ≡ (get_or spans i d).to

@@ -1,0 +1,44 @@
+-- How a walk goes through the spans of a column that may have a row.
+use Rattle.std.specs.Prelude.{◌≡◌, ℕ, ◌+◌, ◌-◌, ◌<◌, ◌≤◌, ◌⊎◌, Bool, true, false, List, length, get_or}
+use Rattle.ps_grid.specs.declared.size.TheConstants.{CELLS, ROWS}
+use Rattle.ps_index.specs.declared.span.Span.{Span}
+use Rattle.ps_index.specs.Inside.Nodes.{node_of, rounded}
+use Rattle.ps_index.specs.Spans.{cell_of, holds}
+
+-- a span that has row y is kept at a row like this
+abbrev pub IsLooked : Bool → ℕ → ℕ → Type 0
+IsLooked true y key = (k : ℕ) × (k ≤ 10) × (key ≡ node_of y k) × (rounded y (k + 1) < y)
+IsLooked false y key = key ≡ y
+
+-- the runs are those of some rows, and of each row where a span may be kept and one is
+pub record IsRuns (column : List ℕ) (Looked : ℕ → Type 0) (starts ends : List ℕ) (runs : ℕ) : Type 0 where
+  pub few : runs ≤ 11
+  pub sound : (r : ℕ) → r < runs → (key : ℕ) × (1 ≤ key) × (key ≤ ROWS)
+      × (get_or starts r 0 ≡ get_or column (key - 1) 0)
+      × (get_or ends r 0 ≡ get_or column key 0)
+  pub complete : (key : ℕ) → Looked key → key ≤ ROWS → get_or column (key - 1) 0 < get_or column key 0
+      → (r : ℕ) × (r < runs) × (get_or starts r 0 ≡ get_or column (key - 1) 0)
+      × (get_or ends r 0 ≡ get_or column key 0)
+
+-- the runs of a walk, each now at its first span that has row y and a cell from `least` on, and the least such cell
+pub record IsHead (spans : List Span) (y : ℕ) (before starts ends : List ℕ) (runs least first : ℕ) : Type 0 where
+  pub forward : (r : ℕ) → r < runs → get_or before r 0 ≤ get_or starts r 0
+  pub rising : (r : ℕ) → r < runs → get_or starts r 0 ≤ get_or ends r 0
+  pub passed : (r i : ℕ) (d : Span) → r < runs → get_or before r 0 ≤ i → i < get_or starts r 0
+      → holds (get_or spans i d) y ≡ true → cell_of spans i d < least
+  pub lowest : (r : ℕ) (d : Span) → r < runs → get_or starts r 0 < get_or ends r 0
+      → first ≤ cell_of spans (get_or starts r 0) d
+  pub there : (first ≡ CELLS) ⊎ ((i : ℕ) × (i < length spans)
+      × ((d : Span) → (holds (get_or spans i d) y ≡ true) × (cell_of spans i d ≡ first) × (least ≤ first)))
+
+-- a walk of the cells from `least` on with a span that has row y: of run r, the spans from `at r` on are to come
+pub record IsWalk (spans : List Span) (y : ℕ) (starts ends : List ℕ) (runs least : ℕ) : Type 0 where
+  pub few : runs ≤ 11
+  pub rising : (r : ℕ) → r < runs → get_or starts r 0 ≤ get_or ends r 0
+  pub within : (r : ℕ) → r < runs → get_or ends r 0 ≤ length spans
+  pub by_cell : (r i j : ℕ) (d : Span) → r < runs → get_or starts r 0 ≤ i → i ≤ j → j < get_or ends r 0
+      → cell_of spans i d ≤ cell_of spans j d
+  pub whole : (i : ℕ) (d : Span) → i < length spans → holds (get_or spans i d) y ≡ true
+      → least ≤ cell_of spans i d
+      → (r : ℕ) × (r < runs) × (get_or starts r 0 ≤ i) × (i < get_or ends r 0)
+  pub in_grid : (i : ℕ) (d : Span) → i < length spans → cell_of spans i d < CELLS
