@@ -1,0 +1,13 @@
+pub mod CellListLemmas
+pub mod CountLemmas
+pub mod FoundLemmas
+pub mod GrowthCounts
+pub mod GrowthLemmas
+pub mod ListedLemmas
+pub mod QueueEnd
+pub mod QueueStart
+pub mod QuietLaw
+pub mod ReleaseLemmas
+pub mod SettlingLemmas
+pub mod SoleDependents
+pub mod TouchedLemmas

@@ -1,0 +1,37 @@
+-- What is known of the cells that an index lists.
+use Rattle.std.proofs.Common.{◌≡◌, ℕ, zero, suc, ◌<◌, ◌-◌, ◌+◌, Bool, true, false, List, [], ◌∷◌, sym, ◌∙◌, arith, ⊎_elim, eqb}
+use Rattle.std.specs.List.{list_any, filter, range_with_len}
+use Rattle.ps_grid.specs.Chains.{In}
+use Rattle.ps_grid.proofs.ChainLemmas.{In-cases}
+use Rattle.ps_region.proofs.CellListLemmas.{in-filter}
+use Rattle.ps_region.proofs.CountLemmas.{and_true_left}
+use Rattle.ps_grid.specs.Place.{column_of, row_of}
+use Rattle.ps_grid.specs.declared.size.TheConstants.{CELLS}
+use Rattle.ps_index.specs.Spans.{cells_from, refers_at}
+use Rattle.ps_index.specs.Stands.{spans_of}
+use Rattle.ps_index.specs.declared.span.Span.{Span}
+use Rattle.ps_region.specs.Listed.{listed}
+
+pub listed_is : (index : List (List Span)) (d : ℕ) (r : List ℕ)
+    → r ≡ cells_from (refers_at (spans_of index (column_of d)) (row_of d)) 0 CELLS → r ≡ listed index d
+unfolding listed
+listed_is index d r e = e
+
+below_end : (c n q : ℕ) → In (range_with_len c n) q → q < c + n
+below_end c zero q h = absurd (let f : false ≡ true = h in cc)
+below_end c (suc n) q h =
+    ⊎_elim
+    (λ e. omega arith)
+    (λ i. let b = below_end (c + 1) n q i in omega arith)
+    (In-cases q c (range_with_len (c + 1) n) h)
+
+-- only cells of the grid are listed
+pub listed_below : (index : List (List Span)) (d e : ℕ) → In (listed index d) e → e < CELLS
+unfolding listed cells_from
+listed_below index d e h = passes_below (refers_at (spans_of index (column_of d)) (row_of d)) CELLS e h
+  where
+    passes_below : (test : ℕ → Bool) (n e : ℕ) → In (filter test (range_with_len 0 (n - 0))) e → e < n
+    passes_below test n e h =
+        let b = below_end 0 (n - 0) e
+        (and_true_left (list_any (eqb e) (range_with_len 0 (n - 0))) (test e) (sym (in-filter test (range_with_len 0 (n - 0)) e) ∙ h)) in
+        omega arith

@@ -1,0 +1,172 @@
+use Rattle.std.proofs.Common.{◌≡◌, ◌<◌, ◌≤◌, ◌+◌, ◌-◌, ℕ, suc, [], arith, sym, ap, ◌∙◌, true, false, subst, length, get_or}
+use Rattle.std.proofs.lemmas.List.{get_or_read, get_or_push, length_push}
+use Rattle.ps_grid.specs.declared.size.TheConstants.{CELLS}
+use Rattle.ps_region.specs.Listed.{listed}
+use Rattle.ps_region.proofs.CountLemmas.{and_true_left}
+use Rattle.ps_region.specs.Inside.Counts.{is_in}
+use Rattle.ps_region.proofs.CellListLemmas.{in-get_or}
+use Rattle.ps_region.proofs.SettlingLemmas.{Settling-lowers, Settling-step, Settling-level, Levels-keep, Levels-more, Levels-le, Queued-le, frame_pending, frame_back}
+use Rattle.ps_region.specs.Inside.Settles.{Settling, Levels, is_frame, is_pending}
+use Rattle.ps_region.proofs.levels.settle.Goals as goal
+
+pub release-requires-clause-sole : goal.release-requires-clause-sole
+release-requires-clause-sole g c =
+    let order = c.walk.order.items in
+    let s = c.walk.invariant.state in
+    let w = s.within in
+    let t = c.walk-test.true in
+    let lt : c.walk.head < length order = omega (arith, w, t) in
+    let at = get_or_read order c.walk.head c.index-d.result.now lt c.index-d.ensures 0 in
+    let h = get_or order c.walk.head 0 in
+    rw at (λ e. c.requires.sole h e (and_true_left (get_or c.args.marks.now h false) (g.A.After.formula c.args.after.now h)
+    (s.framed h (in-get_or order c.walk.head 0 lt))))
+
+pub release-requires-clause-some : goal.release-requires-clause-some
+release-requires-clause-some g c =
+    let order = c.walk.order.items in
+    let s = c.walk.invariant.state in
+    let w = s.within in
+    let t = c.walk-test.true in
+    let lt : c.walk.head < length order = omega (arith, w, t) in
+    let at = get_or_read order c.walk.head c.index-d.result.now lt c.index-d.ensures 0 in
+    rw at (Settling-lowers (g.A.After.refers c.args.after.now)
+    (is_pending (g.A.After.formula c.args.after.now) (is_in c.args._outside.now) c.args.marks.now)
+    (is_frame (g.A.After.formula c.args.after.now) c.args.marks.now)
+    CELLS
+    (g.met.A.After.refers_below c.args.after.now)
+    (frame_pending (g.A.After.formula c.args.after.now) (is_in c.args._outside.now) c.args.marks.now)
+    (frame_back (g.A.After.refers c.args.after.now) (g.A.After.formula c.args.after.now) c.args.marks.now c.requires.closed (g.met.A.After.refers_formula c.args.after.now))
+    c.levels.head c.walk.head c.levels.«end» c.levels.k c.walk.left c.walk.level order s t)
+
+pub walk-preserved : goal.walk-preserved
+walk-preserved g c =
+    let order = c.walk.order.items in
+    let s = c.walk.invariant.state in
+    let w = s.within in
+    let t = c.walk-test.true in
+    let lt : c.walk.head < length order = omega (arith, w, t) in
+    let at = get_or_read order c.walk.head c.index-d.result.now lt c.index-d.ensures 0 in
+    let rel = rw at at c.release.ensures.released in
+    let long = c.walk.auto.left in
+    let long0 = c.levels.auto.left in
+    record {
+      state = Settling-step (g.A.After.refers c.args.after.now)
+          (is_pending (g.A.After.formula c.args.after.now) (is_in c.args._outside.now) c.args.marks.now)
+          (is_frame (g.A.After.formula c.args.after.now) c.args.marks.now)
+          CELLS
+          (g.met.A.After.refers_below c.args.after.now)
+          (frame_pending (g.A.After.formula c.args.after.now) (is_in c.args._outside.now) c.args.marks.now)
+          (frame_back (g.A.After.refers c.args.after.now) (g.A.After.formula c.args.after.now) c.args.marks.now c.requires.closed (g.met.A.After.refers_formula c.args.after.now))
+          (listed c.args.index.now (get_or order c.walk.head 0))
+          c.levels.head c.walk.head c.levels.«end» c.levels.k c.walk.left c.walk.level order
+          c.release.new.left c.release.new.level c.release.new.order.items s t (omega (arith, long, long0))
+          (λ x r. c.requires.lists_all x (get_or order c.walk.head 0) r) rel;
+      levels = Levels-keep (g.A.After.refers c.args.after.now) (get_or order c.walk.head 0) (c.levels.k + 1) (listed c.args.index.now (get_or order c.walk.head 0))
+          c.levels.starts.items c.walk.left c.walk.level order c.release.new.left c.release.new.level c.release.new.order.items c.walk.invariant.levels rel;
+      room = c.release.ensures.room;
+    }
+
+pub put_start-requires-in-levels : goal.put_start-requires-in-levels
+put_start-requires-in-levels g c =
+    let i = c.levels.invariant in
+    let k = c.levels.k in
+    let some = i.some in
+    let count = i.count in
+    let begin = i.begin in
+    let lt : k - 1 < length c.levels.starts.items = omega (arith, some, count) in
+    let le = Levels-le c.levels.starts.items c.levels.order.items c.levels.level i.levels (k - 1) lt in
+    let t = c.levels-test.true in
+    let w = i.state.within in
+    let few = Queued-le c.levels.left c.levels.order.items i.state.queued in
+    let room = i.room_starts in
+    omega (arith, some, count, begin, le, t, w, few, room)
+
+pub levels-smaller : goal.levels-smaller
+levels-smaller g c =
+    let i = c.levels.invariant in
+    let t = c.levels-test.true in
+    let f = c.walk-test.false in
+    let w = i.state.within in
+    let few = Queued-le c.levels.left c.levels.order.items i.state.queued in
+    let long0 = c.levels.auto.left in
+    omega (arith, t, f, w, few, long0)
+
+pub levels-preserved : goal.levels-preserved
+levels-preserved g c =
+    let i = c.levels.invariant in
+    let j = c.walk.invariant in
+    let k = c.levels.k in
+    let starts = c.levels.starts.items in
+    let t = c.levels-test.true in
+    let f = c.walk-test.false in
+    let r = j.state.reached in
+    let same : c.walk.head ≡ c.levels.«end» = omega (arith, f, r) in
+    let s = subst (λ e. Settling (g.A.After.refers c.args.after.now)
+    (is_pending (g.A.After.formula c.args.after.now) (is_in c.args._outside.now) c.args.marks.now)
+    (is_frame (g.A.After.formula c.args.after.now) c.args.marks.now)
+    CELLS c.levels.head c.walk.head e k c.walk.left c.walk.level c.walk.order.items) (sym same) j.state in
+    let long = c.len-end-in-levels.ensures in
+    let last : c.len-end-in-levels.result ≡ length c.walk.order.items = omega arith in
+    let items = c.put_start-in-levels.ensures.items in
+    let count = i.count in
+    let pushed = length_push starts c.levels.«end» in
+    let count2 : length starts ≡ k + 1 - 1 = omega (arith, count) in
+    let cap = c.put_start-in-levels.ensures.capacity in
+    let room = i.room_starts in
+    let long1 = c.walk.auto.left in
+    record {
+      state = rw last (Settling-level (g.A.After.refers c.args.after.now)
+          (is_pending (g.A.After.formula c.args.after.now) (is_in c.args._outside.now) c.args.marks.now)
+          (is_frame (g.A.After.formula c.args.after.now) c.args.marks.now)
+          CELLS
+          (g.met.A.After.refers_below c.args.after.now)
+          (frame_pending (g.A.After.formula c.args.after.now) (is_in c.args._outside.now) c.args.marks.now)
+          (frame_back (g.A.After.refers c.args.after.now) (g.A.After.formula c.args.after.now) c.args.marks.now c.requires.closed (g.met.A.After.refers_formula c.args.after.now))
+          c.levels.head c.walk.head k c.walk.left c.walk.level c.walk.order.items s);
+      levels = rw items (Levels-more starts c.walk.order.items c.walk.level k c.levels.head c.levels.«end» j.levels count i.some i.begin t j.state.within j.state.current);
+      last = last;
+      count = rw items (omega (arith, pushed, count));
+      some = omega arith;
+      begin = rw items (get_or_push starts c.levels.«end» 0 (k + 1 - 1) count2 ∙ sym same);
+      room = j.room;
+      room_starts = omega (arith, cap, room, long1);
+    }
+
+pub overflow_add-k : goal.overflow_add-k
+overflow_add-k g c =
+    let i = c.levels.invariant in
+    let some = i.some in
+    let count = i.count in
+    let begin = i.begin in
+    let lt : c.levels.k - 1 < length c.levels.starts.items = omega (arith, some, count) in
+    let le = Levels-le c.levels.starts.items c.levels.order.items c.levels.level i.levels (c.levels.k - 1) lt in
+    let t = c.levels-test.true in
+    let w = i.state.within in
+    let few = Queued-le c.levels.left c.levels.order.items i.state.queued in
+    let long = c.levels.auto.left in
+    omega (arith, some, begin, le, t, w, few, long, c.requires.left_length)
+
+pub overflow_add-k-in-levels : goal.overflow_add-k-in-levels
+overflow_add-k-in-levels g c =
+    let i = c.levels.invariant in
+    let some = i.some in
+    let count = i.count in
+    let begin = i.begin in
+    let lt : c.levels.k - 1 < length c.levels.starts.items = omega (arith, some, count) in
+    let le = Levels-le c.levels.starts.items c.levels.order.items c.levels.level i.levels (c.levels.k - 1) lt in
+    let t = c.levels-test.true in
+    let w = i.state.within in
+    let few = Queued-le c.levels.left c.levels.order.items i.state.queued in
+    let long = c.levels.auto.left in
+    omega (arith, some, begin, le, t, w, few, long, c.requires.left_length)
+
+pub release-requires-clause-known : goal.release-requires-clause-known
+release-requires-clause-known g c = λ e.
+    let order = c.walk.order.items in
+    let s = c.walk.invariant.state in
+    let w = s.within in
+    let t = c.walk-test.true in
+    let lt : c.walk.head < length order = omega (arith, w, t) in
+    let at = get_or_read order c.walk.head c.index-d.result.now lt c.index-d.ensures 0 in
+    let b = s.queued.below (get_or order c.walk.head 0) (in-get_or order c.walk.head 0 lt) in
+    c.requires.known c.index-d.result.now e (omega (arith, at, b, c.walk.auto.left, c.levels.auto.left, c.requires.left_length))

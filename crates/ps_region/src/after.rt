@@ -1,0 +1,33 @@
+//! The formulas after a change.
+
+ghost use Rattle.std.specs.Prelude.{◌≡◌, ◌<◌, ℕ, Bool, true};
+ghost use Rattle.ps_grid.specs.declared.size.TheConstants.{CELLS};
+ghost use Rattle.ps_grid.specs.Chains.{References};
+
+use ps_grid::Cell;
+
+/// The formulas after a change: which cells have one, and what these refer to.
+pub trait After {
+    /// whether the formula of the first cell refers to the second
+    ghost refers: { Self → References };
+
+    /// whether a cell has a formula
+    ghost formula: { Self → ℕ → Bool };
+
+    /// Whether the formula of `c` refers to `d`; no cell without a formula refers to any.
+    fn refers(&self, c: Cell, d: Cell) -> bool
+        ensures { result ≡ refers self.now c d };
+
+    /// Whether the cell has a formula.
+    fn is_formula(&self, c: Cell) -> bool
+        ensures { result ≡ formula self.now c };
+
+    // just cells with a formula refer to cells
+    ghost refers_formula: { (after : Self) (c d : ℕ) → refers after c d ≡ true → formula after c ≡ true };
+
+    // cells of the grid alone are referred to
+    ghost refers_below: { (after : Self) (c d : ℕ) → refers after c d ≡ true → d < CELLS };
+
+    // cells of the grid alone refer to cells
+    ghost below: { (after : Self) (c d : ℕ) → refers after c d ≡ true → c < CELLS };
+}

@@ -1,0 +1,136 @@
+//! The growth of a region: its members, with the counts of their references.
+
+ghost use Rattle.std.specs.Prelude.{◌≡◌, ◌⊎◌, ◌≤◌, ◌<◌, ◌∷◌, [], length, ℕ, true, false, not, nat_eq, ◌&&◌, slice_index, slice_index_or, slice_set, ◌+◌, vec_capacity};
+ghost use Rattle.std.specs.List.{list_any};
+ghost use Rattle.ps_grid.specs.declared.size.TheConstants.{CELLS as ALL};
+ghost use Rattle.ps_grid.specs.Chains.{In, InRegion};
+ghost use Rattle.ps_region.specs.Inside.Counts.{as_one, counted_in, cells_left, is_walked};
+ghost use Rattle.ps_region.specs.Inside.Cells.{Marked, with_all};
+ghost use Rattle.ps_region.specs.Inside.Touched.{IsPlain};
+ghost use Rattle.ps_region.specs.Listed.{listed};
+
+use crate::after::After;
+use crate::members::{enter, enter_all, has_formula};
+use ps_grid::{CELLS, Cell};
+use ps_index::Index;
+
+/// Counts one more reference.
+pub(crate) fn add_one(left: &mut [u32], e: Cell)
+    requires length { length left.old ≡ ALL }
+    requires small { slice_index left.old e < ALL }
+    ensures { left.new ≡ slice_set left.old e (slice_index left.old e + 1) }
+{
+    left[e.index()] += 1;
+}
+
+/// Whether a cell that is listed refers there after the change: the formula is asked only where the cell is touched.
+pub(crate) fn still_refers<A: After>(after: &A, fresh: &[bool], e: Cell, d: Cell) -> bool
+    requires length { length fresh.now ≡ ALL }
+    requires known { slice_index_or fresh.now e false ≡ false → A.refers after.now e d ≡ true }
+    ensures { result ≡ A.refers after.now e d }
+{
+    !fresh[e.index()] || after.refers(e, d)
+}
+
+/// Whether the reference of a listed cell is counted.
+fn is_counted<A: After>(after: &A, fresh: &[bool], counted: bool, e: Cell, d: Cell) -> bool
+    requires length { length fresh.now ≡ ALL }
+    requires known { slice_index_or fresh.now e false ≡ false → A.refers after.now e d ≡ true }
+    ensures { result ≡ (counted && A.refers after.now e d) }
+{
+    counted && still_refers(after, fresh, e, d)
+}
+
+/// Puts each cell that refers to the cell `d` into the region, counts its reference if `d` is a formula cell, and keeps
+/// the one such cell where there is just one.
+#[allow(clippy::too_many_arguments)]
+fn enter_dependents<A: After>(
+    index: &Index,
+    after: &A,
+    fresh: &[bool],
+    plain: &[bool],
+    marks: &mut [bool],
+    left: &mut [u32],
+    members: &mut Vec<Cell>,
+    sole: &mut [u32],
+    d: Cell,
+)
+    requires fresh_length { length fresh.now ≡ ALL }
+    requires plain_length { length plain.now ≡ ALL }
+    requires marks_length { length marks.old ≡ ALL }
+    requires left_length { length left.old ≡ ALL }
+    requires sole_length { length sole.old ≡ ALL }
+    requires known { (e : ℕ) → In (listed index.now d) e → slice_index_or fresh.now e false ≡ false
+        → A.refers after.now e d ≡ true }
+    requires formula { slice_index_or plain.now d false ≡ not (A.formula after.now d) }
+    requires marked { Marked marks.old members.old.items }
+    requires room { ALL ≤ vec_capacity members.old }
+    requires small { (q : ℕ) → counted_in members.old.items left.old q < ALL }
+    ensures members { members.new.items ≡ with_all members.old.items (listed index.now d) }
+    ensures marked { Marked marks.new members.new.items }
+    ensures room { ALL ≤ vec_capacity members.new }
+    ensures counts { (q : ℕ) → counted_in members.new.items left.new q ≡ counted_in members.old.items left.old q
+        + as_one (list_any (nat_eq q) (listed index.now d) && (A.formula after.now d && A.refers after.now q d)) }
+    ensures sole { (e : ℕ) → e < ALL → slice_index sole.new d ≡ e → listed index.now d ≡ e ∷ [] }
+    ensures others { (c : ℕ) → nat_eq c d ≡ false → slice_index_or sole.new c 0 ≡ slice_index_or sole.old c 0 }
+{
+    let counted = has_formula(plain, d);
+    let mut some = false;
+    let mut single = false;
+    let mut last = CELLS;
+    for e in index.dependents(d) {
+        enter(marks, left, members, e);
+        if is_counted(after, fresh, counted, e, d) {
+            add_one(left, e);
+        }
+        single = !some;
+        some = true;
+        last = e.index();
+    }
+    sole[d.index()] = if single { last as u32 } else { CELLS as u32 };
+}
+
+/// Grows the region from the touched cells, counts for each member its references to formula cells of the region, and
+/// keeps for each the one cell that refers to it, where there is just one.
+#[allow(clippy::too_many_arguments)]
+pub(crate) fn grow<A: After>(
+    index: &Index,
+    after: &A,
+    touched: &[Cell],
+    fresh: &[bool],
+    plain: &[bool],
+    marks: &mut [bool],
+    left: &mut [u32],
+    members: &mut Vec<Cell>,
+    sole: &mut [u32],
+)
+    requires fresh_length { length fresh.now ≡ ALL }
+    requires plain_length { length plain.now ≡ ALL }
+    requires marks_length { length marks.old ≡ ALL }
+    requires left_length { length left.old ≡ ALL }
+    requires sole_length { length sole.old ≡ ALL }
+    requires known { (d e : ℕ) → d < ALL → In (listed index.now d) e → slice_index_or fresh.now e false ≡ false
+        → A.refers after.now e d ≡ true }
+    requires plain { IsPlain (A.formula after.now) plain.now touched.now }
+    requires extra { (c d : ℕ) → d < ALL → In (listed index.now d) c → (A.refers after.now c d ≡ true) ⊎ In touched.now c }
+    requires lists_all { (c d : ℕ) → A.refers after.now c d ≡ true → In (listed index.now d) c }
+    requires empty { members.old.items ≡ [] }
+    requires marked { Marked marks.old members.old.items }
+    requires room { ALL ≤ vec_capacity members.old }
+    ensures marked { Marked marks.new members.new.items }
+    ensures room { ALL ≤ vec_capacity members.new }
+    ensures sound { (c : ℕ) → In members.new.items c → InRegion (A.refers after.now) touched.now c }
+    ensures complete { (c : ℕ) → InRegion (A.refers after.now) touched.now c → In members.new.items c }
+    ensures counts { (q : ℕ) → counted_in members.new.items left.new q
+        ≡ cells_left (A.refers after.now) (is_walked (A.formula after.now) members.new.items) [] ALL q }
+    ensures sole { (m e : ℕ) → In members.new.items m → e < ALL → slice_index_or sole.new m 0 ≡ e
+        → listed index.now m ≡ e ∷ [] }
+{
+    enter_all(marks, left, members, touched);
+    let mut head = 0;
+    while head < members.len() {
+        let d = members[head];
+        enter_dependents(index, after, fresh, plain, marks, left, members, sole, d);
+        head += 1;
+    }
+}

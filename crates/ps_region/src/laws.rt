@@ -1,0 +1,35 @@
+//! Laws of regions and of what an index lists, as functions that do nothing: each is its contract.
+
+ghost use Rattle.std.specs.Prelude.{◌≡◌, ℕ, ◌<◌, nat_eq};
+ghost use Rattle.std.specs.List.{list_any};
+ghost use Rattle.ps_grid.specs.declared.size.TheConstants.{CELLS as ALL};
+ghost use Rattle.ps_index.specs.Stands.{Puts, Stands, refers};
+ghost use Rattle.ps_region.specs.Laws.{SameCyclicOutside, SameRegion};
+ghost use Rattle.ps_region.specs.Listed.{listed};
+
+use ps_grid::Cell;
+use ps_index::Index;
+
+/// Just those cells are listed for a cell whose formulas in the index refer to it.
+///
+/// Cost: that of beginning a walk.
+pub fn listed_cells_refer(index: &Index, cell: Cell)
+    ensures { (forms : Puts) → Stands index.now forms → (c : ℕ) → c < ALL
+        → list_any (nat_eq c) (listed index.now cell) ≡ refers forms c cell }
+{
+    let _ = index.dependents(cell);
+}
+
+/// Where the references before and after a change differ at touched cells alone, both give the same region.
+///
+/// Cost: none.
+pub fn old_and_new_give_one_region()
+    ensures { SameRegion }
+{}
+
+/// Outside the region a cell is cyclic after a change just where it was before.
+///
+/// Cost: none.
+pub fn cycles_stay_outside()
+    ensures { SameCyclicOutside }
+{}

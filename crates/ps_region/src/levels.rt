@@ -1,0 +1,251 @@
+//! The levels of a region's formula cells, and those that are left without one.
+
+ghost use Rattle.std.specs.Prelude.{◌≡◌, ◌≢◌, ◌-◌, ◌≤◌, ◌<◌, ◌∷◌, ◌++◌, [], length, ℕ, true, false, slice_index, slice_index_or, slice_set, filter, vec_capacity};
+ghost use Rattle.ps_grid.specs.declared.size.TheConstants.{CELLS as ALL};
+ghost use Rattle.ps_grid.specs.Chains.{In};
+ghost use Rattle.ps_region.specs.Inside.Counts.{Queued, Released, is_in};
+ghost use Rattle.ps_region.specs.Inside.Settles.{Levels, Settling, is_frame, is_held, is_pending, is_ready};
+ghost use Rattle.ps_region.specs.Inside.Touched.{not_plain};
+ghost use Rattle.ps_region.specs.Listed.{listed};
+
+use crate::after::After;
+use crate::grow::still_refers;
+use crate::members::{has_formula, put};
+use ps_grid::Cell;
+use ps_index::Index;
+
+/// Whether a member is a formula cell of which no reference is left.
+fn is_ready_cell(plain: &[bool], left: &[u32], c: Cell) -> bool
+    requires plain_length { length plain.now ≡ ALL }
+    requires left_length { length left.now ≡ ALL }
+    ensures { result ≡ is_ready (not_plain plain.now) left.now c }
+{
+    has_formula(plain, c) && left[c.index()] == 0
+}
+
+/// Puts the formula cells whose count is 0 into the queue, at level 1.
+pub(crate) fn first_level(
+    plain: &[bool],
+    left: &[u32],
+    level: &mut [u32],
+    members: &[Cell],
+    order: &mut Vec<Cell>,
+)
+    requires plain_length { length plain.now ≡ ALL }
+    requires left_length { length left.now ≡ ALL }
+    requires level_length { length level.old ≡ ALL }
+    requires empty { order.old.items ≡ [] }
+    requires room { length members.now ≤ vec_capacity order.old }
+    ensures order { order.new.items ≡ filter (is_ready (not_plain plain.now) left.now) members.now }
+    ensures level { (c : ℕ) → In order.new.items c → slice_index level.new c ≡ 1 }
+    ensures room { vec_capacity order.old ≤ vec_capacity order.new }
+{
+    for c in members {
+        if is_ready_cell(plain, left, *c) {
+            level[c.index()] = 1;
+            put(order, *c);
+        }
+    }
+}
+
+/// Counts one reference of the cell `e` as settled. Where it was the last, the cell goes to the queue's end, at level k.
+fn lower(left: &mut [u32], level: &mut [u32], order: &mut Vec<Cell>, e: Cell, k: u32)
+    requires left_length { length left.old ≡ ALL }
+    requires level_length { length level.old ≡ ALL }
+    requires some { 0 < slice_index left.old e }
+    requires queued { Queued left.old order.old.items }
+    requires room { ALL ≤ vec_capacity order.old }
+    ensures left { left.new ≡ slice_set left.old e (slice_index left.old e - 1) }
+    ensures more { slice_index left.old e ≢ 1 → (level.new ≡ level.old) × (order.new.items ≡ order.old.items) }
+    ensures last { slice_index left.old e ≡ 1
+        → (level.new ≡ slice_set level.old e k) × (order.new.items ≡ order.old.items ++ e ∷ []) }
+    ensures room { ALL ≤ vec_capacity order.new }
+{
+    let place = e.index();
+    left[place] -= 1;
+    if left[place] == 0 {
+        level[place] = k;
+        put(order, e);
+    }
+}
+
+/// Counts the reference of the one cell that is listed for the cell `d` as settled.
+#[allow(clippy::too_many_arguments)]
+fn release_sole<A: After>(
+    after: &A,
+    fresh: &[bool],
+    left: &mut [u32],
+    level: &mut [u32],
+    order: &mut Vec<Cell>,
+    d: Cell,
+    e: Cell,
+    k: u32,
+)
+    requires fresh_length { length fresh.now ≡ ALL }
+    requires left_length { length left.old ≡ ALL }
+    requires level_length { length level.old ≡ ALL }
+    requires known { slice_index_or fresh.now e false ≡ false → A.refers after.now e d ≡ true }
+    requires some { A.refers after.now e d ≡ true → 0 < slice_index left.old e }
+    requires queued { Queued left.old order.old.items }
+    requires room { ALL ≤ vec_capacity order.old }
+    ensures released { Released (A.refers after.now) d k (e ∷ []) left.old level.old order.old.items left.new level.new order.new.items }
+    ensures room { ALL ≤ vec_capacity order.new }
+{
+    let _place = e.index();
+    if still_refers(after, fresh, e, d) {
+        lower(left, level, order, e, k);
+    }
+}
+
+/// Counts each reference to the cell `d` as settled, by a walk of the index.
+#[allow(clippy::too_many_arguments)]
+fn release_each<A: After>(
+    index: &Index,
+    after: &A,
+    fresh: &[bool],
+    left: &mut [u32],
+    level: &mut [u32],
+    order: &mut Vec<Cell>,
+    d: Cell,
+    k: u32,
+)
+    requires fresh_length { length fresh.now ≡ ALL }
+    requires left_length { length left.old ≡ ALL }
+    requires level_length { length level.old ≡ ALL }
+    requires known { (e : ℕ) → In (listed index.now d) e → slice_index_or fresh.now e false ≡ false
+        → A.refers after.now e d ≡ true }
+    requires some { (c : ℕ) → A.refers after.now c d ≡ true → 0 < slice_index left.old c }
+    requires queued { Queued left.old order.old.items }
+    requires room { ALL ≤ vec_capacity order.old }
+    ensures released { Released (A.refers after.now) d k (listed index.now d) left.old level.old order.old.items left.new level.new order.new.items }
+    ensures room { ALL ≤ vec_capacity order.new }
+{
+    for e in index.dependents(d) {
+        if still_refers(after, fresh, e, d) {
+            lower(left, level, order, e, k);
+        }
+    }
+}
+
+/// Counts each reference to the cell `d` as settled: of the one cell that refers there, where it is kept, and else by a
+/// walk of the index.
+#[allow(clippy::too_many_arguments)]
+fn release<A: After>(
+    index: &Index,
+    after: &A,
+    fresh: &[bool],
+    sole: &[u32],
+    left: &mut [u32],
+    level: &mut [u32],
+    order: &mut Vec<Cell>,
+    d: Cell,
+    k: u32,
+)
+    requires fresh_length { length fresh.now ≡ ALL }
+    requires sole_length { length sole.now ≡ ALL }
+    requires left_length { length left.old ≡ ALL }
+    requires level_length { length level.old ≡ ALL }
+    requires sole { (e : ℕ) → e < ALL → slice_index_or sole.now d 0 ≡ e → listed index.now d ≡ e ∷ [] }
+    requires known { (e : ℕ) → In (listed index.now d) e → slice_index_or fresh.now e false ≡ false
+        → A.refers after.now e d ≡ true }
+    requires some { (c : ℕ) → A.refers after.now c d ≡ true → 0 < slice_index left.old c }
+    requires queued { Queued left.old order.old.items }
+    requires room { ALL ≤ vec_capacity order.old }
+    ensures released { Released (A.refers after.now) d k (listed index.now d) left.old level.old order.old.items left.new level.new order.new.items }
+    ensures room { ALL ≤ vec_capacity order.new }
+{
+    match Cell::from_index(sole[d.index()] as usize) {
+        Some(e) => release_sole(after, fresh, left, level, order, d, e, k),
+        None => release_each(index, after, fresh, left, level, order, d, k),
+    }
+}
+
+/// Puts a place at the end of the places where levels begin.
+fn put_start(starts: &mut Vec<u32>, place: usize)
+    requires small { place ≤ ALL }
+    requires room { length starts.old.items < vec_capacity starts.old }
+    ensures items { starts.new.items ≡ starts.old.items ++ place ∷ [] }
+    ensures capacity { vec_capacity starts.old ≤ vec_capacity starts.new }
+{
+    let _ = starts.push(place as u32);
+}
+
+/// Gives the cells of the queue and those that they release their levels, level after level. `_outside` is there for
+/// the contract alone.
+#[allow(clippy::too_many_arguments)]
+pub(crate) fn settle<A: After>(
+    index: &Index,
+    after: &A,
+    _outside: &[Cell],
+    fresh: &[bool],
+    marks: &[bool],
+    sole: &[u32],
+    left: &mut [u32],
+    level: &mut [u32],
+    order: &mut Vec<Cell>,
+    starts: &mut Vec<u32>,
+)
+    requires fresh_length { length fresh.now ≡ ALL }
+    requires sole_length { length sole.now ≡ ALL }
+    requires left_length { length left.old ≡ ALL }
+    requires level_length { length level.old ≡ ALL }
+    requires known { (d e : ℕ) → d < ALL → In (listed index.now d) e → slice_index_or fresh.now e false ≡ false
+        → A.refers after.now e d ≡ true }
+    requires lists_all { (c d : ℕ) → A.refers after.now c d ≡ true → In (listed index.now d) c }
+    requires sole { (m e : ℕ) → slice_index_or marks.now m false ≡ true → e < ALL → slice_index_or sole.now m 0 ≡ e
+        → listed index.now m ≡ e ∷ [] }
+    requires closed { (c d : ℕ) → A.refers after.now c d ≡ true → slice_index_or marks.now d false ≡ true
+        → slice_index_or marks.now c false ≡ true }
+    requires starting { Settling (A.refers after.now) (is_pending (A.formula after.now) (is_in _outside.now) marks.now)
+        (is_frame (A.formula after.now) marks.now) ALL 0 0 (length order.old.items) 1 left.old level.old order.old.items }
+    requires empty { starts.old.items ≡ [] }
+    requires room { ALL ≤ vec_capacity order.old }
+    requires room_starts { ALL < vec_capacity starts.old }
+    ensures ended { Settling (A.refers after.now) (is_pending (A.formula after.now) (is_in _outside.now) marks.now)
+        (is_frame (A.formula after.now) marks.now) ALL (length order.new.items) (length order.new.items)
+        (length order.new.items) (length starts.new.items) left.new level.new order.new.items }
+    ensures room { ALL ≤ vec_capacity order.new }
+    ensures room_starts { ALL < vec_capacity starts.new }
+    ensures levels { Levels starts.new.items order.new.items level.new }
+    ensures whole { slice_index starts.new.items (length starts.new.items - 1) ≡ length order.new.items }
+{
+    put_start(starts, 0);
+    let mut head = 0;
+    let mut end = order.len();
+    let mut k = 1;
+    'levels: while head < end {
+        'walk: while head < end {
+            let d = order[head];
+            release(index, after, fresh, sole, left, level, order, d, k + 1);
+            head += 1;
+        }
+        put_start(starts, end);
+        end = order.len();
+        k += 1;
+    }
+}
+
+/// Whether a member is a formula cell of which a reference is left.
+fn is_held_cell(plain: &[bool], left: &[u32], c: Cell) -> bool
+    requires plain_length { length plain.now ≡ ALL }
+    requires left_length { length left.now ≡ ALL }
+    ensures { result ≡ is_held (not_plain plain.now) left.now c }
+{
+    has_formula(plain, c) && left[c.index()] != 0
+}
+
+/// Lists the formula cells whose count is not 0.
+pub(crate) fn list_held(plain: &[bool], left: &[u32], members: &[Cell], cyclic: &mut Vec<Cell>)
+    requires plain_length { length plain.now ≡ ALL }
+    requires left_length { length left.now ≡ ALL }
+    requires empty { cyclic.old.items ≡ [] }
+    requires room { length members.now ≤ vec_capacity cyclic.old }
+    ensures cyclic { cyclic.new.items ≡ filter (is_held (not_plain plain.now) left.now) members.now }
+    ensures room { vec_capacity cyclic.old ≤ vec_capacity cyclic.new }
+{
+    for c in members {
+        if is_held_cell(plain, left, *c) {
+            put(cyclic, *c);
+        }
+    }
+}

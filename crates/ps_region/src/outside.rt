@@ -1,0 +1,78 @@
+//! The references of a region's cells to the cyclic cells outside it.
+
+ghost use Rattle.std.specs.Prelude.{◌≡◌, ◌<◌, [], length, ℕ, true, false, nat_eq, ◌&&◌, slice_index, slice_index_or, ◌+◌};
+ghost use Rattle.std.specs.List.{IsDistinct};
+ghost use Rattle.ps_grid.specs.declared.size.TheConstants.{CELLS as ALL};
+ghost use Rattle.ps_grid.specs.Chains.{In};
+ghost use Rattle.ps_region.specs.Inside.Counts.{as_one, cells_left, is_in};
+ghost use Rattle.ps_region.specs.Inside.Settles.{is_pending};
+ghost use Rattle.ps_region.specs.Listed.{listed};
+
+use crate::after::After;
+use crate::grow::{add_one, still_refers};
+use ps_grid::Cell;
+use ps_index::Index;
+
+/// Whether a listed cell is of the region and refers to the cell `d`.
+fn is_reference<A: After>(after: &A, fresh: &[bool], marks: &[bool], e: Cell, d: Cell) -> bool
+    requires fresh_length { length fresh.now ≡ ALL }
+    requires marks_length { length marks.now ≡ ALL }
+    requires known { slice_index_or fresh.now e false ≡ false → A.refers after.now e d ≡ true }
+    ensures { result ≡ (slice_index_or marks.now e false && A.refers after.now e d) }
+{
+    marks[e.index()] && still_refers(after, fresh, e, d)
+}
+
+/// Counts the references of the region's cells to the cell `d`.
+fn raise<A: After>(
+    index: &Index,
+    after: &A,
+    fresh: &[bool],
+    marks: &[bool],
+    left: &mut [u32],
+    d: Cell,
+)
+    requires fresh_length { length fresh.now ≡ ALL }
+    requires marks_length { length marks.now ≡ ALL }
+    requires left_length { length left.old ≡ ALL }
+    requires known { (e : ℕ) → In (listed index.now d) e → slice_index_or fresh.now e false ≡ false
+        → A.refers after.now e d ≡ true }
+    requires lists_all { (c : ℕ) → A.refers after.now c d ≡ true → In (listed index.now d) c }
+    requires small { (c : ℕ) → slice_index_or marks.now c false ≡ true → slice_index left.old c < ALL }
+    ensures raised { (c : ℕ) → slice_index left.new c ≡ slice_index left.old c
+        + as_one (slice_index_or marks.now c false && A.refers after.now c d) }
+{
+    for e in index.dependents(d) {
+        if is_reference(after, fresh, marks, e, d) {
+            add_one(left, e);
+        }
+    }
+}
+
+/// Counts for each cell of the region its references to the cyclic cells outside.
+pub(crate) fn count_outside<A: After>(
+    index: &Index,
+    after: &A,
+    outside: &[Cell],
+    fresh: &[bool],
+    marks: &[bool],
+    left: &mut [u32],
+)
+    requires fresh_length { length fresh.now ≡ ALL }
+    requires marks_length { length marks.now ≡ ALL }
+    requires left_length { length left.old ≡ ALL }
+    requires known { (d e : ℕ) → d < ALL → In (listed index.now d) e → slice_index_or fresh.now e false ≡ false
+        → A.refers after.now e d ≡ true }
+    requires lists_all { (c d : ℕ) → A.refers after.now c d ≡ true → In (listed index.now d) c }
+    requires once { IsDistinct nat_eq outside.now }
+    requires counted { (c : ℕ) → slice_index_or marks.now c false ≡ true → slice_index left.old c
+        ≡ cells_left (A.refers after.now) (is_pending (A.formula after.now) (is_in []) marks.now) [] ALL c }
+    ensures counts { (c : ℕ) → slice_index_or marks.now c false ≡ true → slice_index left.new c
+        ≡ cells_left (A.refers after.now) (is_pending (A.formula after.now) (is_in outside.now) marks.now) [] ALL c }
+{
+    for d in outside {
+        if !marks[d.index()] {
+            raise(index, after, fresh, marks, left, *d);
+        }
+    }
+}

@@ -1,0 +1,210 @@
+//! The region of the last change.
+
+ghost use Rattle.std.specs.Prelude.{◌≡◌, ◌⊎◌, ◌<◌, ◌≤◌, ℕ, [], true, false, nat_eq, if◌then◌else◌, Some, None, IfOk, IfErr, length, slice_index, slice_index_or, vec_capacity};
+ghost use Rattle.std.specs.List.{IsDistinct, list_any};
+ghost use Rattle.ps_grid.specs.declared.refusal.Refusal.TheVariants.{Memory};
+ghost use Rattle.ps_grid.specs.declared.size.TheConstants.{CELLS as ALL};
+ghost use Rattle.ps_grid.specs.Chains.{In, InRegion, IsCyclic};
+ghost use Rattle.ps_region.specs.Found.{IsFound, has_left, level_cells, level_count};
+ghost use Rattle.ps_region.specs.Listed.{listed};
+
+use crate::after::After;
+use crate::mark::mark_parts;
+use ps_grid::{CELLS, Cell, Refusal};
+use ps_index::Index;
+use std::alloc::Global;
+use std::marker::Model;
+
+/// The region of the last change that was marked, with the scratch to find it. A contract sees it as what it found.
+#[derive(Drop)]
+pub struct Region {
+    // for each cell whether it is a member
+    marks: Vec<bool>,
+    // for each cell whether it was touched
+    fresh: Vec<bool>,
+    // for each cell whether it is a member without a formula
+    plain: Vec<bool>,
+    // for each member how many of the cells that it refers to have no level
+    left: Vec<u32>,
+    // for each cell of a level its number
+    level: Vec<u32>,
+    // for each member the one cell that refers to it, and CELLS where none does, or several
+    sole: Vec<u32>,
+    // the cells of the region, each once
+    members: Vec<Cell>,
+    // the cells of the levels, one level after the other
+    order: Vec<Cell>,
+    // the place where each level begins, and at the end the place after the last one
+    starts: Vec<u32>,
+    // the cyclic cells of the region
+    cyclic: Vec<Cell>,
+}
+
+impl Model for Region {
+    ghost use Rattle.ps_region.specs.Found.{Found};
+
+    ghost Value = { Found };
+
+    ghost use Rattle.ps_region.specs.Inside.Scratch.{IsScratch, found_of};
+
+    ghost view = { found_of };
+
+    ghost invariant = { IsScratch };
+}
+
+impl Region {
+    /// A region without cells, with room for each cell of the grid; no other call takes memory.
+    ///
+    /// Refused only when out of memory.
+    ///
+    /// Cost: the cells of the grid.
+    pub fn new(alloc: Global) -> Result<Region, Refusal>
+        ensures empty { IfOk result (λ r. r.members ≡ []) }
+        ensures memory { IfErr result (λ e. e ≡ Memory) }
+    {
+        let marks = no_marks(alloc, CELLS)?;
+        let fresh = no_marks(alloc, CELLS)?;
+        let plain = no_marks(alloc, CELLS)?;
+        let left = numbers(alloc, CELLS)?;
+        let level = numbers(alloc, CELLS)?;
+        let sole = numbers(alloc, CELLS)?;
+        let members = Vec::with_capacity(alloc, CELLS)?;
+        let order = Vec::with_capacity(alloc, CELLS)?;
+        let starts = Vec::with_capacity(alloc, CELLS + 1)?;
+        let cyclic = Vec::with_capacity(alloc, CELLS)?;
+        Ok(Region {
+            marks,
+            fresh,
+            plain,
+            left,
+            level,
+            sole,
+            members,
+            order,
+            starts,
+            cyclic,
+        })
+    }
+
+    /// Finds the region of a change, the levels of its formula cells and the cyclic ones.
+    ///
+    /// `index` lists the formulas after the change, and at most those that touched cells had before. `cyclic` has the
+    /// cells that are cyclic after the change, but for the region's: there it doesn't matter which it has.
+    ///
+    /// Cost: the cells of the region and the references to them, and for each cell of `cyclic` outside the region the
+    /// references to it; it takes no memory.
+    pub fn mark<A: After>(&mut self, index: &Index, after: &A, touched: &[Cell], cyclic: &[Cell])
+        requires lists_all { (c d : ℕ) → A.refers after.now c d ≡ true → In (listed index.now d) c }
+        requires extra { (c d : ℕ) → d < ALL → In (listed index.now d) c
+            → (A.refers after.now c d ≡ true) ⊎ In touched.now c }
+        requires outside_once { IsDistinct nat_eq cyclic.now }
+        requires outside_yes { (c : ℕ) → (InRegion (A.refers after.now) touched.now c → ⊥) → In cyclic.now c
+            → IsCyclic (A.refers after.now) c }
+        requires outside_no { (c : ℕ) → (InRegion (A.refers after.now) touched.now c → ⊥)
+            → IsCyclic (A.refers after.now) c → In cyclic.now c }
+        ensures found { IsFound (A.refers after.now) (A.formula after.now) touched.now self.new }
+    {
+        mark_parts(
+            index,
+            after,
+            touched,
+            cyclic,
+            &mut self.marks,
+            &mut self.fresh,
+            &mut self.plain,
+            &mut self.left,
+            &mut self.level,
+            &mut self.sole,
+            &mut self.members,
+            &mut self.order,
+            &mut self.starts,
+            &mut self.cyclic,
+        );
+    }
+
+    /// Whether the cell is of the region.
+    ///
+    /// Cost: constant.
+    pub fn contains(&self, c: Cell) -> bool
+        ensures { result ≡ list_any (nat_eq c) self.now.members }
+    {
+        self.marks[c.index()]
+    }
+
+    /// The cells of the region, each once, in no order that is promised.
+    ///
+    /// Cost: constant.
+    pub fn members(&self) -> &[Cell]
+        ensures { result.now ≡ self.now.members }
+    {
+        &self.members
+    }
+
+    /// How many levels there are: the greatest depth of a formula cell of the region that reaches no cycle.
+    ///
+    /// Cost: constant.
+    pub fn levels(&self) -> usize
+        ensures { result ≡ level_count self.now }
+    {
+        self.starts.len().saturating_sub(1)
+    }
+
+    /// The formula cells of the region of depth `n` that reach no cycle, where `n` is a level, 1 to `levels()`; no cell
+    /// for any other number.
+    ///
+    /// Cost: constant.
+    pub fn level(&self, n: usize) -> &[Cell]
+        ensures inside { 0 < n → n ≤ level_count self.now → result.now ≡ level_cells self.now n }
+        ensures other { level_count self.now < n → result.now ≡ [] }
+        ensures none { n ≡ 0 → result.now ≡ [] }
+    {
+        if n == 0 || n >= self.starts.len() {
+            return &[];
+        }
+        let from = self.starts[n - 1] as usize;
+        let to = self.starts[n] as usize;
+        &self.order[from..to]
+    }
+
+    /// The formula cells of the region that reach a cycle, each once.
+    ///
+    /// Cost: constant.
+    pub fn cyclic(&self) -> &[Cell]
+        ensures { result.now ≡ self.now.cyclic }
+    {
+        &self.cyclic
+    }
+
+    /// How many of the cells that a formula cell of the region refers to are cyclic; none for any other cell.
+    ///
+    /// Cost: constant.
+    pub fn left(&self, c: Cell) -> Option<usize>
+        ensures { result ≡ (if has_left self.now c then Some (slice_index self.now.left c) else None) }
+    {
+        let place = c.index();
+        if self.marks[place] && !self.plain[place] {
+            Some(self.left[place] as usize)
+        } else {
+            None
+        }
+    }
+}
+
+/// A table of `n` marks, none of which is set.
+fn no_marks(alloc: Global, n: usize) -> Result<Vec<bool>, Refusal>
+    ensures length { IfOk result (λ v. length v.items ≡ n) }
+    ensures none { IfOk result (λ v. (c : ℕ) → slice_index_or v.items c false ≡ false) }
+    ensures memory { IfErr result (λ e. e ≡ Memory) }
+{
+    let marks = vec![in alloc; false; n]?;
+    Ok(marks)
+}
+
+/// A table of `n` numbers.
+fn numbers(alloc: Global, n: usize) -> Result<Vec<u32>, Refusal>
+    ensures length { IfOk result (λ v. length v.items ≡ n) }
+    ensures memory { IfErr result (λ e. e ≡ Memory) }
+{
+    let numbers = vec![in alloc; 0; n]?;
+    Ok(numbers)
+}
