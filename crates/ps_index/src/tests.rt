@@ -219,3 +219,28 @@ fn nested(alloc: Global) -> Result<bool, Refusal> {
         A1022:B1 B5\nA1023:B1 B5 B9\nA1024:B1 B5 B7 B9",
     ))
 }
+
+/// After a growth that is refused in `set` the cells that refer to each cell are as before.
+#[test]
+fn a_refused_growth_changes_nothing(rt: HostRuntime) {
+    let found = grown(rt.alloc());
+    assert!(rt; found != Ok(false));
+}
+
+/// Whether all of a formula's references are found, or after a refusal those from before it alone.
+fn grown(alloc: Global) -> Result<bool, Refusal> {
+    let cell = cell("A9")?;
+    let formula = Formula::read(alloc, b"=SUM([.B1:.CZ3])")?;
+    let mut index = index_of(alloc, "A1 =SUM([.B1:.B2])\nA2 =[.CZ2]")?;
+    match index.set(cell, None, Some(&formula)) {
+        Ok(()) => Ok(all_refer(&index, "B1:A1 A9\nB3:A9\nC1:A9\nAA3:A9\nCZ2:A2 A9")),
+        Err(refusal) => Ok(
+            refusal == Refusal::Memory
+                && all_refer(&index, "B1:A1\nB3:\nC1:\nAA3:\nCY2:\nCZ2:A2")
+                && index.spans(1).len() == 1
+                && index.spans(2).is_empty()
+                && index.spans(50).is_empty()
+                && index.spans(103).len() == 1,
+        ),
+    }
+}
