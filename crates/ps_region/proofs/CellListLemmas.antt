@@ -1,10 +1,15 @@
 -- Lemmas on lists of cells without doubles.
-use Rattle.std.proofs.Common.{◌≡◌, ◌≢◌, ℕ, suc, zero, ◌+◌, ◌<◌, ◌≤◌, Bool, true, false, cond, ◌⊎◌, ◌||◌, ◌&&◌, inl, inr, List, [], ◌∷◌, ◌++◌, length, refl, sym, ap, ◌∙◌, arith, rules, ⊎_elim, eqb, eqb-true, eq-eqb, ne_eqb, subst, get_or, set, take, drop}
+use Rattle.std.proofs.Common.{◌≡◌, ◌≢◌, ℕ, suc, zero, ◌+◌, ◌<◌, ◌≤◌, Bool, true, false, ◌⊎◌, ◌||◌, ◌&&◌, inl}
+use Rattle.std.proofs.Common.{inr, List, [], ◌∷◌, ◌++◌, length, refl, sym, ap, ◌∙◌, arith, ⊎_elim, eqb}
+use Rattle.std.proofs.Common.{eqb-true, eq-eqb, ne_eqb, subst, get_or, set, take, drop}
 use Rattle.std.proofs.lemmas.Grind.{common_steps}
 use Rattle.std.proofs.lemmas.Bool.{cases_eq, cases_lt}
-use Rattle.std.specs.List.{list_any, IsDistinct, All, AllByRecursion, filter}
-use Rattle.std.proofs.lemmas.List.{take_more, append-nil, append_assoc, get_or_append_left, get_or-set_same, get_or-set_other, get_or_past, length_push, length-take-le, get_or-take, drop_more, drop_all}
-use Rattle.std.proofs.lemmas.Map.Keys.{IsDistinct-push, IsDistinct-head, IsDistinct-tail, IsDistinct-cons, apart_from_distinct}
+use Rattle.std.specs.List.{list_any, IsDistinct, AllByRecursion, filter}
+use Rattle.std.proofs.lemmas.List.{take_more, append-nil, append_assoc, get_or-set_same}
+use Rattle.std.proofs.lemmas.List.{get_or-set_other, get_or_past, length_push, length-take-le, get_or-take, drop_more}
+use Rattle.std.proofs.lemmas.List.{drop_all}
+use Rattle.std.proofs.lemmas.Map.Keys.{IsDistinct-push, IsDistinct-head, IsDistinct-tail, IsDistinct-cons}
+use Rattle.std.proofs.lemmas.Map.Keys.{apart_from_distinct}
 use Rattle.std.proofs.lemmas.Map.Steps.{length-le_from_distinct_below}
 use Rattle.std.proofs.lemmas.Cmp.{nat_eq_equiv}
 use Rattle.ps_region.specs.Inside.Cells.{with_cell, with_all, Marked}
@@ -45,11 +50,13 @@ pub in-with_cell : (xs : List ℕ) (c q : ℕ) → list_any (eqb q) (with_cell x
 in-with_cell xs c q =
     ⊎_elim
     (λ yes.
-    ⊎_elim (λ e. let k = in-same xs c q e yes in grind (arith, common_steps)) (λ ne. grind (arith, common_steps)) (cases_eq q c))
+    ⊎_elim (λ e. let k = in-same xs c q e yes in grind (arith, common_steps)) (λ ne. grind (arith, common_steps))
+    (cases_eq q c))
     (λ none. let e = any-append q xs (c ∷ []) in grind (arith, common_steps))
     (bool_cases (list_any (eqb c) xs))
 
-pub in-with_all : (xs cs : List ℕ) (q : ℕ) → list_any (eqb q) (with_all xs cs) ≡ (list_any (eqb q) xs || list_any (eqb q) cs)
+pub in-with_all : (xs cs : List ℕ) (q : ℕ)
+    → list_any (eqb q) (with_all xs cs) ≡ (list_any (eqb q) xs || list_any (eqb q) cs)
 in-with_all xs [] q = grind (arith, common_steps)
 in-with_all xs (c ∷ cs) q =
     let ih = in-with_all (with_cell xs c) cs q in
@@ -71,7 +78,8 @@ with_all-prefix xs (c ∷ cs) =
     (f.0 ++ m.0, m.1 ∙ (ap (λ l. l ++ m.0) f.1 ∙ append_assoc xs f.0 m.0))
 
 -- what is in the list is below the length of the table
-pub marked_below : (marks : List Bool) (members : List ℕ) → Marked marks members → (q : ℕ) → list_any (eqb q) members ≡ true → q < length marks
+pub marked_below : (marks : List Bool) (members : List ℕ) → Marked marks members → (q : ℕ)
+    → list_any (eqb q) members ≡ true → q < length marks
 marked_below marks members m q i =
     ⊎_elim
     (λ lt. lt)
@@ -79,7 +87,8 @@ marked_below marks members m q i =
     (cases_lt q (length marks))
 
 -- PIGEONHOLE, as room: a table that marks just the cells of a list has room for one that is not marked
-pub marked_room : (marks : List Bool) (members : List ℕ) (c : ℕ) → Marked marks members → c < length marks → get_or marks c false ≡ false
+pub marked_room : (marks : List Bool) (members : List ℕ) (c : ℕ) → Marked marks members → c < length marks
+    → get_or marks c false ≡ false
     → length members < length marks
 marked_room marks members c m below none =
     let absent : list_any (eqb c) members ≡ false = sym (m.same c) ∙ none in
@@ -88,7 +97,8 @@ marked_room marks members c m below none =
     (λ q i. ⊎_elim
     (λ old. marked_below marks members m q old)
     (λ fresh. subst (λ x. x < length marks) (sym (eqb-true q c fresh)) below)
-    (or_cases (list_any (eqb q) members) (eqb q c) (sym (or_false (eqb q c) (list_any (eqb q) members)) ∙ (sym (any-append q members (c ∷ [])) ∙ i)))) in
+    (or_cases (list_any (eqb q) members) (eqb q c)
+    (sym (or_false (eqb q c) (list_any (eqb q) members)) ∙ (sym (any-append q members (c ∷ [])) ∙ i)))) in
     let l = length_push members c in omega arith
 
 -- at most as many as the table is long
@@ -96,13 +106,16 @@ pub marked_le : (marks : List Bool) (members : List ℕ) → Marked marks member
 marked_le marks members m = length-le_from_distinct_below members (length marks) m.once (marked_below marks members m)
 
 -- a mark and the cell at the end of the list
-pub Marked-push : (marks : List Bool) (members : List ℕ) (c : ℕ) → Marked marks members → c < length marks → get_or marks c false ≡ false
+pub Marked-push : (marks : List Bool) (members : List ℕ) (c : ℕ) → Marked marks members → c < length marks
+    → get_or marks c false ≡ false
     → Marked (set marks c true) (members ++ c ∷ [])
 Marked-push marks members c m below none = record {
   same = λ q.
       ⊎_elim
-      (λ e. let a = any-append q members (c ∷ []) in let s = get_or-set_same marks c true false below in grind (arith, common_steps))
-      (λ ne. let a = any-append q members (c ∷ []) in let s = get_or-set_other marks c q true false ne in let o = m.same q in grind (arith, common_steps))
+      (λ e. let a = any-append q members (c ∷ []) in let s = get_or-set_same marks c true false below in
+      grind (arith, common_steps))
+      (λ ne. let a = any-append q members (c ∷ []) in let s = get_or-set_other marks c q true false ne in let o =
+      m.same q in grind (arith, common_steps))
       (cases_eq q c);
   once = IsDistinct-push nat_eq_equiv members c m.once (sym (m.same c) ∙ none);
 }
@@ -134,11 +147,13 @@ in-push_other (x ∷ xs) c e ne = ap (λ b. eqb c x || b) (in-push_other xs c e 
 pub in-push_old : (xs : List ℕ) (c e : ℕ) → list_any (eqb c) xs ≡ true → list_any (eqb c) (xs ++ e ∷ []) ≡ true
 in-push_old xs c e h = any-append c xs (e ∷ []) ∙ ap (λ b. b || list_any (eqb c) (e ∷ [])) h
 
-pub in-push_cases : (xs : List ℕ) (c e : ℕ) → list_any (eqb c) (xs ++ e ∷ []) ≡ true → (list_any (eqb c) xs ≡ true) ⊎ (c ≡ e)
+pub in-push_cases : (xs : List ℕ) (c e : ℕ) → list_any (eqb c) (xs ++ e ∷ []) ≡ true
+    → (list_any (eqb c) xs ≡ true) ⊎ (c ≡ e)
 in-push_cases xs c e h = ⊎_elim (λ eq. inr eq) (λ ne. inl (sym (in-push_other xs c e ne) ∙ h)) (cases_eq c e)
 
 -- PIGEONHOLE, as room: numbers below n, each once, without c, are fewer than n
-pub room_for : (xs : List ℕ) (n c : ℕ) → IsDistinct eqb xs → ((q : ℕ) → list_any (eqb q) xs ≡ true → q < n) → c < n → list_any (eqb c) xs ≡ false
+pub room_for : (xs : List ℕ) (n c : ℕ) → IsDistinct eqb xs → ((q : ℕ) → list_any (eqb q) xs ≡ true → q < n) → c < n
+    → list_any (eqb c) xs ≡ false
     → length xs < n
 room_for xs n c once below lt absent =
     let le = length-le_from_distinct_below (xs ++ c ∷ []) n (IsDistinct-push nat_eq_equiv xs c once absent)
@@ -146,7 +161,8 @@ room_for xs n c once below lt absent =
     let l = length_push xs c in omega arith
 
 -- what stands at a place is not among the ones before, where each is there once
-pub in-take_apart : (xs : List ℕ) (i : ℕ) → IsDistinct eqb xs → i < length xs → list_any (eqb (get_or xs i 0)) (take i xs) ≡ false
+pub in-take_apart : (xs : List ℕ) (i : ℕ) → IsDistinct eqb xs → i < length xs
+    → list_any (eqb (get_or xs i 0)) (take i xs) ≡ false
 in-take_apart xs i once lt =
     ⊎_elim
     (λ t.
@@ -162,7 +178,8 @@ in-take_apart xs i once lt =
 -- marks are taken away one after another
 pub cleared_step : (marks : List Bool) (items : List ℕ) (i : ℕ) → i < length items → get_or items i 0 < length marks
     → ((q : ℕ) → get_or marks q false ≡ true → list_any (eqb q) (drop i items) ≡ true)
-    → (q : ℕ) → get_or (set marks (get_or items i 0) false) q false ≡ true → list_any (eqb q) (drop (i + 1) items) ≡ true
+    → (q : ℕ) → get_or (set marks (get_or items i 0) false) q false ≡ true
+    → list_any (eqb q) (drop (i + 1) items) ≡ true
 cleared_step marks items i lt inside so_far q h =
     let e : ℕ = get_or items i 0 in
     ⊎_elim

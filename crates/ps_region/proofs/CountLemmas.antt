@@ -1,7 +1,8 @@
 -- Lemmas on `count_below`.
-use Rattle.std.proofs.Common.{◌≡◌, ◌≢◌, ℕ, suc, zero, ◌+◌, ◌<◌, ◌≤◌, Bool, true, false, cond, not, ◌&&◌, ◌⊎◌, ◌||◌, inl, inr, List, [], ◌∷◌, ◌++◌, length, refl, sym, ap, ◌∙◌, arith, ⊎_elim, eqb, eqb-true, eq-eqb, subst, get_or, set, add-one}
-use Rattle.std.proofs.lemmas.Grind.{common_steps}
-use Rattle.std.proofs.lemmas.Bool.{cases_eq, cases_lt}
+use Rattle.std.proofs.Common.{◌≡◌, ◌≢◌, ℕ, suc, zero, ◌+◌, ◌<◌, ◌≤◌, Bool, true, false, not, ◌&&◌}
+use Rattle.std.proofs.Common.{List, [], ◌∷◌, ◌++◌, length, refl, sym, ap, ◌∙◌, arith, ⊎_elim, eqb, eqb-true}
+use Rattle.std.proofs.Common.{eq-eqb, subst, get_or, set, add-one}
+use Rattle.std.proofs.lemmas.Bool.{cases_eq}
 use Rattle.std.proofs.lemmas.List.{get_or-set_same, get_or-set_other}
 use Rattle.std.proofs.lemmas.Map.Keys.{IsDistinct-cons}
 use Rattle.std.specs.List.{list_any, IsDistinct}
@@ -73,19 +74,23 @@ and_true_right true b h = h
 and_true_right false b h = absurd (let f : false ≡ true = h in cc)
 
 -- one more cell is settled
-pub cells_left-more : (refers : References) (p : ℕ → Bool) (done : List ℕ) (n c h : ℕ) → h < n → p h ≡ true → list_any (eqb h) done ≡ false
+pub cells_left-more : (refers : References) (p : ℕ → Bool) (done : List ℕ) (n c h : ℕ) → h < n → p h ≡ true
+    → list_any (eqb h) done ≡ false
     → cells_left refers p done n c ≡ cells_left refers p (done ++ h ∷ []) n c + as_one (refers c h)
 cells_left-more refers p done n c h lt ph new =
     let same : (k : ℕ) → k ≢ h → (refers c k && waiting p done k) ≡ (refers c k && waiting p (done ++ h ∷ []) k) =
     λ k ne. rw (in-push_other done k h ne) in
     ⊎_elim
-    (λ r. rw r (count_below-clear (λ d. refers c d && waiting p done d) (λ d. refers c d && waiting p (done ++ h ∷ []) d) h n lt
+    (λ r. rw r (count_below-clear (λ d. refers c d && waiting p done d)
+    (λ d. refers c d && waiting p (done ++ h ∷ []) d) h n lt
     (rw (r, ph, new))
     (rw (r, ph, in-push_same done h))
     same))
     (λ r.
     let e = count_below-same (λ d. refers c d && waiting p done d) (λ d. refers c d && waiting p (done ++ h ∷ []) d) n
-    (λ k l. ⊎_elim (λ eq. subst (λ x. (refers c x && waiting p done x) ≡ (refers c x && waiting p (done ++ h ∷ []) x)) (sym eq) (rw r)) (λ ne. same k ne) (cases_eq k h)) in
+    (λ k l. ⊎_elim (λ eq.
+    subst (λ x. (refers c x && waiting p done x) ≡ (refers c x && waiting p (done ++ h ∷ []) x)) (sym eq) (rw r))
+    (λ ne. same k ne) (cases_eq k h)) in
     rw r (omega arith))
     (bool_cases (refers c h))
 
@@ -105,13 +110,17 @@ count_below-more p n = rw add-one
 pub raised_yes : (f : ℕ → Bool) (walked left left2 : List ℕ) (e : ℕ)
     → ((q : ℕ) → get_or left2 q 0 ≡ get_or left q 0 + as_one (list_any (eqb q) walked && f q))
     → f e ≡ true → list_any (eqb e) walked ≡ false → e < length left2
-    → (q : ℕ) → get_or (set left2 e (get_or left2 e 0 + 1)) q 0 ≡ get_or left q 0 + as_one (list_any (eqb q) (walked ++ e ∷ []) && f q)
+    → (q : ℕ) → get_or (set left2 e (get_or left2 e 0 + 1)) q 0 ≡ get_or left q 0
+    + as_one (list_any (eqb q) (walked ++ e ∷ []) && f q)
 raised_yes f walked left left2 e so_far yes_f new lt q =
     ⊎_elim
-    (λ (eq : q ≡ e). subst (λ x. get_or (set left2 e (get_or left2 e 0 + 1)) x 0 ≡ get_or left x 0 + as_one (list_any (eqb x) (walked ++ e ∷ []) && f x)) (sym eq)
+    (λ (eq : q ≡ e). subst
+    (λ x. get_or (set left2 e (get_or left2 e 0 + 1)) x 0 ≡ get_or left x 0
+    + as_one (list_any (eqb x) (walked ++ e ∷ []) && f x)) (sym eq)
     (let o = rw new at (so_far e) in
     rw (get_or-set_same left2 e (get_or left2 e 0 + 1) 0 lt, in-push_same walked e, yes_f) (omega arith)))
-    (λ (ne : q ≢ e). rw (get_or-set_other left2 e q (get_or left2 e 0 + 1) 0 ne, in-push_other walked q e ne) (so_far q))
+    (λ (ne : q ≢ e). rw (get_or-set_other left2 e q (get_or left2 e 0 + 1) 0 ne, in-push_other walked q e ne)
+    (so_far q))
     (cases_eq q e)
 
 pub raised_no : (f : ℕ → Bool) (walked left left2 : List ℕ) (e : ℕ)
@@ -120,8 +129,11 @@ pub raised_no : (f : ℕ → Bool) (walked left left2 : List ℕ) (e : ℕ)
     → (q : ℕ) → get_or left2 q 0 ≡ get_or left q 0 + as_one (list_any (eqb q) (walked ++ e ∷ []) && f q)
 raised_no f walked left left2 e so_far no_f q =
     ⊎_elim
-    (λ (eq : q ≡ e). subst (λ x. get_or left2 x 0 ≡ get_or left x 0 + as_one (list_any (eqb x) (walked ++ e ∷ []) && f x)) (sym eq)
-    (let o = rw no_f at (so_far e) in rw no_f (rw (and_false (list_any (eqb e) walked)) at o ∙ ap (λ b. get_or left e 0 + as_one b) (sym (and_false (list_any (eqb e) (walked ++ e ∷ [])))))))
+    (λ (eq : q ≡ e). subst
+    (λ x. get_or left2 x 0 ≡ get_or left x 0 + as_one (list_any (eqb x) (walked ++ e ∷ []) && f x)) (sym eq)
+    (let o = rw no_f at (so_far e) in
+    rw no_f (rw (and_false (list_any (eqb e) walked)) at o
+    ∙ ap (λ b. get_or left e 0 + as_one b) (sym (and_false (list_any (eqb e) (walked ++ e ∷ [])))))))
     (λ (ne : q ≢ e). rw (in-push_other walked q e ne) (so_far q))
     (cases_eq q e)
 
@@ -146,7 +158,8 @@ cells_left-pass refers p n q pn =
 
 -- the cells that a count counts
 pub listing : (p : ℕ → Bool) (n : ℕ)
-    → (ds : List ℕ) × IsDistinct eqb ds × ((d : ℕ) → In ds d → (d < n) × (p d ≡ true)) × ((d : ℕ) → d < n → p d ≡ true → In ds d) × (length ds ≡ count_below p n)
+    → (ds : List ℕ) × IsDistinct eqb ds × ((d : ℕ) → In ds d → (d < n) × (p d ≡ true))
+    × ((d : ℕ) → d < n → p d ≡ true → In ds d) × (length ds ≡ count_below p n)
 unfolding count_below IsDistinct
 listing p zero = ([], tt, (λ d i. absurd (let f : false ≡ true = i in cc)), (λ d lt t. absurd (omega arith)), refl)
 listing p (suc n) =

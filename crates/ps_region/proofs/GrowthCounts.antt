@@ -1,5 +1,6 @@
 -- The counts that grow with the region, and with the cyclic cells outside it.
-use Rattle.std.proofs.Common.{◌≡◌, ◌≢◌, ℕ, suc, zero, ◌+◌, ◌<◌, ◌≤◌, Bool, true, false, cond, not, ◌&&◌, ◌⊎◌, List, [], ◌∷◌, ◌++◌, length, refl, sym, ap, ◌∙◌, arith, ⊎_elim, eqb, subst, get_or, set, take}
+use Rattle.std.proofs.Common.{◌≡◌, ◌≢◌, ℕ, suc, zero, ◌+◌, ◌<◌, ◌≤◌, Bool, true, false, cond, ◌&&◌, List}
+use Rattle.std.proofs.Common.{[], ◌∷◌, ◌++◌, length, refl, sym, ap, ◌∙◌, arith, ⊎_elim, eqb, subst, get_or, set, take}
 use Rattle.std.proofs.lemmas.Bool.{cases_eq}
 use Rattle.std.proofs.lemmas.List.{get_or-set_same, get_or-set_other, take_more}
 use Rattle.std.specs.List.{list_any, IsDistinct}
@@ -40,9 +41,11 @@ cells_left-same refers p p2 n q same =
     count_below-same (λ d. refers q d && waiting p [] d) (λ d. refers q d && waiting p2 [] d) n
     (λ k lt. ap (λ b. refers q k && (b && true)) (same k))
 
-pub cells_left-lt : (refers : References) (p : ℕ → Bool) (n q h : ℕ) → h < n → p h ≡ false → cells_left refers p [] n q < n
+pub cells_left-lt : (refers : References) (p : ℕ → Bool) (n q h : ℕ) → h < n → p h ≡ false
+    → cells_left refers p [] n q < n
 cells_left-lt refers p n q h lt off =
-    count_below-lt (λ d. refers q d && waiting p [] d) n h lt (ap (λ b. refers q h && (b && true)) off ∙ and_false (refers q h))
+    count_below-lt (λ d. refers q d && waiting p [] d) n h lt
+    (ap (λ b. refers q h && (b && true)) off ∙ and_false (refers q h))
 
 -- one more cell is counted
 pub cells_left-add : (refers : References) (p p2 : ℕ → Bool) (n q h : ℕ) → h < n → p h ≡ false → p2 h ≡ true
@@ -69,7 +72,8 @@ cells_left-add refers p p2 n q h lt off on same =
 
 -- ---- the counts of the cells of a list
 
-pub counted_in-enter : (marks : List Bool) (members left : List ℕ) (c : ℕ) → Marked marks members → get_or marks c false ≡ false → c < length left
+pub counted_in-enter : (marks : List Bool) (members left : List ℕ) (c : ℕ) → Marked marks members
+    → get_or marks c false ≡ false → c < length left
     → (q : ℕ) → counted_in (members ++ c ∷ []) (set left c 0) q ≡ counted_in members left q
 counted_in-enter marks members left c m none lt q =
     ⊎_elim
@@ -82,10 +86,13 @@ counted_in-enter marks members left c m none lt q =
 pub counted_yes : (f : ℕ → Bool) (walked : List ℕ) (base : ℕ → ℕ) (members left : List ℕ) (e : ℕ)
     → ((q : ℕ) → counted_in members left q ≡ base q + as_one (list_any (eqb q) walked && f q))
     → In members e → f e ≡ true → list_any (eqb e) walked ≡ false → e < length left
-    → (q : ℕ) → counted_in members (set left e (get_or left e 0 + 1)) q ≡ base q + as_one (list_any (eqb q) (walked ++ e ∷ []) && f q)
+    → (q : ℕ) → counted_in members (set left e (get_or left e 0 + 1)) q ≡ base q
+    + as_one (list_any (eqb q) (walked ++ e ∷ []) && f q)
 counted_yes f walked base members left e so_far inside yes_f new lt q =
     ⊎_elim
-    (λ (eq : q ≡ e). subst (λ x. counted_in members (set left e (get_or left e 0 + 1)) x ≡ base x + as_one (list_any (eqb x) (walked ++ e ∷ []) && f x)) (sym eq)
+    (λ (eq : q ≡ e). subst
+    (λ x. counted_in members (set left e (get_or left e 0 + 1)) x ≡ base x
+    + as_one (list_any (eqb x) (walked ++ e ∷ []) && f x)) (sym eq)
     (let o = rw (new, inside) at (so_far e) in
     rw (inside, get_or-set_same left e (get_or left e 0 + 1) 0 lt, in-push_same walked e, yes_f) (omega arith)))
     (λ (ne : q ≢ e). rw (get_or-set_other left e q (get_or left e 0 + 1) 0 ne, in-push_other walked q e ne) (so_far q))
@@ -97,8 +104,10 @@ pub counted_no : (f : ℕ → Bool) (walked : List ℕ) (base : ℕ → ℕ) (me
     → (q : ℕ) → counted_in members left q ≡ base q + as_one (list_any (eqb q) (walked ++ e ∷ []) && f q)
 counted_no f walked base members left e so_far no_f q =
     ⊎_elim
-    (λ (eq : q ≡ e). subst (λ x. counted_in members left x ≡ base x + as_one (list_any (eqb x) (walked ++ e ∷ []) && f x)) (sym eq)
-    (so_far e ∙ ap (λ b. base e + as_one b) (ap (λ b. list_any (eqb e) walked && b) no_f ∙ and_false (list_any (eqb e) walked)
+    (λ (eq : q ≡ e). subst
+    (λ x. counted_in members left x ≡ base x + as_one (list_any (eqb x) (walked ++ e ∷ []) && f x)) (sym eq)
+    (so_far e ∙ ap (λ b. base e + as_one b)
+    (ap (λ b. list_any (eqb e) walked && b) no_f ∙ and_false (list_any (eqb e) walked)
     ∙ sym (ap (λ b. list_any (eqb e) (walked ++ e ∷ []) && b) no_f ∙ and_false (list_any (eqb e) (walked ++ e ∷ []))))))
     (λ (ne : q ≢ e). rw (in-push_other walked q e ne) (so_far q))
     (cases_eq q e)
@@ -119,13 +128,15 @@ longer (x ∷ xs) more zero lt = omega arith
 longer (x ∷ xs) more (suc i) lt = let ih = longer xs more i (omega arith) in omega arith
 
 -- the next member is walked
-pub counts_step : (refers : References) (formula : ℕ → Bool) (members deps left left2 : List ℕ) (head n : ℕ) → head < length members
+pub counts_step : (refers : References) (formula : ℕ → Bool) (members deps left left2 : List ℕ) (head n : ℕ)
+    → head < length members
     → IsDistinct eqb members → get_or members head 0 < n
     → ((c : ℕ) → refers c (get_or members head 0) ≡ true → In deps c)
     → ((q : ℕ) → counted_in members left q ≡ cells_left refers (is_walked formula (take head members)) [] n q)
     → ((q : ℕ) → counted_in (with_all members deps) left2 q ≡ counted_in members left q
     + as_one (list_any (eqb q) deps && (formula (get_or members head 0) && refers q (get_or members head 0))))
-    → (q : ℕ) → counted_in (with_all members deps) left2 q ≡ cells_left refers (is_walked formula (take (head + 1) (with_all members deps))) [] n q
+    → (q : ℕ) → counted_in (with_all members deps) left2 q
+    ≡ cells_left refers (is_walked formula (take (head + 1) (with_all members deps))) [] n q
 counts_step refers formula members deps left left2 head n lt once below lists before step q =
     let d : ℕ = get_or members head 0 in
     let more = with_all-prefix members deps in
@@ -135,27 +146,33 @@ counts_step refers formula members deps left left2 head n lt once below lists be
     ∙ (ap (λ xs. xs ++ get_or (members ++ more.0) head 0 ∷ []) (take_start members more.0 head (omega arith))
     ∙ ap (λ x. take head members ++ x ∷ []) (get_start members more.0 head lt))) in
     let new : list_any (eqb d) (take head members) ≡ false = in-take_apart members head once lt in
-    let to : cells_left refers (is_walked formula (take head members ++ d ∷ [])) [] n q ≡ cells_left refers (is_walked formula (take (head + 1) (with_all members deps))) [] n q =
+    let to : cells_left refers (is_walked formula (take head members ++ d ∷ [])) [] n q
+    ≡ cells_left refers (is_walked formula (take (head + 1) (with_all members deps))) [] n q =
     ap (λ xs. cells_left refers (is_walked formula xs) [] n q) (sym is) in
     ⊎_elim
     (λ (f : formula d ≡ true).
-    let add = cells_left-add refers (is_walked formula (take head members)) (is_walked formula (take head members ++ d ∷ [])) n q d below
+    let add = cells_left-add refers (is_walked formula (take head members))
+    (is_walked formula (take head members ++ d ∷ [])) n q d below
     (ap (λ b. b && formula d) new)
     (ap (λ b. b && formula d) (in-push_same (take head members) d) ∙ f)
     (λ k ne. ap (λ b. b && formula k) (in-push_other (take head members) k d ne)) in
     let one : (list_any (eqb q) deps && (formula d && refers q d)) ≡ refers q d =
     ⊎_elim
     (λ (r : refers q d ≡ true). ap (λ b. b && (formula d && refers q d)) (lists q r) ∙ ap (λ b. b && refers q d) f)
-    (λ (r : refers q d ≡ false). ap (λ b. list_any (eqb q) deps && (formula d && b)) r ∙ ap (λ b. list_any (eqb q) deps && b) (and_false (formula d)) ∙ and_false (list_any (eqb q) deps) ∙ sym r)
+    (λ (r : refers q d ≡ false). ap (λ b. list_any (eqb q) deps && (formula d && b)) r
+    ∙ ap (λ b. list_any (eqb q) deps && b) (and_false (formula d)) ∙ and_false (list_any (eqb q) deps) ∙ sym r)
     (bool_cases (refers q d)) in
     step q ∙ (ap (λ m. m + as_one (list_any (eqb q) deps && (formula d && refers q d))) (before q)
     ∙ (ap (λ b. cells_left refers (is_walked formula (take head members)) [] n q + as_one b) one ∙ (sym add ∙ to))))
     (λ (f : formula d ≡ false).
-    let same = cells_left-same refers (is_walked formula (take head members)) (is_walked formula (take head members ++ d ∷ [])) n q
+    let same = cells_left-same refers (is_walked formula (take head members))
+    (is_walked formula (take head members ++ d ∷ [])) n q
     (λ k. ⊎_elim
-    (λ (e : k ≡ d). subst (λ x. is_walked formula (take head members) x ≡ is_walked formula (take head members ++ d ∷ []) x) (sym e)
+    (λ (e : k ≡ d). subst
+    (λ x. is_walked formula (take head members) x ≡ is_walked formula (take head members ++ d ∷ []) x) (sym e)
     (ap (λ b. list_any (eqb d) (take head members) && b) f ∙ and_false (list_any (eqb d) (take head members))
-    ∙ sym (ap (λ b. list_any (eqb d) (take head members ++ d ∷ []) && b) f ∙ and_false (list_any (eqb d) (take head members ++ d ∷ [])))))
+    ∙ sym (ap (λ b. list_any (eqb d) (take head members ++ d ∷ []) && b) f
+    ∙ and_false (list_any (eqb d) (take head members ++ d ∷ [])))))
     (λ (ne : k ≢ d). sym (ap (λ b. b && formula k) (in-push_other (take head members) k d ne)))
     (cases_eq k d)) in
     let none : (list_any (eqb q) deps && (formula d && refers q d)) ≡ false =
@@ -167,7 +184,8 @@ counts_step refers formula members deps left left2 head n lt once below lists be
     (bool_cases (formula d))
 
 -- before any is walked
-pub counts_start : (refers : References) (formula : ℕ → Bool) (members touched left left2 : List ℕ) (n : ℕ) → members ≡ []
+pub counts_start : (refers : References) (formula : ℕ → Bool) (members touched left left2 : List ℕ) (n : ℕ)
+    → members ≡ []
     → ((q : ℕ) → counted_in (with_all members touched) left2 q ≡ counted_in members left q)
     → (q : ℕ) → counted_in (with_all [] touched) left2 q ≡ cells_left refers (is_walked formula []) [] n q
 counts_start refers formula members touched left left2 n empty same q =
@@ -175,9 +193,11 @@ counts_start refers formula members touched left left2 n empty same q =
     s ∙ sym (count_below-zero (λ d. refers q d && waiting (is_walked formula []) [] d) n (λ k. and_false (refers q k)))
 
 -- what is counted when all are walked, by the marks
-pub counts_by_marks : (refers : References) (formula : ℕ → Bool) (marks : List Bool) (members left : List ℕ) (n : ℕ) → Marked marks members
+pub counts_by_marks : (refers : References) (formula : ℕ → Bool) (marks : List Bool) (members left : List ℕ) (n : ℕ)
+    → Marked marks members
     → ((q : ℕ) → counted_in members left q ≡ cells_left refers (is_walked formula members) [] n q)
-    → (c : ℕ) → get_or marks c false ≡ true → get_or left c 0 ≡ cells_left refers (is_pending formula (is_in []) marks) [] n c
+    → (c : ℕ) → get_or marks c false ≡ true
+    → get_or left c 0 ≡ cells_left refers (is_pending formula (is_in []) marks) [] n c
 counts_by_marks refers formula marks members left n m counts c t =
     let inside : list_any (eqb c) members ≡ true = sym (m.same c) ∙ t in
     let here : counted_in members left c ≡ get_or left c 0 = ap (λ b. cond b (get_or left c 0) 0) inside in
@@ -191,21 +211,28 @@ counts_by_marks refers formula marks members left n m counts c t =
 -- one more cyclic cell outside
 pub outside_more : (refers : References) (formula : ℕ → Bool) (marks : List Bool) (done : List ℕ) (n q h : ℕ) → h < n
     → get_or marks h false ≡ false → list_any (eqb h) done ≡ false
-    → cells_left refers (is_pending formula (is_in (done ++ h ∷ [])) marks) [] n q ≡ cells_left refers (is_pending formula (is_in done) marks) [] n q + as_one (refers q h)
+    → cells_left refers (is_pending formula (is_in (done ++ h ∷ [])) marks) [] n q
+    ≡ cells_left refers (is_pending formula (is_in done) marks) [] n q + as_one (refers q h)
 outside_more refers formula marks done n q h lt off new =
-    cells_left-add refers (is_pending formula (is_in done) marks) (is_pending formula (is_in (done ++ h ∷ [])) marks) n q h lt
+    cells_left-add refers (is_pending formula (is_in done) marks) (is_pending formula (is_in (done ++ h ∷ [])) marks)
+    n q h lt
     (ap (λ b. cond b (formula h) (list_any (eqb h) done)) off ∙ new)
     (ap (λ b. cond b (formula h) (list_any (eqb h) (done ++ h ∷ []))) off ∙ in-push_same done h)
     (λ k ne. ap (λ b. cond (get_or marks k false) (formula k) b) (in-push_other done k h ne))
 
 -- one that isn't outside
-pub outside_skip : (refers : References) (formula : ℕ → Bool) (marks : List Bool) (done : List ℕ) (n q h : ℕ) → get_or marks h false ≡ true
-    → cells_left refers (is_pending formula (is_in (done ++ h ∷ [])) marks) [] n q ≡ cells_left refers (is_pending formula (is_in done) marks) [] n q
+pub outside_skip : (refers : References) (formula : ℕ → Bool) (marks : List Bool) (done : List ℕ) (n q h : ℕ)
+    → get_or marks h false ≡ true
+    → cells_left refers (is_pending formula (is_in (done ++ h ∷ [])) marks) [] n q
+    ≡ cells_left refers (is_pending formula (is_in done) marks) [] n q
 outside_skip refers formula marks done n q h on =
-    cells_left-same refers (is_pending formula (is_in (done ++ h ∷ [])) marks) (is_pending formula (is_in done) marks) n q
+    cells_left-same refers (is_pending formula (is_in (done ++ h ∷ [])) marks)
+    (is_pending formula (is_in done) marks) n q
     (λ k. ⊎_elim
-    (λ (e : k ≡ h). subst (λ x. is_pending formula (is_in (done ++ h ∷ [])) marks x ≡ is_pending formula (is_in done) marks x) (sym e)
-    (ap (λ b. cond b (formula h) (list_any (eqb h) (done ++ h ∷ []))) on ∙ sym (ap (λ b. cond b (formula h) (list_any (eqb h) done)) on)))
+    (λ (e : k ≡ h). subst
+    (λ x. is_pending formula (is_in (done ++ h ∷ [])) marks x ≡ is_pending formula (is_in done) marks x) (sym e)
+    (ap (λ b. cond b (formula h) (list_any (eqb h) (done ++ h ∷ []))) on
+    ∙ sym (ap (λ b. cond b (formula h) (list_any (eqb h) done)) on)))
     (λ (ne : k ≢ h). ap (λ b. cond (get_or marks k false) (formula k) b) (in-push_other done k h ne))
     (cases_eq k h))
 
@@ -213,4 +240,5 @@ pub outside_small : (refers : References) (formula : ℕ → Bool) (marks : List
     → get_or marks h false ≡ false → list_any (eqb h) done ≡ false
     → cells_left refers (is_pending formula (is_in done) marks) [] n q < n
 outside_small refers formula marks done n q h lt off new =
-    cells_left-lt refers (is_pending formula (is_in done) marks) n q h lt (ap (λ b. cond b (formula h) (list_any (eqb h) done)) off ∙ new)
+    cells_left-lt refers (is_pending formula (is_in done) marks) n q h lt
+    (ap (λ b. cond b (formula h) (list_any (eqb h) done)) off ∙ new)

@@ -1,15 +1,18 @@
 -- The growth of the region, over plain lists.
-use Rattle.std.proofs.Common.{◌≡◌, ℕ, suc, zero, ◌+◌, ◌<◌, ◌≤◌, Bool, true, false, ◌⊎◌, ◌||◌, inl, inr, List, [], ◌∷◌, ◌++◌, length, refl, sym, ap, ◌∙◌, arith, ⊎_elim, eqb, subst, get_or}
+use Rattle.std.proofs.Common.{◌≡◌, ℕ, ◌+◌, ◌<◌, ◌≤◌, true, ◌⊎◌, ◌||◌, List, []}
+use Rattle.std.proofs.Common.{length, sym, ap, ◌∙◌, arith, ⊎_elim, eqb, subst, get_or}
 use Rattle.std.proofs.lemmas.Bool.{cases_lt}
 use Rattle.std.proofs.lemmas.List.{get_or_append_left, length-append}
 use Rattle.std.specs.List.{list_any}
-use Rattle.ps_grid.specs.Chains.{References, In, IsChain, last_of, InRegion}
-use Rattle.ps_region.specs.Inside.Cells.{with_cell, with_all, Marked}
+use Rattle.ps_grid.specs.Chains.{References, In, InRegion}
+use Rattle.ps_region.specs.Inside.Cells.{with_all}
 use Rattle.ps_region.proofs.CellListLemmas.{or_cases, or_true, in-with_all, with_all-prefix, place_of, in-get_or}
 use Rattle.ps_grid.proofs.RegionLemmas.{InRegion-touched, InRegion-step, InRegion-least}
 
--- the members so far: the touched cells are there, all are of the region, and the cells listed for those before `head` are there
-pub record Grown (refers : References) (listed : ℕ → List ℕ) (touched : List ℕ) (head : ℕ) (members : List ℕ) : Type 0 where
+-- the members so far: the touched cells are there, all are of the region, and the cells listed for those before
+-- `head` are there
+pub record Grown (refers : References) (listed : ℕ → List ℕ) (touched : List ℕ) (head : ℕ) (members : List ℕ) : Type
+    0 where
   pub walked : head ≤ length members
   pub holds : (c : ℕ) → In touched c → In members c
   pub sound : (c : ℕ) → In members c → InRegion refers touched c
@@ -34,7 +37,8 @@ module _ (refers : References) (listed : ℕ → List ℕ) (touched : List ℕ) 
       let all : List ℕ = with_all members (listed d) in
       let same : (p : ℕ) → p < length members → get_or all p 0 ≡ get_or members p 0 =
       λ p l. ap (λ xs. get_or xs p 0) more.1 ∙ get_or_append_left members more.0 0 p l in
-      let stays : (c : ℕ) → In members c → In all c = λ c h. in-with_all members (listed d) c ∙ ap (λ b. b || list_any (eqb c) (listed d)) h in
+      let stays : (c : ℕ) → In members c → In all c =
+      λ c h. in-with_all members (listed d) c ∙ ap (λ b. b || list_any (eqb c) (listed d)) h in
       record {
         walked = let e = ap length more.1 in let f = length-append members more.0 in omega arith;
         holds = λ c h. stays c (g.holds c h);
@@ -45,14 +49,18 @@ module _ (refers : References) (listed : ℕ → List ℕ) (touched : List ℕ) 
             (λ r. InRegion-step refers touched c d r (g.sound d (in-get_or members head 0 lt)))
             (λ t. InRegion-touched refers touched c t)
             (extra c fresh))
-            (or_cases (list_any (eqb c) members) (list_any (eqb c) (listed d)) (sym (in-with_all members (listed d) c) ∙ h));
+            (or_cases (list_any (eqb c) members) (list_any (eqb c) (listed d))
+            (sym (in-with_all members (listed d) c) ∙ h));
         closed = λ p l c h.
             ⊎_elim
-            (λ before. stays c (g.closed p before c (subst (λ x. In (listed x) c) (same p (let w = g.walked in omega arith)) h)))
+            (λ before. stays c (g.closed p before c
+            (subst (λ x. In (listed x) c) (same p (let w = g.walked in omega arith)) h)))
             (λ here.
             let at : p ≡ head = omega arith in
-            let there : In (listed d) c = subst (λ x. In (listed x) c) (same p (omega arith) ∙ ap (λ i. get_or members i 0) at) h in
-            in-with_all members (listed d) c ∙ (ap (λ b. list_any (eqb c) members || b) there ∙ or_true (list_any (eqb c) members)))
+            let there : In (listed d) c =
+            subst (λ x. In (listed x) c) (same p (omega arith) ∙ ap (λ i. get_or members i 0) at) h in
+            in-with_all members (listed d) c
+            ∙ (ap (λ b. list_any (eqb c) members || b) there ∙ or_true (list_any (eqb c) members)))
             (cases_lt p head);
       }
 

@@ -1,14 +1,16 @@
 -- What the queue says when all of it is walked: the cells in it are those that reach no cycle, each with its depth.
-use Rattle.std.proofs.Common.{◌≡◌, ◌≢◌, ℕ, suc, zero, ◌+◌, ◌-◌, ◌<◌, ◌≤◌, Bool, true, false, cond, not, ◌&&◌, ◌⊎◌, ◌||◌, inl, inr, List, [], ◌∷◌, ◌++◌, length, refl, sym, ap, ◌∙◌, arith, ⊎_elim, eqb, eqb-true, eq-eqb, subst, get_or, set, take}
+use Rattle.std.proofs.Common.{◌≡◌, ℕ, suc, zero, ◌-◌, ◌<◌, ◌≤◌, Bool, true, false, not, ◌&&◌, ◌⊎◌}
+use Rattle.std.proofs.Common.{inl, inr, List, ◌∷◌, length, sym, ap, ◌∙◌, arith, ⊎_elim, eqb}
+use Rattle.std.proofs.Common.{subst, get_or, take}
 use Rattle.std.proofs.lemmas.Bool.{cases_eq, cases_lt}
 use Rattle.std.proofs.lemmas.List.{take_all}
-use Rattle.std.specs.List.{All, list_any, IsDistinct}
+use Rattle.std.specs.List.{list_any}
 use Rattle.std.proofs.lemmas.List.Elements.{All-weaker}
-use Rattle.ps_grid.specs.Chains.{References, In, IsChain, IsCyclic, IsDepth}
-use Rattle.ps_region.specs.Inside.Counts.{as_one, count_below, waiting, cells_left, Queued}
+use Rattle.ps_grid.specs.Chains.{References, In, IsCyclic, IsDepth}
+use Rattle.ps_region.specs.Inside.Counts.{waiting, cells_left}
 use Rattle.ps_region.specs.Inside.Settles.{Settling, Levels, is_frame, is_pending}
-use Rattle.ps_region.proofs.CellListLemmas.{bool_cases, in-get_or, place_of, or_true}
-use Rattle.ps_region.proofs.CountLemmas.{count_below-none, count_below-some, and_true_left, and_true_right, not_true}
+use Rattle.ps_region.proofs.CellListLemmas.{bool_cases}
+use Rattle.ps_region.proofs.CountLemmas.{count_below-some, and_true_left, and_true_right, not_true}
 use Rattle.ps_region.proofs.SettlingLemmas.{not_both, frame_pending}
 use Rattle.ps_grid.proofs.CycleLemmas.{IsCyclic-next, IsCyclic-stuck, not_cyclic_by_level}
 use Rattle.ps_grid.proofs.DepthLemmas.{IsDepth-level}
@@ -29,7 +31,8 @@ module _ (refers : References) (formula was : ℕ → Bool) (marks : List Bool) 
     (was_yes : (c : ℕ) → c < n → get_or marks c false ≡ false → was c ≡ true → IsCyclic refers c)
     (was_no : (c : ℕ) → c < n → get_or marks c false ≡ false → IsCyclic refers c → was c ≡ true)
     (k : ℕ) (left level order : List ℕ)
-    (ended : Settling refers (is_pending formula was marks) (is_frame formula marks) n (length order) (length order) (length order) k left level order) where
+    (ended : Settling refers (is_pending formula was marks) (is_frame formula marks) n (length order) (length order)
+    (length order) k left level order) where
   -- a cell that was never pending is not cyclic
   pub calm : (d : ℕ) → d < n → is_pending formula was marks d ≡ false → IsCyclic refers d → ⊥
   calm d lt p cyc =
@@ -55,7 +58,8 @@ module _ (refers : References) (formula was : ℕ → Bool) (marks : List Bool) 
   whole = take_all (length order) order (omega arith)
 
   stuck_next : (c : ℕ) → is_frame formula marks c ≡ true → list_any (eqb c) order ≡ false
-      → (d : ℕ) × (refers c d ≡ true) × (((is_frame formula marks d ≡ true) × (list_any (eqb d) order ≡ false)) ⊎ IsCyclic refers d)
+      → (d : ℕ) × (refers c d ≡ true)
+      × (((is_frame formula marks d ≡ true) × (list_any (eqb d) order ≡ false)) ⊎ IsCyclic refers d)
   stuck_next c f o =
       let counted : get_or left c 0 ≡ cells_left refers (is_pending formula was marks) order n c =
       ended.counted c f ∙ ap (λ xs. cells_left refers (is_pending formula was marks) xs n c) whole in
@@ -65,10 +69,15 @@ module _ (refers : References) (formula was : ℕ → Bool) (marks : List Bool) 
       (λ nz. omega arith)
       (cases_eq (get_or left c 0) 0) in
       let d = count_below-some (λ x. refers c x && waiting (is_pending formula was marks) order x) n some in
-      let r : refers c d.0 ≡ true = and_true_left (refers c d.0) (waiting (is_pending formula was marks) order d.0) d.2 in
-      let w : waiting (is_pending formula was marks) order d.0 ≡ true = and_true_right (refers c d.0) (waiting (is_pending formula was marks) order d.0) d.2 in
-      let p : is_pending formula was marks d.0 ≡ true = and_true_left (is_pending formula was marks d.0) (not (list_any (eqb d.0) order)) w in
-      let absent : list_any (eqb d.0) order ≡ false = not_true (list_any (eqb d.0) order) (and_true_right (is_pending formula was marks d.0) (not (list_any (eqb d.0) order)) w) in (
+      let r : refers c d.0 ≡ true =
+      and_true_left (refers c d.0) (waiting (is_pending formula was marks) order d.0) d.2 in
+      let w : waiting (is_pending formula was marks) order d.0 ≡ true =
+      and_true_right (refers c d.0) (waiting (is_pending formula was marks) order d.0) d.2 in
+      let p : is_pending formula was marks d.0 ≡ true =
+      and_true_left (is_pending formula was marks d.0) (not (list_any (eqb d.0) order)) w in
+      let absent : list_any (eqb d.0) order ≡ false =
+      not_true (list_any (eqb d.0) order)
+      (and_true_right (is_pending formula was marks d.0) (not (list_any (eqb d.0) order)) w) in (
         d.0,
         r,
         ⊎_elim
@@ -97,7 +106,8 @@ module _ (refers : References) (formula was : ℕ → Bool) (marks : List Bool) 
           not_both (is_pending formula was marks d) (frame_pending formula was marks d (ended.framed d t)) p
 
 -- the level in whose part of the queue a place is
-pub level_of_place : (starts order level : List ℕ) → Levels starts order level → (m q : ℕ) → m < length starts → q < get_or starts m 0
+pub level_of_place : (starts order level : List ℕ) → Levels starts order level → (m q : ℕ) → m < length starts
+    → q < get_or starts m 0
     → (j : ℕ) × (suc j ≤ m) × (get_or starts j 0 ≤ q) × (q < get_or starts (suc j) 0)
 level_of_place starts order level v zero q lt hi = absurd (let f = v.first in omega arith)
 level_of_place starts order level v (suc m) q lt hi =

@@ -1,11 +1,10 @@
 -- The queue as the walk begins: the formula cells of the region whose count is 0.
-use Rattle.std.proofs.Common.{◌≡◌, ◌≢◌, ℕ, suc, zero, ◌+◌, ◌<◌, ◌≤◌, Bool, true, false, ◌&&◌, ◌⊎◌, List, [], ◌∷◌, length, refl, sym, ap, ◌∙◌, arith, ⊎_elim, eqb, eqb-true, eq-eqb, subst, get_or, replicate}
-use Rattle.std.proofs.lemmas.Bool.{cases_lt}
-use Rattle.std.proofs.lemmas.List.{get_or-replicate, length-replicate, get_or_past}
+use Rattle.std.proofs.Common.{◌≡◌, ℕ, ◌<◌, Bool, true, false, ◌&&◌, List, []}
+use Rattle.std.proofs.Common.{length, refl, sym, ap, ◌∙◌, arith, eqb, eqb-true, subst, get_or}
 use Rattle.std.specs.List.{All, list_any, IsDistinct, filter}
 use Rattle.ps_grid.specs.Chains.{References, In, InRegion}
 use Rattle.ps_region.specs.Inside.Cells.{Marked}
-use Rattle.ps_region.specs.Inside.Counts.{cells_left, Queued}
+use Rattle.ps_region.specs.Inside.Counts.{cells_left}
 use Rattle.ps_region.specs.Inside.Settles.{Settling, Levels, is_frame, is_pending, is_ready}
 use Rattle.ps_region.proofs.CellListLemmas.{in-get_or, in-filter, distinct-filter, marked_below}
 use Rattle.ps_region.proofs.CountLemmas.{and_true_left, and_true_right}
@@ -22,25 +21,30 @@ pub marks_closed : (refers : References) (touched members : List ℕ) (marks : L
 marks_closed refers touched members marks m sound complete c d r t =
     m.same c ∙ complete c (InRegion-step refers touched c d r (sound d (sym (m.same d) ∙ t)))
 
-pub starting : (refers : References) (formula was : ℕ → Bool) (marks : List Bool) (members left level order : List ℕ) (n : ℕ) → length left ≡ n
+pub starting : (refers : References) (formula was : ℕ → Bool) (marks : List Bool) (members left level order : List ℕ)
+    (n : ℕ) → length left ≡ n
     → ((c d : ℕ) → refers c d ≡ true → d < n)
     → ((c d : ℕ) → refers c d ≡ true → formula c ≡ true)
     → ((c d : ℕ) → refers c d ≡ true → get_or marks d false ≡ true → get_or marks c false ≡ true)
     → Marked marks members → length marks ≡ n
-    → ((c : ℕ) → get_or marks c false ≡ true → get_or left c 0 ≡ cells_left refers (is_pending formula was marks) [] n c)
+    → ((c : ℕ) → get_or marks c false ≡ true
+    → get_or left c 0 ≡ cells_left refers (is_pending formula was marks) [] n c)
     → order ≡ filter (is_ready formula left) members
     → ((c : ℕ) → In order c → get_or level c 0 ≡ 1)
     → Settling refers (is_pending formula was marks) (is_frame formula marks) n 0 0 (length order) 1 left level order
 starting refers formula was marks members left level order n size below has closed m long counts is first =
     let parts : (c : ℕ) → In order c → (list_any (eqb c) members && is_ready formula left c) ≡ true =
     λ c i. sym (in-filter (is_ready formula left) members c) ∙ (ap (λ xs. list_any (eqb c) xs) (sym is) ∙ i) in
-    let member : (c : ℕ) → In order c → In members c = λ c i. and_true_left (list_any (eqb c) members) (is_ready formula left c) (parts c i) in
-    let ready : (c : ℕ) → In order c → is_ready formula left c ≡ true = λ c i. and_true_right (list_any (eqb c) members) (is_ready formula left c) (parts c i) in
+    let member : (c : ℕ) → In order c → In members c =
+    λ c i. and_true_left (list_any (eqb c) members) (is_ready formula left c) (parts c i) in
+    let ready : (c : ℕ) → In order c → is_ready formula left c ≡ true =
+    λ c i. and_true_right (list_any (eqb c) members) (is_ready formula left c) (parts c i) in
     Settling-start refers (is_pending formula was marks) (is_frame formula marks) n
     below (frame_pending formula was marks) (frame_back refers formula marks closed has)
     left level order
     (record {
-      none_left = λ c i. eqb-true (get_or left c 0) 0 (and_true_right (formula c) (eqb (get_or left c 0) 0) (ready c i));
+      none_left = λ c i. eqb-true (get_or left c 0) 0
+          (and_true_right (formula c) (eqb (get_or left c 0) 0) (ready c i));
       below = λ c i. let b = marked_below marks members m c (member c i) in omega arith;
       once = subst (λ xs. IsDistinct eqb xs) (sym is) (distinct-filter (is_ready formula left) members m.once);
     })

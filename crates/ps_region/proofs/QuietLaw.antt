@@ -1,5 +1,6 @@
 -- Values: an evaluation that looks at references alone has one settled assignment, and a quiet cell keeps its value.
-use Rattle.std.proofs.Common.{◌≡◌, ℕ, suc, zero, ◌+◌, ◌<◌, ◌≤◌, Bool, true, false, ◌⊎◌, List, [], ◌∷◌, length, refl, sym, ◌∙◌, arith, ⊎_elim}
+use Rattle.std.proofs.Common.{◌≡◌, ℕ, suc, zero, ◌<◌, true, ◌⊎◌, List, [], ◌∷◌, length}
+use Rattle.std.proofs.Common.{sym, ◌∙◌, arith, ⊎_elim}
 use Rattle.std.proofs.lemmas.Bool.{cases_lt}
 use Rattle.std.specs.List.{All}
 use Rattle.std.proofs.lemmas.List.Elements.{All-nil, All-cons}
@@ -49,7 +50,8 @@ module _ (refers : References) (V : Type 0) (eval : ℕ → (ℕ → V) → V) (
       decided
 
 -- LAW of quiet cells: where the formula of c stays and each cell that it refers to keeps its value, c keeps its value.
--- Premises of the evaluation: it looks at references alone, and the fault of a cycle is the value of cyclic cells alone.
+-- Premises of the evaluation: it looks at references alone, and the fault of a cycle is the value of cyclic cells
+-- alone.
 pub quiet_keeps : (old new : References) (V : Type 0) (eval_old eval_new : ℕ → (ℕ → V) → V) (fault : V) (v w : ℕ → V)
     → IsSettled old V eval_old fault v → IsSettled new V eval_new fault w
     → ((d : ℕ) → (IsCyclic new d → ⊥) → w d ≡ fault → ⊥)

@@ -1,34 +1,42 @@
 -- The cells get their levels one after another: the invariant of the walk along the queue, over plain lists.
-use Rattle.std.proofs.Common.{◌≡◌, ◌≢◌, ℕ, suc, zero, ◌+◌, ◌-◌, ◌<◌, ◌≤◌, Bool, true, false, cond, not, ◌&&◌, ◌⊎◌, ◌||◌, inl, inr, List, [], ◌∷◌, ◌++◌, length, refl, sym, ap, ◌∙◌, arith, ⊎_elim, eqb, eqb-true, eq-eqb, subst, get_or, set, take}
+use Rattle.std.proofs.Common.{◌≡◌, ℕ, suc, zero, ◌+◌, ◌-◌, ◌<◌, ◌≤◌, Bool, true, false, ◌&&◌, ◌⊎◌}
+use Rattle.std.proofs.Common.{inl, inr, List, [], ◌∷◌, ◌++◌, length, sym, ap, ◌∙◌, arith, ⊎_elim, eqb}
+use Rattle.std.proofs.Common.{eq-eqb, subst, get_or, take}
 use Rattle.std.proofs.lemmas.Bool.{cases_eq, cases_lt}
-use Rattle.std.proofs.lemmas.List.{get_or_append_left, take_more, take-append-le, length-append, length-take-le, get_or-take, get_or_push, length_push}
+use Rattle.std.proofs.lemmas.List.{get_or_append_left, take_more, take-append-le, length-append, length-take-le}
+use Rattle.std.proofs.lemmas.List.{get_or-take, get_or_push, length_push}
 use Rattle.std.proofs.lemmas.Map.Steps.{length-le_from_distinct_below}
 use Rattle.std.proofs.lemmas.Map.Keys.{apart_from_distinct}
-use Rattle.std.specs.List.{list_any, IsDistinct}
+use Rattle.std.specs.List.{list_any}
 use Rattle.ps_grid.specs.Chains.{References, In}
-use Rattle.ps_region.specs.Inside.Counts.{as_one, count_below, waiting, cells_left, Queued, Released}
+use Rattle.ps_region.specs.Inside.Counts.{waiting, cells_left, Queued, Released}
 use Rattle.ps_region.specs.Inside.Settles.{Settling, Levels, is_frame, is_pending}
 use Rattle.ps_region.proofs.CellListLemmas.{bool_cases, in-get_or, place_of, in-take_apart}
-use Rattle.ps_region.proofs.CountLemmas.{cells_left-more, count_below-none, count_below-some}
+use Rattle.ps_region.proofs.CountLemmas.{cells_left-more, count_below-none}
 use Rattle.ps_region.proofs.ReleaseLemmas.{in-grows, and_false}
 
 pub not_both : (a : Bool) → a ≡ true → a ≡ false → ⊥
 not_both a t f = (let e : true ≡ false = sym t ∙ f in cc)
 
 -- of a cell with no reference left, each reference is done or was never pending
-none_waiting : (refers : References) (pending : ℕ → Bool) (done : List ℕ) (n c d : ℕ) → cells_left refers pending done n c ≡ 0 → d < n → refers c d ≡ true
+none_waiting : (refers : References) (pending : ℕ → Bool) (done : List ℕ) (n c d : ℕ)
+    → cells_left refers pending done n c ≡ 0 → d < n → refers c d ≡ true
     → In done d ⊎ (pending d ≡ false)
 none_waiting refers pending done n c d none lt r =
-    let off : (refers c d && waiting pending done d) ≡ false = count_below-none (λ e. refers c e && waiting pending done e) n none d lt in
+    let off : (refers c d && waiting pending done d) ≡ false =
+    count_below-none (λ e. refers c e && waiting pending done e) n none d lt in
     ⊎_elim
     (λ (p : pending d ≡ true). ⊎_elim
     (λ i. inl i)
-    (λ (o : list_any (eqb d) done ≡ false). absurd (let on : (refers c d && waiting pending done d) ≡ true = rw (r, p, o) in not_both (refers c d && waiting pending done d) on off))
+    (λ (o : list_any (eqb d) done ≡ false).
+    absurd (let on : (refers c d && waiting pending done d) ≡ true = rw (r, p, o) in
+    not_both (refers c d && waiting pending done d) on off))
     (bool_cases (list_any (eqb d) done)))
     (λ p. inr p)
     (bool_cases (pending d))
 
-pub frame_pending : (formula was : ℕ → Bool) (marks : List Bool) (c : ℕ) → is_frame formula marks c ≡ true → is_pending formula was marks c ≡ true
+pub frame_pending : (formula was : ℕ → Bool) (marks : List Bool) (c : ℕ) → is_frame formula marks c ≡ true
+    → is_pending formula was marks c ≡ true
 frame_pending formula was marks c h =
     ⊎_elim
     (λ (m : get_or marks c false ≡ true). rw m (rw m at h))
@@ -41,7 +49,8 @@ pub frame_back : (refers : References) (formula : ℕ → Bool) (marks : List Bo
     → (c d : ℕ) → refers c d ≡ true → is_frame formula marks d ≡ true → is_frame formula marks c ≡ true
 frame_back refers formula marks closed has c d r h =
     let marked : get_or marks d false ≡ true =
-    ⊎_elim (λ m. m) (λ (m : get_or marks d false ≡ false). absurd (let f : false ≡ true = rw m at h in cc)) (bool_cases (get_or marks d false)) in
+    ⊎_elim (λ m. m) (λ (m : get_or marks d false ≡ false). absurd (let f : false ≡ true = rw m at h in cc))
+    (bool_cases (get_or marks d false)) in
     rw (closed c d r marked) (has c d r)
 
 module _ (refers : References) (pending frame : ℕ → Bool) (n : ℕ)
@@ -72,8 +81,9 @@ module _ (refers : References) (pending frame : ℕ → Bool) (n : ℕ)
     next = λ c m i two. absurd (let f = first c i in omega arith);
   }
 
-  -- a level is walked: the cells behind it are the next level
-  pub Settling-level : (start end k : ℕ) (left level order : List ℕ) → Settling refers pending frame n start end end k left level order
+  -- a level is walked: the cells after it are the next level
+  pub Settling-level : (start end k : ℕ) (left level order : List ℕ)
+      → Settling refers pending frame n start end end k left level order
       → Settling refers pending frame n end end (length order) (k + 1) left level order
   Settling-level start end k left level order s = record {
     started = omega arith;
@@ -95,7 +105,8 @@ module _ (refers : References) (pending frame : ℕ → Bool) (n : ℕ)
   }
 
   -- a cell that refers to the next one of the queue has a count above 0
-  pub Settling-lowers : (start head end k : ℕ) (left level order : List ℕ) → Settling refers pending frame n start head end k left level order
+  pub Settling-lowers : (start head end k : ℕ) (left level order : List ℕ)
+      → Settling refers pending frame n start head end k left level order
       → head < end → (c : ℕ) → refers c (get_or order head 0) ≡ true → 0 < get_or left c 0
   Settling-lowers start head end k left level order s lt c r =
       let d : ℕ = get_or order head 0 in
@@ -106,7 +117,8 @@ module _ (refers : References) (pending frame : ℕ → Bool) (n : ℕ)
       (λ (z : get_or left c 0 ≡ 0). ⊎_elim
       (λ i. absurd (not_both (list_any (eqb d) (take head order)) i d_new))
       (λ p. absurd (not_both (pending d) (frame_pending d d_frame) p))
-      (none_waiting refers pending (take head order) n c d (sym (s.counted c (back c d r d_frame)) ∙ z) (below c d r) r))
+      (none_waiting refers pending (take head order) n c d (sym (s.counted c (back c d r d_frame)) ∙ z) (below c d r)
+      r))
       (λ nz. omega arith)
       (cases_eq (get_or left c 0) 0)
 
@@ -127,19 +139,24 @@ module _ (refers : References) (pending frame : ℕ → Bool) (n : ℕ)
       let up : (c : ℕ) → In order c → In order2 c = in-grows order order2 rel.grows.0 rel.grows.1 in
       let at : (q : ℕ) → q < length order → get_or order2 q 0 ≡ get_or order q 0 =
       λ q l. ap (λ xs. get_or xs q 0) rel.grows.1 ∙ get_or_append_left order rel.grows.0 0 q l in
-      let longer : length order ≤ length order2 = (let e = ap length rel.grows.1 in let f = length-append order rel.grows.0 in omega arith) in
-      let level_at : (q : ℕ) → q < length order → get_or level2 (get_or order2 q 0) 0 ≡ get_or level (get_or order q 0) 0 =
+      let longer : length order ≤ length order2 =
+      (let e = ap length rel.grows.1 in let f = length-append order rel.grows.0 in omega arith) in
+      let level_at : (q : ℕ) → q < length order
+      → get_or level2 (get_or order2 q 0) 0 ≡ get_or level (get_or order q 0) 0 =
       λ q l. ap (λ c. get_or level2 c 0) (at q l) ∙ rel.kept (get_or order q 0) (in-get_or order q 0 l) in
       let done : take (head + 1) order2 ≡ take head order ++ d ∷ [] =
-      ap (take (head + 1)) rel.grows.1 ∙ (take-append-le (head + 1) order rel.grows.0 (omega arith) ∙ take_more order head 0 inside) in
-      let counted2 : (c : ℕ) → frame c ≡ true → get_or left2 c 0 ≡ cells_left refers pending (take (head + 1) order2) n c =
+      ap (take (head + 1)) rel.grows.1
+      ∙ (take-append-le (head + 1) order rel.grows.0 (omega arith) ∙ take_more order head 0 inside) in
+      let counted2 : (c : ℕ) → frame c ≡ true
+      → get_or left2 c 0 ≡ cells_left refers pending (take (head + 1) order2) n c =
       λ c f.
       (let was = s.counted c f in
       let less = cells_left-more refers pending (take head order) n c d d_lt (frame_pending d d_frame) d_new in
       let o = rel.counted c in
       rw done (⊎_elim
       (λ (r : refers c d ≡ true). let o2 = rw (r, lists c r) at o in let l2 = rw r at less in omega arith)
-      (λ (r : refers c d ≡ false). let o2 = rw (r, and_false (list_any (eqb c) listed)) at o in let l2 = rw r at less in omega arith)
+      (λ (r : refers c d ≡ false). let o2 = rw (r, and_false (list_any (eqb c) listed)) at o in let l2 =
+      rw r at less in omega arith)
       (bool_cases (refers c d)))) in
       let framed2 : (c : ℕ) → In order2 c → frame c ≡ true =
       λ c i. ⊎_elim (λ old. s.framed c old) (λ new. back c d new.0 d_frame) (rel.fresh c i) in
@@ -211,19 +228,22 @@ module _ (refers : References) (pending frame : ℕ → Bool) (n : ℕ)
       }
 
 -- the levels' places are rising numbers
-pub Levels-le : (starts order level : List ℕ) → Levels starts order level → (j : ℕ) → j < length starts → j ≤ get_or starts j 0
+pub Levels-le : (starts order level : List ℕ) → Levels starts order level → (j : ℕ) → j < length starts
+    → j ≤ get_or starts j 0
 Levels-le starts order level v zero lt = omega arith
 Levels-le starts order level v (suc j) lt =
     let ih = Levels-le starts order level v j (omega arith) in
     let r = v.rises j lt in omega arith
 
 -- they stay while the queue grows
-pub Levels-keep : (refers : References) (d k : ℕ) (listed starts left level order left2 level2 order2 : List ℕ) → Levels starts order level
+pub Levels-keep : (refers : References) (d k : ℕ) (listed starts left level order left2 level2 order2 : List ℕ)
+    → Levels starts order level
     → Released refers d k listed left level order left2 level2 order2 → Levels starts order2 level2
 Levels-keep refers d k listed starts left level order left2 level2 order2 v rel =
     let at : (q : ℕ) → q < length order → get_or order2 q 0 ≡ get_or order q 0 =
     λ q l. ap (λ xs. get_or xs q 0) rel.grows.1 ∙ get_or_append_left order rel.grows.0 0 q l in
-    let longer : length order ≤ length order2 = (let e = ap length rel.grows.1 in let f = length-append order rel.grows.0 in omega arith) in
+    let longer : length order ≤ length order2 =
+    (let e = ap length rel.grows.1 in let f = length-append order rel.grows.0 in omega arith) in
     record {
       first = v.first;
       rises = v.rises;
@@ -231,11 +251,13 @@ Levels-keep refers d k listed starts left level order left2 level2 order2 v rel 
       each = λ j q l lo hi.
           let i = v.inside (suc j) l in
           let q_lt : q < length order = omega arith in
-          ap (λ c. get_or level2 c 0) (at q q_lt) ∙ (rel.kept (get_or order q 0) (in-get_or order q 0 q_lt) ∙ v.each j q l lo hi);
+          ap (λ c. get_or level2 c 0) (at q q_lt)
+          ∙ (rel.kept (get_or order q 0) (in-get_or order q 0 q_lt) ∙ v.each j q l lo hi);
     }
 
 -- one more level
-pub Levels-push : (starts order level : List ℕ) (m start end : ℕ) → Levels starts order level → length starts ≡ suc m → get_or starts m 0 ≡ start
+pub Levels-push : (starts order level : List ℕ) (m start end : ℕ) → Levels starts order level → length starts ≡ suc m
+    → get_or starts m 0 ≡ start
     → start < end → end ≤ length order → ((q : ℕ) → start ≤ q → q < end → get_or level (get_or order q 0) 0 ≡ suc m)
     → Levels (starts ++ end ∷ []) order level
 Levels-push starts order level m start end v count begin lt le here =
@@ -246,7 +268,8 @@ Levels-push starts order level m start end v count begin lt le here =
     record {
       first = old 0 (omega arith) ∙ v.first;
       rises = λ j l. ⊎_elim
-          (λ before. let a = old j (omega arith) in let b = old (suc j) before in let r = v.rises j before in omega arith)
+          (λ before. let a = old j (omega arith) in let b = old (suc j) before in let r = v.rises j before in
+          omega arith)
           (λ last.
           let e : j ≡ m = omega arith in
           let a = old m (omega arith) in
@@ -254,7 +277,8 @@ Levels-push starts order level m start end v count begin lt le here =
           (cases_lt (suc j) (length starts));
       inside = λ j l. ⊎_elim
           (λ before. let a = old j before in let i = v.inside j before in omega arith)
-          (λ last. let e : j ≡ suc m = omega arith in subst (λ x. get_or (starts ++ end ∷ []) x 0 ≤ length order) (sym e) (omega arith))
+          (λ last. let e : j ≡ suc m = omega arith in
+          subst (λ x. get_or (starts ++ end ∷ []) x 0 ≤ length order) (sym e) (omega arith))
           (cases_lt j (length starts));
       each = λ j q l lo hi. ⊎_elim
           (λ before.
@@ -265,12 +289,14 @@ Levels-push starts order level m start end v count begin lt le here =
           let e : j ≡ m = omega arith in
           let a = old m (omega arith) in
           let lo2 : get_or (starts ++ end ∷ []) m 0 ≤ q = subst (λ x. get_or (starts ++ end ∷ []) x 0 ≤ q) e lo in
-          let hi2 : q < get_or (starts ++ end ∷ []) (suc m) 0 = subst (λ x. q < get_or (starts ++ end ∷ []) (suc x) 0) e hi in
+          let hi2 : q < get_or (starts ++ end ∷ []) (suc m) 0 =
+          subst (λ x. q < get_or (starts ++ end ∷ []) (suc x) 0) e hi in
           here q (omega arith) (omega arith) ∙ ap suc (sym e))
           (cases_lt (suc j) (length starts));
     }
 
-pub Levels-more : (starts order level : List ℕ) (k start end : ℕ) → Levels starts order level → length starts ≡ k → 0 < k → get_or starts (k - 1) 0 ≡ start
+pub Levels-more : (starts order level : List ℕ) (k start end : ℕ) → Levels starts order level → length starts ≡ k
+    → 0 < k → get_or starts (k - 1) 0 ≡ start
     → start < end → end ≤ length order → ((q : ℕ) → start ≤ q → q < end → get_or level (get_or order q 0) 0 ≡ k)
     → Levels (starts ++ end ∷ []) order level
 Levels-more starts order level k start end v count some begin lt le here =

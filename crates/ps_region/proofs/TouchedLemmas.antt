@@ -1,12 +1,13 @@
 -- What the notes of the touched cells say of the region.
-use Rattle.std.proofs.Common.{◌≡◌, ◌≢◌, ℕ, ◌+◌, ◌<◌, Bool, true, false, not, ◌&&◌, ◌||◌, ◌⊎◌, ◌≤◌, inl, inr, List, [], ◌∷◌, ◌++◌}
-use Rattle.std.proofs.Common.{length, refl, sym, ap, ◌∙◌, arith, ⊎_elim, eqb, eqb-true, eq-eqb, subst, get_or, set, take, drop}
+use Rattle.std.proofs.Common.{◌≡◌, ◌≢◌, ℕ, ◌+◌, ◌<◌, Bool, true, false, not, ◌&&◌, ◌||◌, ◌⊎◌, ◌≤◌, inl, inr, List, []}
+use Rattle.std.proofs.Common.{◌∷◌, ◌++◌}
+use Rattle.std.proofs.Common.{length, refl, sym, ap, ◌∙◌, ⊎_elim, eqb, eq-eqb, subst, get_or, set}
+use Rattle.std.proofs.Common.{take, drop}
 use Rattle.std.proofs.lemmas.Bool.{cases_eq}
 use Rattle.std.proofs.lemmas.List.{get_or-set_same, get_or-set_other, take_more, drop_all}
 use Rattle.std.specs.List.{list_any, filter}
 use Rattle.ps_grid.specs.Chains.{References, In, InRegion}
 use Rattle.ps_grid.proofs.ChainLemmas.{bool_cases}
-use Rattle.ps_region.specs.Inside.Cells.{Marked}
 use Rattle.ps_region.specs.Inside.Touched.{IsFresh, IsPlain, not_plain}
 use Rattle.ps_region.proofs.CellListLemmas.{in-push_same, in-push_other}
 
@@ -28,7 +29,8 @@ pub plain_known : (refers : References) (formula : ℕ → Bool) (plain : List B
 plain_known refers formula plain touched has noted c r =
     ⊎_elim
     (λ t. noted c ∙ ap (λ b. b && not (formula c)) t)
-    (λ f. noted c ∙ (ap (λ b. list_any (eqb c) touched && not b) f ∙ (and_no (list_any (eqb c) touched) ∙ ap not (sym f))))
+    (λ f. noted c ∙ (ap (λ b. list_any (eqb c) touched && not b) f
+    ∙ (and_no (list_any (eqb c) touched) ∙ ap not (sym f))))
     (touched_or_formula refers formula touched has c r)
   where
     and_no : (a : Bool) → (a && false) ≡ false
@@ -61,7 +63,8 @@ noted_step f table touched i c b lt at low is so_far q =
     let more : take (i + 1) touched ≡ take i touched ++ c ∷ [] =
     take_more touched i 0 lt ∙ ap (λ x. take i touched ++ x ∷ []) (sym at) in
     rw more (⊎_elim
-    (λ (e : q ≡ c). subst (λ x. get_or (set table c b) x false ≡ (list_any (eqb x) (take i touched ++ c ∷ []) && f x)) (sym e)
+    (λ (e : q ≡ c). subst
+    (λ x. get_or (set table c b) x false ≡ (list_any (eqb x) (take i touched ++ c ∷ []) && f x)) (sym e)
     (get_or-set_same table c b false low ∙ (is ∙ sym (ap (λ y. y && f c) (in-push_same (take i touched) c)))))
     (λ (ne : q ≢ c). get_or-set_other table c q b false ne
     ∙ (so_far q ∙ ap (λ y. y && f q) (sym (in-push_other (take i touched) q c ne))))

@@ -1,5 +1,5 @@
 -- Laws of the region of a change.
-use Rattle.std.specs.Prelude.{◌≡◌, ◌↔◌, ℕ, Bool, false, List, nat_eq}
+use Rattle.std.specs.Prelude.{◌≡◌, ◌↔◌, ℕ, false, List, nat_eq}
 use Rattle.std.specs.List.{list_any}
 use Rattle.ps_grid.specs.Chains.{References, IsCyclic, InRegion}
 

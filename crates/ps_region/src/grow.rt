@@ -1,6 +1,7 @@
 //! The growth of a region: its members, with the counts of their references.
 
-ghost use Rattle.std.specs.Prelude.{◌≡◌, ◌⊎◌, ◌≤◌, ◌<◌, ◌∷◌, [], length, ℕ, true, false, not, nat_eq, ◌&&◌, slice_index, slice_index_or, slice_set, ◌+◌, vec_capacity};
+ghost use Rattle.std.specs.Prelude.{◌≡◌, ◌⊎◌, ◌≤◌, ◌<◌, ◌∷◌, [], length, ℕ, true, false, not, nat_eq, ◌&&◌};
+ghost use Rattle.std.specs.Prelude.{slice_index, slice_index_or, slice_set, ◌+◌, vec_capacity};
 ghost use Rattle.std.specs.List.{list_any};
 ghost use Rattle.ps_grid.specs.declared.size.TheConstants.{CELLS as ALL};
 ghost use Rattle.ps_grid.specs.Chains.{In, InRegion};
@@ -112,7 +113,8 @@ pub(crate) fn grow<A: After>(
     requires known { (d e : ℕ) → d < ALL → In (listed index.now d) e → slice_index_or fresh.now e false ≡ false
         → A.refers after.now e d ≡ true }
     requires plain { IsPlain (A.formula after.now) plain.now touched.now }
-    requires extra { (c d : ℕ) → d < ALL → In (listed index.now d) c → (A.refers after.now c d ≡ true) ⊎ In touched.now c }
+    requires extra { (c d : ℕ) → d < ALL → In (listed index.now d) c
+        → (A.refers after.now c d ≡ true) ⊎ In touched.now c }
     requires lists_all { (c d : ℕ) → A.refers after.now c d ≡ true → In (listed index.now d) c }
     requires empty { members.old.items ≡ [] }
     requires marked { Marked marks.old members.old.items }

@@ -7,18 +7,15 @@ ghost use Rattle.ps_index.specs.Stands.{Puts, Stands, refers};
 ghost use Rattle.ps_region.specs.Laws.{SameCyclicOutside, SameRegion};
 ghost use Rattle.ps_region.specs.Listed.{listed};
 
-use ps_grid::Cell;
 use ps_index::Index;
 
-/// Just those cells are listed for a cell whose formulas in the index refer to it.
+/// Where an index stands for some formulas, just those cells are listed for a cell that have one that refers to it.
 ///
-/// Cost: that of beginning a walk.
-pub fn listed_cells_refer(index: &Index, cell: Cell)
-    ensures { (forms : Puts) → Stands index.now forms → (c : ℕ) → c < ALL
-        → list_any (nat_eq c) (listed index.now cell) ≡ refers forms c cell }
-{
-    let _ = index.dependents(cell);
-}
+/// Cost: none.
+pub fn listed_cells_refer(index: &Index)
+    ensures { (forms : Puts) → Stands index.now forms → (c d : ℕ) → c < ALL → d < ALL
+        → list_any (nat_eq c) (listed index.now d) ≡ refers forms c d }
+{}
 
 /// Where the references before and after a change differ at touched cells alone, both give the same region.
 ///

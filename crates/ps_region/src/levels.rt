@@ -1,6 +1,7 @@
 //! The levels of a region's formula cells, and those that are left without one.
 
-ghost use Rattle.std.specs.Prelude.{◌≡◌, ◌≢◌, ◌-◌, ◌≤◌, ◌<◌, ◌∷◌, ◌++◌, [], length, ℕ, true, false, slice_index, slice_index_or, slice_set, filter, vec_capacity};
+ghost use Rattle.std.specs.Prelude.{◌≡◌, ◌≢◌, ◌-◌, ◌≤◌, ◌<◌, ◌∷◌, ◌++◌, [], length, ℕ, true, false, slice_index};
+ghost use Rattle.std.specs.Prelude.{slice_index_or, slice_set, filter, vec_capacity};
 ghost use Rattle.ps_grid.specs.declared.size.TheConstants.{CELLS as ALL};
 ghost use Rattle.ps_grid.specs.Chains.{In};
 ghost use Rattle.ps_region.specs.Inside.Counts.{Queued, Released, is_in};
@@ -48,7 +49,8 @@ pub(crate) fn first_level(
     }
 }
 
-/// Counts one reference of the cell `e` as settled. Where it was the last, the cell goes to the queue's end, at level k.
+/// Counts one reference of the cell `e` as settled. Where it was the last, the cell goes to the queue's end, at
+/// level k.
 fn lower(left: &mut [u32], level: &mut [u32], order: &mut Vec<Cell>, e: Cell, k: u32)
     requires left_length { length left.old ≡ ALL }
     requires level_length { length level.old ≡ ALL }
@@ -88,7 +90,8 @@ fn release_sole<A: After>(
     requires some { A.refers after.now e d ≡ true → 0 < slice_index left.old e }
     requires queued { Queued left.old order.old.items }
     requires room { ALL ≤ vec_capacity order.old }
-    ensures released { Released (A.refers after.now) d k (e ∷ []) left.old level.old order.old.items left.new level.new order.new.items }
+    ensures released { Released (A.refers after.now) d k (e ∷ []) left.old level.old order.old.items
+        left.new level.new order.new.items }
     ensures room { ALL ≤ vec_capacity order.new }
 {
     let _place = e.index();
@@ -117,7 +120,8 @@ fn release_each<A: After>(
     requires some { (c : ℕ) → A.refers after.now c d ≡ true → 0 < slice_index left.old c }
     requires queued { Queued left.old order.old.items }
     requires room { ALL ≤ vec_capacity order.old }
-    ensures released { Released (A.refers after.now) d k (listed index.now d) left.old level.old order.old.items left.new level.new order.new.items }
+    ensures released { Released (A.refers after.now) d k (listed index.now d) left.old level.old order.old.items
+        left.new level.new order.new.items }
     ensures room { ALL ≤ vec_capacity order.new }
 {
     for e in index.dependents(d) {
@@ -151,7 +155,8 @@ fn release<A: After>(
     requires some { (c : ℕ) → A.refers after.now c d ≡ true → 0 < slice_index left.old c }
     requires queued { Queued left.old order.old.items }
     requires room { ALL ≤ vec_capacity order.old }
-    ensures released { Released (A.refers after.now) d k (listed index.now d) left.old level.old order.old.items left.new level.new order.new.items }
+    ensures released { Released (A.refers after.now) d k (listed index.now d) left.old level.old order.old.items
+        left.new level.new order.new.items }
     ensures room { ALL ≤ vec_capacity order.new }
 {
     match Cell::from_index(sole[d.index()] as usize) {
@@ -197,7 +202,8 @@ pub(crate) fn settle<A: After>(
     requires closed { (c d : ℕ) → A.refers after.now c d ≡ true → slice_index_or marks.now d false ≡ true
         → slice_index_or marks.now c false ≡ true }
     requires starting { Settling (A.refers after.now) (is_pending (A.formula after.now) (is_in _outside.now) marks.now)
-        (is_frame (A.formula after.now) marks.now) ALL 0 0 (length order.old.items) 1 left.old level.old order.old.items }
+        (is_frame (A.formula after.now) marks.now) ALL 0 0 (length order.old.items) 1
+        left.old level.old order.old.items }
     requires empty { starts.old.items ≡ [] }
     requires room { ALL ≤ vec_capacity order.old }
     requires room_starts { ALL < vec_capacity starts.old }

@@ -1,6 +1,7 @@
 //! The whole of a mark, over the tables of a region.
 
-ghost use Rattle.std.specs.Prelude.{◌≡◌, ◌⊎◌, ◌-◌, ◌≤◌, ◌<◌, length, ℕ, true, false, nat_eq, slice_index, slice_index_or, filter, vec_capacity};
+ghost use Rattle.std.specs.Prelude.{◌≡◌, ◌⊎◌, ◌-◌, ◌≤◌, ◌<◌, length, ℕ, true, false, nat_eq, slice_index};
+ghost use Rattle.std.specs.Prelude.{slice_index_or, filter, vec_capacity};
 ghost use Rattle.std.specs.List.{IsDistinct};
 ghost use Rattle.ps_grid.specs.declared.size.TheConstants.{CELLS as ALL};
 ghost use Rattle.ps_grid.specs.Chains.{In, InRegion, IsCyclic};
@@ -37,7 +38,8 @@ pub(crate) fn mark_parts<A: After>(
     cyclic: &mut Vec<Cell>,
 )
     requires lists_all { (c d : ℕ) → A.refers after.now c d ≡ true → In (listed index.now d) c }
-    requires extra { (c d : ℕ) → d < ALL → In (listed index.now d) c → (A.refers after.now c d ≡ true) ⊎ In touched.now c }
+    requires extra { (c d : ℕ) → d < ALL → In (listed index.now d) c
+        → (A.refers after.now c d ≡ true) ⊎ In touched.now c }
     requires outside_once { IsDistinct nat_eq outside.now }
     requires marks_length { length marks.old ≡ ALL }
     requires fresh_length { length fresh.old ≡ ALL }

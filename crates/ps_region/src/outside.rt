@@ -1,6 +1,7 @@
 //! The references of a region's cells to the cyclic cells outside it.
 
-ghost use Rattle.std.specs.Prelude.{◌≡◌, ◌<◌, [], length, ℕ, true, false, nat_eq, ◌&&◌, slice_index, slice_index_or, ◌+◌};
+ghost use Rattle.std.specs.Prelude.{◌≡◌, ◌<◌, [], length, ℕ, true, false, nat_eq, ◌&&◌, slice_index, slice_index_or};
+ghost use Rattle.std.specs.Prelude.{◌+◌};
 ghost use Rattle.std.specs.List.{IsDistinct};
 ghost use Rattle.ps_grid.specs.declared.size.TheConstants.{CELLS as ALL};
 ghost use Rattle.ps_grid.specs.Chains.{In};

@@ -1,6 +1,7 @@
 //! The region of the last change.
 
-ghost use Rattle.std.specs.Prelude.{◌≡◌, ◌⊎◌, ◌<◌, ◌≤◌, ℕ, [], true, false, nat_eq, if◌then◌else◌, Some, None, IfOk, IfErr, length, slice_index, slice_index_or, vec_capacity};
+ghost use Rattle.std.specs.Prelude.{◌≡◌, ◌⊎◌, ◌<◌, ◌≤◌, ℕ, [], true, false, nat_eq, if◌then◌else◌, Some, None, IfOk};
+ghost use Rattle.std.specs.Prelude.{IfErr, length, slice_index, slice_index_or, vec_capacity};
 ghost use Rattle.std.specs.List.{IsDistinct, list_any};
 ghost use Rattle.ps_grid.specs.declared.refusal.Refusal.TheVariants.{Memory};
 ghost use Rattle.ps_grid.specs.declared.size.TheConstants.{CELLS as ALL};

@@ -1,5 +1,6 @@
 -- Counts of the references that are not settled yet, and the queue of the cells whose count is 0.
-use Rattle.std.specs.Prelude.{◌≡◌, ◌+◌, ◌-◌, ◌<◌, ◌≤◌, ℕ, zero, suc, Bool, true, false, cond, not, ◌&&◌, ◌⊎◌, List, [], ◌∷◌, ◌++◌, length, nat_eq, slice_index, slice_index_or, slice_set}
+use Rattle.std.specs.Prelude.{◌≡◌, ◌+◌, ◌<◌, ℕ, zero, suc, Bool, true, cond, not, ◌&&◌, ◌⊎◌, List}
+use Rattle.std.specs.Prelude.{◌++◌, length, nat_eq, slice_index, slice_index_or}
 use Rattle.std.specs.List.{list_any, IsDistinct}
 use Rattle.ps_grid.specs.Chains.{References, In}
 
@@ -37,11 +38,13 @@ pub record Queued (left order : List ℕ) : Type 0 where
   pub below : (c : ℕ) → In order c → c < length left
   pub once : IsDistinct nat_eq order
 
--- of the cells `walked`, those that refer to d have counts one lower; those whose count became 0 are at the queue's end, at level k
-pub record Released (refers : References) (d k : ℕ) (walked left level order left2 level2 order2 : List ℕ) : Type 0 where
-  pub queued : Queued left2 order2
-  pub counted : (c : ℕ) → slice_index left c ≡ slice_index left2 c + as_one (list_any (nat_eq c) walked && refers c d)
-  pub grows : (more : List ℕ) × (order2 ≡ order ++ more)
-  pub fresh : (c : ℕ) → In order2 c → In order c ⊎ ((refers c d ≡ true) × (slice_index level2 c ≡ k))
-  pub kept : (c : ℕ) → In order c → slice_index level2 c ≡ slice_index level c
-  pub found : (c : ℕ) → In walked c → refers c d ≡ true → slice_index left2 c ≡ 0 → In order2 c
+-- of the cells `walked`, those that refer to d have counts one lower; those whose count became 0 are at the queue's
+-- end, at level k
+pub record Released (refers : References) (d k : ℕ) (walked left level order left2 level2 order2 : List ℕ) : Type 0
+  where
+    pub queued : Queued left2 order2
+    pub counted : (c : ℕ) → slice_index left c ≡ slice_index left2 c + as_one (list_any (nat_eq c) walked && refers c d)
+    pub grows : (more : List ℕ) × (order2 ≡ order ++ more)
+    pub fresh : (c : ℕ) → In order2 c → In order c ⊎ ((refers c d ≡ true) × (slice_index level2 c ≡ k))
+    pub kept : (c : ℕ) → In order c → slice_index level2 c ≡ slice_index level c
+    pub found : (c : ℕ) → In walked c → refers c d ≡ true → slice_index left2 c ≡ 0 → In order2 c

@@ -1,5 +1,6 @@
 -- The walk along the queue, level after level.
-use Rattle.std.specs.Prelude.{◌≡◌, ◌<◌, ◌≤◌, ℕ, suc, Bool, true, false, cond, not, ◌&&◌, ◌==◌, ◌⊎◌, List, length, take, slice_index_or}
+use Rattle.std.specs.Prelude.{◌≡◌, ◌<◌, ◌≤◌, ℕ, suc, Bool, true, false, cond, not, ◌&&◌, ◌==◌, ◌⊎◌, List, length}
+use Rattle.std.specs.Prelude.{take, slice_index_or}
 use Rattle.ps_grid.specs.Chains.{References, In}
 use Rattle.ps_region.specs.Inside.Counts.{cells_left, Queued}
 
@@ -18,9 +19,11 @@ is_ready formula left c = formula c && (slice_index_or left c 0 == 0)
 abbrev pub is_held : (ℕ → Bool) → List ℕ → ℕ → Bool
 is_held formula left c = formula c && not (slice_index_or left c 0 == 0)
 
--- The queue up to `head` is walked; up to `end` it has the cells of the levels up to k, of which those from `start` on are of level k;
+-- The queue up to `head` is walked; up to `end` it has the cells of the levels up to k, of which those from `start`
+-- on are of level k;
 -- from `end` on it has cells of the next level.
-pub record Settling (refers : References) (pending frame : ℕ → Bool) (n start head end k : ℕ) (left level order : List ℕ) : Type 0 where
+pub record Settling (refers : References) (pending frame : ℕ → Bool) (n start head end k : ℕ)
+    (left level order : List ℕ) : Type 0 where
   pub started : start ≤ head
   pub reached : head ≤ end
   pub within : end ≤ length order
@@ -32,10 +35,12 @@ pub record Settling (refers : References) (pending frame : ℕ → Bool) (n star
   pub before : (q : ℕ) → q < end → slice_index_or level (slice_index_or order q 0) 0 ≤ k
   pub after : (q : ℕ) → end ≤ q → q < length order → slice_index_or level (slice_index_or order q 0) 0 ≡ suc k
   pub some : (c : ℕ) → In order c → 0 < slice_index_or level c 0
-  pub falls : (c d : ℕ) → In order c → refers c d ≡ true → (In order d × (slice_index_or level d 0 < slice_index_or level c 0)) ⊎ (pending d ≡ false)
-  pub next : (c m : ℕ) → In order c → slice_index_or level c 0 ≡ suc (suc m) → (d : ℕ) × (refers c d ≡ true) × In order d × (slice_index_or level d 0 ≡ suc m)
+  pub falls : (c d : ℕ) → In order c → refers c d ≡ true
+      → (In order d × (slice_index_or level d 0 < slice_index_or level c 0)) ⊎ (pending d ≡ false)
+  pub next : (c m : ℕ) → In order c → slice_index_or level c 0 ≡ suc (suc m)
+      → (d : ℕ) × (refers c d ≡ true) × In order d × (slice_index_or level d 0 ≡ suc m)
 
--- `starts` has the places where the levels 1, 2, .. of the queue begin, and at its end the place behind the last one
+-- `starts` has the places where the levels 1, 2, .. of the queue begin, and at its end the place after the last one
 pub record Levels (starts order level : List ℕ) : Type 0 where
   pub first : slice_index_or starts 0 0 ≡ 0
   pub rises : (j : ℕ) → suc j < length starts → slice_index_or starts j 0 < slice_index_or starts (suc j) 0

@@ -8,7 +8,8 @@ IsFresh fresh touched = (c : ℕ) → slice_index_or fresh c false ≡ list_any 
 
 -- just the touched cells without a formula are plain
 abbrev pub IsPlain : (ℕ → Bool) → List Bool → List ℕ → Type 0
-IsPlain formula plain touched = (c : ℕ) → slice_index_or plain c false ≡ (list_any (nat_eq c) touched && not (formula c))
+IsPlain formula plain touched =
+    (c : ℕ) → slice_index_or plain c false ≡ (list_any (nat_eq c) touched && not (formula c))
 
 -- of a cell of the region: whether it has a formula
 abbrev pub not_plain : List Bool → ℕ → Bool

@@ -1,4 +1,5 @@
-use Rattle.std.proofs.Common.{◌≡◌, ◌≤◌, ◌<◌, ◌+◌, ◌-◌, ◌&&◌, ◌++◌, ℕ, Bool, List, true, false, length, take, get_or, vec_capacity}
+use Rattle.std.proofs.Common.{◌≡◌, ◌≤◌, ◌<◌, ◌+◌, ◌-◌, ◌&&◌, ℕ, true, false, length, take, get_or}
+use Rattle.std.proofs.Common.{vec_capacity}
 use Rattle.std.specs.List.{list_any}
 use Rattle.std.specs.Prelude.{nat_eq}
 use Rattle.ps_grid.specs.declared.size.TheConstants.{CELLS}
@@ -15,7 +16,8 @@ invariant-loop-e g l = record {
   marked : Marked l.marks l.members.items;
   room : CELLS ≤ vec_capacity l.members;
   counts : (q : ℕ) → counted_in l.members.items l.left q ≡ counted_in l.initial.members.items l.initial.left q
-      + as_one (list_any (nat_eq q) (take (length l.yielded) (listed l.index l.d)) && (g.A.After.formula l.after l.d && g.A.After.refers l.after q l.d));
+      + as_one (list_any (nat_eq q) (take (length l.yielded) (listed l.index l.d))
+      && (g.A.After.formula l.after l.d && g.A.After.refers l.after q l.d));
   none : l.some ≡ false → length l.yielded ≡ 0;
   one : l.single ≡ true → length l.yielded ≡ 1;
   last : 0 < length l.yielded → l.last ≡ get_or (listed l.index l.d) (length l.yielded - 1) 0;

@@ -1,12 +1,11 @@
-use Rattle.std.proofs.Common.{arith, sym, ◌∙◌, ap, [], ℕ, ◌≡◌, ◌<◌, ◌≤◌, ◌&&◌, false, take, length, subst, get_or, eqb}
+use Rattle.std.proofs.Common.{arith, ◌∙◌, ap, [], ◌≡◌, ◌<◌, ◌&&◌, false, take, length, get_or, eqb}
 use Rattle.ps_grid.specs.declared.size.TheConstants.{CELLS}
 use Rattle.ps_region.specs.Listed.{listed}
 use Rattle.std.specs.List.{list_any}
 use Rattle.std.proofs.lemmas.List.{get_or_read, take_all}
-use Rattle.ps_region.specs.Inside.Cells.{with_all}
 use Rattle.ps_region.specs.Inside.Counts.{cells_left, is_walked}
 use Rattle.ps_region.proofs.CellListLemmas.{marked_below, marked_le, in-get_or, in-take_apart}
-use Rattle.ps_region.proofs.GrowthLemmas.{Grown, Grown-start, Grown-step, Grown-complete}
+use Rattle.ps_region.proofs.GrowthLemmas.{Grown-start, Grown-step, Grown-complete}
 use Rattle.ps_region.proofs.GrowthCounts.{counts_start, counts_step, cells_left-lt}
 use Rattle.ps_region.proofs.TouchedLemmas.{plain_known}
 use Rattle.ps_region.proofs.SoleDependents.{soles_step, soles_end}
@@ -20,7 +19,8 @@ loop-head-init g c = record {
       (Grown-start (g.A.After.refers c.args.after.now) (listed c.args.index.now) c.args.touched.now);
   soles = λ p lt. absurd (omega arith);
   counts = λ q. rw (c.enter_all.ensures.members, c.requires.empty)
-      (counts_start (g.A.After.refers c.args.after.now) (g.A.After.formula c.args.after.now) c.args.members.now.items c.args.touched.now c.args.left.now c.enter_all.new.left CELLS
+      (counts_start (g.A.After.refers c.args.after.now) (g.A.After.formula c.args.after.now) c.args.members.now.items
+      c.args.touched.now c.args.left.now c.enter_all.new.left CELLS
       c.requires.empty (rw c.enter_all.ensures.members at c.enter_all.ensures.counts) q);
 }
 
@@ -29,14 +29,17 @@ enter_dependents-requires-clause-small g c = λ q.
     let members = c.loop-head.members.items in
     let lt : c.loop-head.head < length members = omega arith in
     let h = get_or members c.loop-head.head 0 in
-    let below = marked_below c.loop-head.marks members c.loop-head.invariant.marked h (in-get_or members c.loop-head.head 0 lt) in
+    let below = marked_below c.loop-head.marks members c.loop-head.invariant.marked h
+    (in-get_or members c.loop-head.head 0 lt) in
     let long = c.loop-head.auto.marks in
     let long2 = c.enter_all.auto.marks in
     let long3 = c.loop-head.auto.left in
     let long4 = c.enter_all.auto.left in
     let same = c.requires.marks_length in
-    let new : list_any (eqb h) (take c.loop-head.head members) ≡ false = in-take_apart members c.loop-head.head c.loop-head.invariant.marked.once lt in
-    let small = cells_left-lt (g.A.After.refers c.args.after.now) (is_walked (g.A.After.formula c.args.after.now) (take c.loop-head.head members)) CELLS q h
+    let new : list_any (eqb h) (take c.loop-head.head members) ≡ false =
+    in-take_apart members c.loop-head.head c.loop-head.invariant.marked.once lt in
+    let small = cells_left-lt (g.A.After.refers c.args.after.now)
+    (is_walked (g.A.After.formula c.args.after.now) (take c.loop-head.head members)) CELLS q h
     (omega (arith, below, long, long2, same)) (ap (λ b. b && g.A.After.formula c.args.after.now h) new) in
     let is = c.loop-head.invariant.counts q in
     omega (arith, small, is, long3, long4)
@@ -47,8 +50,10 @@ enter_dependents-requires-clause-known g c = λ e.
     let lt : c.loop-head.head < length members = omega arith in
     let at = get_or_read members c.loop-head.head c.index-d.result.now lt c.index-d.ensures 0 in
     let h = get_or members c.loop-head.head 0 in
-    let below = marked_below c.loop-head.marks members c.loop-head.invariant.marked h (in-get_or members c.loop-head.head 0 lt) in
-    c.requires.known c.index-d.result.now e (omega (arith, at, below, c.loop-head.auto.marks, c.enter_all.auto.marks, c.requires.marks_length))
+    let below = marked_below c.loop-head.marks members c.loop-head.invariant.marked h
+    (in-get_or members c.loop-head.head 0 lt) in
+    c.requires.known c.index-d.result.now e
+    (omega (arith, at, below, c.loop-head.auto.marks, c.enter_all.auto.marks, c.requires.marks_length))
 
 pub enter_dependents-requires-clause-formula : goal.enter_dependents-requires-clause-formula
 enter_dependents-requires-clause-formula g c =
@@ -56,7 +61,8 @@ enter_dependents-requires-clause-formula g c =
     let lt : c.loop-head.head < length members = omega arith in
     let at = get_or_read members c.loop-head.head c.index-d.result.now lt c.index-d.ensures 0 in
     let h = get_or members c.loop-head.head 0 in
-    rw at (plain_known (g.A.After.refers c.args.after.now) (g.A.After.formula c.args.after.now) c.args.plain.now c.args.touched.now
+    rw at (plain_known (g.A.After.refers c.args.after.now) (g.A.After.formula c.args.after.now) c.args.plain.now
+    c.args.touched.now
     (g.met.A.After.refers_formula c.args.after.now) c.requires.plain h
     (c.loop-head.invariant.grown.sound h (in-get_or members c.loop-head.head 0 lt)))
 
@@ -72,7 +78,8 @@ loop-head-preserved g c =
     let lt : c.loop-head.head < length members = omega arith in
     let at = get_or_read members c.loop-head.head c.index-d.result.now lt c.index-d.ensures 0 in
     let h = get_or members c.loop-head.head 0 in
-    let below = marked_below c.loop-head.marks members c.loop-head.invariant.marked h (in-get_or members c.loop-head.head 0 lt) in
+    let below = marked_below c.loop-head.marks members c.loop-head.invariant.marked h
+    (in-get_or members c.loop-head.head 0 lt) in
     let long = c.loop-head.auto.marks in
     let long2 = c.enter_all.auto.marks in
     let same = c.requires.marks_length in
@@ -81,11 +88,16 @@ loop-head-preserved g c =
       room = c.enter_dependents.ensures.room;
       grown = rw (c.enter_dependents.ensures.members, at)
           (Grown-step (g.A.After.refers c.args.after.now) (listed c.args.index.now) c.args.touched.now
-          c.loop-head.head members (λ x i. c.requires.extra x h (omega (arith, below, long, long2, same)) i) c.loop-head.invariant.grown lt);
-      soles = rw c.enter_dependents.ensures.members (rw at (λ p. soles_step (listed c.args.index.now) members (listed c.args.index.now h) c.loop-head.sole c.enter_dependents.new.sole c.loop-head.head CELLS lt
-          c.loop-head.invariant.marked.once (rw at at c.enter_dependents.ensures.sole) (rw at at c.enter_dependents.ensures.others) c.loop-head.invariant.soles p));
+          c.loop-head.head members (λ x i. c.requires.extra x h (omega (arith, below, long, long2, same)) i)
+          c.loop-head.invariant.grown lt);
+      soles = rw c.enter_dependents.ensures.members
+          (rw at (λ p. soles_step (listed c.args.index.now) members (listed c.args.index.now h) c.loop-head.sole
+          c.enter_dependents.new.sole c.loop-head.head CELLS lt
+          c.loop-head.invariant.marked.once (rw at at c.enter_dependents.ensures.sole)
+          (rw at at c.enter_dependents.ensures.others) c.loop-head.invariant.soles p));
       counts = λ q. rw (c.enter_dependents.ensures.members, at)
-          (counts_step (g.A.After.refers c.args.after.now) (g.A.After.formula c.args.after.now) members (listed c.args.index.now h)
+          (counts_step (g.A.After.refers c.args.after.now) (g.A.After.formula c.args.after.now) members
+          (listed c.args.index.now h)
           c.loop-head.left c.enter_dependents.new.left c.loop-head.head CELLS lt c.loop-head.invariant.marked.once
           (omega (arith, below, long, long2, same))
           (λ x r. c.requires.lists_all x h r)
@@ -100,8 +112,11 @@ returns-clause-complete g c =
 
 pub returns-clause-counts : goal.returns-clause-counts
 returns-clause-counts g c = λ q. c.loop-head.invariant.counts q
-    ∙ ap (λ xs. cells_left (g.A.After.refers c.args.after.now) (is_walked (g.A.After.formula c.args.after.now) xs) [] CELLS q)
+    ∙ ap (λ xs. cells_left (g.A.After.refers c.args.after.now) (is_walked (g.A.After.formula c.args.after.now) xs) []
+    CELLS q)
     (take_all c.loop-head.head c.loop-head.members.items (omega arith))
 
 pub returns-clause-sole : goal.returns-clause-sole
-returns-clause-sole g c = soles_end (listed c.args.index.now) c.loop-head.members.items c.loop-head.sole c.loop-head.head CELLS (omega arith) c.loop-head.invariant.soles
+returns-clause-sole g c =
+    soles_end (listed c.args.index.now) c.loop-head.members.items c.loop-head.sole c.loop-head.head CELLS
+    (omega arith) c.loop-head.invariant.soles

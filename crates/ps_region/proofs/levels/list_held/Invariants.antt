@@ -1,4 +1,4 @@
-use Rattle.std.proofs.Common.{◌≡◌, ◌≤◌, ℕ, length, take, get_or, vec_capacity}
+use Rattle.std.proofs.Common.{◌≡◌, ◌≤◌, length, take, vec_capacity}
 use Rattle.std.specs.List.{filter}
 use Rattle.ps_region.specs.Inside.Touched.{not_plain}
 use Rattle.ps_region.specs.Inside.Settles.{is_held}

@@ -1,12 +1,14 @@
-use Rattle.std.proofs.Common.{◌≡◌, ◌<◌, ◌≤◌, ◌+◌, ◌-◌, ℕ, suc, [], arith, sym, ap, ◌∙◌, true, false, subst, length, get_or}
+use Rattle.std.proofs.Common.{◌≡◌, ◌<◌, ◌+◌, ◌-◌, arith, sym, ◌∙◌, false, subst, length}
+use Rattle.std.proofs.Common.{get_or}
 use Rattle.std.proofs.lemmas.List.{get_or_read, get_or_push, length_push}
 use Rattle.ps_grid.specs.declared.size.TheConstants.{CELLS}
 use Rattle.ps_region.specs.Listed.{listed}
 use Rattle.ps_region.proofs.CountLemmas.{and_true_left}
 use Rattle.ps_region.specs.Inside.Counts.{is_in}
 use Rattle.ps_region.proofs.CellListLemmas.{in-get_or}
-use Rattle.ps_region.proofs.SettlingLemmas.{Settling-lowers, Settling-step, Settling-level, Levels-keep, Levels-more, Levels-le, Queued-le, frame_pending, frame_back}
-use Rattle.ps_region.specs.Inside.Settles.{Settling, Levels, is_frame, is_pending}
+use Rattle.ps_region.proofs.SettlingLemmas.{Settling-lowers, Settling-step, Settling-level, Levels-keep, Levels-more}
+use Rattle.ps_region.proofs.SettlingLemmas.{Levels-le, Queued-le, frame_pending, frame_back}
+use Rattle.ps_region.specs.Inside.Settles.{Settling, is_frame, is_pending}
 use Rattle.ps_region.proofs.levels.settle.Goals as goal
 
 pub release-requires-clause-sole : goal.release-requires-clause-sole
@@ -18,7 +20,8 @@ release-requires-clause-sole g c =
     let lt : c.walk.head < length order = omega (arith, w, t) in
     let at = get_or_read order c.walk.head c.index-d.result.now lt c.index-d.ensures 0 in
     let h = get_or order c.walk.head 0 in
-    rw at (λ e. c.requires.sole h e (and_true_left (get_or c.args.marks.now h false) (g.A.After.formula c.args.after.now h)
+    rw at (λ e. c.requires.sole h e
+    (and_true_left (get_or c.args.marks.now h false) (g.A.After.formula c.args.after.now h)
     (s.framed h (in-get_or order c.walk.head 0 lt))))
 
 pub release-requires-clause-some : goal.release-requires-clause-some
@@ -35,7 +38,8 @@ release-requires-clause-some g c =
     CELLS
     (g.met.A.After.refers_below c.args.after.now)
     (frame_pending (g.A.After.formula c.args.after.now) (is_in c.args._outside.now) c.args.marks.now)
-    (frame_back (g.A.After.refers c.args.after.now) (g.A.After.formula c.args.after.now) c.args.marks.now c.requires.closed (g.met.A.After.refers_formula c.args.after.now))
+    (frame_back (g.A.After.refers c.args.after.now) (g.A.After.formula c.args.after.now) c.args.marks.now
+    c.requires.closed (g.met.A.After.refers_formula c.args.after.now))
     c.levels.head c.walk.head c.levels.«end» c.levels.k c.walk.left c.walk.level order s t)
 
 pub walk-preserved : goal.walk-preserved
@@ -56,13 +60,16 @@ walk-preserved g c =
           CELLS
           (g.met.A.After.refers_below c.args.after.now)
           (frame_pending (g.A.After.formula c.args.after.now) (is_in c.args._outside.now) c.args.marks.now)
-          (frame_back (g.A.After.refers c.args.after.now) (g.A.After.formula c.args.after.now) c.args.marks.now c.requires.closed (g.met.A.After.refers_formula c.args.after.now))
+          (frame_back (g.A.After.refers c.args.after.now) (g.A.After.formula c.args.after.now) c.args.marks.now
+          c.requires.closed (g.met.A.After.refers_formula c.args.after.now))
           (listed c.args.index.now (get_or order c.walk.head 0))
           c.levels.head c.walk.head c.levels.«end» c.levels.k c.walk.left c.walk.level order
           c.release.new.left c.release.new.level c.release.new.order.items s t (omega (arith, long, long0))
           (λ x r. c.requires.lists_all x (get_or order c.walk.head 0) r) rel;
-      levels = Levels-keep (g.A.After.refers c.args.after.now) (get_or order c.walk.head 0) (c.levels.k + 1) (listed c.args.index.now (get_or order c.walk.head 0))
-          c.levels.starts.items c.walk.left c.walk.level order c.release.new.left c.release.new.level c.release.new.order.items c.walk.invariant.levels rel;
+      levels = Levels-keep (g.A.After.refers c.args.after.now) (get_or order c.walk.head 0) (c.levels.k + 1)
+          (listed c.args.index.now (get_or order c.walk.head 0))
+          c.levels.starts.items c.walk.left c.walk.level order c.release.new.left c.release.new.level
+          c.release.new.order.items c.walk.invariant.levels rel;
       room = c.release.ensures.room;
     }
 
@@ -121,9 +128,11 @@ levels-preserved g c =
           CELLS
           (g.met.A.After.refers_below c.args.after.now)
           (frame_pending (g.A.After.formula c.args.after.now) (is_in c.args._outside.now) c.args.marks.now)
-          (frame_back (g.A.After.refers c.args.after.now) (g.A.After.formula c.args.after.now) c.args.marks.now c.requires.closed (g.met.A.After.refers_formula c.args.after.now))
+          (frame_back (g.A.After.refers c.args.after.now) (g.A.After.formula c.args.after.now) c.args.marks.now
+          c.requires.closed (g.met.A.After.refers_formula c.args.after.now))
           c.levels.head c.walk.head k c.walk.left c.walk.level c.walk.order.items s);
-      levels = rw items (Levels-more starts c.walk.order.items c.walk.level k c.levels.head c.levels.«end» j.levels count i.some i.begin t j.state.within j.state.current);
+      levels = rw items (Levels-more starts c.walk.order.items c.walk.level k c.levels.head c.levels.«end» j.levels
+          count i.some i.begin t j.state.within j.state.current);
       last = last;
       count = rw items (omega (arith, pushed, count));
       some = omega arith;
@@ -169,4 +178,5 @@ release-requires-clause-known g c = λ e.
     let lt : c.walk.head < length order = omega (arith, w, t) in
     let at = get_or_read order c.walk.head c.index-d.result.now lt c.index-d.ensures 0 in
     let b = s.queued.below (get_or order c.walk.head 0) (in-get_or order c.walk.head 0 lt) in
-    c.requires.known c.index-d.result.now e (omega (arith, at, b, c.walk.auto.left, c.levels.auto.left, c.requires.left_length))
+    c.requires.known c.index-d.result.now e
+    (omega (arith, at, b, c.walk.auto.left, c.levels.auto.left, c.requires.left_length))

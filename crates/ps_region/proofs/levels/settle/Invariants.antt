@@ -1,4 +1,4 @@
-use Rattle.std.proofs.Common.{◌≡◌, ◌≤◌, ◌<◌, ◌-◌, ◌+◌, suc, length, get_or, vec_capacity}
+use Rattle.std.proofs.Common.{◌≡◌, ◌≤◌, ◌<◌, ◌-◌, length, get_or, vec_capacity}
 use Rattle.ps_grid.specs.declared.size.TheConstants.{CELLS}
 use Rattle.ps_region.specs.Inside.Counts.{is_in}
 use Rattle.ps_region.specs.Inside.Settles.{Settling, Levels, is_frame, is_pending}
@@ -6,7 +6,8 @@ use Rattle.ps_region.proofs.levels.settle.Given as goal
 
 abbrev pub invariant-levels : goal.invariant-levels
 invariant-levels g l = record {
-  state : Settling (g.A.After.refers l.after) (is_pending (g.A.After.formula l.after) (is_in l._outside) l.marks) (is_frame (g.A.After.formula l.after) l.marks)
+  state : Settling (g.A.After.refers l.after) (is_pending (g.A.After.formula l.after) (is_in l._outside) l.marks)
+      (is_frame (g.A.After.formula l.after) l.marks)
       CELLS l.head l.head l.«end» l.k l.left l.level l.order.items;
   levels : Levels l.starts.items l.order.items l.level;
   last : l.«end» ≡ length l.order.items;
@@ -22,7 +23,8 @@ decreases-levels g l = CELLS - l.head
 
 abbrev pub invariant-walk : goal.invariant-walk
 invariant-walk g l = record {
-  state : Settling (g.A.After.refers l.after) (is_pending (g.A.After.formula l.after) (is_in l._outside) l.marks) (is_frame (g.A.After.formula l.after) l.marks)
+  state : Settling (g.A.After.refers l.after) (is_pending (g.A.After.formula l.after) (is_in l._outside) l.marks)
+      (is_frame (g.A.After.formula l.after) l.marks)
       CELLS l.initial.head l.head l.«end» l.k l.left l.level l.order.items;
   levels : Levels l.starts.items l.order.items l.level;
   room : CELLS ≤ vec_capacity l.order;

@@ -1,7 +1,5 @@
-use Rattle.std.proofs.Common.{◌≡◌, ℕ, true, false, get_or, arith, length, sym, ap, ◌∙◌}
+use Rattle.std.proofs.Common.{◌≡◌, get_or, arith, sym, ◌∙◌}
 use Rattle.std.proofs.lemmas.List.{get_or_read}
-use Rattle.ps_grid.specs.Chains.{In}
-use Rattle.ps_region.specs.Inside.Cells.{Marked}
 use Rattle.ps_region.proofs.CellListLemmas.{cleared_step, cleared_end}
 use Rattle.ps_region.proofs.TouchedLemmas.{none_left}
 use Rattle.ps_region.proofs.members.clear.Goals as goal
@@ -20,16 +18,25 @@ loop-c-preserved c =
     let at = get_or_read items i c.c-item.result c.loop-c-test.true c.c-item.is 0 in
     let place : c.index-place.result ≡ get_or items i 0 = c.index-place.ensures.index ∙ at in
     record {
-      marks = rw place (cleared_step c.loop-c.marks items i c.loop-c-test.true (omega (arith, place, c.index-place.ensures.in_grid, c.loop-c.auto.marks, c.requires.marks_length)) c.loop-c.invariant.marks);
-      fresh = rw place (cleared_step c.loop-c.fresh items i c.loop-c-test.true (omega (arith, place, c.index-place.ensures.in_grid, c.loop-c.auto.fresh, c.requires.fresh_length)) c.loop-c.invariant.fresh);
-      plain = rw place (cleared_step c.loop-c.plain items i c.loop-c-test.true (omega (arith, place, c.index-place.ensures.in_grid, c.loop-c.auto.plain, c.requires.plain_length)) c.loop-c.invariant.plain);
+      marks = rw place (cleared_step c.loop-c.marks items i c.loop-c-test.true
+          (omega (arith, place, c.index-place.ensures.in_grid, c.loop-c.auto.marks, c.requires.marks_length))
+          c.loop-c.invariant.marks);
+      fresh = rw place (cleared_step c.loop-c.fresh items i c.loop-c-test.true
+          (omega (arith, place, c.index-place.ensures.in_grid, c.loop-c.auto.fresh, c.requires.fresh_length))
+          c.loop-c.invariant.fresh);
+      plain = rw place (cleared_step c.loop-c.plain items i c.loop-c-test.true
+          (omega (arith, place, c.index-place.ensures.in_grid, c.loop-c.auto.plain, c.requires.plain_length))
+          c.loop-c.invariant.plain);
     }
 
 pub returns-clause-marked : goal.returns-clause-marked
-returns-clause-marked c = cleared_end c.loop-c.marks c.deref-c-items.result.now c.loop-c.c-index c.loop-c-test.false c.loop-c.invariant.marks
+returns-clause-marked c =
+    cleared_end c.loop-c.marks c.deref-c-items.result.now c.loop-c.c-index c.loop-c-test.false c.loop-c.invariant.marks
 
 pub returns-clause-no_fresh : goal.returns-clause-no_fresh
-returns-clause-no_fresh c = none_left c.loop-c.fresh c.deref-c-items.result.now c.loop-c.c-index c.loop-c-test.false c.loop-c.invariant.fresh
+returns-clause-no_fresh c =
+    none_left c.loop-c.fresh c.deref-c-items.result.now c.loop-c.c-index c.loop-c-test.false c.loop-c.invariant.fresh
 
 pub returns-clause-no_plain : goal.returns-clause-no_plain
-returns-clause-no_plain c = none_left c.loop-c.plain c.deref-c-items.result.now c.loop-c.c-index c.loop-c-test.false c.loop-c.invariant.plain
+returns-clause-no_plain c =
+    none_left c.loop-c.plain c.deref-c-items.result.now c.loop-c.c-index c.loop-c-test.false c.loop-c.invariant.plain

@@ -1,4 +1,4 @@
-use Rattle.std.proofs.Common.{◌≡◌, ◌≤◌, ℕ, length, take, vec_capacity}
+use Rattle.std.proofs.Common.{◌≡◌, ◌≤◌, ℕ, take, vec_capacity}
 use Rattle.ps_grid.specs.declared.size.TheConstants.{CELLS}
 use Rattle.ps_region.specs.Inside.Cells.{Marked, with_all}
 use Rattle.ps_region.specs.Inside.Counts.{counted_in}

@@ -1,4 +1,5 @@
-use Rattle.std.proofs.Common.{◌≡◌, ◌<◌, ◌+◌, ℕ, Bool, true, false, not, ◌&&◌, get_or, set, take, arith, length, refl, sym, ap, ◌∙◌, eqb}
+use Rattle.std.proofs.Common.{◌≡◌, ◌+◌, true, not, ◌&&◌, get_or, take, arith, refl}
+use Rattle.std.proofs.Common.{sym, ap, ◌∙◌, eqb}
 use Rattle.std.specs.List.{list_any}
 use Rattle.std.proofs.lemmas.List.{get_or_read, take_all}
 use Rattle.ps_region.proofs.TouchedLemmas.{noted_step, and_true}
@@ -15,9 +16,11 @@ loop-c-preserved g c =
           (omega (arith, c.index-place.ensures.in_grid, c.loop-c.auto.fresh, c.requires.fresh_length)) refl
           (λ x. c.loop-c.invariant.fresh x ∙ sym (and_true (list_any (eqb x) (take i touched)))) q
           ∙ and_true (list_any (eqb q) (take (i + 1) touched));
-      plain = noted_step (λ x. not (g.A.After.formula c.args.after.now x)) c.loop-c.plain touched i c.index-place.result (not c.is_formula.result) c.loop-c-test.true place
+      plain = noted_step (λ x. not (g.A.After.formula c.args.after.now x)) c.loop-c.plain touched i
+          c.index-place.result (not c.is_formula.result) c.loop-c-test.true place
           (omega (arith, c.index-place.ensures.in_grid, c.loop-c.auto.plain, c.requires.plain_length))
-          (ap not (c.is_formula.ensures ∙ ap (λ x. g.A.After.formula c.args.after.now x) (sym c.index-place.ensures.index)))
+          (ap not (c.is_formula.ensures
+          ∙ ap (λ x. g.A.After.formula c.args.after.now x) (sym c.index-place.ensures.index)))
           c.loop-c.invariant.plain;
     }
 
@@ -27,4 +30,5 @@ returns-clause-fresh g c = λ q. c.loop-c.invariant.fresh q
 
 pub returns-clause-plain : goal.returns-clause-plain
 returns-clause-plain g c = λ q. c.loop-c.invariant.plain q
-    ∙ ap (λ xs. list_any (eqb q) xs && not (g.A.After.formula c.args.after.now q)) (take_all c.loop-c.c-index c.args.touched.now (omega (arith, c.loop-c-test.false)))
+    ∙ ap (λ xs. list_any (eqb q) xs && not (g.A.After.formula c.args.after.now q))
+    (take_all c.loop-c.c-index c.args.touched.now (omega (arith, c.loop-c-test.false)))

@@ -1,4 +1,4 @@
-use Rattle.std.proofs.Common.{◌≡◌, ℕ, true, false, [], get_or, take, length}
+use Rattle.std.proofs.Common.{◌≡◌, ℕ, true, false, [], get_or, take}
 use Rattle.ps_region.specs.Inside.Counts.{cells_left, is_in}
 use Rattle.ps_grid.specs.declared.size.TheConstants.{CELLS}
 use Rattle.ps_region.specs.Inside.Settles.{is_pending}
@@ -6,4 +6,5 @@ use Rattle.ps_region.proofs.outside.count_outside.Given as goal
 
 abbrev pub invariant-loop-d : goal.invariant-loop-d
 invariant-loop-d g l = (q : ℕ) → get_or l.marks q false ≡ true
-    → get_or l.left q 0 ≡ cells_left (g.A.After.refers l.after) (is_pending (g.A.After.formula l.after) (is_in (take l.d-index l.outside)) l.marks) [] CELLS q
+    → get_or l.left q 0 ≡ cells_left (g.A.After.refers l.after)
+    (is_pending (g.A.After.formula l.after) (is_in (take l.d-index l.outside)) l.marks) [] CELLS q

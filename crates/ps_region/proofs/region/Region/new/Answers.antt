@@ -1,4 +1,4 @@
-use Rattle.std.proofs.Common.{◌≡◌, ℕ, false, length, arith}
+use Rattle.std.proofs.Common.{arith}
 use Rattle.ps_region.proofs.QueueStart.{Marked-none, Levels-none}
 use Rattle.ps_region.proofs.region.Region.new.Goals as goal
 
