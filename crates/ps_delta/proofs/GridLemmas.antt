@@ -1,37 +1,5 @@
 -- What a walk over a delta's entries finds: what is below a state, what is touched, what a join puts into the grid.
-use Rattle.std.proofs.Common.{
-  ◌≡◌,
-  ◌≢◌,
-  ◌⊎◌,
-  ℕ,
-  zero,
-  suc,
-  ◌+◌,
-  ◌<◌,
-  ◌≤◌,
-  false,
-  List,
-  [],
-  ◌∷◌,
-  ◌++◌,
-  length,
-  get_or,
-  set,
-  eqb,
-  refl,
-  sym,
-  ap,
-  ◌∙◌,
-  eq-eqb,
-  eqb-true,
-  arith,
-  subst,
-  inl,
-  inr,
-  ⊎_elim,
-  get_or-set_same,
-  get_or-set_other,
-}
+use Rattle.std.proofs.Common.{◌≡◌, ◌≢◌, ◌⊎◌, ℕ, zero, suc, ◌<◌, ◌≤◌, false, List, [], ◌∷◌, ◌++◌, length, get_or, set, eqb, refl, sym, ap, ◌∙◌, eq-eqb, eqb-true, arith, subst, inl, inr, ⊎_elim, get_or-set_same, get_or-set_other}
 use Rattle.std.proofs.lemmas.Bool.{cases_eq, cases_lt, or_cases, or_left, or_right}
 use Rattle.std.proofs.lemmas.List.{get_or_read, get_or_past}
 use Rattle.std.proofs.Math.Path.{fun_ext}
@@ -50,7 +18,7 @@ use Rattle.ps_delta.specs.State.{
   AreTouched,
 }
 use Rattle.ps_delta.specs.CellLaws.{joined_cell-empty, joined_cell-empty_right}
-use Rattle.ps_delta.specs.Deltas.{Entries, cells_of, state_of, raised_entries, overlaid}
+use Rattle.ps_delta.specs.Deltas.{Entries, cells_of, state_of, overlaid}
 use Rattle.ps_delta.specs.Order.{Rising, Under}
 use Rattle.ps_delta.proofs.CellLists.{Rising-push, increasing_from_rising, rising_from_increasing}
 use Rattle.ps_delta.proofs.EntryLemmas.{
@@ -141,14 +109,16 @@ touched_none s = record {
 }
 
 -- one more entry that changes nothing at its cell
+pub joined-same : (s : State) (es : Entries) (e : ℕ × CellState) → Under e.0 (cells_of es)
+    → joined_cell (s e.0) e.1 ≡ s e.0 → joined_state s (state_of (es ++ e ∷ [])) ≡ joined_state s (state_of es)
+joined-same s es e u h =
+    ap (joined_state s) (state_of-push es e u) ∙ sym (joined_state-assoc s (state_of es) (state_of (e ∷ [])))
+    ∙ joined_state-swap s (state_of es) (state_of (e ∷ [])) ∙ ap (λ f. joined_state f (state_of es)) (below_one s e h)
+
 pub touched_same : (s : State) (es : Entries) (e : ℕ × CellState) (cs : List ℕ) → Under e.0 (cells_of es)
     → joined_cell (s e.0) e.1 ≡ s e.0 → AreTouched s (joined_state s (state_of es)) cs
     → AreTouched s (joined_state s (state_of (es ++ e ∷ []))) cs
-touched_same s es e cs u h t =
-    subst (λ f. AreTouched s f cs)
-    (sym (ap (joined_state s) (state_of-push es e u) ∙ sym (joined_state-assoc s (state_of es) (state_of (e ∷ [])))
-    ∙ joined_state-swap s (state_of es) (state_of (e ∷ [])) ∙ ap (λ f. joined_state f (state_of es)) (below_one s e h)))
-    t
+touched_same s es e cs u h t = subst (λ f. AreTouched s f cs) (sym (joined-same s es e u h)) t
 
 -- the touched cells are among those of the entries
 pub touched_under : (s : State) (es : Entries) (n : ℕ) (cs : List ℕ) → Under n (cells_of es)
@@ -192,7 +162,7 @@ In-push_cases (d ∷ cs) e c h =
     (or_cases (eqb c d) (list_any (eqb c) (cs ++ e ∷ [])) h)
 
 -- what the entries with one more give at a cell
-at_last : (s : State) (es : Entries) (e : ℕ × CellState) → Under e.0 (cells_of es)
+pub at_last : (s : State) (es : Entries) (e : ℕ × CellState) → Under e.0 (cells_of es)
     → joined_state s (state_of (es ++ e ∷ [])) e.0 ≡ joined_cell (s e.0) e.1
 at_last s es e u =
     joined_state-at s (state_of (es ++ e ∷ [])) e.0
@@ -201,7 +171,7 @@ at_last s es e u =
     ∙ ap (λ x. joined_cell x (state_of (e ∷ []) e.0)) (state_of-under e.0 es e.0 u (omega arith))
     ∙ joined_cell-empty (state_of (e ∷ []) e.0) ∙ state_of-here e [] e.0 refl)
 
-at_others : (s : State) (es : Entries) (e : ℕ × CellState) (c : ℕ) → Under e.0 (cells_of es) → e.0 ≢ c
+pub at_others : (s : State) (es : Entries) (e : ℕ × CellState) (c : ℕ) → Under e.0 (cells_of es) → e.0 ≢ c
     → joined_state s (state_of (es ++ e ∷ [])) c ≡ joined_state s (state_of es) c
 at_others s es e c u p =
     joined_state-at s (state_of (es ++ e ∷ [])) c
@@ -235,32 +205,3 @@ pub overlaid-push : (s : State) (es : Entries) (e : ℕ × CellState)
     → overlaid s (es ++ e ∷ []) ≡ with_cell (overlaid s es) e.0 e.1
 overlaid-push s [] e = refl
 overlaid-push s (d ∷ es) e = overlaid-push (with_cell s d.0 d.1) es e
-
--- before all entries, what was there stays
-overlaid-rising : (s t : State) (n : ℕ) (es : Entries) (c : ℕ) → Rising n (cells_of es) → c < n
-    → overlaid t (raised_entries s es) c ≡ t c
-overlaid-rising s t n [] c r h = refl
-overlaid-rising s t n (e ∷ es) c r h =
-    overlaid-rising s (with_cell t e.0 (joined_cell (s e.0) e.1)) (e.0 + 1) es c r.1 (omega (arith, r.0, h))
-    ∙ with_cell-other t e.0 c (joined_cell (s e.0) e.1) (λ p. omega (arith, p, r.0, h))
-
--- each cell with what it has in s and in the entries, put over a state that has there what s has
-overlaid_at : (s t : State) (n : ℕ) (es : Entries) (c : ℕ) → Rising n (cells_of es) → t c ≡ s c
-    → overlaid t (raised_entries s es) c ≡ joined_cell (s c) (state_of es c)
-overlaid_at s t n [] c r h = h ∙ sym (ap (joined_cell (s c)) (state_of-under 0 [] c tt (omega arith))
-    ∙ joined_cell-empty_right (s c))
-overlaid_at s t n (e ∷ es) c r h =
-    ⊎_elim
-    (λ p. overlaid-rising s (with_cell t e.0 (joined_cell (s e.0) e.1)) (e.0 + 1) es c r.1 (omega (arith, p))
-    ∙ subst (λ b. with_cell t e.0 (joined_cell (s e.0) e.1) b ≡ joined_cell (s b) e.1) p
-    (with_cell-same t e.0 (joined_cell (s e.0) e.1))
-    ∙ ap (joined_cell (s c)) (sym (state_of-here e es c p)))
-    (λ p. overlaid_at s (with_cell t e.0 (joined_cell (s e.0) e.1)) (e.0 + 1) es c r.1
-    (with_cell-other t e.0 c (joined_cell (s e.0) e.1) p ∙ h)
-    ∙ ap (joined_cell (s c)) (sym (state_of-there e es c p)))
-    (cases_eq e.0 c)
-
-pub overlaid-raised : (s : State) (n : ℕ) (es : Entries) → Rising n (cells_of es)
-    → overlaid s (raised_entries s es) ≡ joined_state s (state_of es)
-unfolding joined_state
-overlaid-raised s n es r = fun_ext (λ c. overlaid_at s s n es c r refl)

@@ -4,5 +4,6 @@ pub mod GridLemmas
 pub mod HistoryLemmas
 pub mod MergeLemmas
 pub mod PlaceLemmas
+pub mod RaisedLemmas
 pub mod StateLemmas
 pub mod WalkLemmas

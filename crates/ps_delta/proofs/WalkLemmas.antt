@@ -1,12 +1,12 @@
 -- One step of a walk over a delta's entries, at the entry e with the index i, whose cell holds x.
 use Rattle.std.proofs.Common.{◌≡◌, ◌≢◌, ℕ, ◌+◌, ◌<◌, List, [], ◌∷◌}
 use Rattle.std.proofs.Common.{◌++◌, length, get_or, take, sym, ap, ◌∙◌, subst, arith}
-use Rattle.std.proofs.lemmas.List.{take_more, map-append}
+use Rattle.std.proofs.lemmas.List.{take_more}
 use Rattle.std.specs.List.{All}
 use Rattle.ps_grid.specs.declared.size.TheConstants.{CELLS}
 use Rattle.ps_delta.specs.declared.cell_state.CellState.{CellState}
 use Rattle.ps_delta.specs.State.{State, joined_cell, joined_state, IsBelow, AreTouched}
-use Rattle.ps_delta.specs.Deltas.{Entries, cells_of, AreInGrid, IsDelta, raised_entries, state_of}
+use Rattle.ps_delta.specs.Deltas.{Entries, cells_of, AreInGrid, IsDelta, state_of}
 use Rattle.ps_delta.specs.Order.{Rising, Under}
 use Rattle.ps_delta.proofs.CellLists.{rising_from_increasing}
 use Rattle.ps_delta.proofs.EntryLemmas.{under_entry}
@@ -51,12 +51,6 @@ module _ (s : State) (es : Entries) (i : ℕ) (e : ℕ × CellState) (x : CellSt
 
   pub walk-last : (cs : List ℕ) → AreTouched s (joined_state s (state_of (take i es))) cs → All (λ c. c < e.0) cs
   walk-last cs t k d h = touched_under s (take i es) e.0 cs walk-under t (get_or cs k d) (In-at cs k d h)
-
-  -- one more entry that is joined with what its cell holds
-  pub walk-raised : raised_entries s (take (i + 1) es) ≡ raised_entries s (take i es) ++ (e.0, joined_cell x e.1) ∷ []
-  walk-raised =
-      ap (raised_entries s) (sym so_far) ∙ map-append (λ d. (d.0, joined_cell (s d.0) d.1)) (take i es) (e ∷ [])
-      ∙ ap (λ y. raised_entries s (take i es) ++ (e.0, joined_cell y e.1) ∷ []) (sym holds)
 
 -- one more entry of the first ones
 pub more_entries : (es : Entries) (i : ℕ) (e : ℕ × CellState) → i < length es → e ≡ get_or es i e

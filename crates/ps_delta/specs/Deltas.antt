@@ -5,7 +5,7 @@ use Rattle.std.specs.List.{All}
 use Rattle.std.specs.List.Sorted.{IsStrictlyIncreasing}
 use Rattle.ps_grid.specs.declared.size.TheConstants.{CELLS}
 use Rattle.ps_delta.specs.declared.cell_state.CellState.{CellState}
-use Rattle.ps_delta.specs.State.{State, empty_cell, empty_state, joined_cell, joined_state, with_cell}
+use Rattle.ps_delta.specs.State.{State, empty_cell, empty_state, joined_state, with_cell}
 
 -- cells, each with its state
 abbrev pub Entries : Type 0
@@ -34,10 +34,6 @@ AreInGrid entries = All (λ e. e.0 < CELLS) entries
 unfoldable pub state_of : Entries → State
 state_of [] c = empty_cell
 state_of (entry ∷ rest) c = if entry.0 == c then entry.1 else state_of rest c
-
--- each cell of the entries with what it has in s and in them, joined
-abbrev pub raised_entries : State → Entries → Entries
-raised_entries s entries = map (λ e. (e.0, joined_cell (s e.0) e.1)) entries
 
 -- the state where each cell of the entries, one after another, holds what they say
 abbrev pub overlaid : State → Entries → State

@@ -2,5 +2,6 @@ pub mod CellLaws
 pub mod Deltas
 pub mod Laws
 pub mod Order
+pub mod Raised
 pub mod Room
 pub mod State

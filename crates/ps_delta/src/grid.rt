@@ -1,10 +1,12 @@
 //! The state of a sheet.
 
 ghost use Rattle.std.specs.Prelude.{◌≡◌, ◌↔◌, IsTrue, IfOk, IfErr, OnOk, OnErr, length};
+ghost use Rattle.std.specs.List.Sorted.{IsStrictlyIncreasing};
 ghost use Rattle.ps_grid.specs.declared.refusal.Refusal.{Refusal};
 ghost use Rattle.ps_delta.specs.State.{AreTouched, empty_state, IsBelow, IsInGrid, joined_cells, joined_state};
 ghost use Rattle.ps_delta.specs.State.{state_at, with_cell};
-ghost use Rattle.ps_delta.specs.Deltas.{overlaid, state_of};
+ghost use Rattle.ps_delta.specs.Deltas.{cells_of, overlaid, state_of};
+ghost use Rattle.ps_delta.specs.Raised.{HasRoomFor, IsRaised, entries_from};
 
 use crate::cell_state::CellState;
 use crate::delta::Delta;
@@ -85,8 +87,8 @@ impl Grid {
         ensures err { OnErr result (self.new ≡ self.old) }
         ensures memory { IfErr result (λ e. e ≡ Refusal.Memory) }
     {
-        let raised = self.raised(alloc, delta)?;
-        self.overlay(raised);
+        let mut raised = raised_of(alloc, self, delta)?;
+        self.exchange(&mut raised);
         Ok(())
     }
 
@@ -123,31 +125,59 @@ impl Grid {
         }
     }
 
-    /// The cells of the delta, each with what it holds here and there, joined.
-    fn raised(&self, alloc: Global, delta: &Delta) -> Result<Vec<(Cell, CellState)>, Refusal>
-        ensures ok { IfOk result (λ r. overlaid (state_at self.now) r.items
-            ≡ joined_state (state_at self.now) (state_of delta.now)) }
+    /// The cells that a join of the delta would change, ascending, each with the state that it would have. The grid has
+    /// room for them afterwards, so that `exchange` takes no memory.
+    ///
+    /// Refused only when out of memory.
+    ///
+    /// Cost: for each cell of the delta, the counts and pairs that it has here and there.
+    pub fn raised(
+        &mut self,
+        alloc: Global,
+        delta: &Delta,
+    ) -> Result<Vec<(Cell, CellState)>, Refusal>
+        ensures raised { IfOk result (λ r. IsRaised (state_at self.old) (state_of delta.now) r.items) }
+        ensures ready { IfOk result (λ r. HasRoomFor self.new r.items) }
+        ensures same { state_at self.new ≡ state_at self.old }
         ensures memory { IfErr result (λ e. e ≡ Refusal.Memory) }
     {
-        let mut raised = Vec::new(alloc);
-        let parts = delta.parts();
-        for entry in parts {
-            let mut state = self.at(entry.0).twin(alloc)?;
-            state.join(alloc, &entry.1)?;
-            raised.push((entry.0, state))?;
-        }
-        Ok(raised)
+        raised_of(alloc, self, delta)
     }
 
-    /// Puts each state of the list in its cell's place.
-    fn overlay(&mut self, cells: Vec<(Cell, CellState)>)
-        ensures { state_at self.new ≡ overlaid (state_at self.old) cells.items }
+    /// Exchanges the state of each cell of the list with that of the list.
+    ///
+    /// Cost: the number of cells; it takes no memory.
+    pub fn exchange(&mut self, cells: &mut [(Cell, CellState)])
+        requires ready { HasRoomFor self.old cells.old }
+        requires once { IsStrictlyIncreasing (cells_of cells.old) }
+        ensures given { state_at self.new ≡ overlaid (state_at self.old) cells.old }
+        ensures taken { cells.new ≡ entries_from (state_at self.old) cells.old }
+        ensures ready { HasRoomFor self.new cells.new }
     {
-        for (cell, state) in cells {
-            let mut state = state;
-            self.swap(cell, &mut state);
+        for i in 0..cells.len() {
+            let entry = &mut cells[i];
+            self.swap(entry.0, &mut entry.1);
         }
     }
+}
+
+/// The cells that a join of the delta would change in the grid, each with the state that it would have.
+fn raised_of(alloc: Global, grid: &Grid, delta: &Delta) -> Result<Vec<(Cell, CellState)>, Refusal>
+    ensures raised { IfOk result (λ r. IsRaised (state_at grid.now) (state_of delta.now) r.items) }
+    ensures ready { IfOk result (λ r. HasRoomFor grid.now r.items) }
+    ensures memory { IfErr result (λ e. e ≡ Refusal.Memory) }
+{
+    let mut raised = Vec::new(alloc);
+    let parts = delta.parts();
+    for change in parts {
+        let here = grid.at(change.0);
+        if !change.1.below(here) {
+            let mut state = here.twin(alloc)?;
+            state.join(alloc, &change.1)?;
+            raised.push((change.0, state))?;
+        }
+    }
+    Ok(raised)
 }
 
 /// A grid joined with another one: what two replicas hold, cell by cell. The states are all made before the first of

@@ -327,3 +327,37 @@ fn a_refused_join_changes_nothing(rt: HostRuntime) -> Result<(), Refusal> {
     }
     Ok(())
 }
+
+/// What is raised is listed beside the grid; an exchange puts it in and takes out what was there, and another one goes
+/// back. What is covered isn't listed, and the grid's first and last cell are as the others.
+#[test]
+fn raised_states_are_exchanged_and_back(rt: HostRuntime) -> Result<(), Refusal> {
+    let last = CELLS - 1;
+    let mut grid = Grid::new(rt.alloc())?;
+    join(
+        &rt,
+        rt.alloc(),
+        &mut grid,
+        &[(0, Added(1, 5)), (3, Assigned(1, 1, 7))],
+    )?;
+    let change = [
+        (0, Added(1, 4)),
+        (3, Assigned(2, 1, 8)),
+        (last, Assigned(1, 1, 9)),
+    ];
+    let delta = delta_of(&rt, rt.alloc(), &change)?;
+    let mut raised = grid.raised(rt.alloc(), &delta)?;
+    assert_eq!(rt; raised.len(), 2);
+    assert_eq!(rt; number_at(&grid, cell(&rt, 3)), Some(7));
+    grid.exchange(&mut raised);
+    for (index, number) in [(0, None), (3, Some(8)), (last, Some(9))] {
+        assert_eq!(rt; number_at(&grid, cell(&rt, index)), number);
+    }
+    assert!(rt; grid.covers(&delta));
+    grid.exchange(&mut raised);
+    for (index, number) in [(0, None), (3, Some(7)), (last, None)] {
+        assert_eq!(rt; number_at(&grid, cell(&rt, index)), number);
+    }
+    assert_eq!(rt; grid.at(cell(&rt, 0)).tally.value(), 5);
+    Ok(())
+}
