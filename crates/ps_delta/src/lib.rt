@@ -16,8 +16,8 @@
 //! greater content, and the counter beside it. The same delta again is covered, and touches nothing.
 //!
 //! Cost: a delta is joined, tested and touched in the number of its cells and the size of their states, never in the
-//! number of the grid's cells. A cell takes 144 bytes in the grid, so a fresh grid some 15 MB; it takes no block of its
-//! own but one for the counts of its counter and one for the pairs of its set, where it has any. Formulas are shared.
+//! number of the grid's cells. A cell takes 128 bytes in the grid, so a fresh grid some 14 MB. What a counter counts and
+//! which pairs a set has is kept beside the cell, and shared by whoever has the same, as formulas are.
 #![tactic(auto)]
 
 mod cell_state;

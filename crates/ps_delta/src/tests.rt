@@ -41,7 +41,7 @@ fn added(rt: &impl Abort, alloc: Global, replica: u8, added: u64) -> Result<Cell
     counts.push((replica, Count { added, subtracted }))?;
     Ok(CellState::from_parts(
         Register::empty(),
-        Tally::from_parts(counts).expect(rt, "counts"),
+        Tally::from_parts(alloc, counts)?.expect(rt, "counts"),
         Choice::empty(alloc),
     ))
 }
@@ -62,7 +62,7 @@ fn chosen(
     Ok(CellState::from_parts(
         Register::empty(),
         Tally::empty(alloc),
-        Choice::from_parts(pairs).expect(rt, "pairs"),
+        Choice::from_parts(alloc, pairs)?.expect(rt, "pairs"),
     ))
 }
 

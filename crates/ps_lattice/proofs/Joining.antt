@@ -7,8 +7,9 @@ use Rattle.std.specs.Cmp.{IsTotalOrder}
 use Rattle.std.specs.FinMap as map
 use Rattle.std.specs.FinMap.{IsAntisymmetric}
 use Rattle.ps_lattice.specs.Maps.{joined_maps}
+use Rattle.ps_lattice.specs.MapLaws.{IsJoin, maps_commutative}
 use Rattle.ps_lattice.proofs.Rising.{and_left, and_right, and_both}
-use Rattle.ps_lattice.proofs.Views.{from_entries_of, entries_rise}
+use Rattle.ps_lattice.proofs.Views.{entries_of, from_entries_of, entries_rise}
 use Rattle.ps_lattice.proofs.Merging.{merged, All-merged, entries-joined}
 
 module _ {K X : Type 0} (R : K → K → Ordering) (f : X → X → X) (xs ys zs : List (K × X))
@@ -37,3 +38,18 @@ module _ {K X : Type 0} (R : K → K → Ordering) (f : X → X → X) (xs ys zs
       (ap (list_all fits) (is ∙ sym (entries-joined R f o same xs ys sx sy))
       ∙ list_all-from_AllPass fits (merged R f xs ys) (All-merged R f (λ e. fits e ≡ true) keeps xs ys
       (AllPass-from_list_all fits xs ax) (AllPass-from_list_all fits ys ay)))
+
+module _ {K X : Type 0} (R : K → K → Ordering) (f : X → X → X) (xs ys : List (K × X)) where
+  -- where the second list changes nothing, the first one has the entries of the join
+  pub entries_same : map.is_sorted R xs ≡ true
+      → joined_maps f (map.from_sorted {R = R} xs) (map.from_sorted {R = R} ys) ≡ map.from_sorted xs
+      → xs ≡ map.entries (joined_maps f (map.from_sorted {R = R} xs) (map.from_sorted {R = R} ys))
+  entries_same sorted same = entries_of R xs sorted ∙ sym (ap map.entries same)
+
+  -- and where the first one changes nothing, the second one has
+  pub entries_swapped : IsTotalOrder R → IsAntisymmetric R → IsJoin f → map.is_sorted R ys ≡ true
+      → joined_maps f (map.from_sorted {R = R} ys) (map.from_sorted {R = R} xs) ≡ map.from_sorted ys
+      → ys ≡ map.entries (joined_maps f (map.from_sorted {R = R} xs) (map.from_sorted {R = R} ys))
+  entries_swapped o anti law sorted same =
+      entries_of R ys sorted ∙ ap map.entries (sym same
+      ∙ maps_commutative R f o anti law (map.from_sorted {R = R} ys) (map.from_sorted {R = R} xs))

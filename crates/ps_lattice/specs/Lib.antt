@@ -10,3 +10,4 @@ pub mod TallyLaws
 pub mod Choice
 pub mod ChoiceLaws
 pub mod JoinWords
+pub mod Inside

@@ -11,6 +11,7 @@ ghost use Rattle.ps_lattice.specs.Choice.{last_sequence, with_pair, withdrawn, j
 use crate::entries::{self, Merge};
 use crate::join::{Join, Linear};
 use crate::limits::{OPTIONS, SEQUENCES, is_replica};
+use crate::shared::{self, SharedList};
 use ps_grid::{REPLICAS, Refusal, Twin};
 use std::alloc::{AllocError, Global};
 use std::cmp::Ordering;
@@ -109,7 +110,7 @@ impl Merge for bool {
 #[derive(Debug, Drop)]
 pub struct Choice {
     // in the order of the pairs, each with whether it is removed: a removed pair stays, as a tombstone
-    pairs: Vec<(Pair, bool)>,
+    pairs: SharedList<(Pair, bool)>,
 }
 
 impl Model for Choice {
@@ -117,14 +118,15 @@ impl Model for Choice {
     ghost use Rattle.std.specs.FinMap as map;
     ghost use Rattle.ps_lattice.specs.Choice.{Pairs, is_choice};
     ghost use Rattle.ps_lattice.specs.Codes.{pairs_code};
+    ghost use Rattle.ps_lattice.specs.Inside.Shared.{items_of};
 
     ghost Value = { Pairs };
 
     ghost coded = { pairs_code };
 
-    ghost view = { λ c. map.from_sorted c.pairs.items };
+    ghost view = { λ c. map.from_sorted (items_of c.pairs) };
 
-    ghost invariant = { λ c. IsTrue (is_choice c.pairs.items) };
+    ghost invariant = { λ c. IsTrue (is_choice (items_of c.pairs)) };
 }
 
 impl Choice {
@@ -134,8 +136,10 @@ impl Choice {
     pub fn empty(alloc: Global) -> Self
         ensures { result ≡ map.empty }
     {
+        // an empty list takes none
+        let _ = alloc;
         Choice {
-            pairs: Vec::new(alloc),
+            pairs: SharedList::Empty,
         }
     }
 
@@ -155,20 +159,23 @@ impl Choice {
         ensures value { result.now ≡ map.entries self.now }
         ensures in_range { IsTrue (is_choice result.now) }
     {
-        &self.pairs
+        self.pairs.items()
     }
 
     /// The choice with these pairs: ascending and distinct, and in range.
     ///
+    /// Refused only when out of memory.
+    ///
     /// Cost: linear in the parts.
-    pub fn from_parts(parts: Vec<(Pair, bool)>) -> Option<Choice>
-        ensures { SomeIff result (IsTrue (is_choice parts.items)) (map.from_sorted parts.items) }
+    pub fn from_parts(alloc: Global, parts: Vec<(Pair, bool)>) -> Result<Option<Choice>, Refusal>
+        ensures ok { IfOk result (λ c. SomeIff c (IsTrue (is_choice parts.items)) (map.from_sorted parts.items)) }
+        ensures memory { IfErr result (λ e. e ≡ Refusal.Memory) }
     {
-        if is_choice(&parts) {
-            Some(Choice { pairs: parts })
-        } else {
-            None
+        if !is_choice(&parts) {
+            return Ok(None);
         }
+        let pairs = SharedList::new(alloc, parts)?;
+        Ok(Some(Choice { pairs }))
     }
 
     /// The options that are in: bit k for option k.
@@ -177,7 +184,7 @@ impl Choice {
     pub fn options(&self) -> u64
         ensures { (k : ℕ) → k < OPTIONS → (IsBitSet result k ↔ IsTrue (is_chosen self.now k)) }
     {
-        options_of(&self.pairs)
+        options_of(self.pairs.items())
     }
 
     /// The delta of choosing the option at the replica: one pair, whose sequence is one above the last of the
@@ -209,8 +216,7 @@ impl Choice {
             replica,
             sequence: last + 1,
         };
-        let mut pairs = Vec::new(alloc);
-        pairs.push((pair, false))?;
+        let pairs = SharedList::of_one(alloc, (pair, false))?;
         Ok(Choice { pairs })
     }
 
@@ -237,16 +243,16 @@ impl Choice {
         if !self.is_chosen(option) {
             return Err(Refusal::NotChosen);
         }
-        Ok(Choice {
-            pairs: withdrawn_of(alloc, &self.pairs, option)?,
-        })
+        let withdrawn = withdrawn_of(alloc, self.pairs.items(), option)?;
+        let pairs = SharedList::new(alloc, withdrawn)?;
+        Ok(Choice { pairs })
     }
 
     /// Whether some pair of the option isn't removed.
     fn is_chosen(&self, option: u64) -> bool
         ensures { result ≡ is_chosen self.now option }
     {
-        any_live(&self.pairs, option)
+        any_live(self.pairs.items(), option)
     }
 
     /// The greatest sequence of the replica, 0 without any.
@@ -254,7 +260,7 @@ impl Choice {
         ensures value { result ≡ last_sequence self.now replica }
         ensures in_range { result ≤ SEQUENCES }
     {
-        last_of(&self.pairs, replica)
+        last_of(self.pairs.items(), replica)
     }
 }
 
@@ -339,8 +345,10 @@ fn is_pair(entry: &(Pair, bool)) -> bool
 
 impl Twin for Choice {
     fn twin(&self, alloc: Global) -> Result<Self, Refusal> {
+        // one more owner takes no memory
+        let _ = alloc;
         Ok(Choice {
-            pairs: Vec::from_slice(alloc, &self.pairs)?,
+            pairs: self.pairs.share()?,
         })
     }
 }
@@ -358,11 +366,11 @@ impl Join for Choice {
     ghost idempotent = { choices_is_join.idempotent };
 
     fn join(&mut self, alloc: Global, other: &Self) -> Result<(), Refusal> {
-        self.pairs = entries::merge_entries(alloc, &self.pairs, &other.pairs)?;
+        self.pairs = shared::joined(alloc, &self.pairs, &other.pairs)?;
         Ok(())
     }
 
     fn below(&self, other: &Self) -> bool {
-        entries::is_below(&self.pairs, &other.pairs)
+        entries::is_below(self.pairs.items(), other.pairs.items())
     }
 }

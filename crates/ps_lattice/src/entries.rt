@@ -72,7 +72,7 @@ pub fn merge_entries<K: Linear + Copy, X: Merge>(
         (map.from_sorted {R = K.cmp} theirs.now))) }
     ensures memory { IfErr result (λ e. e ≡ Refusal.Memory) }
 {
-    let mut all = Vec::new(alloc);
+    let mut all = Vec::with_capacity(alloc, mine.len().saturating_add(theirs.len()))?;
     let (mut i, mut j) = (0, 0);
     while i < mine.len() && j < theirs.len() {
         match mine[i].0.cmp(&theirs[j].0) {

@@ -14,7 +14,9 @@
 //! Replica 1 adds 5 to an empty counter: the delta holds `(1, P = 5, N = 0)`. Replica 2 subtracts 2 from the same
 //! empty counter: `(2, P = 0, N = 2)`. Joined in either order, and again, the counter shows 3.
 //!
-//! Cost: a join is linear in both states; an empty state takes no memory.
+//! Cost: a join is linear in both states, but where the one is below the other it copies nothing: both then have the
+//! same list. So has a twin, which takes no memory, and neither does an empty state. A counter and a choice are two
+//! words each.
 #![tactic(auto)]
 
 mod choice;
@@ -23,6 +25,7 @@ mod join;
 mod laws;
 mod limits;
 mod register;
+mod shared;
 mod tally;
 #[cfg(test)]
 mod tests;

@@ -11,6 +11,7 @@ ghost use Rattle.ps_lattice.specs.Tally.{is_tally, is_count, is_amount};
 use crate::entries::{self, Merge};
 use crate::join::Join;
 use crate::limits::{AMOUNT_LIMIT, COUNT_LIMIT, is_replica};
+use crate::shared::{self, SharedList};
 use ps_grid::{REPLICAS, Refusal, Twin};
 use std::alloc::Global;
 use std::marker::Model;
@@ -68,7 +69,7 @@ impl Merge for Count {
 #[derive(Debug, Drop)]
 pub struct Tally {
     // by replica, and only replicas that changed the counter
-    counts: Vec<(u8, Count)>,
+    counts: SharedList<(u8, Count)>,
 }
 
 impl Model for Tally {
@@ -76,14 +77,15 @@ impl Model for Tally {
     ghost use Rattle.std.specs.FinMap as map;
     ghost use Rattle.ps_lattice.specs.Tally.{Counts, is_tally};
     ghost use Rattle.ps_lattice.specs.Codes.{counts_code};
+    ghost use Rattle.ps_lattice.specs.Inside.Shared.{items_of};
 
     ghost Value = { Counts };
 
     ghost coded = { counts_code };
 
-    ghost view = { λ t. map.from_sorted t.counts.items };
+    ghost view = { λ t. map.from_sorted (items_of t.counts) };
 
-    ghost invariant = { λ t. IsTrue (is_tally t.counts.items) };
+    ghost invariant = { λ t. IsTrue (is_tally (items_of t.counts)) };
 }
 
 impl Tally {
@@ -93,8 +95,10 @@ impl Tally {
     pub fn empty(alloc: Global) -> Self
         ensures { result ≡ map.empty }
     {
+        // an empty list takes none
+        let _ = alloc;
         Tally {
-            counts: Vec::new(alloc),
+            counts: SharedList::Empty,
         }
     }
 
@@ -114,20 +118,23 @@ impl Tally {
         ensures value { result.now ≡ map.entries self.now }
         ensures in_range { IsTrue (is_tally result.now) }
     {
-        &self.counts
+        self.counts.items()
     }
 
     /// The counter with these counts: replicas ascending and distinct, counts in range and not both 0.
     ///
+    /// Refused only when out of memory.
+    ///
     /// Cost: linear in the parts.
-    pub fn from_parts(parts: Vec<(u8, Count)>) -> Option<Tally>
-        ensures { SomeIff result (IsTrue (is_tally parts.items)) (map.from_sorted parts.items) }
+    pub fn from_parts(alloc: Global, parts: Vec<(u8, Count)>) -> Result<Option<Tally>, Refusal>
+        ensures ok { IfOk result (λ t. SomeIff t (IsTrue (is_tally parts.items)) (map.from_sorted parts.items)) }
+        ensures memory { IfErr result (λ e. e ≡ Refusal.Memory) }
     {
-        if is_tally(&parts) {
-            Some(Tally { counts: parts })
-        } else {
-            None
+        if !is_tally(&parts) {
+            return Ok(None);
         }
+        let counts = SharedList::new(alloc, parts)?;
+        Ok(Some(Tally { counts }))
     }
 
     /// The sum of what was added less the sum of what was subtracted.
@@ -136,7 +143,7 @@ impl Tally {
     pub fn value(&self) -> i64
         ensures { result ≡ value_of self.now }
     {
-        let (added, subtracted) = totals(&self.counts);
+        let (added, subtracted) = totals(self.counts.items());
         added as i64 - subtracted as i64
     }
 
@@ -213,7 +220,7 @@ impl Tally {
             added: 0,
             subtracted: 0,
         };
-        entries::value_at(&self.counts, replica).unwrap_or(none)
+        entries::value_at(self.counts.items(), replica).unwrap_or(none)
     }
 
     /// The counter of one replica's counts and nothing else.
@@ -222,8 +229,7 @@ impl Tally {
         ensures ok { IfOk result (λ d. d ≡ counts_of replica count.added count.subtracted) }
         ensures memory { IfErr result (λ e. e ≡ Refusal.Memory) }
     {
-        let mut counts = Vec::new(alloc);
-        counts.push((replica, count))?;
+        let counts = SharedList::of_one(alloc, (replica, count))?;
         Ok(Tally { counts })
     }
 }
@@ -277,8 +283,10 @@ fn is_amount(amount: u64) -> bool
 
 impl Twin for Tally {
     fn twin(&self, alloc: Global) -> Result<Self, Refusal> {
+        // one more owner takes no memory
+        let _ = alloc;
         Ok(Tally {
-            counts: Vec::from_slice(alloc, &self.counts)?,
+            counts: self.counts.share()?,
         })
     }
 }
@@ -296,11 +304,11 @@ impl Join for Tally {
     ghost idempotent = { tallies_is_join.idempotent };
 
     fn join(&mut self, alloc: Global, other: &Self) -> Result<(), Refusal> {
-        self.counts = entries::merge_entries(alloc, &self.counts, &other.counts)?;
+        self.counts = shared::joined(alloc, &self.counts, &other.counts)?;
         Ok(())
     }
 
     fn below(&self, other: &Self) -> bool {
-        entries::is_below(&self.counts, &other.counts)
+        entries::is_below(self.counts.items(), other.counts.items())
     }
 }

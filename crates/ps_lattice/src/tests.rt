@@ -152,7 +152,7 @@ fn a_counter_shows_sums(rt: HostRuntime) {
 }
 
 fn counter(alloc: Global, parts: &[(u8, Count)]) -> Result<Option<Tally>, Refusal> {
-    Ok(Tally::from_parts(Vec::from_slice(alloc, parts)?))
+    Tally::from_parts(alloc, Vec::from_slice(alloc, parts)?)
 }
 
 // Why adding the amount at replica 1 is refused, and why subtracting it is.
@@ -249,7 +249,7 @@ fn chosen_256_times(alloc: Global) -> Result<bool, Refusal> {
 }
 
 fn is_choice(alloc: Global, parts: &[(Pair, bool)]) -> Result<bool, Refusal> {
-    Ok(Choice::from_parts(Vec::from_slice(alloc, parts)?).is_some())
+    Ok(Choice::from_parts(alloc, Vec::from_slice(alloc, parts)?)?.is_some())
 }
 
 /// A replica has 256 sequences in a choice, over all options.
@@ -272,6 +272,26 @@ fn a_choice_has_256_sequences(rt: HostRuntime) {
         let parts = [(pair(1, 1, 1), false), (pair(second, 1, 1), is_removed)];
         assert!(rt; is_choice(alloc, &parts) == Ok(false));
     }
+}
+
+/// A twin stays what it was when the other one is joined; joined with less, a choice stays, and with more it is that.
+#[test]
+fn a_twin_is_a_value_of_its_own(rt: HostRuntime) -> Result<(), Refusal> {
+    let none = Choice::empty(rt.alloc());
+    let one = none.choose(rt.alloc(), 1, 7)?;
+    let other = none.choose(rt.alloc(), 2, 9)?;
+    let mut both = one.twin(rt.alloc())?;
+    both.join(rt.alloc(), &other)?;
+    assert_eq!(rt; one.parts().len(), 1);
+    assert_eq!(rt; both.parts().len(), 2);
+    let mut again = one.twin(rt.alloc())?;
+    again.join(rt.alloc(), &both)?;
+    both.join(rt.alloc(), &other)?;
+    both.join(rt.alloc(), &none)?;
+    assert_eq!(rt; again.parts().len(), 2);
+    assert_eq!(rt; both.parts().len(), 2);
+    assert_eq!(rt; both.options(), 640);
+    Ok(())
 }
 
 fn held(register: &Register<Letter>) -> Option<(u64, u8, u8)> {

@@ -58,7 +58,7 @@ pub(crate) fn read_tally(alloc: Global, value: &Value) -> Result<Tally, Refusal>
         → view value.now ≡ array_of (each count_value (map.entries t)) → ⊥)) }
 {
     let counts = read_entries(alloc, value)?;
-    Tally::from_parts(counts).ok_or(Refusal::Delta)
+    Tally::from_parts(alloc, counts)?.ok_or(Refusal::Delta)
 }
 
 /// A set: an array of pairs.
@@ -69,5 +69,5 @@ pub(crate) fn read_choice(alloc: Global, value: &Value) -> Result<Choice, Refusa
         → view value.now ≡ array_of (each pair_value (map.entries c)) → ⊥)) }
 {
     let pairs = read_entries(alloc, value)?;
-    Choice::from_parts(pairs).ok_or(Refusal::Delta)
+    Choice::from_parts(alloc, pairs)?.ok_or(Refusal::Delta)
 }

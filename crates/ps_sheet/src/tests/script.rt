@@ -147,7 +147,7 @@ fn tally(
     counts.push((replica, Count { added, subtracted }))?;
     Ok(CellState::from_parts(
         Register::empty(),
-        Tally::from_parts(counts).expect(rt, "counts"),
+        Tally::from_parts(alloc, counts)?.expect(rt, "counts"),
         Choice::empty(alloc),
     ))
 }
@@ -158,7 +158,7 @@ fn choice(rt: &impl Abort, alloc: Global, pair: Pair) -> Result<CellState, Refus
     Ok(CellState::from_parts(
         Register::empty(),
         Tally::empty(alloc),
-        Choice::from_parts(pairs).expect(rt, "pairs"),
+        Choice::from_parts(alloc, pairs)?.expect(rt, "pairs"),
     ))
 }
 

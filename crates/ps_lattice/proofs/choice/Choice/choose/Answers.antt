@@ -9,7 +9,7 @@ use Rattle.ps_lattice.proofs.choice.Choice.choose.Goals as goal
 
 pub returns-clause-ok : goal.returns-clause-ok
 returns-clause-ok c =
-    rw (c.in_ok-push.ensures.items, c.new-pairs.ensures.items)
+    rw c.in_ok-pairs.ensures.ok
     (seen_one pair_cmp pairs_total pairs_apart (pair_of c.args.option c.args.replica
     (c.last_sequence-last.result + 1)) false
     ∙ ap (λ n. with_pair map.empty c.args.option c.args.replica (n + 1)) c.last_sequence-last.ensures.value)

@@ -4,4 +4,4 @@ use Rattle.ps_lattice.proofs.Views.{seen_empty}
 use Rattle.ps_lattice.proofs.choice.Choice.empty.Goals as goal
 
 pub returns : goal.returns
-returns c = rw c.new.ensures.items (seen_empty pair_cmp pairs_total pairs_apart)
+returns c = seen_empty pair_cmp pairs_total pairs_apart

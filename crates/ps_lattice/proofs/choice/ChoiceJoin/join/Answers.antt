@@ -1,9 +1,8 @@
-use Rattle.std.proofs.Common.{◌||◌, ◌∙◌}
+use Rattle.std.proofs.Common.{◌||◌}
 use Rattle.ps_lattice.specs.Choice.{pair_cmp}
 use Rattle.ps_lattice.specs.ChoiceLaws.{pairs_total, pairs_apart}
-use Rattle.std.specs.FinMap as map
-use Rattle.ps_lattice.specs.Maps.{joined_maps}
 use Rattle.ps_lattice.specs.Choice.{is_pair}
+use Rattle.ps_lattice.specs.Inside.Shared.{items_of}
 use Rattle.ps_lattice.proofs.Joining.{seen_joined, in_range_joined}
 use Rattle.ps_lattice.proofs.ChoiceLemmas.{is_pair-joined}
 use Rattle.ps_lattice.proofs.choice.ChoiceJoin.join.Goals as goal
@@ -11,21 +10,17 @@ use Rattle.ps_lattice.proofs.choice.ChoiceJoin.join.Goals as goal
 -- the merged list is one of pairs
 pub invariant_of-self : goal.invariant_of-self
 invariant_of-self c =
-    let xs = c.self.inside.pairs.items in
-    let ys = c.other.inside.pairs.items in
-    let is = c.in_ok-self-inside.ensures.ok ∙ (λ i. map.entries (joined_maps ◌||◌
-    (map.from_sorted {R = pair_cmp} (c.deref.ensures.value i))
-    (map.from_sorted {R = pair_cmp} (c.deref-2.ensures.value i)))) in
-    in_range_joined pair_cmp ◌||◌ xs ys c.in_ok-self-inside.field-0.items is pairs_total pairs_apart is_pair
+    let xs = items_of c.self.inside.pairs in
+    let ys = items_of c.other.inside.pairs in
+    let is = c.in_ok-self-inside.ensures.ok in
+    in_range_joined pair_cmp ◌||◌ xs ys _ is pairs_total pairs_apart is_pair
     is_pair-joined c.self.invariant c.other.invariant
 
 -- and is seen as the join
 pub returns-clause-ok : goal.returns-clause-ok
 returns-clause-ok c =
-    let xs = c.self.inside.pairs.items in
-    let ys = c.other.inside.pairs.items in
-    let is = c.in_ok-self-inside.ensures.ok ∙ (λ i. map.entries (joined_maps ◌||◌
-    (map.from_sorted {R = pair_cmp} (c.deref.ensures.value i))
-    (map.from_sorted {R = pair_cmp} (c.deref-2.ensures.value i)))) in
-    seen_joined pair_cmp ◌||◌ xs ys c.in_ok-self-inside.field-0.items is c.args.self.now c.args.other.now
+    let xs = items_of c.self.inside.pairs in
+    let ys = items_of c.other.inside.pairs in
+    let is = c.in_ok-self-inside.ensures.ok in
+    seen_joined pair_cmp ◌||◌ xs ys _ is c.args.self.now c.args.other.now
     c.self.view_is c.other.view_is

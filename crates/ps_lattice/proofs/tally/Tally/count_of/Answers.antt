@@ -8,6 +8,7 @@ use Rattle.std.specs.List.{list_all}
 use Rattle.ps_lattice.specs.declared.tally.Count.{Count}
 use Rattle.ps_lattice.specs.declared.limits.TheConstants.{COUNT_LIMIT}
 use Rattle.ps_lattice.specs.Tally.{is_count}
+use Rattle.ps_lattice.specs.Inside.Shared.{items_of}
 use Rattle.ps_lattice.proofs.Rising.{and_left, and_right}
 use Rattle.ps_lattice.proofs.Views.{get_by_list}
 use Rattle.ps_lattice.proofs.TallyLemmas.{added-unwrap_or, subtracted-unwrap_or, found_fits}
@@ -16,7 +17,7 @@ use Rattle.ps_lattice.proofs.tally.Tally.count_of.Goals as goal
 -- what the search found, or nothing
 pub returns : goal.returns
 returns c =
-    let es = c.self.inside.counts.items in
+    let es = items_of c.self.inside.counts in
     let r = c.args.replica in
     let none : Count = record { added = 0; subtracted = 0 } in
     let sorted = and_left (map.is_sorted nat_cmp es) (list_all is_count es) c.self.invariant in
@@ -25,7 +26,7 @@ returns c =
     sym (get_by_list nat_cmp nat_cmp_total nat_cmp-IsAntisymmetric es c.args.self.now sorted c.self.view_is r) in
     let is : c.unwrap_or.result ≡ unwrap_or (map.find nat_cmp r es) none =
     c.unwrap_or.ensures ∙ ap (λ o. unwrap_or o none) (c.value_at.ensures
-    ∙ ap (λ l. map.find nat_cmp r l) c.deref.ensures.value) in
+    ∙ ap (λ l. map.find nat_cmp r l) c.items.ensures) in
     let fits = found_fits r es all in
     record {
       added = ap (λ (k : Count). k.added) is ∙ added-unwrap_or (map.find nat_cmp r es)

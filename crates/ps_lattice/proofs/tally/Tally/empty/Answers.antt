@@ -5,4 +5,4 @@ use Rattle.ps_lattice.proofs.Views.{seen_empty}
 use Rattle.ps_lattice.proofs.tally.Tally.empty.Goals as goal
 
 pub returns : goal.returns
-returns c = rw c.new.ensures.items (seen_empty nat_cmp nat_cmp_total nat_cmp-IsAntisymmetric)
+returns c = seen_empty nat_cmp nat_cmp_total nat_cmp-IsAntisymmetric

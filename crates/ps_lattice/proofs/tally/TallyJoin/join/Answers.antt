@@ -1,10 +1,8 @@
-use Rattle.std.proofs.Common.{◌∙◌}
 use Rattle.std.specs.Ordering.{nat_cmp}
 use Rattle.std.specs.Cmp.{nat_cmp_total}
-use Rattle.std.specs.FinMap as map
 use Rattle.std.specs.FinMap.{nat_cmp-IsAntisymmetric}
-use Rattle.ps_lattice.specs.Maps.{joined_maps}
 use Rattle.ps_lattice.specs.Tally.{greater_counts, is_count}
+use Rattle.ps_lattice.specs.Inside.Shared.{items_of}
 use Rattle.ps_lattice.proofs.Joining.{seen_joined, in_range_joined}
 use Rattle.ps_lattice.proofs.TallyLemmas.{is_count-joined}
 use Rattle.ps_lattice.proofs.tally.TallyJoin.join.Goals as goal
@@ -12,21 +10,17 @@ use Rattle.ps_lattice.proofs.tally.TallyJoin.join.Goals as goal
 -- the merged list is one of counts
 pub invariant_of-self : goal.invariant_of-self
 invariant_of-self c =
-    let xs = c.self.inside.counts.items in
-    let ys = c.other.inside.counts.items in
-    let is = c.in_ok-self-inside.ensures.ok ∙ (λ i. map.entries (joined_maps greater_counts
-    (map.from_sorted {R = nat_cmp} (c.deref.ensures.value i))
-    (map.from_sorted {R = nat_cmp} (c.deref-2.ensures.value i)))) in
-    in_range_joined nat_cmp greater_counts xs ys c.in_ok-self-inside.field-0.items is nat_cmp_total
+    let xs = items_of c.self.inside.counts in
+    let ys = items_of c.other.inside.counts in
+    let is = c.in_ok-self-inside.ensures.ok in
+    in_range_joined nat_cmp greater_counts xs ys _ is nat_cmp_total
     nat_cmp-IsAntisymmetric is_count is_count-joined c.self.invariant c.other.invariant
 
 -- and is seen as the join
 pub returns-clause-ok : goal.returns-clause-ok
 returns-clause-ok c =
-    let xs = c.self.inside.counts.items in
-    let ys = c.other.inside.counts.items in
-    let is = c.in_ok-self-inside.ensures.ok ∙ (λ i. map.entries (joined_maps greater_counts
-    (map.from_sorted {R = nat_cmp} (c.deref.ensures.value i))
-    (map.from_sorted {R = nat_cmp} (c.deref-2.ensures.value i)))) in
-    seen_joined nat_cmp greater_counts xs ys c.in_ok-self-inside.field-0.items is c.args.self.now c.args.other.now
+    let xs = items_of c.self.inside.counts in
+    let ys = items_of c.other.inside.counts in
+    let is = c.in_ok-self-inside.ensures.ok in
+    seen_joined nat_cmp greater_counts xs ys _ is c.args.self.now c.args.other.now
     c.self.view_is c.other.view_is

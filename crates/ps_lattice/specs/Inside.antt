@@ -1,0 +1,2 @@
+-- What the code keeps, beside what contracts see.
+pub mod Shared
