@@ -1,22 +1,12 @@
 -- What a walk over a delta's entries finds: what is below a state, what is touched, what a join puts into the grid.
-use Rattle.std.proofs.Common.{◌≡◌, ◌≢◌, ◌⊎◌, ℕ, zero, suc, ◌<◌, ◌≤◌, false, List, [], ◌∷◌, ◌++◌, length, get_or, set, eqb, refl, sym, ap, ◌∙◌, eq-eqb, eqb-true, arith, subst, inl, inr, ⊎_elim, get_or-set_same, get_or-set_other}
+use Rattle.std.proofs.Common.{◌≡◌, ◌≢◌, ◌⊎◌, ℕ, zero, suc, ◌<◌, false, List, [], ◌∷◌, ◌++◌, length}
+use Rattle.std.proofs.Common.{get_or, eqb, refl, sym, ap, ◌∙◌, eq-eqb, eqb-true, arith, subst, inl, inr, ⊎_elim}
 use Rattle.std.proofs.lemmas.Bool.{cases_eq, cases_lt, or_cases, or_left, or_right}
-use Rattle.std.proofs.lemmas.List.{get_or_read, get_or_past}
 use Rattle.std.proofs.Math.Path.{fun_ext}
-use Rattle.std.specs.List.{list_any, All}
+use Rattle.std.specs.List.{list_any}
 use Rattle.ps_delta.specs.declared.cell_state.CellState.{CellState}
 use Rattle.ps_grid.specs.Chains.{In}
-use Rattle.ps_delta.specs.State.{
-  State,
-  empty_cell,
-  empty_state,
-  joined_cell,
-  joined_state,
-  with_cell,
-  IsBelow,
-  state_at,
-  AreTouched,
-}
+use Rattle.ps_delta.specs.State.{State, joined_cell, joined_state, with_cell, IsBelow, AreTouched}
 use Rattle.ps_delta.specs.CellLaws.{joined_cell-empty, joined_cell-empty_right}
 use Rattle.ps_delta.specs.Deltas.{Entries, cells_of, state_of, overlaid}
 use Rattle.ps_delta.specs.Order.{Rising, Under}
@@ -29,44 +19,8 @@ use Rattle.ps_delta.proofs.EntryLemmas.{
   state_of-nil,
   state_of-at,
 }
-use Rattle.ps_delta.proofs.StateLemmas.{
-  joined_state-at,
-  joined_state-assoc,
-  joined_state-swap,
-  joined_state-empty_right,
-  with_cell-same,
-  with_cell-other,
-}
-
--- what a list of cell states holds
-pub state_at-read : (cells : List CellState) (c : ℕ) (x : CellState) → c < length cells → x ≡ get_or cells c x
-    → x ≡ state_at cells c
-unfolding state_at
-state_at-read cells c x h is = get_or_read cells c x h is empty_cell
-
-pub state_at-past : (cells : List CellState) (c : ℕ) → length cells ≤ c → state_at cells c ≡ empty_cell
-unfolding state_at
-state_at-past cells c h = get_or_past cells c empty_cell h
-
-set_at : (cells : List CellState) (cell c : ℕ) (x : CellState) → cell < length cells → (cell ≡ c) ⊎ (cell ≢ c)
-    → state_at (set cells cell x) c ≡ with_cell (state_at cells) cell x c
-unfolding state_at
-set_at cells cell c x h (inl p) =
-    subst (λ b. get_or (set cells cell x) b empty_cell ≡ with_cell (state_at cells) cell x b) p
-    (get_or-set_same cells cell x empty_cell h ∙ sym (with_cell-same (state_at cells) cell x))
-set_at cells cell c x h (inr p) =
-    get_or-set_other cells cell c x empty_cell (λ q. p (sym q)) ∙ sym (with_cell-other (state_at cells) cell c x p)
-
-pub state_at-set : (cells : List CellState) (cell : ℕ) (x : CellState) → cell < length cells
-    → state_at (set cells cell x) ≡ with_cell (state_at cells) cell x
-state_at-set cells cell x h = fun_ext (λ c. set_at cells cell c x h (cases_eq cell c))
-
--- cell states that are all empty
-pub state_at-empty : (cells : List CellState) → All (λ x. x ≡ empty_cell) cells → state_at cells ≡ empty_state
-unfolding state_at empty_state
-state_at-empty cells empty =
-    fun_ext (λ c. ⊎_elim (λ h. empty c empty_cell h) (λ h. get_or_past cells c empty_cell h)
-    (cases_lt c (length cells)))
+use Rattle.ps_delta.proofs.StateLemmas.{joined_state-at, joined_state-assoc}
+use Rattle.ps_delta.proofs.StateLemmas.{joined_state-swap, joined_state-empty_right}
 
 -- nothing is below every state
 pub below_none : (s : State) → IsBelow (state_of []) s

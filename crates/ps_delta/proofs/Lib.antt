@@ -1,3 +1,4 @@
+pub mod BlockLemmas
 pub mod CellLists
 pub mod EntryLemmas
 pub mod GridLemmas

@@ -1,13 +1,15 @@
 -- What a walk over a delta's entries lists, and an exchange of states one by one.
-use Rattle.std.proofs.Common.{◌≡◌, ◌≢◌, ◌⊎◌, ℕ, zero, suc, ◌+◌, ◌<◌, ◌≤◌, Bool, true, false, List, [], ◌∷◌, ◌++◌}
-use Rattle.std.proofs.Common.{length, get_or, take, set, add-one, refl, sym, ap, ◌∙◌, subst, arith, true≢false, inl, inr}
+use Rattle.std.proofs.Common.{◌≡◌, ◌≢◌, ◌⊎◌, ℕ, zero, suc, ◌+◌, ◌<◌, ◌≤◌, Bool, true, false, [], ◌∷◌, ◌++◌}
+use Rattle.std.proofs.Common.{All, length, get_or, take, set, add-one, refl, sym}
+use Rattle.std.proofs.Common.{ap, ◌∙◌, subst, arith, true≢false, inl, inr}
 use Rattle.std.proofs.lemmas.Bool.{cases_eq}
+use Rattle.std.proofs.lemmas.List.Elements.{All-push}
 use Rattle.std.proofs.lemmas.List.{map-append}
 use Rattle.std.proofs.Math.Path.{fun_ext}
 use Rattle.std.specs.List.Sorted.{IsStrictlyIncreasing}
 use Rattle.ps_grid.specs.declared.size.TheConstants.{CELLS}
 use Rattle.ps_delta.specs.declared.cell_state.CellState.{CellState}
-use Rattle.ps_delta.specs.State.{State, AreTouched, joined_cell, joined_state, with_cell}
+use Rattle.ps_delta.specs.State.{AreTouched, Blocks, HasPlace, State, joined_cell, joined_state, with_cell}
 use Rattle.ps_delta.specs.Deltas.{AreInGrid, Entries, IsDelta, cells_of, overlaid, state_of}
 use Rattle.ps_delta.specs.Order.{Under}
 use Rattle.ps_delta.specs.Raised.{HasRoomFor, IsRaised, entries_from}
@@ -157,17 +159,37 @@ exchange-step s t t2 es cells i e x once within is so_far listed given taken =
     )
 
 -- other states at the same cells
-in_grid-from : (s : State) (es : Entries) → AreInGrid es → AreInGrid (entries_from s es)
-in_grid-from s [] g k d h = absurd (omega (arith, h))
-in_grid-from s (e ∷ es) g zero d h = g zero e (omega arith)
-in_grid-from s (e ∷ es) g (suc i) d h =
-    in_grid-from s es (λ j b m. g (suc j) b (omega (arith, m))) i d (omega (arith, h))
+places_from : (blocks : Blocks) (s : State) (es : Entries) → All (λ e. HasPlace blocks e.0) es
+    → All (λ e. HasPlace blocks e.0) (entries_from s es)
+places_from blocks s [] g k d h = absurd (omega (arith, h))
+places_from blocks s (e ∷ es) g zero d h = g zero e (omega arith)
+places_from blocks s (e ∷ es) g (suc i) d h =
+    places_from blocks s es (λ j b m. g (suc j) b (omega (arith, m))) i d (omega (arith, h))
 
-pub room_after : (xs ys : List CellState) (s : State) (es cells : Entries) → HasRoomFor xs es
-    → cells ≡ entries_from s es → HasRoomFor ys cells
+pub room_after : (blocks : Blocks) (s : State) (es cells : Entries) → HasRoomFor blocks es → cells ≡ entries_from s es
+    → HasRoomFor blocks cells
 unfolding HasRoomFor
-room_after xs ys s es cells room is = subst AreInGrid (sym is) (in_grid-from s es room)
+room_after blocks s es cells room is =
+    subst (λ l. All (λ e. HasPlace blocks e.0) l) (sym is) (places_from blocks s es room)
 
-pub room_for_raised : (xs : List CellState) (s d : State) (cells : Entries) → Listed s d cells → HasRoomFor xs cells
+pub room_kept : (xs ys : Blocks) (es : Entries) → ((c : ℕ) → HasPlace xs c → HasPlace ys c) → HasRoomFor xs es
+    → HasRoomFor ys es
 unfolding HasRoomFor
-room_for_raised xs s d cells l = l.in_grid
+room_kept xs ys es keeps room k d h = keeps (get_or es k d).0 (room k d h)
+
+pub room_none : (blocks : Blocks) → HasRoomFor blocks []
+unfolding HasRoomFor
+room_none blocks k d h = absurd (omega (arith, h))
+
+pub room_more : (blocks : Blocks) (es : Entries) (i : ℕ) (e : ℕ × CellState) → i < length es → e ≡ get_or es i e
+    → HasRoomFor blocks (take i es) → HasPlace blocks e.0 → HasRoomFor blocks (take (i + 1) es)
+unfolding HasRoomFor
+room_more blocks es i e within is room place =
+    subst (λ l. All (λ d. HasPlace blocks d.0) l) (more_entries es i e within is)
+    (All-push (λ d. HasPlace blocks d.0) (take i es) e room place)
+
+pub place_there : (blocks : Blocks) (s : State) (es cells : Entries) (i : ℕ) (d : ℕ × CellState)
+    → HasRoomFor blocks es → i < length es → cells ≡ swapped s i es → HasPlace blocks (get_or cells i d).0
+unfolding HasRoomFor
+place_there blocks s es cells i d room within listed =
+    subst (λ e. HasPlace blocks e.0) (sym (ap (λ cs. get_or cs i d) listed ∙ swapped-at s i es d)) (room i d within)

@@ -16,8 +16,9 @@ use Rattle.ps_lattice.specs.Choice.{Pairs, joined_choices, pair_cmp}
 use Rattle.ps_lattice.specs.ChoiceLaws.{choices_is_join, pairs_total, pairs_apart}
 use Rattle.ps_content.specs.Order.{content_cmp}
 use Rattle.ps_content.specs.OrderLaws.{content_cmp-total, content_cmp-IsAntisymmetric}
+use Rattle.ps_delta.specs.Places.{joined_places}
 use Rattle.ps_delta.specs.declared.cell_state.CellState.{CellState}
-use Rattle.ps_delta.specs.State.{empty_cell, joined_cell, joined_cells}
+use Rattle.ps_delta.specs.State.{Blocks, empty_cell, joined_blocks, joined_cell, joined_cells}
 
 -- cell states with equal parts are equal
 pub by_parts : {s t : CellState} → s.register ≡ t.register → s.tally ≡ t.tally → s.choice ≡ t.choice → s ≡ t
@@ -87,22 +88,44 @@ pub joined_cell-choice : (s t : CellState) → (joined_cell s t).choice ≡ join
 unfolding joined_cell
 joined_cell-choice s t = refl
 
+-- lists joined place by place have the laws of their items
+module _ {X : Type 0} (f : X → X → X) where
+  places-comm : ((x y : X) → f x y ≡ f y x) → (xs ys : List X) → joined_places f xs ys ≡ joined_places f ys xs
+  unfolding joined_places
+  places-comm law [] [] = refl
+  places-comm law [] (y ∷ ys) = refl
+  places-comm law (x ∷ xs) [] = refl
+  places-comm law (x ∷ xs) (y ∷ ys) = λ i. law x y i ∷ places-comm law xs ys i
+
+  places-assoc : ((x y z : X) → f (f x y) z ≡ f x (f y z)) → (xs ys zs : List X)
+      → joined_places f (joined_places f xs ys) zs ≡ joined_places f xs (joined_places f ys zs)
+  unfolding joined_places
+  places-assoc law [] ys zs = refl
+  places-assoc law (x ∷ xs) [] zs = refl
+  places-assoc law (x ∷ xs) (y ∷ ys) [] = refl
+  places-assoc law (x ∷ xs) (y ∷ ys) (z ∷ zs) = λ i. law x y z i ∷ places-assoc law xs ys zs i
+
+  places-idem : ((x : X) → f x x ≡ x) → (xs : List X) → joined_places f xs xs ≡ xs
+  unfolding joined_places
+  places-idem law [] = refl
+  places-idem law (x ∷ xs) = λ i. law x i ∷ places-idem law xs i
+
 pub joined_cells-comm : (xs ys : List CellState) → joined_cells xs ys ≡ joined_cells ys xs
-unfolding joined_cells
-joined_cells-comm [] [] = refl
-joined_cells-comm [] (y ∷ ys) = refl
-joined_cells-comm (x ∷ xs) [] = refl
-joined_cells-comm (x ∷ xs) (y ∷ ys) = λ i. joined_cell-comm x y i ∷ joined_cells-comm xs ys i
+joined_cells-comm = places-comm joined_cell joined_cell-comm
 
 pub joined_cells-assoc : (xs ys zs : List CellState) → joined_cells (joined_cells xs ys) zs
     ≡ joined_cells xs (joined_cells ys zs)
-unfolding joined_cells
-joined_cells-assoc [] ys zs = refl
-joined_cells-assoc (x ∷ xs) [] zs = refl
-joined_cells-assoc (x ∷ xs) (y ∷ ys) [] = refl
-joined_cells-assoc (x ∷ xs) (y ∷ ys) (z ∷ zs) = λ i. joined_cell-assoc x y z i ∷ joined_cells-assoc xs ys zs i
+joined_cells-assoc = places-assoc joined_cell joined_cell-assoc
 
 pub joined_cells-idem : (xs : List CellState) → joined_cells xs xs ≡ xs
-unfolding joined_cells
-joined_cells-idem [] = refl
-joined_cells-idem (x ∷ xs) = λ i. joined_cell-idem x i ∷ joined_cells-idem xs i
+joined_cells-idem = places-idem joined_cell joined_cell-idem
+
+pub joined_blocks-comm : (xs ys : Blocks) → joined_blocks xs ys ≡ joined_blocks ys xs
+joined_blocks-comm = places-comm joined_cells joined_cells-comm
+
+pub joined_blocks-assoc : (xs ys zs : Blocks) → joined_blocks (joined_blocks xs ys) zs
+    ≡ joined_blocks xs (joined_blocks ys zs)
+joined_blocks-assoc = places-assoc joined_cells joined_cells-assoc
+
+pub joined_blocks-idem : (xs : Blocks) → joined_blocks xs xs ≡ xs
+joined_blocks-idem = places-idem joined_cells joined_cells-idem

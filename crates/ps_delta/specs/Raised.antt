@@ -1,9 +1,9 @@
 -- What a join of a delta would change: cells in order, each with the state that it would have.
-use Rattle.std.specs.Prelude.{◌≡◌, ◌↔◌, ℕ, List, map}
+use Rattle.std.specs.Prelude.{◌≡◌, ◌↔◌, ℕ, map}
+use Rattle.std.specs.List.{All}
 use Rattle.std.specs.List.Sorted.{IsStrictlyIncreasing}
 use Rattle.ps_grid.specs.Chains.{In}
-use Rattle.ps_delta.specs.declared.cell_state.CellState.{CellState}
-use Rattle.ps_delta.specs.State.{State, joined_state}
+use Rattle.ps_delta.specs.State.{Blocks, HasPlace, State, joined_state}
 use Rattle.ps_delta.specs.Deltas.{AreInGrid, Entries, cells_of, overlaid}
 
 -- exactly the cells at which two states differ, in order, each with what it holds in the second one
@@ -21,6 +21,6 @@ IsRaised s d cells = AreChanges s (joined_state s d) cells
 abbrev pub entries_from : State → Entries → Entries
 entries_from s entries = map (λ e. (e.0, s e.0)) entries
 
--- the grid with these states has a place for each cell of the entries
-unfoldable pub HasRoomFor : List CellState → Entries → Type 0
-HasRoomFor states entries = AreInGrid entries
+-- the grid with these blocks has a place for each cell of the entries
+unfoldable pub HasRoomFor : Blocks → Entries → Type 0
+HasRoomFor blocks entries = All (λ e. HasPlace blocks e.0) entries

@@ -1,5 +1,6 @@
 -- A state gives each cell a register, a counter and a set. States are joined cell by cell.
-use Rattle.std.specs.Prelude.{◌≡◌, ◌≢◌, ◌≤◌, ℕ, ◌==◌, if◌then◌else◌, List, [], ◌∷◌, slice_index_or, None}
+use Rattle.std.specs.Prelude.{◌≡◌, ◌≢◌, ◌<◌, ◌≤◌, ℕ, ◌/◌, ◌%◌}
+use Rattle.std.specs.Prelude.{◌==◌, if◌then◌else◌, List, [], length, slice_index_or, None}
 use Rattle.std.specs.List.Sorted.{IsStrictlyIncreasing}
 use Rattle.std.specs.FinMap as map
 use Rattle.ps_grid.specs.declared.size.TheConstants.{CELLS}
@@ -8,6 +9,8 @@ use Rattle.ps_lattice.specs.Register.{joined_registers}
 use Rattle.ps_lattice.specs.Tally.{joined_tallies}
 use Rattle.ps_lattice.specs.Choice.{joined_choices}
 use Rattle.ps_content.specs.Order.{content_cmp}
+use Rattle.ps_delta.specs.declared.block.TheConstants.{BLOCK}
+use Rattle.ps_delta.specs.Places.{joined_places}
 use Rattle.ps_delta.specs.declared.cell_state.CellState.{CellState}
 
 -- no register, no counts and no pairs
@@ -46,15 +49,24 @@ with_cell s cell x c = if cell == c then x else s c
 abbrev pub IsInGrid : State → Type 0
 IsInGrid s = (c : ℕ) → CELLS ≤ c → s c ≡ empty_cell
 
--- what the cells of a list hold, each at its index, and nothing past its end
-unfoldable pub state_at : List CellState → State
-state_at cells c = slice_index_or cells c empty_cell
+-- cell states in blocks, row by row; a block may be cut short, and what is cut off is empty
+abbrev pub Blocks : Type 0
+Blocks = List (List CellState)
 
--- two lists of cell states joined, place by place; past the end of one of them the other one's stay
-unfoldable pub joined_cells : List CellState → List CellState → List CellState
-joined_cells [] ys = ys
-joined_cells (x ∷ xs) [] = x ∷ xs
-joined_cells (x ∷ xs) (y ∷ ys) = joined_cell x y ∷ joined_cells xs ys
+-- what the cells of the blocks hold
+unfoldable pub state_at : Blocks → State
+state_at blocks c = slice_index_or (slice_index_or blocks (c / BLOCK) []) (c % BLOCK) empty_cell
+
+-- the cell's block reaches to its cell
+abbrev pub HasPlace : Blocks → ℕ → Type 0
+HasPlace blocks c = c % BLOCK < length (slice_index_or blocks (c / BLOCK) [])
+
+-- two blocks joined, and two lists of blocks
+abbrev pub joined_cells : List CellState → List CellState → List CellState
+joined_cells = joined_places joined_cell
+
+abbrev pub joined_blocks : Blocks → Blocks → Blocks
+joined_blocks = joined_places joined_cells
 
 -- the list has exactly the cells at which two states differ, in order
 pub record AreTouched (before after : State) (cells : List ℕ) : Type 0 where

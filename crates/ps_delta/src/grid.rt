@@ -1,43 +1,50 @@
 //! The state of a sheet.
 
-ghost use Rattle.std.specs.Prelude.{◌≡◌, ◌↔◌, IsTrue, IfOk, IfErr, OnOk, OnErr, length};
+ghost use Rattle.std.specs.Prelude.{◌≡◌, ◌↔◌, ℕ, IsTrue, IfOk, IfErr, OnOk, OnErr};
 ghost use Rattle.std.specs.List.Sorted.{IsStrictlyIncreasing};
 ghost use Rattle.ps_grid.specs.declared.refusal.Refusal.{Refusal};
-ghost use Rattle.ps_delta.specs.State.{AreTouched, empty_state, IsBelow, IsInGrid, joined_cells, joined_state};
+ghost use Rattle.ps_delta.specs.State.{AreTouched, empty_state, HasPlace, IsBelow};
+ghost use Rattle.ps_delta.specs.State.{IsInGrid, joined_blocks, joined_state};
 ghost use Rattle.ps_delta.specs.State.{state_at, with_cell};
 ghost use Rattle.ps_delta.specs.Deltas.{cells_of, overlaid, state_of};
 ghost use Rattle.ps_delta.specs.Raised.{HasRoomFor, IsRaised, entries_from};
 
+use crate::block::{BLOCK, Block};
 use crate::cell_state::CellState;
 use crate::delta::Delta;
+use crate::places;
 use crate::touched::Touched;
 use ps_grid::{CELLS, Cell, Refusal, Twin};
 use ps_lattice::Join;
 use std::alloc::Global;
 use std::marker::Model;
-use std::mem;
 
-/// What each cell of the grid holds. A contract sees it as the list of the cell states, and speaks of it by `state_at`.
+/// How many blocks the grid has.
+const BLOCKS: usize = CELLS / BLOCK;
+
+/// What each cell of the grid holds. A contract sees it as the list of its blocks, and speaks of it by `state_at`.
 #[derive(Drop)]
 pub struct Grid {
-    // One for each cell, at its index.
-    cells: Vec<CellState>,
+    // The cells by their index, 64 a block; a block has no state until one of its cells is written.
+    blocks: Vec<Block>,
+    // What is lent for a cell of which no block has a state.
+    empty: CellState,
 }
 
 impl Model for Grid {
-    ghost use Rattle.std.specs.Prelude.{◌≡◌, List, length};
-    ghost use Rattle.ps_grid.specs.declared.size.TheConstants.{CELLS};
-    ghost use Rattle.ps_delta.specs.declared.cell_state.CellState.{CellState};
+    ghost use Rattle.std.specs.Prelude.{◌≡◌, length};
+    ghost use Rattle.ps_delta.specs.State.{Blocks, empty_cell};
+    ghost use Rattle.ps_delta.specs.declared.grid.TheConstants.{BLOCKS};
     ghost use Rattle.ps_delta.specs.contracts.cell_state.CellState as cell_state;
     ghost use Rattle.std.specs.Coded.{codes};
 
-    ghost Value = { List CellState };
+    ghost Value = { Blocks };
 
     ghost coded = { Prim.hlevel (codes, cell_state.the_row.coded) };
 
-    ghost view = { λ g. g.cells.items };
+    ghost view = { λ g. g.blocks.items };
 
-    ghost invariant = { λ g. length g.cells.items ≡ CELLS };
+    ghost invariant = { λ g. (length g.blocks.items ≡ BLOCKS) × (g.empty ≡ empty_cell) };
 }
 
 impl Grid {
@@ -45,16 +52,17 @@ impl Grid {
     ///
     /// Refused only when out of memory.
     ///
-    /// Cost: the cells of the grid.
+    /// Cost: the blocks of the grid.
     pub fn new(alloc: Global) -> Result<Grid, Refusal>
         ensures empty { IfOk result (λ g. state_at g ≡ empty_state) }
         ensures memory { IfErr result (λ e. e ≡ Refusal.Memory) }
     {
-        let mut cells = Vec::with_capacity(alloc, CELLS)?;
-        for _ in 0..CELLS {
-            cells.push(CellState::empty(alloc))?;
+        let mut blocks = Vec::with_capacity(alloc, BLOCKS)?;
+        for _ in 0..BLOCKS {
+            blocks.push(Block::new(alloc))?;
         }
-        Ok(Grid { cells })
+        let empty = CellState::empty(alloc);
+        Ok(Grid { blocks, empty })
     }
 
     /// What the cell holds.
@@ -64,30 +72,21 @@ impl Grid {
         ensures value { result.now ≡ state_at self.now cell }
         ensures in_grid { IsInGrid (state_at self.now) }
     {
-        &self.cells[cell.index()]
-    }
-
-    /// Exchanges what the cell holds with the given state.
-    ///
-    /// Cost: constant; it takes no memory.
-    pub fn swap(&mut self, cell: Cell, state: &mut CellState)
-        ensures given { state_at self.new ≡ with_cell (state_at self.old) cell state.old }
-        ensures taken { state.new ≡ state_at self.old cell }
-    {
-        mem::swap(&mut self.cells[cell.index()], state);
+        let index = cell.index();
+        self.blocks[index / BLOCK].at(index % BLOCK, &self.empty)
     }
 
     /// Joins the delta into the grid.
     ///
-    /// Refused only when out of memory, and then nothing is changed.
+    /// Refused only when out of memory, and then each cell holds what it held.
     ///
     /// Cost: for each cell of the delta, the counts and pairs that it has here and there.
     pub fn join(&mut self, alloc: Global, delta: &Delta) -> Result<(), Refusal>
         ensures ok { OnOk result (state_at self.new ≡ joined_state (state_at self.old) (state_of delta.now)) }
-        ensures err { OnErr result (self.new ≡ self.old) }
+        ensures err { OnErr result (state_at self.new ≡ state_at self.old) }
         ensures memory { IfErr result (λ e. e ≡ Refusal.Memory) }
     {
-        let mut raised = raised_of(alloc, self, delta)?;
+        let mut raised = self.raised(alloc, delta)?;
         self.exchange(&mut raised);
         Ok(())
     }
@@ -130,7 +129,8 @@ impl Grid {
     ///
     /// Refused only when out of memory.
     ///
-    /// Cost: for each cell of the delta, the counts and pairs that it has here and there.
+    /// Cost: for each cell of the delta, the counts and pairs that it has here and there; and 64 states for each block
+    /// that is made.
     pub fn raised(
         &mut self,
         alloc: Global,
@@ -141,7 +141,9 @@ impl Grid {
         ensures same { state_at self.new ≡ state_at self.old }
         ensures memory { IfErr result (λ e. e ≡ Refusal.Memory) }
     {
-        raised_of(alloc, self, delta)
+        let raised = raised_of(alloc, self, delta)?;
+        self.make_places(alloc, &raised)?;
+        Ok(raised)
     }
 
     /// Exchanges the state of each cell of the list with that of the list.
@@ -159,12 +161,44 @@ impl Grid {
             self.swap(entry.0, &mut entry.1);
         }
     }
+
+    /// Exchanges what the cell holds with the given state.
+    fn swap(&mut self, cell: Cell, state: &mut CellState)
+        requires { HasPlace self.old cell }
+        ensures given { state_at self.new ≡ with_cell (state_at self.old) cell state.old }
+        ensures taken { state.new ≡ state_at self.old cell }
+        ensures places { (c : ℕ) → HasPlace self.old c → HasPlace self.new c }
+    {
+        let index = cell.index();
+        self.blocks[index / BLOCK].swap(index % BLOCK, state);
+    }
+
+    /// Makes the blocks of the cells, where they aren't there.
+    fn make_places(&mut self, alloc: Global, cells: &[(Cell, CellState)]) -> Result<(), Refusal>
+        ensures same { state_at self.new ≡ state_at self.old }
+        ensures ready { OnOk result (HasRoomFor self.new cells.now) }
+        ensures memory { IfErr result (λ e. e ≡ Refusal.Memory) }
+    {
+        for entry in cells {
+            self.make_place(alloc, entry.0)?;
+        }
+        Ok(())
+    }
+
+    /// Makes the block of the cell, where it isn't there.
+    fn make_place(&mut self, alloc: Global, cell: Cell) -> Result<(), Refusal>
+        ensures same { state_at self.new ≡ state_at self.old }
+        ensures places { (c : ℕ) → HasPlace self.old c → HasPlace self.new c }
+        ensures place { OnOk result (HasPlace self.new cell) }
+        ensures memory { IfErr result (λ e. e ≡ Refusal.Memory) }
+    {
+        self.blocks[cell.index() / BLOCK].fill(alloc)
+    }
 }
 
 /// The cells that a join of the delta would change in the grid, each with the state that it would have.
 fn raised_of(alloc: Global, grid: &Grid, delta: &Delta) -> Result<Vec<(Cell, CellState)>, Refusal>
     ensures raised { IfOk result (λ r. IsRaised (state_at grid.now) (state_of delta.now) r.items) }
-    ensures ready { IfOk result (λ r. HasRoomFor grid.now r.items) }
     ensures memory { IfErr result (λ e. e ≡ Refusal.Memory) }
 {
     let mut raised = Vec::new(alloc);
@@ -180,63 +214,32 @@ fn raised_of(alloc: Global, grid: &Grid, delta: &Delta) -> Result<Vec<(Cell, Cel
     Ok(raised)
 }
 
-/// A grid joined with another one: what two replicas hold, cell by cell. The states are all made before the first of
-/// them takes its place, so a join that is refused changes nothing.
+/// A grid joined with another one: what two replicas hold, cell by cell. A block that was made counts as different from
+/// one that wasn't, whatever the cells hold. The blocks are all made before they take their places, so a join that is
+/// refused changes nothing.
 impl Join for Grid {
-    ghost use Rattle.ps_delta.specs.State.{joined_cells};
-    ghost use Rattle.ps_delta.specs.CellLaws.{joined_cells-comm, joined_cells-assoc, joined_cells-idem};
+    ghost use Rattle.ps_delta.specs.State.{joined_blocks};
+    ghost use Rattle.ps_delta.specs.CellLaws.{joined_blocks-comm, joined_blocks-assoc, joined_blocks-idem};
 
-    ghost joined = { joined_cells };
+    ghost joined = { joined_blocks };
 
     fn join(&mut self, alloc: Global, other: &Grid) -> Result<(), Refusal>
-        ensures ok { OnOk result (self.new ≡ joined_cells self.old other.now) }
+        ensures ok { OnOk result (self.new ≡ joined_blocks self.old other.now) }
         ensures cells { OnOk result (state_at self.new ≡ joined_state (state_at self.old) (state_at other.now)) }
         ensures err { OnErr result (self.new ≡ self.old) }
         ensures memory { IfErr result (λ e. e ≡ Refusal.Memory) }
     {
-        self.cells = joined(alloc, &self.cells, &other.cells)?;
+        self.blocks = places::joined(alloc, &self.blocks, &other.blocks)?;
         Ok(())
     }
 
     fn below(&self, other: &Grid) -> bool {
-        are_below(&self.cells, &other.cells)
+        places::are_below(&self.blocks, &other.blocks)
     }
 
-    ghost associative = { joined_cells-assoc };
+    ghost associative = { joined_blocks-assoc };
 
-    ghost commutative = { joined_cells-comm };
+    ghost commutative = { joined_blocks-comm };
 
-    ghost idempotent = { joined_cells-idem };
-}
-
-/// The states of both lists, joined place by place.
-fn joined(
-    alloc: Global,
-    mine: &[CellState],
-    theirs: &[CellState],
-) -> Result<Vec<CellState>, Refusal>
-    requires { length mine.now ≡ length theirs.now }
-    ensures ok { IfOk result (λ v. v.items ≡ joined_cells mine.now theirs.now) }
-    ensures memory { IfErr result (λ e. e ≡ Refusal.Memory) }
-{
-    let mut all = Vec::with_capacity(alloc, mine.len())?;
-    for (i, state) in mine.iter().enumerate() {
-        let mut both = state.twin(alloc)?;
-        both.join(alloc, &theirs[i])?;
-        all.push(both)?;
-    }
-    Ok(all)
-}
-
-/// Whether each state of the first list is below that at its place in the second one.
-fn are_below(mine: &[CellState], theirs: &[CellState]) -> bool
-    requires { length mine.now ≡ length theirs.now }
-    ensures { IsTrue result ↔ (joined_cells theirs.now mine.now ≡ theirs.now) }
-{
-    for (i, state) in mine.iter().enumerate() {
-        if !state.below(&theirs[i]) {
-            return false;
-        }
-    }
-    true
+    ghost idempotent = { joined_blocks-idem };
 }

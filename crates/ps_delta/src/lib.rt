@@ -16,14 +16,17 @@
 //! greater content, and the counter beside it. The same delta again is covered, and touches nothing.
 //!
 //! Cost: a delta is joined, tested and touched in the number of its cells and the size of their states, never in the
-//! number of the grid's cells. A cell takes 128 bytes in the grid, so a fresh grid some 14 MB. What a counter counts and
-//! which pairs a set has is kept beside the cell, and shared by whoever has the same, as formulas are.
+//! number of the grid's cells. A fresh grid has a table of blocks alone; the 64 states of a block are made when the
+//! first of them is written. What a counter counts and which pairs a set has is kept beside the cell, and shared by
+//! whoever has the same, as formulas are.
 #![tactic(auto)]
 
+mod block;
 mod cell_state;
 mod delta;
 mod grid;
 mod laws;
+mod places;
 mod touched;
 
 pub use cell_state::CellState;

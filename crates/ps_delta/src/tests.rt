@@ -157,20 +157,13 @@ fn join_in_order(
     Ok(())
 }
 
-// Takes what a cell holds out of the grid.
-fn taken(rt: &impl Abort, alloc: Global, grid: &mut Grid, index: usize) -> CellState {
-    let mut state = CellState::empty(alloc);
-    grid.swap(cell(rt, index), &mut state);
-    state
-}
-
-// What the six deltas leave, which is taken out of the grid.
-fn take_six(rt: &impl Abort, alloc: Global, grid: &mut Grid) {
+// Looks at what the six deltas leave.
+fn check_six(rt: &impl Abort, grid: &Grid) {
     assert_eq!(rt; number_at(grid, cell(rt, 0)), Some(4));
-    let first = taken(rt, alloc, grid, 0);
+    let first = grid.at(cell(rt, 0));
     assert_eq!(rt; first.tally.value(), 14);
     assert!(rt; first.choice.is_empty());
-    let second = taken(rt, alloc, grid, 1);
+    let second = grid.at(cell(rt, 1));
     let (register, _, choice) = second.parts();
     assert!(rt; register.is_empty());
     assert_eq!(rt; choice.options(), 0);
@@ -183,10 +176,10 @@ fn take_six(rt: &impl Abort, alloc: Global, grid: &mut Grid) {
 #[test]
 fn deltas_join_in_any_order_and_again(rt: HostRuntime) -> Result<(), Refusal> {
     let deltas = six(&rt, rt.alloc())?;
-    let mut grid = Grid::new(rt.alloc())?;
     for n in 0..720usize {
+        let mut grid = Grid::new(rt.alloc())?;
         join_in_order(&rt, rt.alloc(), &mut grid, &deltas, n)?;
-        take_six(&rt, rt.alloc(), &mut grid);
+        check_six(&rt, &grid);
     }
     Ok(())
 }
@@ -205,7 +198,7 @@ fn a_group_joins_as_its_deltas(rt: HostRuntime) -> Result<(), Refusal> {
     assert_eq!(rt; joined.parts().len(), 2);
     let mut grid = Grid::new(rt.alloc())?;
     grid.join(rt.alloc(), &joined)?;
-    take_six(&rt, rt.alloc(), &mut grid);
+    check_six(&rt, &grid);
     Ok(())
 }
 
@@ -291,20 +284,30 @@ fn two_grids_join_cell_by_cell(rt: HostRuntime) -> Result<(), Refusal> {
     }
     assert!(rt; !right.below(&left));
     assert!(rt; is_joined(rt.alloc(), &mut left, &right)?);
-    take_six(&rt, rt.alloc(), &mut left);
+    check_six(&rt, &left);
     Ok(())
 }
 
-/// A swap gives one cell another state and takes its old one; its neighbours stay.
+/// The first and the last cell of a block of 64 are written, beside cells that never were.
 #[test]
-fn one_cell_is_swapped(rt: HostRuntime) -> Result<(), Refusal> {
+fn cells_beside_a_written_one_are_empty(rt: HostRuntime) -> Result<(), Refusal> {
     let mut grid = Grid::new(rt.alloc())?;
-    let mut state = assigned(&rt, rt.alloc(), 1, 1, 6);
-    grid.swap(cell(&rt, 104), &mut state);
-    assert!(rt; state.is_empty());
-    for (index, number) in [(103, None), (104, Some(6)), (105, None)] {
+    join(
+        &rt,
+        rt.alloc(),
+        &mut grid,
+        &[(64, Assigned(1, 1, 6)), (127, Assigned(1, 1, 7))],
+    )?;
+    for (index, number) in [
+        (63, None),
+        (64, Some(6)),
+        (65, None),
+        (127, Some(7)),
+        (128, None),
+    ] {
         assert_eq!(rt; number_at(&grid, cell(&rt, index)), number);
     }
+    assert!(rt; grid.at(cell(&rt, CELLS - 1)).is_empty());
     Ok(())
 }
 

@@ -1,6 +1,6 @@
 use Rattle.std.proofs.Common.{sym, ◌∙◌, true≢false}
 use Rattle.std.proofs.lemmas.List.{take_all}
-use Rattle.ps_delta.proofs.RaisedLemmas.{listed_none, listed-same, listed-more, raised_from_listed, room_for_raised}
+use Rattle.ps_delta.proofs.RaisedLemmas.{listed_none, listed-same, listed-more, raised_from_listed}
 use Rattle.ps_delta.proofs.WalkLemmas.{walk-in_grid}
 use Rattle.ps_delta.proofs.grid.raised_of.Goals.{then-not-below+in_ok-state+in_ok-join+in_ok-push, else-not-below}
 use Rattle.ps_delta.proofs.grid.raised_of.Goals as goal
@@ -29,6 +29,3 @@ returns-clause-raised c =
       take_all c.loop-change.change-index c.parts-parts.result.now c.loop-change-test.false,
       c.parts-parts.ensures.value,
     ) at c.loop-change.invariant)
-
-pub returns-clause-ready : goal.returns-clause-ready
-returns-clause-ready c = room_for_raised _ _ _ _ c.loop-change.invariant

@@ -1,4 +1,4 @@
-use Rattle.ps_delta.proofs.GridLemmas.{state_at-empty}
+use Rattle.ps_delta.proofs.BlockLemmas.{state_at-empty}
 use Rattle.ps_delta.proofs.grid.Grid.new.Goals as goal
 
 pub returns-clause-empty : goal.returns-clause-empty

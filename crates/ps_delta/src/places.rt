@@ -1,0 +1,47 @@
+//! Lists joined place by place.
+
+ghost use Rattle.std.specs.Prelude.{◌≡◌, ◌↔◌, IsTrue, IfOk, IfErr};
+ghost use Rattle.ps_grid.specs.declared.refusal.Refusal.{Refusal};
+ghost use Rattle.ps_delta.specs.Places.{joined_places};
+
+use ps_grid::{Refusal, Twin};
+use ps_lattice::Join;
+use std::alloc::Global;
+
+/// Both lists joined place by place; past the end of one of them the items of the other one stay.
+pub(crate) fn joined<X: Join + Twin + Drop>(
+    alloc: Global,
+    mine: &[X],
+    theirs: &[X],
+) -> Result<Vec<X>, Refusal>
+    ensures ok { IfOk result (λ v. v.items ≡ joined_places X.joined mine.now theirs.now) }
+    ensures memory { IfErr result (λ e. e ≡ Refusal.Memory) }
+{
+    let mut all = Vec::with_capacity(alloc, mine.len().max(theirs.len()))?;
+    for (i, item) in mine.iter().enumerate() {
+        let mut both = item.twin(alloc)?;
+        if i < theirs.len() {
+            both.join(alloc, &theirs[i])?;
+        }
+        all.push(both)?;
+    }
+    for k in mine.len()..theirs.len() {
+        all.push(theirs[k].twin(alloc)?)?;
+    }
+    Ok(all)
+}
+
+/// Whether joining the first list into the second one changes nothing.
+pub(crate) fn are_below<X: Join>(mine: &[X], theirs: &[X]) -> bool
+    ensures { IsTrue result ↔ (joined_places X.joined theirs.now mine.now ≡ theirs.now) }
+{
+    if mine.len() > theirs.len() {
+        return false;
+    }
+    for (i, item) in mine.iter().enumerate() {
+        if !item.below(&theirs[i]) {
+            return false;
+        }
+    }
+    true
+}
