@@ -1,6 +1,6 @@
 -- A canonical text is an entry that is read as its content.
 use Rattle.std.proofs.Common.{◌≡◌, ℕ, ℤ, pos, negsuc, ◌<◌, ◌≤◌, Bool, true, false, ◌&&◌, List, [], ◌∷◌, length}
-use Rattle.std.proofs.Common.{Result, Ok, Err, refl, sym, ap, ◌∙◌, arith}
+use Rattle.std.proofs.Common.{Result, Ok, Err, refl, sym, ap, ◌∙◌, subst, arith}
 use Rattle.std.specs.Prelude.{FitsSigned, MatchResult, bytes_eq, ◌==◌}
 use Rattle.std.specs.Fmt.{signed_decimal}
 use Rattle.std.specs.Int.{w64}
@@ -9,13 +9,14 @@ use Rattle.std.proofs.lemmas.Bool.{false≢true, eq-eqb, ne_eqb}
 use Rattle.std.proofs.lemmas.Fmt.{parse-signed_decimal, length_signed_le, decimal_nonempty}
 use Rattle.ps_grid.specs.declared.refusal.Refusal.{Refusal}
 use Rattle.ps_grid.specs.declared.refusal.Refusal.TheVariants.{Memory}
-use Rattle.ps_value.specs.Label.{IsLabel}
+use Rattle.ps_value.specs.Label.{IsLabel, is_label}
+use Rattle.ps_value.specs.declared.TheConstants.{LABEL_BYTES}
 use Rattle.ps_value.proofs.LabelLemmas.{IsLabel-short}
-use Rattle.ps_formula.specs.declared.formula.TheConstants.{LONGEST_ENTRY}
+use Rattle.ps_formula.specs.declared.formula.TheConstants.{LONGEST_ENTRY, LONGEST_TEXT}
 use Rattle.ps_tokens.specs.Text.{tokens_text}
 use Rattle.ps_formula.specs.Canonical.{tokens_of}
 use Rattle.ps_content.specs.Content.{canonical_text, IsContent}
-use Rattle.ps_content.specs.Entry.{formula, number, text, kind_of, word_of, is_number, begins_formula, Reads}
+use Rattle.ps_content.specs.Entry.{formula, number, text, kind_of, word_of, is_number, begins_formula, Reads, ReadsText}
 use Rattle.ps_content.specs.declared.content.Content.{Content}
 use Rattle.ps_content.specs.declared.content.Content.TheVariants.{Blank, Number, Text, Formula, Tally, Choice}
 use Rattle.ps_content.proofs.NumberLemmas.{is_number-from, is_number-to}
@@ -68,10 +69,10 @@ not_number-61 bytes = middle_fails _ _
 kind_of_quoted : (bytes : List ℕ) → IsLabel bytes → kind_of (39 ∷ bytes) ≡ text bytes
 unfolding begins_formula word_of
 kind_of_quoted bytes label =
-    let short : length bytes ≤ 64 = IsLabel-short bytes label in
+    let short : length bytes ≤ LABEL_BYTES = IsLabel-short bytes label in
     kind_of-word (39 ∷ bytes) (omega arith) (is_filled-test (39 ∷ bytes) (omega arith)) (not_number-39 bytes) refl
 
-kind_of_equals : (bytes : List ℕ) → length (61 ∷ bytes) ≤ 256 → kind_of (61 ∷ bytes) ≡ formula
+kind_of_equals : (bytes : List ℕ) → length (61 ∷ bytes) ≤ LONGEST_TEXT → kind_of (61 ∷ bytes) ≡ formula
 unfolding begins_formula
 kind_of_equals bytes short = kind_of-formula (61 ∷ bytes) (omega arith)
     (is_filled-test (61 ∷ bytes) (omega arith)) (not_number-61 bytes) refl
@@ -89,7 +90,8 @@ unfolding kind_of word_of is_number begins_formula
 reads_canonical Blank result is reads = from_ok Blank result reads
 reads_canonical (Number z) result is reads = from_ok (Number z) result (rw (kind_of_decimal z is) at reads)
 reads_canonical (Text t) result is reads =
-    from_ok (Text t) result (rw (kind_of_quoted t is) at reads ∙ rw is refl)
+    let read : ReadsText (is_label t) t result = rw (kind_of_quoted t is) at reads in
+    subst (λ b. ReadsText b t result) is read
 reads_canonical (Formula t) result is reads =
     let read = rw (kind_of_equals (tokens_text (tokens_of t)) is.1) at reads in
     read.read t is.0 is.1

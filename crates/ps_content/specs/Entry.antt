@@ -1,7 +1,7 @@
 -- What an entry means.
-use Rattle.std.specs.Prelude.{◌≡◌, ◌⊎◌, ◌==◌, ◌^◌, ℕ, ℤ, pos, negsuc, ◌<◌, ◌≤◌, Bool, ◌&&◌, ◌||◌, if◌then◌else◌}
+use Rattle.std.specs.Prelude.{◌≡◌, ◌⊎◌, ◌==◌, ◌^◌, ℕ, ℤ, pos, negsuc, ◌<◌, ◌≤◌, Bool, true, false, ◌&&◌, ◌||◌}
 use Rattle.std.specs.Prelude.{nat_lt, nat_eq, List, length, drop, codes, bytes_eq, Option, None, Some, Result, Ok}
-use Rattle.std.specs.Prelude.{Err, IfOk, IfErr, MatchResult}
+use Rattle.std.specs.Prelude.{Err, IfOk, IfErr, MatchResult, if◌then◌else◌}
 use Rattle.std.specs.List.{starts_with}
 use Rattle.std.specs.Str.{all_ascii_digits}
 use Rattle.std.specs.Str.Parse.{without_leading_sign, signed_digits_value}
@@ -69,6 +69,17 @@ pub record ReadsFormula (bytes : List ℕ) (result : Result Content Refusal) : T
       → (tree : Tree) × HasTree bytes tree × (LONGEST_TEXT < length (canon tree))
   pub refused : IfErr result (λ e. (e ≡ refusals.Formula) ⊎ ((e ≡ refusals.TooLong) ⊎ (e ≡ refusals.Memory)))
 
+-- a text is that text where it is a label, and is refused where it is none
+abbrev pub ReadsText : Bool → List ℕ → Result Content Refusal → Type 0
+ReadsText true label result = MatchResult result (λ c. c ≡ Text label) (λ e. e ≡ refusals.Memory)
+ReadsText false label result = result ≡ Err refusals.Text
+
+-- to read an entry takes memory: it is a formula or a label
+abbrev pub takes_memory : Kind → Bool
+takes_memory formula = true
+takes_memory (text label) = is_label label
+takes_memory _ = false
+
 -- what an entry of a kind is read as
 abbrev pub Reads : Kind → List ℕ → Result Content Refusal → Type 0
 Reads too_long bytes result = result ≡ Err refusals.TooLong
@@ -77,4 +88,4 @@ Reads (number value) bytes result = result ≡ Ok (Number value)
 Reads formula bytes result = ReadsFormula bytes result
 Reads tally bytes result = result ≡ Ok Tally
 Reads choice bytes result = result ≡ Ok Choice
-Reads (text label) bytes result = result ≡ (if is_label label then Ok (Text label) else Err refusals.Text)
+Reads (text label) bytes result = ReadsText (is_label label) label result

@@ -14,7 +14,7 @@ use std::alloc::Global;
 
 /// The content whose canonical text the bytes are, and none for any other bytes. Refused only when out of memory.
 ///
-/// Cost: linear in the bytes; only a formula takes memory.
+/// Cost: linear in the bytes, and an allocation for a text; those of a formula are as `Formula::read` says.
 pub fn read_canonical(alloc: Global, bytes: &[u8]) -> Result<Option<Content>, Refusal>
     ensures read { (c : Contents) → IsContent c → bytes.now ≡ canonical_text c
         → MatchResult result (λ found. found ≡ Some c) (λ e. e ≡ Memory) }
@@ -48,7 +48,7 @@ impl Content {
         match self {
             Content::Blank => bytes.is_empty(),
             Content::Number(number) => is_decimal(*number, bytes),
-            Content::Text(label) => is_quoted(label.bytes(), bytes),
+            Content::Text(label) => is_quoted(label.label().bytes(), bytes),
             Content::Formula(formula) => bytes == formula.formula().text(),
             Content::Tally => bytes == b"@tally".as_slice(),
             Content::Choice => bytes == b"@choice".as_slice(),

@@ -9,7 +9,7 @@ use crate::shared::SharedFormula;
 use itoa::Buffer;
 use ps_formula::Formula;
 use ps_grid::{Refusal, Twin};
-use ps_value::Label;
+use ps_value::{Label, SharedLabel};
 use std::alloc::Global;
 
 /// What a cell's register holds. The kinds ascend in the order in which they stand here.
@@ -20,7 +20,7 @@ pub enum Content {
     /// A whole number.
     Number(i64),
     /// A text.
-    Text(Label),
+    Text(SharedLabel),
     /// A formula, whose value is shown.
     Formula(SharedFormula),
     /// The cell's counter is shown.
@@ -34,7 +34,7 @@ impl Twin for Content {
         match self {
             Content::Blank => Ok(Content::Blank),
             Content::Number(number) => Ok(Content::Number(*number)),
-            Content::Text(label) => Ok(Content::Text(*label)),
+            Content::Text(label) => Ok(Content::Text(label.twin(alloc)?)),
             Content::Formula(formula) => Ok(Content::Formula(formula.twin(alloc)?)),
             Content::Tally => Ok(Content::Tally),
             Content::Choice => Ok(Content::Choice),
@@ -70,7 +70,7 @@ impl Content {
         match self {
             Content::Blank => Ok(()),
             Content::Number(number) => append_number(*number, out),
-            Content::Text(label) => append_text(label, out),
+            Content::Text(label) => append_text(label.label(), out),
             Content::Formula(formula) => append(formula.formula().text(), out),
             Content::Tally => append(b"@tally", out),
             Content::Choice => append(b"@choice", out),

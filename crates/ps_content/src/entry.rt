@@ -1,15 +1,16 @@
 //! Entries: what people type into a cell.
 
-ghost use Rattle.std.specs.Prelude.{◌≡◌, ◌≤◌, Ok, Err, length, if◌then◌else◌};
+ghost use Rattle.std.specs.Prelude.{◌≡◌, ◌≤◌, length};
 ghost use Rattle.ps_value.specs.Label.{is_label};
 ghost use Rattle.ps_formula.specs.declared.formula.TheConstants.{LONGEST_ENTRY};
 ghost use Rattle.ps_content.specs.Entry.{begins_formula, kind_of, number_of, word_of, Reads, ReadsFormula};
+ghost use Rattle.ps_content.specs.Entry.{ReadsText};
 
 use crate::content::Content;
 use crate::shared::SharedFormula;
 use ps_formula::{Formula, LONGEST_ENTRY};
 use ps_grid::Refusal;
-use ps_value::Label;
+use ps_value::{Label, SharedLabel};
 use std::alloc::Global;
 
 /// The content that an entry stands for. The first line that fits decides:
@@ -23,9 +24,9 @@ use std::alloc::Global;
 /// - beginning with an apostrophe: the text after it, refused as `Text` where that is no label;
 /// - anything else: that text, refused as `Text` where it is no label.
 ///
-/// Only a formula takes memory: nothing else is refused as out of memory.
+/// Only a formula and a text take memory: nothing else is refused as out of memory.
 ///
-/// Cost: linear in the bytes; only a formula takes memory.
+/// Cost: linear in the bytes, and an allocation for a text; those of a formula are as `Formula::read` says.
 pub fn read_entry(alloc: Global, bytes: &[u8]) -> Result<Content, Refusal>
     ensures { Reads (kind_of bytes.now) bytes.now result }
 {
@@ -41,7 +42,7 @@ pub fn read_entry(alloc: Global, bytes: &[u8]) -> Result<Content, Refusal>
     if begins_formula(bytes) {
         return read_formula(alloc, bytes);
     }
-    read_word(bytes)
+    read_word(alloc, bytes)
 }
 
 /// The number that the entry writes, if it writes one.
@@ -72,7 +73,7 @@ fn read_formula(alloc: Global, bytes: &[u8]) -> Result<Content, Refusal>
 }
 
 /// The word or the text that an entry is which is no number and no formula.
-fn read_word(bytes: &[u8]) -> Result<Content, Refusal>
+fn read_word(alloc: Global, bytes: &[u8]) -> Result<Content, Refusal>
     ensures { Reads (word_of bytes.now) bytes.now result }
 {
     if bytes == b"@tally".as_slice() {
@@ -82,17 +83,18 @@ fn read_word(bytes: &[u8]) -> Result<Content, Refusal>
         return Ok(Content::Choice);
     }
     if bytes.starts_with(b"'") {
-        return read_text(&bytes[1..]);
+        return read_text(alloc, &bytes[1..]);
     }
-    read_text(bytes)
+    read_text(alloc, bytes)
 }
 
-/// The text of these bytes, where they are a label.
-fn read_text(bytes: &[u8]) -> Result<Content, Refusal>
-    ensures { result ≡ (if is_label bytes.now then Ok (Content.Text bytes.now) else Err Refusal.Text) }
+/// The text of these bytes, with one owner, where they are a label.
+fn read_text(alloc: Global, bytes: &[u8]) -> Result<Content, Refusal>
+    ensures { ReadsText (is_label bytes.now) bytes.now result }
 {
-    match Label::new(bytes) {
-        Some(label) => Ok(Content::Text(label)),
-        None => Err(Refusal::Text),
-    }
+    let Some(label) = Label::new(bytes) else {
+        return Err(Refusal::Text);
+    };
+    let shared = SharedLabel::new(alloc, label)?;
+    Ok(Content::Text(shared))
 }

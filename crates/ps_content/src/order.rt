@@ -34,7 +34,7 @@ impl Content {
         ensures { result.now ≡ text_in self.now }
     {
         match self {
-            Content::Text(label) => label.bytes(),
+            Content::Text(label) => label.label().bytes(),
             _ => &[],
         }
     }

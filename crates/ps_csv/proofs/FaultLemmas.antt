@@ -1,11 +1,12 @@
 -- No fault of a table is a device's.
-use Rattle.std.proofs.Common.{◌≡◌, ◌⊎◌, ◌∷◌, [], ℕ, List, Bool, true, false, if◌then◌else◌}
+use Rattle.std.proofs.Common.{◌≡◌, ◌⊎◌, ◌∷◌, [], ℕ, List, Bool, true, false}
 use Rattle.std.proofs.Common.{inl, inr, Result, Ok, Err, IfErr, Option, Some, None, IfSome, IfNone}
 use Rattle.csv.specs.declared.error.Error.{Error}
 use Rattle.ps_grid.specs.declared.refusal.Refusal.{Refusal}
 use Rattle.ps_grid.specs.declared.refusal.Refusal.TheVariants.{Csv, Device, Memory, Text}
 use Rattle.ps_content.specs.declared.content.Content.{Content}
-use Rattle.ps_content.specs.Entry.{Kind, Reads, too_long, empty, formula, tally, choice, number, text}
+use Rattle.ps_value.specs.Label.{is_label}
+use Rattle.ps_content.specs.Entry.{Kind, Reads, ReadsText, too_long, empty, formula, tally, choice, number, text}
 use Rattle.ps_delta.specs.State.{State}
 use Rattle.ps_csv.specs.declared.table.Table.{Table}
 use Rattle.ps_csv.specs.declared.fault.ImportFault.{ImportFault}
@@ -13,9 +14,9 @@ use Rattle.ps_csv.specs.Faults.{EntryFault, FirstFault, ReaderFails, RecordFault
 use Rattle.ps_csv.specs.Records.{Record}
 
 -- no field's refusal is a device's
-text_refusal : (b : Bool) (x : Content) (e : Refusal) → Err e ≡ (if b then Ok x else Err Text) → e ≡ Device → ⊥
-text_refusal true x e is device = cc
-text_refusal false x e is device = cc
+text_refusal : (b : Bool) (label : List ℕ) (e : Refusal) → ReadsText b label (Err e) → e ≡ Device → ⊥
+text_refusal true label e is device = cc
+text_refusal false label e is device = cc
 
 entry_refusal : (k : Kind) (bytes : List ℕ) (e : Refusal) → Reads k bytes (Err e) → e ≡ Device → ⊥
 entry_refusal too_long bytes e reads device = cc
@@ -28,7 +29,7 @@ entry_refusal formula bytes e reads device =
 entry_refusal tally bytes e reads device = cc
 entry_refusal choice bytes e reads device = cc
 entry_refusal (number value) bytes e reads device = cc
-entry_refusal (text label) bytes e reads device = text_refusal _ _ e reads device
+entry_refusal (text label) bytes e reads device = text_refusal (is_label label) label e reads device
 
 entry_fault_refusal : (s : State) (c : ℕ) (field : List ℕ) (e : Refusal) → EntryFault s c field e → e ≡ Device → ⊥
 unfolding EntryFault

@@ -7,7 +7,7 @@ use Rattle.ps_grid.specs.declared.refusal.Refusal.TheVariants as refusals
 use Rattle.ps_value.specs.Label.{is_label}
 use Rattle.ps_formula.proofs.Texts.{canonical_text_has_tree}
 use Rattle.ps_content.specs.Content.{IsContent}
-use Rattle.ps_content.specs.Entry.{Kind, Reads, is_number, kind_of, word_of}
+use Rattle.ps_content.specs.Entry.{Kind, Reads, ReadsText, is_number, kind_of, word_of}
 use Rattle.ps_content.specs.Entry.{choice, empty, formula, number, tally, text, too_long}
 use Rattle.ps_content.specs.declared.content.Content.{Content}
 use Rattle.ps_content.specs.declared.content.Content.TheVariants.{Blank, Choice, Number, Tally, Text}
@@ -44,8 +44,8 @@ number_fits bytes z is =
     subst (λ n. FitsSigned w64 n) found.1 (is_number-to bytes found.0).1
 
 label_read : (label : List ℕ) (b : Bool) (content : Content) → is_label label ≡ b
-    → ◌≡◌ {A = Read Content} (Ok content) (if b then Ok (Text label) else Err refusals.Text) → IsContent content
-label_read label true content is read = let same : Text label ≡ content = cc in subst IsContent same is
+    → ReadsText b label (Ok content) → IsContent content
+label_read label true content is read = subst IsContent (sym read) is
 label_read label false content is read = absurd cc
 
 same_content : (content other : Content) → IsContent other → ◌≡◌ {A = Read Content} (Ok content) (Ok other)

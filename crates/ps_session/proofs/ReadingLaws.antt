@@ -1,11 +1,12 @@
--- A line is read in one way, but that a formula may find too little memory.
-use Rattle.std.proofs.Common.{◌≡◌, ◌≢◌, ◌⊎◌, inl, inr, ℕ, List, [], ◌∷◌, Option, Some, None, Ok}
-use Rattle.std.proofs.Common.{Err, refl, sym, ap, subst, ◌∙◌}
+-- A line is read in one way, but that a formula or a text may find too little memory.
+use Rattle.std.proofs.Common.{◌≡◌, ◌≢◌, ◌⊎◌, inl, inr, ℕ, Bool, true, false, List, [], ◌∷◌, Option, Some, None}
+use Rattle.std.proofs.Common.{Ok, Err, refl, sym, ap, subst, ◌∙◌}
 use Rattle.std.specs.Prelude.{MatchOption, drop}
 use Rattle.ps_grid.specs.declared.refusal.Refusal.{Refusal}
 use Rattle.ps_grid.specs.declared.refusal.Refusal.TheVariants as refusals
+use Rattle.ps_value.specs.Label.{is_label}
 use Rattle.ps_formula.proofs.Texts.{one_tree}
-use Rattle.ps_content.specs.Entry.{Kind, Reads, ReadsFormula, kind_of}
+use Rattle.ps_content.specs.Entry.{Kind, Reads, ReadsFormula, ReadsText, kind_of}
 use Rattle.ps_content.specs.Entry.Kind.{too_long, empty, formula, tally, choice, number, text}
 use Rattle.ps_content.specs.declared.content.Content.{Content}
 use Rattle.ps_content.specs.declared.content.Content.TheVariants as contents
@@ -55,6 +56,13 @@ formula_once bytes (Ok c) b x y ample_x ample_y = formula_found bytes c b x y am
 formula_once bytes (Err e) (Ok d) x y ample_x ample_y = sym (formula_found bytes d (Err e) y x ample_x)
 formula_once bytes (Err e) (Err f) x y ample_x ample_y = ap Err (formula_refused bytes e f x y ample_x ample_y)
 
+text_once : (is : Bool) (label : List ℕ) (a b : Read Content) → ReadsText is label a → ReadsText is label b → IsAmple a
+    → IsAmple b → a ≡ b
+text_once true label (Ok c) (Ok d) x y ample_a ample_b = ap Ok (x ∙ sym y)
+text_once true label (Ok c) (Err f) x y ample_a ample_b = absurd (ample_b (ap Err y))
+text_once true label (Err e) b x y ample_a ample_b = absurd (ample_a (ap Err x))
+text_once false label a b x y ample_a ample_b = x ∙ sym y
+
 entry_once : (kind : Kind) (bytes : List ℕ) (a b : Read Content) → Reads kind bytes a → Reads kind bytes b
     → IsAmple a → IsAmple b → a ≡ b
 entry_once too_long bytes a b x y ample_a ample_b = x ∙ sym y
@@ -63,7 +71,7 @@ entry_once (number z) bytes a b x y ample_a ample_b = x ∙ sym y
 entry_once formula bytes a b x y ample_a ample_b = formula_once bytes a b x y ample_a ample_b
 entry_once tally bytes a b x y ample_a ample_b = x ∙ sym y
 entry_once choice bytes a b x y ample_a ample_b = x ∙ sym y
-entry_once (text label) bytes a b x y ample_a ample_b = x ∙ sym y
+entry_once (text label) bytes a b x y ample_a ample_b = text_once (is_label label) label a b x y ample_a ample_b
 
 cell_once : (word : List ℕ) (f g : Option ℕ) → NamesCell word f → NamesCell word g → f ≡ g
 cell_once word (Some c) g x y = sym ((y c).1 ((x c).0 refl))

@@ -1,12 +1,12 @@
 -- What a line asks for. It is the line's own: no sheet is looked at.
 use Rattle.std.specs.Prelude.{◌≡◌, ◌<◌, ◌↔◌, ℕ, ◌&&◌, nat_le, List, [], ◌∷◌, codes, bytes_eq, drop}
 use Rattle.std.specs.Prelude.{Option, Some, None, MatchOption, Result, Ok, Err, IfOk, IfErr, MatchResult, ◌⊎◌}
-use Rattle.std.specs.Prelude.{if◌then◌else◌, ⊤}
+use Rattle.std.specs.Prelude.{if◌then◌else◌, true, ⊤}
 use Rattle.ps_grid.specs.Place.{cell_name}
 use Rattle.ps_grid.specs.declared.refusal.Refusal.{Refusal}
 use Rattle.ps_grid.specs.declared.refusal.Refusal.TheVariants as refusals
 use Rattle.ps_grid.specs.declared.size.TheConstants.{CELLS}
-use Rattle.ps_content.specs.Entry.{Reads, formula, kind_of}
+use Rattle.ps_content.specs.Entry.{Reads, kind_of, takes_memory}
 use Rattle.ps_content.specs.declared.content.Content.{Content}
 use Rattle.ps_delta.specs.Deltas.{Entries}
 use Rattle.ps_wire.specs.Line.{IsLine}
@@ -140,12 +140,12 @@ abbrev pub ReadsLine : List ℕ → Read Command → Type 0
 ReadsLine line read =
     ReadsVerb (verb_of (first_word line)) (drop 1 (words line)) (behind_word line) read
 
--- to read the rest of a line takes memory: a formula is kept, and so is a delta
+-- to read the rest of a line takes memory: a formula is kept, a text, and a delta
 abbrev pub IsKeptInMemory : Option Verb → List ℕ → Type 0
-IsKeptInMemory (Some Set) rest = kind_of (behind_word rest) ≡ formula
+IsKeptInMemory (Some Set) rest = takes_memory (kind_of (behind_word rest)) ≡ true
 IsKeptInMemory (Some Push) rest = ⊤
 IsKeptInMemory _ rest = ⊥
 
--- to read the line takes memory: it assigns a formula, or it is a `push`
+-- to read the line takes memory: it assigns a formula or a text, or it is a `push`
 abbrev pub TakesMemoryToRead : List ℕ → Type 0
 TakesMemoryToRead line = IsKeptInMemory (verb_of (first_word line)) (behind_word line)

@@ -51,8 +51,8 @@ impl Command {
     /// Exactly one space stands between two words; an entry may hold more. Of several refusals the first is told:
     /// another first word, a word too few or too many (`Command`), no cell (`Cell`), no digits or a number of more
     /// than 64 bits (`Amount` or `OptionRange`), and then those of the entry. Whether the number is in range, and the
-    /// cell has a counter or a set, isn't asked here. Only an entry that is a formula, and the line of a delta, take
-    /// memory to be read.
+    /// cell has a counter or a set, isn't asked here. Only an entry that is a formula or a text, and the line of a
+    /// delta, take memory to be read.
     ///
     /// Cost: O(n) in the n bytes of the line.
     pub fn read(alloc: Global, line: &[u8]) -> Result<Command, Refusal>

@@ -61,7 +61,7 @@ fn first_by(content: &Content, state: &CellState) -> Value
     match content {
         Content::Blank => Value::Empty,
         Content::Number(number) => Value::Num(*number),
-        Content::Text(text) => Value::Text(*text),
+        Content::Text(text) => Value::Text(*text.label()),
         Content::Formula(_) => Value::Err(Fault::Cycle),
         Content::Tally => Value::Num(state.tally.value()),
         Content::Choice => Value::Choice(options_of(&state.choice)),
