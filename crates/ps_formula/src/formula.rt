@@ -58,7 +58,7 @@ impl Formula {
     /// the bytes have no tree; and when out of memory.
     ///
     /// Cost: linear in the bytes; allocations are two for each operator, one for each sign and group, the growing
-    /// lists of each call's arguments and of the references, and one list each for the tokens and the text.
+    /// list of each call's arguments, and one list each for the tokens, the text and the references.
     pub fn read(alloc: Global, bytes: &[u8]) -> Result<Formula, Refusal>
         ensures short { IfOk result (λ _. length bytes.now ≤ LONGEST_ENTRY) }
         ensures found { IfOk result (λ t. HasTree bytes.now t) }
