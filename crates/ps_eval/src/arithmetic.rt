@@ -1,6 +1,6 @@
 //! What operators and functions make of numbers.
 
-ghost use Rattle.std.specs.Prelude.{◌≡◌, ◌≢◌, pos, ◌+ℤ◌, ◌-ℤ◌, ◌*ℤ◌, MatchOption};
+ghost use Rattle.std.specs.Prelude.{◌≡◌, ◌≢◌, pos, ◌+ℤ◌, ◌-ℤ◌, ◌*ℤ◌, MatchOption, int_rem};
 ghost use Rattle.std.specs.Ordering.{int_eq};
 ghost use Rattle.ps_value.specs.declared.value.Fault.TheVariants.{Num as OutOfRange};
 ghost use Rattle.ps_eval.specs.Number.{absolute, exact, floored, modulo, operation, prefixed, quotient, truth};
@@ -60,17 +60,25 @@ pub(crate) fn modulo(a: i64, b: i64) -> Result<i64, Fault>
     Ok(rest_of(a, b))
 }
 
-/// What is left of `a` after whole `b`s: of the sign of `b`, where the machine's remainder has that of `a`.
+/// What is left of `a` after whole `b`s: of the sign of `b`.
 fn rest_of(a: i64, b: i64) -> i64
     requires { b ≢ pos 0 }
     ensures { result ≡ a -ℤ b *ℤ floored a b }
 {
-    let rest = a.wrapping_rem(b);
+    let rest = cut_rest_of(a, b);
     if b > 0 {
         if rest < 0 { rest + b } else { rest }
     } else {
         if rest > 0 { rest + b } else { rest }
     }
+}
+
+/// What is left of `a` after whole `b`s by a division that is cut towards zero: of the sign of `a`.
+fn cut_rest_of(a: i64, b: i64) -> i64
+    requires { b ≢ pos 0 }
+    ensures { result ≡ int_rem a b }
+{
+    a.wrapping_rem(b)
 }
 
 /// QUOTIENT: `a` divided by `b`, cut towards zero.

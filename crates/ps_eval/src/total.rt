@@ -49,7 +49,7 @@ impl Total {
         }
     }
 
-    // Adds a number that may go round.
+    /// Adds a number that may go round.
     fn carry(&mut self, number: i64)
         requires { unsigned_abs self.old < 2 ^ 180 }
         ensures { self.new ≡ self.old +ℤ number }
