@@ -7,8 +7,7 @@ use Rattle.std.proofs.lemmas.Map.Views.{exact_unsigned_eq}
 use Rattle.std.proofs.Math.Seq.{take-suc}
 use Rattle.std.proofs.Math.ListN.{get_or}
 use Rattle.memchr.specs.Find.{is_byte, Nowhere, Passes}
-use Rattle.ps_session.specs.Kept.{held, kept_after}
-use Rattle.ps_session.specs.Feeding.{Feeds, HasNoFeed, Reading}
+use Rattle.ps_session.specs.Feeding.{Feeds, HasNoFeed, Reading, held, kept_after}
 use Rattle.ps_session.specs.declared.session.Line.TheVariants as lines
 
 pub no_feed : (piece : List ℕ) (n : ℕ) → n ≤ length piece → Nowhere (Passes (is_byte 10) piece) 0 n

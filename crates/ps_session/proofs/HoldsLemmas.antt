@@ -4,8 +4,7 @@ use Rattle.std.proofs.Common.{Option, Some, None, Result, Ok, Err, subst, nat_le
 use Rattle.std.specs.Prelude.{if◌then◌else◌, MatchBool, OnOk}
 use Rattle.ps_device.specs.Device.{Sends}
 use Rattle.ps_session.specs.declared.session.TheConstants.{LINE_LIMIT}
-use Rattle.ps_session.specs.Kept.{kept}
-use Rattle.ps_session.specs.Feeding.{without_return}
+use Rattle.ps_session.specs.Feeding.{kept, without_return}
 use Rattle.ps_session.specs.Transcript.{Answering, Handles, Replies, has_reply, is_filled}
 use Rattle.ps_session.specs.Inside.Holds.{Replied, as_one}
 

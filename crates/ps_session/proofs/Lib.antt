@@ -1,9 +1,9 @@
 mod FeedLemmas
-mod RunLemmas
+mod OneLineMore
 mod SendLemmas
 mod HoldsLemmas
-mod TurnLemmas
-mod EndLemmas
+mod OnePieceMore
+mod InputReadToEnd
 mod ReadLemmas
 mod AnswerLemmas
 mod ReplicaAndLinesStay
@@ -11,7 +11,7 @@ mod WordLemmas
 mod WordCounts
 pub mod ReadingLaws
 mod SplitLemmas
-mod AskedLemmas
+mod AskedInRange
 mod ReplayLemmas
 mod HandingLemmas
 mod RangeLemmas

@@ -15,7 +15,7 @@ use Rattle.ps_session.specs.Commands.{group_size, AtCell, AtNumber, Assigns, Nam
 use Rattle.ps_session.specs.Commands.{ReadsGet, ReadsLine, ReadsPair, ReadsPull, ReadsRows, ReadsSet, ReadsVerb}
 use Rattle.ps_session.specs.Commands.{verb_of, with_part, ReadsDelta, ReadsPush}
 use Rattle.ps_delta.specs.Deltas.{Entries}
-use Rattle.ps_session.specs.Words.{behind_word, first_word, parts, whole_number, words}
+use Rattle.ps_session.specs.Words.{after_word, first_word, parts, whole_number, words}
 use Rattle.ps_session.specs.declared.command.Command.{Command}
 use Rattle.ps_session.specs.declared.verb.Verb.{Verb}
 use Rattle.ps_session.specs.declared.verb.Verb.TheVariants.{Add, Choose, Get, Pull, Push, Rows, Set, Sub, Unchoose}
@@ -170,23 +170,23 @@ pull_once (from ∷ most ∷ []) a b x y = at_number_once (whole_number from) a 
     (λ n p q. at_number_once (group_size (whole_number most)) a b _ _ p q (λ m r s. r ∙ sym s))
 pull_once (from ∷ most ∷ third ∷ more) a b x y = x ∙ sym y
 
-verb_once : (verb : Option Verb) (others : List (List ℕ)) (behind : List ℕ) (a b : Read Command)
-    → ReadsVerb verb others behind a → ReadsVerb verb others behind b → IsAmple a → IsAmple b → a ≡ b
-verb_once None others behind a b x y ample_a ample_b = x ∙ sym y
-verb_once (Some Get) others behind a b x y ample_a ample_b = get_once others a b x y
-verb_once (Some Set) others behind a b x y ample_a ample_b =
-    set_once others (behind_word behind) a b x y ample_a ample_b
-verb_once (Some Add) others behind a b x y ample_a ample_b = change_once _ refusals.Amount others a b x y
-verb_once (Some Sub) others behind a b x y ample_a ample_b = change_once _ refusals.Amount others a b x y
-verb_once (Some Choose) others behind a b x y ample_a ample_b = change_once _ refusals.OptionRange others a b x y
-verb_once (Some Unchoose) others behind a b x y ample_a ample_b = change_once _ refusals.OptionRange others a b x y
-verb_once (Some Rows) others behind a b x y ample_a ample_b = rows_once others a b x y
-verb_once (Some Push) others behind a b x y ample_a ample_b = push_once others behind a b x y ample_a ample_b
-verb_once (Some Pull) others behind a b x y ample_a ample_b = pull_once others a b x y
+verb_once : (verb : Option Verb) (others : List (List ℕ)) (rest : List ℕ) (a b : Read Command)
+    → ReadsVerb verb others rest a → ReadsVerb verb others rest b → IsAmple a → IsAmple b → a ≡ b
+verb_once None others rest a b x y ample_a ample_b = x ∙ sym y
+verb_once (Some Get) others rest a b x y ample_a ample_b = get_once others a b x y
+verb_once (Some Set) others rest a b x y ample_a ample_b =
+    set_once others (after_word rest) a b x y ample_a ample_b
+verb_once (Some Add) others rest a b x y ample_a ample_b = change_once _ refusals.Amount others a b x y
+verb_once (Some Sub) others rest a b x y ample_a ample_b = change_once _ refusals.Amount others a b x y
+verb_once (Some Choose) others rest a b x y ample_a ample_b = change_once _ refusals.OptionRange others a b x y
+verb_once (Some Unchoose) others rest a b x y ample_a ample_b = change_once _ refusals.OptionRange others a b x y
+verb_once (Some Rows) others rest a b x y ample_a ample_b = rows_once others a b x y
+verb_once (Some Push) others rest a b x y ample_a ample_b = push_once others rest a b x y ample_a ample_b
+verb_once (Some Pull) others rest a b x y ample_a ample_b = pull_once others a b x y
 
 -- two readings of one line are the same, where neither lacked memory
 pub reads_once : (line : List ℕ) (a b : Read Command) → ReadsLine line a → ReadsLine line b
     → a ≢ Err refusals.Memory → b ≢ Err refusals.Memory → a ≡ b
 reads_once line a b x y ample_a ample_b =
-    verb_once (verb_of (first_word line)) (drop 1 (words line)) (behind_word line) a b x y ample_a
+    verb_once (verb_of (first_word line)) (drop 1 (words line)) (after_word line) a b x y ample_a
     ample_b

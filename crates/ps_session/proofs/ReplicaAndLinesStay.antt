@@ -20,7 +20,7 @@ use Rattle.ps_session.specs.Commands.{Read}
 use Rattle.ps_session.specs.EditLines.{HasLine}
 use Rattle.ps_session.specs.Feeding.{without_return}
 use Rattle.ps_session.specs.Transcript.{Answered, Cut, Replies, Run, Stopped, Transcribed}
-use Rattle.ps_session.proofs.AskedLemmas.{AsksInRange, is_edit, line_in_range}
+use Rattle.ps_session.proofs.AskedInRange.{AsksInRange, is_edit, line_in_range}
 use Rattle.ps_session.proofs.EditLineLemmas.{edit_lines_fit, edits_are_lawful}
 
 -- ---- the history that a line leaves

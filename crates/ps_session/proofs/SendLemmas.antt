@@ -10,11 +10,11 @@ use Rattle.ps_device.proofs.DeviceLemmas.{Appends-append, cut_after}
 use Rattle.ps_device.specs.Device.{Sends}
 
 -- a second piece after one that was sent whole
-pub Sends-behind : (E : Type 0) (old middle new : Option (List ℕ)) (first second : List ℕ) (result : Result (Unit
+pub Sends-after : (E : Type 0) (old middle new : Option (List ℕ)) (first second : List ℕ) (result : Result (Unit
     {0}) E)
     → Appends old middle first → Sends middle new result second → Sends old new result (first ++ second)
-Sends-behind E old middle new first second (Ok x) p q = Appends-append old middle new first second p q
-Sends-behind E old middle new first second (Err e) p q = cut_after old middle new first second p q
+Sends-after E old middle new first second (Ok x) p q = Appends-append old middle new first second p q
+Sends-after E old middle new first second (Err e) p q = cut_after old middle new first second p q
 
 -- a cut in the first piece is a cut in both
 pub cut_first : (old new : Option (List ℕ)) (first second : List ℕ) → (count : ℕ) × (count < length first)

@@ -5,7 +5,7 @@ use Rattle.ps_grid.specs.declared.refusal.Refusal.TheVariants as refusals
 use Rattle.ps_session.specs.Commands.{verb_of, ReadsCorners, ReadsGet, ReadsLine, ReadsPair, ReadsPull, ReadsRows}
 use Rattle.ps_session.specs.Commands.{Read, ReadsPush, ReadsVerb, Pushes}
 use Rattle.ps_session.specs.declared.command.Command.{Command}
-use Rattle.ps_session.specs.Words.{behind_word, first_word, parts, words}
+use Rattle.ps_session.specs.Words.{after_word, first_word, parts, words}
 use Rattle.ps_session.specs.declared.verb.Verb.{Verb}
 use Rattle.ps_session.specs.declared.verb.Verb.TheVariants.{Add, Choose, Get, Pull, Push, Rows, Set, Sub, Unchoose}
 use Rattle.ps_session.proofs.WordLemmas.{parts_are_some}
@@ -45,4 +45,4 @@ verb_alone Pull entry = refl
 pub line_alone : (line word : List ℕ) (verb : Verb) → word ≡ first_word line → Some verb ≡ verb_of word
     → words line ≡ word ∷ [] → ReadsLine line (Err refusals.Command)
 line_alone line word verb first is alone =
-    rw (← first, ← is, alone) (verb_alone verb (behind_word line))
+    rw (← first, ← is, alone) (verb_alone verb (after_word line))

@@ -45,7 +45,7 @@ pub one_part : (separator : ℕ) (text : List ℕ) → position (λ b. b == sepa
 one_part separator text e =
     let is_separator : ℕ → Bool = λ b. b == separator in
     let n = position_or_len is_separator text in
-    let behind : length text ≤ n = ltb-false n (length text) (no_position (nat_lt n (length text)) n e) in
+    let beyond : length text ≤ n = ltb-false n (length text) (no_position (nat_lt n (length text)) n e) in
     slice_split_none is_separator text (λ k d lt. fails_before_first is_separator text k d (omega arith))
 
 -- there is a first part, which may be empty

@@ -12,7 +12,7 @@ use Rattle.ps_delta.specs.Deltas.{Entries}
 use Rattle.ps_wire.specs.Line.{IsLine}
 use Rattle.ps_sheet.specs.declared.edit.Edit.{Edit}
 use Rattle.ps_sheet.specs.declared.edit.Edit.TheVariants as edits
-use Rattle.ps_session.specs.Words.{behind_word, first_word, parts, whole_number, words}
+use Rattle.ps_session.specs.Words.{after_word, first_word, parts, whole_number, words}
 use Rattle.ps_session.specs.declared.command.Command.{Command}
 use Rattle.ps_session.specs.declared.command.TheConstants.{LARGEST_GROUP}
 use Rattle.ps_session.specs.declared.command.Command.TheVariants as commands
@@ -123,29 +123,29 @@ ReadsPull _ read = read ≡ Err refusals.Command
 
 -- a verb, the words after it, and all that stands there
 abbrev pub ReadsVerb : Option Verb → List (List ℕ) → List ℕ → Read Command → Type 0
-ReadsVerb None others behind read = read ≡ Err refusals.Command
-ReadsVerb (Some Get) others behind read = ReadsGet others read
-ReadsVerb (Some Set) others behind read = ReadsSet others (behind_word behind) read
-ReadsVerb (Some Add) others behind read = ReadsChange (λ c n. edits.Add c n) refusals.Amount others read
-ReadsVerb (Some Sub) others behind read = ReadsChange (λ c n. edits.Sub c n) refusals.Amount others read
-ReadsVerb (Some Choose) others behind read = ReadsChange (λ c n. edits.Choose c n) refusals.OptionRange others read
-ReadsVerb (Some Unchoose) others behind read =
+ReadsVerb None others rest read = read ≡ Err refusals.Command
+ReadsVerb (Some Get) others rest read = ReadsGet others read
+ReadsVerb (Some Set) others rest read = ReadsSet others (after_word rest) read
+ReadsVerb (Some Add) others rest read = ReadsChange (λ c n. edits.Add c n) refusals.Amount others read
+ReadsVerb (Some Sub) others rest read = ReadsChange (λ c n. edits.Sub c n) refusals.Amount others read
+ReadsVerb (Some Choose) others rest read = ReadsChange (λ c n. edits.Choose c n) refusals.OptionRange others read
+ReadsVerb (Some Unchoose) others rest read =
     ReadsChange (λ c n. edits.Unchoose c n) refusals.OptionRange others read
-ReadsVerb (Some Rows) others behind read = ReadsRows others read
-ReadsVerb (Some Push) others behind read = ReadsPush others behind read
-ReadsVerb (Some Pull) others behind read = ReadsPull others read
+ReadsVerb (Some Rows) others rest read = ReadsRows others read
+ReadsVerb (Some Push) others rest read = ReadsPush others rest read
+ReadsVerb (Some Pull) others rest read = ReadsPull others read
 
 -- WHAT A LINE ASKS FOR
 abbrev pub ReadsLine : List ℕ → Read Command → Type 0
 ReadsLine line read =
-    ReadsVerb (verb_of (first_word line)) (drop 1 (words line)) (behind_word line) read
+    ReadsVerb (verb_of (first_word line)) (drop 1 (words line)) (after_word line) read
 
 -- to read the rest of a line takes memory: a formula is kept, a text, and a delta
 abbrev pub IsKeptInMemory : Option Verb → List ℕ → Type 0
-IsKeptInMemory (Some Set) rest = takes_memory (kind_of (behind_word rest)) ≡ true
+IsKeptInMemory (Some Set) rest = takes_memory (kind_of (after_word rest)) ≡ true
 IsKeptInMemory (Some Push) rest = ⊤
 IsKeptInMemory _ rest = ⊥
 
 -- to read the line takes memory: it assigns a formula or a text, or it is a `push`
 abbrev pub TakesMemoryToRead : List ℕ → Type 0
-TakesMemoryToRead line = IsKeptInMemory (verb_of (first_word line)) (behind_word line)
+TakesMemoryToRead line = IsKeptInMemory (verb_of (first_word line)) (after_word line)

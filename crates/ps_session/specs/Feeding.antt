@@ -1,11 +1,23 @@
 -- How bytes come together to lines. A line ends with a line feed, which is no part of it; of a line that is longer
 -- than the limit nothing is kept.
-use Rattle.std.specs.Prelude.{◌≡◌, ◌≢◌, ◌-◌, ◌<◌, ℕ, List, [], ◌∷◌, ◌++◌, length, take, Option, Some, None}
-use Rattle.std.specs.Prelude.{if◌then◌else◌, nat_eq}
+use Rattle.std.specs.Prelude.{◌≡◌, ◌≢◌, ◌-◌, ◌<◌, ℕ, Bool, List, [], ◌∷◌, ◌++◌, length, take, Option, Some, None}
+use Rattle.std.specs.Prelude.{if◌then◌else◌, nat_eq, nat_le}
 use Rattle.std.specs.List.{All, ends_with}
-use Rattle.ps_session.specs.Kept.{kept_after}
+use Rattle.ps_session.specs.declared.session.TheConstants.{LINE_LIMIT}
 use Rattle.ps_session.specs.declared.session.Line.{Line}
 use Rattle.ps_session.specs.declared.session.Line.TheVariants as lines
+
+-- the bytes of a line that hasn't ended, or None where they are too many
+abbrev pub held : Bool → List ℕ → Option (List ℕ)
+held too_long bytes = if too_long then None else Some bytes
+
+-- what is kept of a line with these bytes
+abbrev pub kept : List ℕ → Option (List ℕ)
+kept bytes = if nat_le (length bytes) LINE_LIMIT then Some bytes else None
+
+abbrev pub kept_after : Option (List ℕ) → List ℕ → Option (List ℕ)
+kept_after None part = None
+kept_after (Some bytes) part = kept (bytes ++ part)
 
 -- what is held of a line that hasn't ended: its bytes, or None where they are too many
 pub record Reading : Type 0 where

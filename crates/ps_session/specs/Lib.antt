@@ -1,4 +1,3 @@
-pub mod Kept
 pub mod Feeding
 pub mod Transcript
 pub mod Replies

@@ -86,9 +86,9 @@ pub record Answered {State : Type 0} (Line : Answering State) (first : State) (w
   pub sent : Appends written contents text
 
 -- what stands after a line: the end, or its line feed and more
-abbrev pub IsBehindLine : Type 0 → List ℕ → Type 0
-IsBehindLine ended [] = ended
-IsBehindLine ended (b ∷ bs) = b ≡ 10
+abbrev pub IsAfterLine : Type 0 → List ℕ → Type 0
+IsAfterLine ended [] = ended
+IsAfterLine ended (b ∷ bs) = b ≡ 10
 
 -- the reply to one line was cut: all lines before it were answered, the state is the one after it
 pub record Cut {State : Type 0} (Line : Answering State) (ended : Type 0) (first : State) (written : Option (List ℕ))
@@ -104,7 +104,7 @@ pub record Cut {State : Type 0} (Line : Answering State) (ended : Type 0) (first
   pub whole : read ≡ stream_of lines (line ++ after)
   pub each : All HasNoFeed lines
   pub one : HasNoFeed line
-  pub behind : IsBehindLine ended after
+  pub ends : IsAfterLine ended after
   pub run : Run Line first lines text middle
   pub answers : Line middle line reply last
   pub short : count < length reply

@@ -12,8 +12,8 @@ abbrev pub first_part : ℕ → List ℕ → List ℕ
 first_part separator text = before_first (λ b. b == separator) text
 
 -- all after the first such byte, others of them too
-abbrev pub behind_part : ℕ → List ℕ → List ℕ
-behind_part separator text = after_first (λ b. b == separator) text
+abbrev pub after_part : ℕ → List ℕ → List ℕ
+after_part separator text = after_first (λ b. b == separator) text
 
 -- .. at each space
 abbrev pub words : List ℕ → List (List ℕ)
@@ -22,8 +22,8 @@ words line = parts 32 line
 abbrev pub first_word : List ℕ → List ℕ
 first_word line = first_part 32 line
 
-abbrev pub behind_word : List ℕ → List ℕ
-behind_word line = behind_part 32 line
+abbrev pub after_word : List ℕ → List ℕ
+after_word line = after_part 32 line
 
 -- one or more decimal digits, whose number has 64 bits
 unfoldable pub is_whole : List ℕ → Bool

@@ -1,7 +1,7 @@
 //! What a line asks for.
 ghost use Rattle.std.specs.Prelude.{◌≡◌, ◌∷◌, Err, Ok, Some};
 ghost use Rattle.std.specs.Option.{ok_or};
-ghost use Rattle.ps_session.specs.Words.{behind_word, parts, whole_number, words};
+ghost use Rattle.ps_session.specs.Words.{after_word, parts, whole_number, words};
 ghost use Rattle.ps_session.specs.Commands.{AtCell, ReadsCorners, ReadsGet, ReadsLine, ReadsPair, ReadsPull};
 ghost use Rattle.ps_session.specs.Commands.{ReadsRows, ReadsSet, ReadsVerb, Pushes, TakesMemoryToRead, group_size};
 
@@ -59,42 +59,43 @@ impl Command {
         ensures read { ReadsLine line.now result }
         ensures memory { result ≡ Err Refusal.Memory → TakesMemoryToRead line.now }
     {
-        let (word, behind) = split_word(line);
+        let (word, rest) = split_word(line);
         let Some(verb) = Verb::read(word) else {
             return Err(Refusal::Command);
         };
-        match behind {
-            Some(behind) => read_behind(alloc, verb, behind),
+        match rest {
+            Some(rest) => read_rest(alloc, verb, rest),
             None => Err(Refusal::Command),
         }
     }
 }
 
-fn read_behind(alloc: Global, verb: Verb, behind: &[u8]) -> Result<Command, Refusal>
-    ensures { ReadsVerb (Some verb) (words behind.now) behind.now result }
+/// What a verb asks for, by all that stands after its space.
+fn read_rest(alloc: Global, verb: Verb, rest: &[u8]) -> Result<Command, Refusal>
+    ensures { ReadsVerb (Some verb) (words rest.now) rest.now result }
 {
     match verb {
-        Verb::Get => read_get(behind),
-        Verb::Set => read_set(alloc, behind),
+        Verb::Get => read_get(rest),
+        Verb::Set => read_set(alloc, rest),
         Verb::Add => {
-            let (cell, amount) = read_change(behind, Refusal::Amount)?;
+            let (cell, amount) = read_change(rest, Refusal::Amount)?;
             Ok(Command::Edit(Edit::Add(cell, amount)))
         }
         Verb::Sub => {
-            let (cell, amount) = read_change(behind, Refusal::Amount)?;
+            let (cell, amount) = read_change(rest, Refusal::Amount)?;
             Ok(Command::Edit(Edit::Sub(cell, amount)))
         }
         Verb::Choose => {
-            let (cell, option) = read_change(behind, Refusal::OptionRange)?;
+            let (cell, option) = read_change(rest, Refusal::OptionRange)?;
             Ok(Command::Edit(Edit::Choose(cell, option)))
         }
         Verb::Unchoose => {
-            let (cell, option) = read_change(behind, Refusal::OptionRange)?;
+            let (cell, option) = read_change(rest, Refusal::OptionRange)?;
             Ok(Command::Edit(Edit::Unchoose(cell, option)))
         }
-        Verb::Rows => read_rows(behind),
-        Verb::Push => read_push(alloc, behind),
-        Verb::Pull => read_pull(behind),
+        Verb::Rows => read_rows(rest),
+        Verb::Push => read_push(alloc, rest),
+        Verb::Pull => read_pull(rest),
     }
 }
 
@@ -108,10 +109,11 @@ fn read_cell(word: &[u8]) -> Result<Cell, Refusal>
     }
 }
 
-fn read_get(behind: &[u8]) -> Result<Command, Refusal>
-    ensures { ReadsGet (words behind.now) result }
+/// `get`: a cell, and no more words.
+fn read_get(rest: &[u8]) -> Result<Command, Refusal>
+    ensures { ReadsGet (words rest.now) result }
 {
-    match split_word(behind) {
+    match split_word(rest) {
         (word, None) => {
             let cell = read_cell(word)?;
             Ok(Command::Get(cell))
@@ -120,25 +122,27 @@ fn read_get(behind: &[u8]) -> Result<Command, Refusal>
     }
 }
 
-fn read_set(alloc: Global, behind: &[u8]) -> Result<Command, Refusal>
-    ensures { ReadsSet (words behind.now) (behind_word behind.now) result }
+/// `set`: a cell, and perhaps an entry after a space.
+fn read_set(alloc: Global, rest: &[u8]) -> Result<Command, Refusal>
+    ensures { ReadsSet (words rest.now) (after_word rest.now) result }
 {
-    let (word, entry) = split_word(behind);
+    let (word, entry) = split_word(rest);
     let cell = read_cell(word)?;
     let content = read_entry(alloc, entry.unwrap_or(b""))?;
     Ok(Command::Edit(Edit::Set(cell, content)))
 }
 
 /// A cell and a number; another word than a number has the refusal given.
-fn read_change(behind: &[u8], refusal: Refusal) -> Result<(Cell, u64), Refusal>
-    ensures { ReadsPair refusal (words behind.now) result }
+fn read_change(rest: &[u8], refusal: Refusal) -> Result<(Cell, u64), Refusal>
+    ensures { ReadsPair refusal (words rest.now) result }
 {
-    match split_word(behind) {
+    match split_word(rest) {
         (word, Some(number)) => read_pair(word, number, refusal),
         (_, None) => Err(Refusal::Command),
     }
 }
 
+/// A cell and a number by their words; the number is the last one.
 fn read_pair(word: &[u8], number: &[u8], refusal: Refusal) -> Result<(Cell, u64), Refusal>
     ensures { ReadsPair refusal (word.now ∷ words number.now) result }
 {
@@ -154,28 +158,31 @@ fn read_pair(word: &[u8], number: &[u8], refusal: Refusal) -> Result<(Cell, u64)
     }
 }
 
-fn read_rows(behind: &[u8]) -> Result<Command, Refusal>
-    ensures { ReadsRows (words behind.now) result }
+/// `rows`: two corners, and no more words.
+fn read_rows(rest: &[u8]) -> Result<Command, Refusal>
+    ensures { ReadsRows (words rest.now) result }
 {
-    match split_word(behind) {
+    match split_word(rest) {
         (corners, None) => read_corners(corners),
         (_, Some(_)) => Err(Refusal::Command),
     }
 }
 
+/// Two cells with one colon between.
 fn read_corners(corners: &[u8]) -> Result<Command, Refusal>
     ensures { ReadsCorners (parts 58 corners.now) result }
 {
-    let (first, behind) = split_part(corners, b':');
-    let Some(behind) = behind else {
+    let (first, rest) = split_part(corners, b':');
+    let Some(rest) = rest else {
         return Err(Refusal::Cell);
     };
-    match split_part(behind, b':') {
+    match split_part(rest, b':') {
         (last, None) => Ok(Command::Rows(read_cell(first)?, read_cell(last)?)),
         (_, Some(_)) => Err(Refusal::Cell),
     }
 }
 
+/// `push`: the line of a delta.
 fn read_push(alloc: Global, line: &[u8]) -> Result<Command, Refusal>
     ensures { Pushes line.now result }
 {
@@ -183,22 +190,24 @@ fn read_push(alloc: Global, line: &[u8]) -> Result<Command, Refusal>
     Ok(Command::Push(delta))
 }
 
-fn read_pull(behind: &[u8]) -> Result<Command, Refusal>
-    ensures { ReadsPull (words behind.now) result }
+/// `pull`: a version, and perhaps the size of a group after a space.
+fn read_pull(rest: &[u8]) -> Result<Command, Refusal>
+    ensures { ReadsPull (words rest.now) result }
 {
-    match split_word(behind) {
+    match split_word(rest) {
         (from, None) => Ok(Command::Pull {
             from: read_version(from)?,
             most: None,
         }),
-        (from, Some(behind)) => read_group(from, behind),
+        (from, Some(rest)) => read_group(from, rest),
     }
 }
 
-fn read_group(from: &[u8], behind: &[u8]) -> Result<Command, Refusal>
-    ensures { ReadsPull (from.now ∷ words behind.now) result }
+/// `pull` with a version and the size of a group, and no more words.
+fn read_group(from: &[u8], rest: &[u8]) -> Result<Command, Refusal>
+    ensures { ReadsPull (from.now ∷ words rest.now) result }
 {
-    match split_word(behind) {
+    match split_word(rest) {
         (most, None) => Ok(Command::Pull {
             from: read_version(from)?,
             most: Some(read_most(most)?),
@@ -207,12 +216,14 @@ fn read_group(from: &[u8], behind: &[u8]) -> Result<Command, Refusal>
     }
 }
 
+/// The number of a version.
 fn read_version(word: &[u8]) -> Result<u64, Refusal>
     ensures { result ≡ ok_or (whole_number word.now) Refusal.Version }
 {
     read_whole(word).ok_or(Refusal::Version)
 }
 
+/// The size of a group, 1 to [`LARGEST_GROUP`].
 fn read_most(word: &[u8]) -> Result<u8, Refusal>
     ensures { result ≡ ok_or (group_size (whole_number word.now)) Refusal.Version }
 {

@@ -14,7 +14,7 @@ use std::marker::Brand;
 use std::sync::ledger::{Blank, Ledger};
 use std::test::Fail;
 
-// What a new sheet of replica 1 answers.
+/// What a new sheet of replica 1 answers.
 fn answered<S: Source, K: Ledger, L: Ledger>(
     alloc: Global,
     source: &mut S,
@@ -33,7 +33,7 @@ fn answered<S: Source, K: Ledger, L: Ledger>(
     Ok(bytes)
 }
 
-// A reader that gives a byte at a time.
+/// A reader that gives a byte at a time.
 #[derive(Drop)]
 struct Trickle<'a>(&'a [u8]);
 
@@ -48,6 +48,7 @@ impl Read for Trickle<'_> {
     }
 }
 
+/// .. where a byte comes at a time.
 fn answered_slowly<J: Ledger>(alloc: Global, input: Blank, text: &[u8]) -> Result<Vec<u8>, Refusal>
     requires { IsBlankOf input J.name J.parts }
 {

@@ -2,7 +2,7 @@
 ghost use Rattle.std.specs.Prelude.{◌≡◌, ◌<◌, ◌≤◌, Some, None, [], IfOk, length, take, vec_len, vec_capacity};
 ghost use Rattle.std.specs.Prelude.{if◌then◌else◌};
 ghost use Rattle.ps_session.specs.declared.session.TheConstants.{LINE_LIMIT};
-ghost use Rattle.ps_session.specs.Kept.{held, kept_after};
+ghost use Rattle.ps_session.specs.Feeding.{held, kept_after};
 
 use memchr::memchr;
 use std::alloc::{AllocError, Global};

@@ -3,14 +3,14 @@ ghost use Rattle.std.specs.Prelude.{◌≡◌, ◌==◌, ◌∷◌, [], position
 ghost use Rattle.std.specs.Char.{is_ascii_digit};
 ghost use Rattle.std.specs.List.{list_all};
 ghost use Rattle.std.specs.Option.{option_map_or};
-ghost use Rattle.ps_session.specs.Words.{behind_part, behind_word, first_part, first_word, parts, whole_number};
+ghost use Rattle.ps_session.specs.Words.{after_part, after_word, first_part, first_word, parts, whole_number};
 ghost use Rattle.ps_session.specs.Words.{words};
 
 /// The bytes before the first space, and those after it where there is one.
 pub(crate) fn split_word(text: &[u8]) -> (&[u8], Option<&[u8]>)
     ensures word { result.0.now ≡ first_word text.now }
     ensures words { words text.now ≡ result.0.now ∷ option_map_or (λ rest. words rest.now) result.1 [] }
-    ensures behind { behind_word text.now ≡ option_map_or (λ rest. rest.now) result.1 [] }
+    ensures after { after_word text.now ≡ option_map_or (λ rest. rest.now) result.1 [] }
 {
     split_part(text, b' ')
 }
@@ -20,7 +20,7 @@ pub(crate) fn split_part(text: &[u8], separator: u8) -> (&[u8], Option<&[u8]>)
     ensures part { result.0.now ≡ first_part separator text.now }
     ensures parts { parts separator text.now
         ≡ result.0.now ∷ option_map_or (λ rest. parts separator rest.now) result.1 [] }
-    ensures behind { behind_part separator text.now ≡ option_map_or (λ rest. rest.now) result.1 [] }
+    ensures after { after_part separator text.now ≡ option_map_or (λ rest. rest.now) result.1 [] }
 {
     match first_place(text, separator) {
         Some(place) => (&text[..place], Some(&text[place + 1..])),

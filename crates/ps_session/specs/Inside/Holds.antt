@@ -2,8 +2,7 @@
 use Rattle.std.specs.Prelude.{◌≡◌, ◌+◌, ◌-◌, ◌<◌, ◌^◌, ℕ, Bool, List, Option, Some, None, Result, MatchResult, length}
 use Rattle.std.specs.Prelude.{take, min, if◌then◌else◌}
 use Rattle.std.specs.Io.KnownBytes.{Appends}
-use Rattle.ps_session.specs.Kept.{kept}
-use Rattle.ps_session.specs.Feeding.{Reading}
+use Rattle.ps_session.specs.Feeding.{Reading, kept}
 use Rattle.ps_session.specs.declared.session.Line.{Line}
 use Rattle.ps_session.specs.declared.session.Line.TheVariants as lines
 

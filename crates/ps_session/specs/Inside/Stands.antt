@@ -1,7 +1,7 @@
 -- Where a session stands between two pieces of its input.
 use Rattle.std.specs.Prelude.{◌≡◌, ◌++◌, ℕ, List, Option}
 use Rattle.std.specs.Io.KnownBytes.{Appends}
-use Rattle.ps_session.specs.Kept.{kept}
+use Rattle.ps_session.specs.Feeding.{kept}
 use Rattle.ps_session.specs.Transcript.{Answering, Cut, Run, Splits, answered_count}
 
 -- the complete lines read were answered, and what remains is held

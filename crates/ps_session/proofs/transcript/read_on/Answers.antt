@@ -1,5 +1,5 @@
 use Rattle.std.proofs.Common.{◌∙◌, ◌++◌, inl, inr, arith, take}
-use Rattle.ps_session.proofs.EndLemmas.{stands_answered, stands_settled}
+use Rattle.ps_session.proofs.InputReadToEnd.{stands_answered, stands_settled}
 use Rattle.ps_session.proofs.ReadLemmas.{Consumes-append, Consumes-keeps}
 use Rattle.ps_session.proofs.transcript.read_on.Goals as goal
 

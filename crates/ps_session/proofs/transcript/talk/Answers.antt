@@ -1,6 +1,6 @@
 use Rattle.std.proofs.Common.{inl, inr}
 use Rattle.std.proofs.lemmas.Result.{err_from_is_err_and}
-use Rattle.ps_session.proofs.EndLemmas.{cut_behind_end, stands_first, stopped_behind_end, transcribed_settled}
+use Rattle.ps_session.proofs.InputReadToEnd.{cut_ended, stands_first, stopped_ended, transcribed_settled}
 use Rattle.ps_session.proofs.ReadLemmas.{same_fault}
 use Rattle.ps_session.proofs.transcript.talk.Goals as goal
 
@@ -10,7 +10,7 @@ returns-in_err-read_on-clause-sink g c = λ is.
     let r = c.in_err-read_on.ensures.sink (same_fault c.from_residual.result p.0 _ _ p.1 p.2 is) in (
       r.0,
       r.1,
-      stopped_behind_end _ _ _ _ ⊥ _ _ _ (λ no_end. absurd no_end) (r.2 c.args.board.now _ (stands_first _
+      stopped_ended _ _ _ _ ⊥ _ _ _ (λ no_end. absurd no_end) (r.2 c.args.board.now _ (stands_first _
           c.args.board.now _ _ c.in-Ok.ensures)),
     )
 
@@ -25,7 +25,7 @@ returns-in-Err-finish-clause-sink g c = λ is.
     let r = c.in_ok-read_on.ensures.read in (
       r.0,
       r.1,
-      inl (cut_behind_end _ _ _ _ _ _ _ _ (λ all. r.2)
+      inl (cut_ended _ _ _ _ _ _ _ _ (λ all. r.2)
           (c.in-Err-finish.ensures.cut c.args.board.now _ r.0 (r.3 c.args.board.now _ (stands_first _
           c.args.board.now _ _ c.in-Ok.ensures)))),
     )

@@ -1,7 +1,6 @@
 use Rattle.std.proofs.Common.{refl, sym, ap, ◌∙◌, arith, take}
 use Rattle.std.proofs.Math.Seq.{take-length}
-use Rattle.ps_session.specs.Kept.{kept_after}
-use Rattle.ps_session.specs.Feeding.{Reading}
+use Rattle.ps_session.specs.Feeding.{Reading, kept_after}
 use Rattle.ps_session.proofs.FeedLemmas.{ends_line, no_feed}
 use Rattle.ps_session.proofs.session.Session.feed.Goals as goal
 

@@ -1,5 +1,5 @@
 use Rattle.std.proofs.lemmas.Result.{err_from_is_err_and}
-use Rattle.ps_session.proofs.EndLemmas.{end_cut, end_line}
+use Rattle.ps_session.proofs.InputReadToEnd.{end_cut, end_line}
 use Rattle.ps_session.proofs.transcript.Exchange.finish.Goals as goal
 
 pub returns-in_err-close-in_default : goal.returns-in_err-close-in_default

@@ -1,6 +1,6 @@
 use Rattle.std.proofs.Common.{◌∙◌}
 use Rattle.std.proofs.lemmas.Result.{err_from_is_err_and}
-use Rattle.ps_session.proofs.EndLemmas.{cut_rest, stands_more, turn_within}
+use Rattle.ps_session.proofs.InputReadToEnd.{cut_rest, stands_more, turn_within}
 use Rattle.ps_session.proofs.transcript.Exchange.serve.Goals as goal
 
 pub returns-in_err-start-clause-cut : goal.returns-in_err-start-clause-cut

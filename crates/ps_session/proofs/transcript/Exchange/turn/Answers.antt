@@ -1,5 +1,5 @@
 use Rattle.std.proofs.lemmas.Result.{err_from_is_err_and}
-use Rattle.ps_session.proofs.TurnLemmas.{line_cut, line_stands}
+use Rattle.ps_session.proofs.OnePieceMore.{line_cut, line_stands}
 use Rattle.ps_session.proofs.transcript.Exchange.turn.Goals as goal
 
 pub returns-in_err-close-in_default : goal.returns-in_err-close-in_default

@@ -17,7 +17,7 @@ use Rattle.ps_sheet.specs.Edits.{assigned, delta_of_edit}
 use Rattle.ps_session.specs.Commands.{AtNumber, Read, ReadsChange, ReadsCorners, ReadsGet, ReadsLine, ReadsPair}
 use Rattle.ps_session.specs.Commands.{ReadsPull, ReadsPush, ReadsRows, ReadsSet, ReadsVerb, group_size, verb_of}
 use Rattle.ps_session.specs.EditLines.{HasLine, IsEdit, named_count}
-use Rattle.ps_session.specs.Words.{behind_word, first_word, parts, words, whole_number}
+use Rattle.ps_session.specs.Words.{after_word, first_word, parts, words, whole_number}
 use Rattle.ps_session.specs.declared.command.Command.{Command}
 use Rattle.ps_session.specs.declared.command.Command.TheVariants as commands
 use Rattle.ps_session.specs.declared.verb.Verb.{Verb}
@@ -125,26 +125,26 @@ push_in_range (word ∷ others) line read (Ok d, reads, is) =
     subst AsksInRange (sym is) (record { lawful = reads.line.lawful; fits = (decoded_fit line d reads.line).1 })
 push_in_range (word ∷ others) line read (Err e, reads, is) = subst AsksInRange (sym is) tt
 
-verb_in_range : (verb : Option Verb) (others : List (List ℕ)) (behind : List ℕ) (read : Read Command)
-    → ReadsVerb verb others behind read → AsksInRange read
-verb_in_range None others behind read is = subst AsksInRange (sym is) tt
-verb_in_range (Some Get) others behind read reads = get_in_range others read reads
-verb_in_range (Some Set) others behind read reads = set_in_range others (behind_word behind) read reads
-verb_in_range (Some Add) others behind read reads =
+verb_in_range : (verb : Option Verb) (others : List (List ℕ)) (rest : List ℕ) (read : Read Command)
+    → ReadsVerb verb others rest read → AsksInRange read
+verb_in_range None others rest read is = subst AsksInRange (sym is) tt
+verb_in_range (Some Get) others rest read reads = get_in_range others read reads
+verb_in_range (Some Set) others rest read reads = set_in_range others (after_word rest) read reads
+verb_in_range (Some Add) others rest read reads =
     change_in_range (λ c n. edits.Add c n) refusals.Amount others read (λ c n lt. lt) reads
-verb_in_range (Some Sub) others behind read reads =
+verb_in_range (Some Sub) others rest read reads =
     change_in_range (λ c n. edits.Sub c n) refusals.Amount others read (λ c n lt. lt) reads
-verb_in_range (Some Choose) others behind read reads =
+verb_in_range (Some Choose) others rest read reads =
     change_in_range (λ c n. edits.Choose c n) refusals.OptionRange others read (λ c n lt. lt) reads
-verb_in_range (Some Unchoose) others behind read reads =
+verb_in_range (Some Unchoose) others rest read reads =
     change_in_range (λ c n. edits.Unchoose c n) refusals.OptionRange others read (λ c n lt. lt) reads
-verb_in_range (Some Rows) others behind read reads = rows_in_range others read reads
-verb_in_range (Some Push) others behind read reads = push_in_range others behind read reads
-verb_in_range (Some Pull) others behind read reads = pull_in_range others read reads
+verb_in_range (Some Rows) others rest read reads = rows_in_range others read reads
+verb_in_range (Some Push) others rest read reads = push_in_range others rest read reads
+verb_in_range (Some Pull) others rest read reads = pull_in_range others read reads
 
 pub line_in_range : (line : List ℕ) (read : Read Command) → ReadsLine line read → AsksInRange read
 line_in_range line read reads =
-    verb_in_range (verb_of (first_word line)) (drop 1 (words line)) (behind_word line) read reads
+    verb_in_range (verb_of (first_word line)) (drop 1 (words line)) (after_word line) read reads
 
 -- the delta of such an edit names that cell alone
 one_in_grid : (c : ℕ) (x : CellState) (d : Entries) → c < CELLS

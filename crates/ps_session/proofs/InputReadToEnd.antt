@@ -7,9 +7,8 @@ use Rattle.std.specs.Io.KnownBytes.{Appends, Keeps}
 use Rattle.std.proofs.Math.Seq.{take-add}
 use Rattle.std.proofs.lemmas.List.{take-append-drop}
 use Rattle.ps_device.proofs.DeviceLemmas.{Appends-append, Appends-keeps, Appends-nil, rest-range}
-use Rattle.ps_session.specs.Kept.{kept}
-use Rattle.ps_session.specs.Feeding.{Ends, Reading}
-use Rattle.ps_session.specs.Transcript.{Answered, Answering, Cut, IsBehindLine, Run, Stopped, Transcribed}
+use Rattle.ps_session.specs.Feeding.{Ends, Reading, kept}
+use Rattle.ps_session.specs.Transcript.{Answered, Answering, Cut, IsAfterLine, Run, Stopped, Transcribed}
 use Rattle.ps_session.specs.Transcript.{answered_count}
 use Rattle.ps_session.specs.Transcript.{has_reply, stream_of, with_last}
 use Rattle.ps_session.specs.Inside.Stands.{Stands}
@@ -17,7 +16,7 @@ use Rattle.ps_session.specs.Inside.Holds.{Holds, as_one}
 use Rattle.ps_session.specs.declared.session.Line.{Line}
 use Rattle.ps_session.specs.declared.session.Line.TheVariants as lines
 use Rattle.ps_session.proofs.HoldsLemmas.{fits_kept}
-use Rattle.ps_session.proofs.RunLemmas.{Run-push, answered-push}
+use Rattle.ps_session.proofs.OneLineMore.{Run-push, answered-push}
 
 -- one turn more, as the code takes it
 pub read-more : (read bytes : List ℕ) (start taken : ℕ)
@@ -122,7 +121,7 @@ module _ {State : Type 0} (Handles : Answering State) (first : State) (written :
           whole = s.split.whole ∙ ap (stream_of s.lines) (sym (append-nil s.rest));
           each = s.split.each;
           one = s.split.partial;
-          behind = tt;
+          ends = tt;
           run = s.run;
           answers = r.2;
           short = r.3;
@@ -166,10 +165,10 @@ module _ {State : Type 0} (Handles : Answering State) (first : State) (written :
     }
 
     -- a cut reply, with what is known of the end of the input
-    pub cut_behind_end : (P Q : Type 0) (last : State) (contents : Option (List ℕ)) → (P → Q)
+    pub cut_ended : (P Q : Type 0) (last : State) (contents : Option (List ℕ)) → (P → Q)
         → Cut Handles P first written read last contents
         → Cut Handles Q first written read last contents
-    cut_behind_end P Q last contents known c = record {
+    cut_ended P Q last contents known c = record {
       lines = c.lines;
       line = c.line;
       after = c.after;
@@ -180,24 +179,24 @@ module _ {State : Type 0} (Handles : Answering State) (first : State) (written :
       whole = c.whole;
       each = c.each;
       one = c.one;
-      behind = go c.after c.behind;
+      ends = go c.after c.ends;
       run = c.run;
       answers = c.answers;
       short = c.short;
       sent = c.sent;
     }
       where
-        go : (after : List ℕ) → IsBehindLine P after → IsBehindLine Q after
+        go : (after : List ℕ) → IsAfterLine P after → IsAfterLine Q after
         go [] p = known p
         go (b ∷ bs) p = p
 
     -- the sink failed, with what is known of the end of the input
-    pub stopped_behind_end : (P Q : Type 0) (last : State) (contents : Option (List ℕ)) → (P → Q)
+    pub stopped_ended : (P Q : Type 0) (last : State) (contents : Option (List ℕ)) → (P → Q)
         → Stopped Handles P first written read last contents
         → Stopped Handles Q first written read last contents
-    stopped_behind_end P Q last contents known (inl cut) = inl (cut_behind_end P Q last contents known cut)
-    stopped_behind_end P Q last contents known (inr (inl all)) = inr (inl all)
-    stopped_behind_end P Q last contents known (inr (inr end)) = inr (inr (known end.0, end.1, end.2))
+    stopped_ended P Q last contents known (inl cut) = inl (cut_ended P Q last contents known cut)
+    stopped_ended P Q last contents known (inr (inl all)) = inr (inl all)
+    stopped_ended P Q last contents known (inr (inr end)) = inr (inr (known end.0, end.1, end.2))
 
     pub stands_more : (bytes : List ℕ) (start taken : ℕ) (board : State) (pending contents : Option (List ℕ)) (answered
         : ℕ)

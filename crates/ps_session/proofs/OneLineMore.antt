@@ -10,8 +10,7 @@ use Rattle.std.proofs.lemmas.List.Sums.{fold-append}
 use Rattle.std.proofs.lemmas.Bool.Decides.{nat_tests}
 use Rattle.ps_device.proofs.DeviceLemmas.{Appends-append}
 use Rattle.ps_session.specs.declared.session.TheConstants.{LINE_LIMIT}
-use Rattle.ps_session.specs.Kept.{kept, kept_after}
-use Rattle.ps_session.specs.Feeding.{HasNoFeed}
+use Rattle.ps_session.specs.Feeding.{HasNoFeed, kept, kept_after}
 use Rattle.ps_session.specs.Transcript.{Answering, Run, stream_of, has_reply, answered_count}
 use Rattle.ps_session.specs.Transcript.{Cut}
 use Rattle.ps_session.specs.Inside.Stands.{Stands}
@@ -140,7 +139,7 @@ module _ {State : Type 0} (Line : Answering State) (first : State) (written : Op
         ∙ ap (stream_of s.lines) (sym (append_assoc s.rest part (10 ∷ more)));
     each = s.split.each;
     one = All-append (λ b. b ≢ 10) s.rest part s.split.partial free;
-    behind = refl;
+    ends = refl;
     run = s.run;
     answers = answers;
     short = short;

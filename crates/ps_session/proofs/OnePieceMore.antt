@@ -1,17 +1,28 @@
 -- A piece that was fed, and the line that it may have ended.
 use Rattle.std.proofs.Common.{◌≡◌, ◌≢◌, ◌^◌, ◌+◌, ◌-◌, ◌<◌, ℕ, min, List, [], ◌∷◌, ◌++◌}
-use Rattle.std.proofs.Common.{length, take, drop, refl, sym, ap, ◌∙◌, Option, Some}
+use Rattle.std.proofs.Common.{length, take, drop, refl, sym, ap, ◌∙◌, Option, Some, None}
 use Rattle.std.proofs.Common.{subst, append_assoc}
 use Rattle.std.specs.Io.KnownBytes.{Appends}
 use Rattle.std.proofs.lemmas.List.{take-append-drop}
-use Rattle.ps_session.specs.Kept.{kept_after}
-use Rattle.ps_session.specs.Feeding.{Feeds, HasNoFeed, Reading}
+use Rattle.ps_session.specs.Feeding.{EndsLine, Feeds, HasNoFeed, Reading, kept, kept_after}
 use Rattle.ps_session.specs.Transcript.{Answering, Cut, has_reply}
 use Rattle.ps_session.specs.Inside.Stands.{Stands}
 use Rattle.ps_session.specs.Inside.Holds.{Holds, as_one}
 use Rattle.ps_session.specs.declared.session.Line.{Line}
 use Rattle.ps_session.specs.declared.session.Line.TheVariants as lines
-use Rattle.ps_session.proofs.RunLemmas.{cut_line, kept_cut, stands_line, stands_part}
+use Rattle.ps_session.proofs.OneLineMore.{cut_line, kept_cut, stands_line, stands_part}
+
+-- the part of a line that ended, and what is kept of the whole line
+kept_whole : (before : Reading) (bytes rest : List ℕ) (wanted : Option (List ℕ)) → before.pending ≡ kept rest
+    → EndsLine bytes (λ part. kept_after before.pending part ≡ wanted)
+    → (part : List ℕ) × (bytes ≡ part ++ 10 ∷ []) × HasNoFeed part × (kept (rest ++ part) ≡ wanted)
+kept_whole before bytes rest wanted held ends = (
+  ends.0,
+  ends.1,
+  ends.2,
+  sym (kept_cut rest ends.0) ∙ ap (λ p. kept_after p ends.0) (sym held)
+      ∙ ends.3,
+)
 
 module _ {State : Type 0} (Handles : Answering State) (first : State) (written : Option (List ℕ)) (read : List ℕ)
   where
@@ -33,22 +44,12 @@ module _ {State : Type 0} (Handles : Answering State) (first : State) (written :
         → (part : List ℕ) × (bytes ≡ part ++ 10 ∷ []) × HasNoFeed part × Holds line after (s.rest ++ part)
         × (after.pending ≡ Some [])
     ended board before after contents answered bytes lines.None some fed s = absurd (some refl)
-    ended board before after contents answered bytes lines.Full some fed s = (
-      fed.0.0,
-      fed.0.1,
-      fed.0.2,
-      sym (kept_cut s.rest fed.0.0) ∙ ap (λ p. kept_after p fed.0.0) (sym s.held)
-          ∙ fed.0.3,
-      fed.1,
-    )
-    ended board before after contents answered bytes lines.TooLong some fed s = (
-      fed.0.0,
-      fed.0.1,
-      fed.0.2,
-      sym (kept_cut s.rest fed.0.0) ∙ ap (λ p. kept_after p fed.0.0) (sym s.held)
-          ∙ fed.0.3,
-      fed.1,
-    )
+    ended board before after contents answered bytes lines.Full some fed s =
+        let whole = kept_whole before bytes s.rest (Some after.line) s.held fed.0 in
+        (whole.0, whole.1, whole.2, whole.3, fed.1)
+    ended board before after contents answered bytes lines.TooLong some fed s =
+        let whole = kept_whole before bytes s.rest None s.held fed.0 in
+        (whole.0, whole.1, whole.2, whole.3, fed.1)
 
     -- .. and it was answered
     pub line_stands : (old new : State) (before after : Reading) (contents more : Option (List ℕ)) (answered counted :
