@@ -1,7 +1,7 @@
 //! Worlds: several replicas, and the deltas that travel between them.
 
-ghost use Rattle.std.specs.Prelude.{◌≡◌, ◌⊎◌, ◌↔◌, ◌<◌, ◌≤◌, IfOk, IfErr, OnOk, length};
-ghost use Rattle.std.specs.Option.{option_map, option_copied};
+ghost use Rattle.std.specs.Prelude.{◌≡◌, ◌⊎◌, ◌↔◌, ◌<◌, ◌≤◌, ◌-◌, IfOk, IfErr, OnOk, length};
+ghost use Rattle.std.specs.Option.{SomeIff, option_map, option_copied};
 ghost use Rattle.ps_grid.specs.declared.refusal.Refusal.{Refusal};
 ghost use Rattle.ps_world.specs.Replicas.{IsWorld, SameTakenShowTheSame, ShowsSettled, replica_at, world_of};
 ghost use Rattle.ps_world.specs.Inside.Steps.{AreNew};
@@ -97,15 +97,15 @@ impl World {
         ensures follows { IfOk result (Follows (Event.Edit replica edit) self) }
         ensures memory { IfErr result (λ e. e ≡ Refusal.Memory) }
     {
-        if replica < 1 || usize::from(replica) > self.replicas.len() {
+        let Some(place) = place_of(usize::from(replica), self.replicas.len()) else {
             return Ok(self);
-        }
+        };
         let World {
             mut deltas,
             mut replicas,
         } = self;
         let number = deltas.len() + 1;
-        let maker = &mut replicas[usize::from(replica) - 1];
+        let maker = &mut replicas[place];
         match maker.make(alloc, number, edit, meter)? {
             None => Ok(World { deltas, replicas }),
             Some(made) => {
@@ -139,18 +139,18 @@ impl World {
         ensures follows { IfOk result (Follows (Event.Deliver replica number) self) }
         ensures memory { IfErr result (λ e. e ≡ Refusal.Memory) }
     {
-        if replica < 1 || usize::from(replica) > self.replicas.len() {
+        let Some(place) = place_of(usize::from(replica), self.replicas.len()) else {
             return Ok(self);
-        }
-        if number < 1 || number > self.deltas.len() {
+        };
+        let Some(sent) = place_of(number, self.deltas.len()) else {
             return Ok(self);
-        }
+        };
         let World {
             deltas,
             mut replicas,
         } = self;
-        let delta = deltas[number - 1].clone()?;
-        let taker = &mut replicas[usize::from(replica) - 1];
+        let delta = deltas[sent].clone()?;
+        let taker = &mut replicas[place];
         taker.take(alloc, number, delta, meter)?;
         Ok(World { deltas, replicas })
     }
@@ -182,6 +182,16 @@ impl World {
     {
         numbered(&self.replicas, replica)
     }
+}
+
+/// The place of a number in a list whose items are numbered from 1 on; none where it is unknown.
+fn place_of(number: usize, count: usize) -> Option<usize>
+    ensures { SomeIff result ((1 ≤ number) × (number ≤ count)) (number - 1) }
+{
+    if number < 1 || number > count {
+        return None;
+    }
+    Some(number - 1)
 }
 
 /// The replica with a number in the list of all.

@@ -1,4 +1,4 @@
-use Rattle.std.proofs.Common.{◌≡◌, ◌-◌, ◌≤◌, length, ap, ◌∙◌, refl, sym, arith, set, Some}
+use Rattle.std.proofs.Common.{◌≡◌, ◌≤◌, ℕ, length, ap, ◌∙◌, refl, subst, sym, arith, set, Some}
 use Rattle.std.specs.Prelude.{map, slice_get}
 use Rattle.std.specs.Option.{option_map}
 use Rattle.std.specs.Arc.{arc_value}
@@ -16,26 +16,30 @@ goes : (g : Over) (c : In_ok-take g) → Goes (Deliver c.args.replica c.args.num
     (record { deltas = map arc_value c.self.inside.deltas.items; replicas = c.self.inside.replicas.items })
     (record {
       deltas = map arc_value c.self.inside.deltas.items;
-      replicas = set c.self.inside.replicas.items (c.from-2.result - 1) c.take.new.self;
+      replicas = set c.self.inside.replicas.items c.in-Some.place c.take.new.self;
     })
 goes g c =
     let w : WorldView = record {
       deltas = map arc_value c.self.inside.deltas.items;
       replicas = c.self.inside.replicas.items;
     } in
-    let i = c.from-2.result - 1 in
-    let high : c.args.number ≤ length w.deltas = omega (arith, length-map c.self.inside.deltas.items arc_value) in
+    let i = c.in-Some.place in
+    let there = c.in-Some.ensures in
+    let sent = c.in-Some-place_of.ensures in
+    let high : c.args.number ≤ length w.deltas =
+    omega (arith, sent.0.1, length-map c.self.inside.deltas.items arc_value) in
     let at : slice_get w.replicas i ≡ Some c.index_mut-taker.result.now =
-    slice_get_read c.self.inside.replicas.items _ i c.index_mut-taker.result.now refl (omega arith)
+    slice_get_read c.self.inside.replicas.items _ i c.index_mut-taker.result.now refl (omega (arith, there))
     c.index_mut-taker.ensures.value in
-    let delta : slice_get w.deltas (c.args.number - 1) ≡ Some (arc_value c.in_ok-delta.delta) =
-    slice_get-map arc_value c.self.inside.deltas.items (c.args.number - 1)
+    let delta : slice_get w.deltas c.in-Some-place_of.sent ≡ Some (arc_value c.in_ok-delta.delta) =
+    slice_get-map arc_value c.self.inside.deltas.items c.in-Some-place_of.sent
     ∙ (ap (option_map arc_value)
-    (slice_get_read c.self.inside.deltas.items _ (c.args.number - 1) c.index.result.now refl (omega arith)
-    c.index.ensures)
+    (slice_get_read c.self.inside.deltas.items _ c.in-Some-place_of.sent c.index.result.now refl
+    (omega (arith, sent)) c.index.ensures)
     ∙ ap Some (sym c.in_ok-delta.ensures.cases)) in
     delivered w c.args.replica c.args.number i c.index_mut-taker.result.now c.take.new.self
-    (arc_value c.in_ok-delta.delta) c.self.invariant (omega arith) at (omega arith) high delta
+    (arc_value c.in_ok-delta.delta) c.self.invariant (omega (arith, there)) at sent.0.0 high
+    (subst (λ (n : ℕ). slice_get w.deltas n ≡ Some (arc_value c.in_ok-delta.delta)) sent.1 delta)
     c.in_ok-take.ensures.joined c.in_ok-take.ensures.taken c.take.ensures.replica c.in_ok-take.ensures.sheet
 
 pub invariant_of-result : goal.invariant_of-result

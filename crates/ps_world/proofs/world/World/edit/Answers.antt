@@ -1,4 +1,4 @@
-use Rattle.std.proofs.Common.{◌≡◌, ◌-◌, ◌+◌, ◌∷◌, [], ◌++◌, length, ap, ◌∙◌, refl}
+use Rattle.std.proofs.Common.{◌≡◌, ◌+◌, ◌∷◌, [], ◌++◌, length, ap, ◌∙◌, refl}
 use Rattle.std.proofs.Common.{arith, set, Some}
 use Rattle.std.specs.Prelude.{map, slice_get}
 use Rattle.std.specs.Arc.{arc_value}
@@ -9,60 +9,62 @@ use Rattle.ps_world.specs.declared.event.Event.TheVariants.{Edit}
 use Rattle.ps_world.proofs.WorldSteps.{Goes, edited, refused}
 use Rattle.ps_world.proofs.world.World.edit.Given.{Over}
 use Rattle.ps_world.proofs.world.World.edit.Goals as goal
-use Rattle.ps_world.proofs.world.World.edit.Goals.{In-None, In_ok-push-in-Some}
+use Rattle.ps_world.proofs.world.World.edit.Goals.{In-None, In_ok-push-in-Some-2}
 
 -- the world where the replica made a delta
-made_one : (g : Over) (c : In_ok-push-in-Some g) → Goes (Edit c.args.replica c.args.edit)
+made_one : (g : Over) (c : In_ok-push-in-Some-2 g) → Goes (Edit c.args.replica c.args.edit)
     (record { deltas = map arc_value c.self.inside.deltas.items; replicas = c.self.inside.replicas.items })
     (record {
       deltas = map arc_value c.push.new.self.items;
-      replicas = set c.self.inside.replicas.items (c.from-2.result - 1) c.make.new.self;
+      replicas = set c.self.inside.replicas.items c.in-Some.place c.make.new.self;
     })
 made_one g c =
     let w : WorldView = record {
       deltas = map arc_value c.self.inside.deltas.items;
       replicas = c.self.inside.replicas.items;
     } in
-    let i = c.from-2.result - 1 in
+    let i = c.in-Some.place in
+    let there = c.in-Some.ensures in
     let number : c.len-number.result + 1 ≡ length w.deltas + 1 =
     omega (arith, length-map c.self.inside.deltas.items arc_value) in
     let at : slice_get w.replicas i ≡ Some c.index_mut-maker.result.now =
-    slice_get_read c.self.inside.replicas.items _ i c.index_mut-maker.result.now refl (omega arith)
+    slice_get_read c.self.inside.replicas.items _ i c.index_mut-maker.result.now refl (omega (arith, there))
     c.index_mut-maker.ensures.value in
-    let pushed : map arc_value c.push.new.self.items ≡ w.deltas ++ arc_value c.in-Some.made ∷ [] =
-    ap (map arc_value) c.in_ok-push-in-Some.ensures.items
-    ∙ map-append arc_value c.self.inside.deltas.items (c.in-Some.made ∷ []) in
+    let pushed : map arc_value c.push.new.self.items ≡ w.deltas ++ arc_value c.in-Some-2.made ∷ [] =
+    ap (map arc_value) c.in_ok-push-in-Some-2.ensures.items
+    ∙ map-append arc_value c.self.inside.deltas.items (c.in-Some-2.made ∷ []) in
     rw pushed
     (edited w c.args.replica (c.len-number.result + 1) i c.index_mut-maker.result.now c.make.new.self c.args.edit
-    (arc_value c.in-Some.made) c.self.invariant (omega arith) at number
-    (rw c.in-Some.is at c.in_ok-make.ensures.made) (rw c.in-Some.is at c.in_ok-make.ensures.joined)
-    (rw c.in-Some.is at c.in_ok-make.ensures.taken) c.make.ensures.replica c.make.ensures.sheet)
+    (arc_value c.in-Some-2.made) c.self.invariant (omega (arith, there)) at number
+    (rw c.in-Some-2.is at c.in_ok-make.ensures.made) (rw c.in-Some-2.is at c.in_ok-make.ensures.joined)
+    (rw c.in-Some-2.is at c.in_ok-make.ensures.taken) c.make.ensures.replica c.make.ensures.sheet)
 
-pub invariant_of-result-in-Some : goal.invariant_of-result-in-Some
-invariant_of-result-in-Some g c = (made_one g c).world
+pub invariant_of-result-in-Some-2 : goal.invariant_of-result-in-Some-2
+invariant_of-result-in-Some-2 g c = (made_one g c).world
 
-pub returns-in_ok-push-in-Some-clause-follows : goal.returns-in_ok-push-in-Some-clause-follows
-returns-in_ok-push-in-Some-clause-follows g c = rw (← c.self.view_is) (made_one g c).follows
+pub returns-in_ok-push-in-Some-2-clause-follows : goal.returns-in_ok-push-in-Some-2-clause-follows
+returns-in_ok-push-in-Some-2-clause-follows g c = rw (← c.self.view_is) (made_one g c).follows
 
 -- the world where the edit was refused
 made_none : (g : Over) (c : In-None g) → Goes (Edit c.args.replica c.args.edit)
     (record { deltas = map arc_value c.self.inside.deltas.items; replicas = c.self.inside.replicas.items })
     (record {
       deltas = map arc_value c.self.inside.deltas.items;
-      replicas = set c.self.inside.replicas.items (c.from-2.result - 1) c.make.new.self;
+      replicas = set c.self.inside.replicas.items c.in-Some.place c.make.new.self;
     })
 made_none g c =
     let w : WorldView = record {
       deltas = map arc_value c.self.inside.deltas.items;
       replicas = c.self.inside.replicas.items;
     } in
-    let i = c.from-2.result - 1 in
+    let i = c.in-Some.place in
+    let there = c.in-Some.ensures in
     let at : slice_get w.replicas i ≡ Some c.index_mut-maker.result.now =
-    slice_get_read c.self.inside.replicas.items _ i c.index_mut-maker.result.now refl (omega arith)
+    slice_get_read c.self.inside.replicas.items _ i c.index_mut-maker.result.now refl (omega (arith, there))
     c.index_mut-maker.ensures.value in
     let kept = rw c.in-None.is at c.in_ok-make.ensures.kept in
     rw kept
-    (refused w c.args.replica i c.index_mut-maker.result.now c.args.edit c.self.invariant (omega arith) at
+    (refused w c.args.replica i c.index_mut-maker.result.now c.args.edit c.self.invariant (omega (arith, there)) at
     (rw c.in-None.is at c.in_ok-make.ensures.refused))
 
 pub invariant_of-result : goal.invariant_of-result
