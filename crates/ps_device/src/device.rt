@@ -82,3 +82,16 @@ pub fn put_all<K: Sink>(sink: &mut K, bytes: &[u8]) -> Result<(), Failed>
     }
     Ok(())
 }
+
+/// Hands on all that waits.
+///
+/// Cost: that of a call of [`Sink::settle`].
+pub fn hand_on<K: Sink>(sink: &mut K) -> Result<(), Failed>
+    ensures same { Keeps (K.contents sink.old) (K.contents sink.new) }
+    ensures settled { OnOk result (K.waiting sink.new ≡ []) }
+    ensures calm { OnOk result (K.failures sink.new ≡ K.failures sink.old) }
+    ensures failed { OnErr result (K.failures sink.old < K.failures sink.new) }
+{
+    sink.settle()?;
+    Ok(())
+}

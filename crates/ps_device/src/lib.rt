@@ -26,7 +26,7 @@ mod memory;
 mod stream;
 
 pub use console::ConsoleOutput;
-pub use device::{Failed, Sink, Source, put_all};
+pub use device::{Failed, Sink, Source, hand_on, put_all};
 pub use memory::{MemorySink, MemorySource};
 pub use stream::{Reading, Writing};
 

@@ -1,7 +1,7 @@
 //! Devices that fail, stop short or are interrupted.
 ghost use Rattle.ps_grid.specs.Blanks.{IsBlankOf};
 
-use crate::{ConsoleOutput, MemorySource, Reading, Sink, Source, Writing, put_all};
+use crate::{ConsoleOutput, MemorySource, Reading, Sink, Source, Writing, hand_on, put_all};
 use ps_grid::Refusal;
 use std::alloc::Global;
 use std::io;
@@ -134,7 +134,7 @@ impl Write for HoldsBack {
     }
 }
 
-/// What a writer has given on after the bytes were put on a console and settled.
+/// What a writer has given on after the bytes were put on a console and handed on.
 fn given_on<L: Ledger>(alloc: Global, bytes: &[u8], blank: Blank) -> Result<Vec<u8>, Refusal>
     requires { IsBlankOf blank L.name L.parts }
 {
@@ -144,7 +144,7 @@ fn given_on<L: Ledger>(alloc: Global, bytes: &[u8], blank: Blank) -> Result<Vec<
     };
     let mut sink = ConsoleOutput::<HoldsBack, L>::new(alloc, writer, blank)?;
     put_all(&mut sink, bytes).map_err(|_| Refusal::Device)?;
-    sink.settle().map_err(|_| Refusal::Device)?;
+    hand_on(&mut sink).map_err(|_| Refusal::Device)?;
     Ok(sink.into_writer().given)
 }
 
@@ -224,7 +224,7 @@ fn rounds<L: Ledger>(
     let put = put_all(&mut sink, bytes).is_ok();
     let settled = sink.settle().is_ok();
     let put_again = put_all(&mut sink, bytes).is_ok();
-    let settled_again = sink.settle().is_ok();
+    let settled_again = hand_on(&mut sink).is_ok();
     let nothing = sink.put(b"").is_ok();
     Ok((
         [put, settled, put_again, settled_again, nothing],

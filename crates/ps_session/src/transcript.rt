@@ -14,7 +14,7 @@ ghost use Rattle.ps_grid.specs.declared.refusal.Refusal.TheVariants as refusals;
 use crate::board::Board;
 use crate::reply::{Reply, send};
 use crate::session::{Line, Session};
-use ps_device::{Failed, PIECE_BYTES, Sink, Source};
+use ps_device::{Failed, PIECE_BYTES, Sink, Source, hand_on};
 use ps_grid::Refusal;
 use std::alloc::Global;
 
@@ -182,19 +182,6 @@ pub enum RunFault {
     Source,
     /// The sink failed.
     Sink,
-}
-
-/// Hands on all replies.
-fn hand_on<K: Sink>(sink: &mut K) -> Result<(), Failed>
-    ensures same { Keeps (K.contents sink.old) (K.contents sink.new) }
-    ensures settled { OnOk result (K.waiting sink.new ≡ []) }
-    ensures calm { OnOk result (K.failures sink.new ≡ K.failures sink.old) }
-    ensures failed { OnErr result (K.failures sink.old < K.failures sink.new) }
-{
-    if sink.settle().is_err() {
-        return Err(Failed);
-    }
-    Ok(())
 }
 
 /// Reads the source to its end, and answers each line that ends there.

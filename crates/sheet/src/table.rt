@@ -1,6 +1,6 @@
 //! The command `table`: a table of entries in, the table of its settled values out.
-ghost use Rattle.std.specs.Prelude.{◌≡◌, ◌≢◌, ◌<◌, ◌≤◌, ◌⊎◌, ℕ, List, [], IfErr, IfOk, OnOk, OnErr, Err, take};
-ghost use Rattle.std.specs.Io.KnownBytes.{Appends, Consumes, IsAtEnd, Keeps};
+ghost use Rattle.std.specs.Prelude.{◌≡◌, ◌≢◌, ◌<◌, ◌≤◌, ◌⊎◌, ℕ, List, [], IfErr, IfOk, OnOk, Err, take};
+ghost use Rattle.std.specs.Io.KnownBytes.{Appends, Consumes, IsAtEnd};
 ghost use Rattle.std.specs.Option.{SomeIff};
 ghost use Rattle.ps_grid.specs.declared.parties.TheConstants.{WORKERS};
 ghost use Rattle.ps_grid.specs.declared.size.TheConstants.{COLUMNS, ROWS};
@@ -9,7 +9,7 @@ ghost use Rattle.sheet.specs.declared.fault.ProgramFault.TheVariants.{Refused};
 
 use crate::fault::{ProgramFault, fault_of_import};
 use ps_csv::{Imported, export, import};
-use ps_device::{Sink, Source};
+use ps_device::{Sink, Source, hand_on};
 use ps_eval::Meter;
 use ps_grid::{Cell, Rect, Refusal};
 use ps_sheet::Sheet;
@@ -62,22 +62,8 @@ pub fn table_on<S: Source, K: Sink, L: Ledger>(
     }
     match hand_on(sink) {
         Ok(()) => Ok(()),
-        Err(refusal) => Err(ProgramFault::Refused(refusal)),
+        Err(_) => Err(ProgramFault::Refused(Refusal::Device)),
     }
-}
-
-/// Hands on all that was written.
-fn hand_on<K: Sink>(sink: &mut K) -> Result<(), Refusal>
-    ensures same { Keeps (K.contents sink.old) (K.contents sink.new) }
-    ensures settled { OnOk result (K.waiting sink.new ≡ []) }
-    ensures calm { OnOk result (K.failures sink.new ≡ K.failures sink.old) }
-    ensures failed { OnErr result (K.failures sink.old < K.failures sink.new) }
-    ensures refused { IfErr result (λ e. e ≡ Refusal.Device) }
-{
-    if sink.settle().is_err() {
-        return Err(Refusal::Device);
-    }
-    Ok(())
 }
 
 /// Writes the table of what the sheet shows from A1 to the last record and the most fields.
