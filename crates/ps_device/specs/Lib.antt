@@ -1,3 +1,2 @@
-pub mod Console
 pub mod Device
-pub mod Stream
+pub mod Writers

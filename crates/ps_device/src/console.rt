@@ -37,7 +37,7 @@ pub struct ConsoleOutput<W: Write + Drop, L: Ledger> {
 }
 
 impl<W: Write + Drop, L: Ledger> ConsoleOutput<W, L> {
-    ghost use Rattle.ps_device.specs.Console.{console_contents, console_waiting, console_writer, has_failed};
+    ghost use Rattle.ps_device.specs.Writers.{console_contents, console_waiting, console_writer, has_failed};
 
     /// An output over this writer, with room for `PIECE_BYTES` bytes that wait. Refused out of memory.
     ///
@@ -97,7 +97,7 @@ impl<W: Write + Drop, L: Ledger> ConsoleOutput<W, L> {
 }
 
 impl<W: Write + Drop, L: Ledger> Sink for ConsoleOutput<W, L> {
-    ghost use Rattle.ps_device.specs.Console.{console_contents, console_waiting, console_writer, has_failed};
+    ghost use Rattle.ps_device.specs.Writers.{console_contents, console_waiting, console_writer, has_failed};
 
     ghost contents = { λ output. append_known (W.contents output.sink.writer) (drop output.sent output.bytes.items) };
 

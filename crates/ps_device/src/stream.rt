@@ -1,6 +1,6 @@
 //! Devices over the readers and writers of std: standard input and output, files, TCP streams.
 ghost use Rattle.std.specs.Prelude.{◌≡◌, ◌+◌, []};
-ghost use Rattle.ps_device.specs.Stream.{writer_of};
+ghost use Rattle.ps_device.specs.Writers.{writer_of};
 ghost use Rattle.ps_grid.specs.Blanks.{IsBlankOf};
 
 use crate::device::{Failed, Sink, Source};

@@ -1,6 +1,6 @@
 use Rattle.std.proofs.Common.{◌≡◌, ◌-◌, length, true}
 use Rattle.std.specs.Io.KnownBytes.{Keeps}
-use Rattle.ps_device.specs.Console.{console_contents}
+use Rattle.ps_device.specs.Writers.{console_contents}
 use Rattle.ps_device.proofs.console.ConsoleOutput.send.Given as goal
 
 -- what the writer has and what waits are together as before, and nothing failed

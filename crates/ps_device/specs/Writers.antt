@@ -1,10 +1,15 @@
--- What a clause reads of a console's output.
+-- What a clause reads of a sink over a writer, and of a console over one.
 use Rattle.std.specs.Prelude.{ℕ, Bool, List, Option, drop}
 use Rattle.std.specs.Io.KnownBytes.{append_known}
 use Rattle.std.specs.declared.io.traits.Write.{Ghosts}
 use Rattle.ps_device.specs.declared.console.ConsoleOutput.{ConsoleOutput}
+use Rattle.ps_device.specs.declared.stream.Writing.{Writing}
 
--- the writer
+-- the writer of a sink
+abbrev pub writer_of : {W L : Type 0} → Writing W L → W
+writer_of sink = sink.writer
+
+-- .. and of a console
 abbrev pub console_writer : {W L : Type 0} {G : Ghosts W} → ConsoleOutput W L G → W
 console_writer output = output.sink.writer
 
