@@ -1,10 +1,10 @@
 -- Why a table isn't taken in.
 use Rattle.std.specs.Prelude.{◌≡◌, ◌≢◌, ◌⊎◌, ℕ, ◌<◌, ◌≤◌, true, List, [], ◌∷◌, ◌++◌, length, Option, None, Ok, Err}
-use Rattle.std.specs.Io.KnownBytes.{Consumes}
+use Rattle.std.specs.Io.KnownBytes.{Consumes, IsAtEnd}
 use Rattle.csv.specs.Reading.{error_kind, is_io}
 use Rattle.csv.specs.declared.error.Error.{Error}
 use Rattle.ps_grid.specs.declared.refusal.Refusal.{Refusal}
-use Rattle.ps_grid.specs.declared.refusal.Refusal.TheVariants.{ClockFull, Csv, Memory}
+use Rattle.ps_grid.specs.declared.refusal.Refusal.TheVariants.{ClockFull, Csv, Device, Memory}
 use Rattle.ps_grid.specs.declared.size.TheConstants.{COLUMNS, ROWS}
 use Rattle.ps_content.specs.declared.content.Content.{Content}
 use Rattle.ps_content.specs.Entry.{Reads, kind_of}
@@ -63,6 +63,21 @@ pub record ReaderFails (s : State) (bytes : List ℕ) (error : Error) : Type 0 w
   pub read : BeginsTable bytes before
   pub said : RecordsSay s 0 before batches
   pub of_source : is_io (error_kind error) ≡ true
+
+-- all bytes of a source that had `old` were taken out of it, a table may have so many, and P holds of them
+abbrev pub WholeTable : Option (List ℕ) → Option (List ℕ) → (List ℕ → Type 0) → Type 0
+WholeTable old new P =
+    (bytes : List ℕ) × Consumes old new bytes × IsAtEnd new × (length bytes ≤ LONGEST_TABLE) × P bytes
+
+-- why a source's table is refused: memory, a device, too many bytes, or the first fault of its text
+abbrev pub TableFault : State → Option (List ℕ) → Option (List ℕ) → Refusal → Type 0
+TableFault s old new e =
+    (e ≡ Memory) ⊎ (e ≡ Device) ⊎ ((e ≡ Csv) × TooManyBytes old new)
+    ⊎ WholeTable old new (λ bytes. FirstFault s bytes e)
+
+-- .. or it is refused since `csv`'s own reader failed
+abbrev pub TableReaderFails : State → Option (List ℕ) → Option (List ℕ) → Refusal → Error → Type 0
+TableReaderFails s old new e error = (e ≡ Csv) × WholeTable old new (λ bytes. ReaderFails s bytes error)
 
 -- the fault of a refusal with nothing taken in
 abbrev pub refused_as : Refusal → ImportFault

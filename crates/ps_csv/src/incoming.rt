@@ -5,7 +5,7 @@ ghost use Rattle.std.specs.Io.KnownBytes.{Consumes, IsAtEnd};
 ghost use Rattle.ps_grid.specs.declared.size.TheConstants.{COLUMNS, ROWS};
 ghost use Rattle.ps_delta.specs.Deltas.{joined_history};
 ghost use Rattle.ps_sheet.specs.Sheet.{IsSheet};
-ghost use Rattle.ps_csv.specs.Faults.{FirstFault, ReaderFails, TooManyBytes};
+ghost use Rattle.ps_csv.specs.Faults.{TableFault, TableReaderFails};
 ghost use Rattle.ps_csv.specs.Records.{IsTable, Record};
 ghost use Rattle.ps_csv.specs.Inside.{HasRead};
 ghost use Rattle.ps_csv.specs.Imports.{StopsAfter, ImportsTable};
@@ -59,15 +59,9 @@ pub fn import<S: Source, L: Ledger>(
     ensures extent { IfOk result (λ i. (i.records ≤ ROWS) × (i.fields ≤ COLUMNS) × (0 < i.records → 0 < i.fields)) }
     ensures calm { OnOk result (S.failures source.new ≡ S.failures source.old) }
     ensures refused { IfErr result (λ f. IfNone f.reader_error
-        ((f.refusal ≡ Refusal.Memory) ⊎ (f.refusal ≡ Refusal.Device)
-        ⊎ ((f.refusal ≡ Refusal.Csv) × TooManyBytes (S.remaining source.old) (S.remaining source.new))
-        ⊎ ((bytes : List ℕ)
-        × Consumes (S.remaining source.old) (S.remaining source.new) bytes × IsAtEnd (S.remaining source.new)
-        × (length bytes ≤ LONGEST_TABLE) × FirstFault (joined_history sheet.old.history) bytes f.refusal))) }
-    ensures reader { IfErr result (λ f. IfSome f.reader_error (λ error. (f.refusal ≡ Refusal.Csv)
-        × (bytes : List ℕ)
-        × Consumes (S.remaining source.old) (S.remaining source.new) bytes × IsAtEnd (S.remaining source.new)
-        × (length bytes ≤ LONGEST_TABLE) × ReaderFails (joined_history sheet.old.history) bytes error)) }
+        (TableFault (joined_history sheet.old.history) (S.remaining source.old) (S.remaining source.new) f.refusal)) }
+    ensures reader { IfErr result (λ f. IfSome f.reader_error
+        (TableReaderFails (joined_history sheet.old.history) (S.remaining source.old) (S.remaining source.new) f.refusal)) }
     ensures device { IfErr result (λ f. f.refusal ≡ Refusal.Device → S.failures source.old < S.failures source.new) }
     ensures steady { IfErr result (λ f. f.refusal ≢ Refusal.Device
         → S.failures source.new ≡ S.failures source.old) }
@@ -99,15 +93,9 @@ fn checked<S: Source>(alloc: Global, source: &mut S, sheet: &Sheet) -> Result<Ta
         × HasRead (joined_history sheet.now.history) table t) }
     ensures calm { OnOk result (S.failures source.new ≡ S.failures source.old) }
     ensures refused { IfErr result (λ f. IfNone f.reader_error
-        ((f.refusal ≡ Refusal.Memory) ⊎ (f.refusal ≡ Refusal.Device)
-        ⊎ ((f.refusal ≡ Refusal.Csv) × TooManyBytes (S.remaining source.old) (S.remaining source.new))
-        ⊎ ((bytes : List ℕ)
-        × Consumes (S.remaining source.old) (S.remaining source.new) bytes × IsAtEnd (S.remaining source.new)
-        × (length bytes ≤ LONGEST_TABLE) × FirstFault (joined_history sheet.now.history) bytes f.refusal))) }
-    ensures reader { IfErr result (λ f. IfSome f.reader_error (λ error. (f.refusal ≡ Refusal.Csv)
-        × (bytes : List ℕ)
-        × Consumes (S.remaining source.old) (S.remaining source.new) bytes × IsAtEnd (S.remaining source.new)
-        × (length bytes ≤ LONGEST_TABLE) × ReaderFails (joined_history sheet.now.history) bytes error)) }
+        (TableFault (joined_history sheet.now.history) (S.remaining source.old) (S.remaining source.new) f.refusal)) }
+    ensures reader { IfErr result (λ f. IfSome f.reader_error
+        (TableReaderFails (joined_history sheet.now.history) (S.remaining source.old) (S.remaining source.new) f.refusal)) }
     ensures none { IfErr result (λ f. f.applied ≡ 0) }
     ensures device { IfErr result (λ f. f.refusal ≡ Refusal.Device → S.failures source.old < S.failures source.new) }
     ensures steady { IfErr result (λ f. f.refusal ≢ Refusal.Device

@@ -39,7 +39,7 @@ impl Source for LineFeeds {
 /// The bytes of a text, and then a failure.
 #[derive(Drop)]
 struct FailsAfter<'a> {
-    rest: &'a [u8],
+    source: MemorySource<'a>,
     failed: bool,
 }
 
@@ -48,19 +48,14 @@ impl Source for FailsAfter<'_> {
 
     ghost failures = { λ source. (if source.failed then 1 else 0) };
 
-    ghost left = { λ source. length source.rest.now };
+    ghost left = { λ source. length source.source.rest.now };
 
     fn take(&mut self, piece: &mut [u8]) -> Result<usize, Failed> {
-        if self.rest.is_empty() && !self.failed {
+        if self.source.rest.is_empty() && !self.failed {
             self.failed = true;
             return Err(Failed);
         }
-        let count = self.rest.len().min(piece.len());
-        let (front, rest) = self.rest.split_at(count);
-        let target = &mut piece[..count];
-        target.copy_from_slice(front);
-        self.rest = rest;
-        Ok(count)
+        self.source.take(piece)
     }
 }
 
@@ -205,7 +200,7 @@ fn a_fault_anywhere_leaves_the_sheet(rt: HostRuntime) -> Result<(), Fail> {
 fn sources_that_fail_or_never_end(rt: HostRuntime) -> Result<(), Fail> {
     let alloc = rt.alloc();
     let mut fails = FailsAfter {
-        rest: b"1,2\n=bad,",
+        source: MemorySource::new(b"1,2\n=bad,"),
         failed: false,
     };
     assert!(rt; is_refused_from(alloc, &mut fails, Refusal::Device)?);

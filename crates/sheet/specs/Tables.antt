@@ -1,18 +1,15 @@
 -- What the command `table` writes.
-use Rattle.std.specs.Prelude.{◌≡◌, ◌⊎◌, ◌≤◌, ◌==◌, ℕ, List, [], length, Option, if◌then◌else◌}
-use Rattle.std.specs.Io.KnownBytes.{Consumes, IsAtEnd}
+use Rattle.std.specs.Prelude.{◌≡◌, ◌==◌, ℕ, List, [], Option, if◌then◌else◌}
 use Rattle.ps_grid.specs.Rectangle.{Area}
-use Rattle.ps_grid.specs.declared.refusal.Refusal.TheVariants.{Csv, Device, Memory}
 use Rattle.ps_delta.specs.Deltas.{joined_history}
 use Rattle.ps_sheet.specs.Settled.{shown_at}
 use Rattle.ps_sheet.specs.Sheet.{IsSheet, SheetView}
 use Rattle.ps_csv.specs.Exports.{exported}
-use Rattle.ps_csv.specs.Faults.{FirstFault, ReaderFails, TooManyBytes}
+use Rattle.ps_csv.specs.Faults.{ReaderFails, TableFault, WholeTable}
 use Rattle.ps_csv.specs.Imports.{ImportsTable}
 use Rattle.sheet.specs.Sessions.{IsOpened}
 use Rattle.sheet.specs.declared.fault.ProgramFault.{ProgramFault}
 use Rattle.sheet.specs.declared.fault.ProgramFault.TheVariants.{ReaderFailed, Refused}
-use Rattle.ps_csv.specs.declared.bytes.TheConstants.{LONGEST_TABLE}
 
 -- so many rows and columns from A1 on
 abbrev pub from_first : ℕ → ℕ → Area
@@ -37,10 +34,5 @@ pub record IsTableOf (bytes text : List ℕ) : Type 0 where
 -- the causes of a fault: of a refusal memory, a device, too many bytes, or the first fault of the table for an empty
 -- sheet; else that `csv`'s own reader failed. A source had `old` and has `new` to come
 abbrev pub IsCauseOf : Option (List ℕ) → Option (List ℕ) → ProgramFault → Type 0
-IsCauseOf old new (Refused e) =
-    (e ≡ Memory) ⊎ (e ≡ Device) ⊎ ((e ≡ Csv) × TooManyBytes old new)
-    ⊎ ((bytes : List ℕ) × Consumes old new bytes × IsAtEnd new × (length bytes ≤ LONGEST_TABLE)
-    × FirstFault (joined_history []) bytes e)
-IsCauseOf old new (ReaderFailed error) =
-    (bytes : List ℕ) × Consumes old new bytes × IsAtEnd new × (length bytes ≤ LONGEST_TABLE)
-    × ReaderFails (joined_history []) bytes error
+IsCauseOf old new (Refused e) = TableFault (joined_history []) old new e
+IsCauseOf old new (ReaderFailed error) = WholeTable old new (λ bytes. ReaderFails (joined_history []) bytes error)

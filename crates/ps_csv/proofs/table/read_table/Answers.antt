@@ -2,8 +2,9 @@ use Rattle.std.proofs.Common.{◌<◌, ◌∙◌, ap, refl}
 use Rattle.std.proofs.lemmas.Result.{err_from_is_err_and}
 use Rattle.csv.specs.Reading.{owned_rows_left, owned_rows_reader}
 use Rattle.ps_delta.specs.Deltas.{joined_history}
-use Rattle.ps_csv.proofs.TableLemmas.{reading_fails, reading_goes_on, reading_starts, reading_stops}
+use Rattle.ps_csv.proofs.TableLemmas.{IsOfCsv, reading_fails, reading_goes_on, reading_starts, reading_stops}
 use Rattle.ps_csv.proofs.table.read_table.Goals as goal
+use Rattle.ps_csv.proofs.table.read_table.Goals.{After-drop-table-in-Err}
 
 pub loop-row-init : goal.loop-row-init
 loop-row-init c =
@@ -25,26 +26,22 @@ returns-in_err-take_record-in-Ok-clause-fault c =
     c.loop-row.table c.in-Ok.row
     c.in_err-take_record-in-Ok.field-0.0 inv gave c.in_err-take_record-in-Ok.ensures.fault)
 
-pub returns-in-Err-clause-fault : goal.returns-in-Err-clause-fault
-returns-in-Err-clause-fault c =
+-- the fault where `csv` gives an error in place of a record
+of_error : (c : After-drop-table-in-Err) → IsOfCsv (joined_history c.args.sheet.now.history) c.args.bytes.now c.fault_of.result
+of_error c =
     let inv = c.loop-row.invariant in
     let gave = rw (c.in-Some.is, c.in-Err.is) at ((c.next.ensures.steps inv.left inv.trim).0 inv.ready) in
-    (reading_fails (joined_history c.args.sheet.now.history) c.args.bytes.now c.loop-row.row-iterator c.next.new.self
-    c.loop-row.table c.in-Err.error c.fault_of.result inv gave c.fault_of.ensures).fault
+    reading_fails (joined_history c.args.sheet.now.history) c.args.bytes.now c.loop-row.row-iterator c.next.new.self
+    c.loop-row.table c.in-Err.error c.fault_of.result inv gave c.fault_of.ensures
+
+pub returns-in-Err-clause-fault : goal.returns-in-Err-clause-fault
+returns-in-Err-clause-fault c = (of_error c).fault
 
 pub returns-in-Err-clause-reader : goal.returns-in-Err-clause-reader
-returns-in-Err-clause-reader c =
-    let inv = c.loop-row.invariant in
-    let gave = rw (c.in-Some.is, c.in-Err.is) at ((c.next.ensures.steps inv.left inv.trim).0 inv.ready) in
-    (reading_fails (joined_history c.args.sheet.now.history) c.args.bytes.now c.loop-row.row-iterator c.next.new.self
-    c.loop-row.table c.in-Err.error c.fault_of.result inv gave c.fault_of.ensures).reader
+returns-in-Err-clause-reader c = (of_error c).reader
 
 pub returns-in-Err-clause-none : goal.returns-in-Err-clause-none
-returns-in-Err-clause-none c =
-    let inv = c.loop-row.invariant in
-    let gave = rw (c.in-Some.is, c.in-Err.is) at ((c.next.ensures.steps inv.left inv.trim).0 inv.ready) in
-    (reading_fails (joined_history c.args.sheet.now.history) c.args.bytes.now c.loop-row.row-iterator c.next.new.self
-    c.loop-row.table c.in-Err.error c.fault_of.result inv gave c.fault_of.ensures).none
+returns-in-Err-clause-none c = (of_error c).none
 
 pub loop-row-preserved : goal.loop-row-preserved
 loop-row-preserved c =

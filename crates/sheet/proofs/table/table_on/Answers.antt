@@ -1,15 +1,13 @@
 use Rattle.std.proofs.Common.{rules, ◌≡◌, ℕ, List, Option, inr, length, take, refl, sym, ap, subst}
-use Rattle.std.proofs.Common.{Result, Ok, Err, Some, None, IfSome, IfNone, [], ◌≤◌}
-use Rattle.std.specs.Io.KnownBytes.{Appends, Consumes, IsAtEnd}
+use Rattle.std.proofs.Common.{Result, Ok, Err, Some, None, IfSome, IfNone, []}
+use Rattle.std.specs.Io.KnownBytes.{Appends}
 use Rattle.std.proofs.Math.Seq.{take-length}
 use Rattle.csv.specs.declared.error.Error.{Error}
 use Rattle.ps_grid.specs.declared.refusal.Refusal.{Refusal}
-use Rattle.ps_grid.specs.declared.refusal.Refusal.TheVariants.{Csv}
 use Rattle.ps_delta.specs.Deltas.{joined_history}
 use Rattle.ps_sheet.specs.Sheet.{IsSheet, SheetView}
-use Rattle.ps_csv.specs.Faults.{ReaderFails}
+use Rattle.ps_csv.specs.Faults.{TableReaderFails}
 use Rattle.ps_csv.specs.Imports.{ImportsTable}
-use Rattle.ps_csv.specs.declared.bytes.TheConstants.{LONGEST_TABLE}
 use Rattle.ps_device.proofs.DeviceLemmas.{Appends-keeps}
 use Rattle.sheet.specs.Sessions.{IsOpened}
 use Rattle.sheet.specs.Status.{program_fault}
@@ -31,11 +29,10 @@ same_refusal e wanted is = ap (refusal_in e) is
 -- the cause of the fault that an import's fault is
 cause_of : (old new : Option (List ℕ)) (own : Option Error) (e : Refusal)
     → IfNone own (IsCauseOf old new (Refused e))
-    → IfSome own (λ error. (e ≡ Csv) × (bytes : List ℕ) × Consumes old new bytes × IsAtEnd new
-    × (length bytes ≤ LONGEST_TABLE) × ReaderFails (joined_history []) bytes error)
+    → IfSome own (TableReaderFails (joined_history []) old new e)
     → IsCauseOf old new (program_fault own e)
 cause_of old new None e refused reader = refused
-cause_of old new (Some error) e refused reader = (reader.1, reader.2, reader.3, reader.4, reader.5)
+cause_of old new (Some error) e refused reader = reader.1
 
 -- the text of the table that was taken in
 filled_table : (bytes : List ℕ) (records fields : ℕ) (empty filled : SheetView) → IsOpened 1 empty
