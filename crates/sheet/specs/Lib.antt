@@ -1,4 +1,3 @@
-pub mod Words
+pub mod Commands
 pub mod Status
-pub mod Sessions
-pub mod Tables
+pub mod Words

@@ -4,7 +4,7 @@ ghost use Rattle.std.specs.Io.KnownBytes.{Consumes, IsAtEnd};
 ghost use Rattle.ps_sheet.specs.Sheet.{IsSheet, SheetView};
 ghost use Rattle.ps_session.specs.Answers.{SheetLines};
 ghost use Rattle.ps_session.specs.Transcript.{Answered, Stopped, Transcribed};
-ghost use Rattle.sheet.specs.Sessions.{IsOpened};
+ghost use Rattle.sheet.specs.Commands.{IsOpened};
 ghost use Rattle.sheet.specs.declared.fault.ProgramFault.TheVariants.{Refused};
 
 use crate::fault::ProgramFault;

@@ -9,9 +9,8 @@ use Rattle.ps_sheet.specs.Sheet.{IsSheet, SheetView}
 use Rattle.ps_csv.specs.Faults.{TableReaderFails}
 use Rattle.ps_csv.specs.Imports.{ImportsTable}
 use Rattle.ps_device.proofs.DeviceLemmas.{Appends-keeps}
-use Rattle.sheet.specs.Sessions.{IsOpened}
+use Rattle.sheet.specs.Commands.{IsCauseOf, IsOpened, IsTableOf, table_of}
 use Rattle.sheet.specs.Status.{program_fault}
-use Rattle.sheet.specs.Tables.{IsCauseOf, IsTableOf, table_of}
 use Rattle.sheet.specs.declared.fault.ProgramFault.{ProgramFault}
 use Rattle.sheet.specs.declared.fault.ProgramFault.TheVariants.{ReaderFailed, Refused}
 use Rattle.sheet.proofs.table.table_on.Goals as goal

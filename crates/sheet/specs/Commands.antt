@@ -1,4 +1,4 @@
--- What the command `table` writes.
+-- What the commands begin with, and what the command `table` writes.
 use Rattle.std.specs.Prelude.{◌≡◌, ◌==◌, ℕ, List, [], Option, if◌then◌else◌}
 use Rattle.ps_grid.specs.Rectangle.{Area}
 use Rattle.ps_delta.specs.Deltas.{joined_history}
@@ -7,9 +7,14 @@ use Rattle.ps_sheet.specs.Sheet.{IsSheet, SheetView}
 use Rattle.ps_csv.specs.Exports.{exported}
 use Rattle.ps_csv.specs.Faults.{ReaderFails, TableFault, WholeTable}
 use Rattle.ps_csv.specs.Imports.{ImportsTable}
-use Rattle.sheet.specs.Sessions.{IsOpened}
 use Rattle.sheet.specs.declared.fault.ProgramFault.{ProgramFault}
 use Rattle.sheet.specs.declared.fault.ProgramFault.TheVariants.{ReaderFailed, Refused}
+
+-- the sheet is the empty one of this replica
+pub record IsOpened (replica : ℕ) (sheet : SheetView) : Type 0 where
+  pub is_sheet : IsSheet sheet
+  pub history : sheet.history ≡ []
+  pub replica_asked : sheet.replica ≡ replica
 
 -- so many rows and columns from A1 on
 abbrev pub from_first : ℕ → ℕ → Area
