@@ -60,8 +60,7 @@ fn start(rt: &HostRuntime) -> Result<ExitCode, ProgramFault> {
     };
     let words: Vec<String> = given.collect(rt.alloc())?;
     match read_words(rt.alloc(), words.as_slice()) {
-        Ok(Options::Run(options)) => run_command(rt, options),
-        Ok(Options::Table(options)) => table_command(rt, options),
+        Ok(options) => run_command(rt, options),
         Err(error) => tell(rt, &error),
     }
 }
@@ -91,64 +90,45 @@ fn tell(rt: &HostRuntime, error: &Error) -> Result<ExitCode, ProgramFault> {
     Ok(ExitCode::SUCCESS)
 }
 
-/// The command `run`, on standard input and output.
-fn run_command(rt: &HostRuntime, options: RunOptions) -> Result<ExitCode, ProgramFault> {
-    run_standard::<Brand, Brand, Brand>(rt, Blank::new(1), Blank::new(1), Blank::new(1), options)?;
+/// Runs a command on standard input and output.
+fn run_command(rt: &HostRuntime, options: Options) -> Result<ExitCode, ProgramFault> {
+    on_standard::<Brand, Brand, Brand>(rt, Blank::new(1), Blank::new(1), Blank::new(1), options)?;
     Ok(ExitCode::SUCCESS)
 }
 
-/// The replies wait in memory and are written before the next read, so a batch of lines costs one write a piece of the
-/// input, and a peer that waits for a reply has it.
-fn run_standard<I: Ledger, O: Ledger, M: Ledger>(
+/// Runs a command on standard input and output, whose failures and whose work these blanks count.
+///
+/// The replies of `run` wait in memory and are written before the next read, so a batch of lines costs one write a
+/// piece of the input, and a peer that waits for a reply has it. A table waits nowhere.
+fn on_standard<I: Ledger, O: Ledger, M: Ledger>(
     rt: &HostRuntime,
     input: Blank,
     output: Blank,
     count: Blank,
-    options: RunOptions,
+    options: Options,
 ) -> Result<(), ProgramFault>
     requires input { IsBlankOf input I.name I.parts }
     requires output { IsBlankOf output O.name O.parts }
     requires count { IsBlankOf count M.name M.parts }
 {
     let mut source = Reading::<_, I>::new(rt.reader(), input);
-    let mut sink = ConsoleOutput::<_, O>::new(rt.alloc(), rt.stdout(), output)?;
     let mut meter = Meter::<M>::new(count);
-    answer_lines(rt.alloc(), &mut source, &mut sink, &mut meter, options)
-}
-
-/// The command `table`, on standard input and output.
-fn table_command(rt: &HostRuntime, options: TableOptions) -> Result<ExitCode, ProgramFault> {
-    table_standard::<Brand, Brand, Brand>(
-        rt,
-        Blank::new(1),
-        Blank::new(1),
-        Blank::new(1),
-        options,
-    )?;
-    Ok(ExitCode::SUCCESS)
-}
-
-fn table_standard<I: Ledger, O: Ledger, M: Ledger>(
-    rt: &HostRuntime,
-    input: Blank,
-    output: Blank,
-    count: Blank,
-    options: TableOptions,
-) -> Result<(), ProgramFault>
-    requires input { IsBlankOf input I.name I.parts }
-    requires output { IsBlankOf output O.name O.parts }
-    requires count { IsBlankOf count M.name M.parts }
-{
-    let mut source = Reading::<_, I>::new(rt.reader(), input);
-    let mut sink = Writing::<_, O>::new(rt.stdout(), output);
-    let mut meter = Meter::<M>::new(count);
-    table_on(
-        rt.alloc(),
-        &mut source,
-        &mut sink,
-        &mut meter,
-        options.workers,
-    )
+    match options {
+        Options::Run(options) => {
+            let mut sink = ConsoleOutput::<_, O>::new(rt.alloc(), rt.stdout(), output)?;
+            answer_lines(rt.alloc(), &mut source, &mut sink, &mut meter, options)
+        }
+        Options::Table(options) => {
+            let mut sink = Writing::<_, O>::new(rt.stdout(), output);
+            table_on(
+                rt.alloc(),
+                &mut source,
+                &mut sink,
+                &mut meter,
+                options.workers,
+            )
+        }
+    }
 }
 
 #[cfg(test)]
