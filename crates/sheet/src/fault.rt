@@ -31,6 +31,8 @@ impl From<AllocError> for ProgramFault {
 }
 
 /// The fault that an import ends the program with.
+///
+/// Cost: constant.
 pub fn fault_of_import(fault: ImportFault) -> ProgramFault
     ensures { result ≡ program_fault fault.reader_error fault.refusal }
 {

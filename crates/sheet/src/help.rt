@@ -1,5 +1,11 @@
 //! What `--help` prints.
 
+/// What `--workers` means, with the range 1 to `WORKERS`.
+pub const WORKERS_HELP: &str = "how many threads may evaluate formulas, 1 to 16; one does for now";
+
+/// What `--replica` means, with the range 1 to `REPLICAS`.
+pub const REPLICA_HELP: &str = "the number of this replica, 1 to 32";
+
 /// What stands below the options of `sheet run --help`.
 pub const RUN_HELP: &str = "\
 Each line of standard input is a command, and has a reply on standard output:

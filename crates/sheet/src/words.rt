@@ -13,7 +13,7 @@ ghost use Rattle.sheet.specs.Words.{
   table_app,
 };
 
-use crate::help::{RUN_HELP, TABLE_HELP};
+use crate::help::{REPLICA_HELP, RUN_HELP, TABLE_HELP, WORKERS_HELP};
 use crate::options::{Options, RunOptions, TableOptions};
 use clap::builder::ValueParser;
 use clap::{Arg, ArgAction, ArgMatches, Command, Error};
@@ -40,12 +40,8 @@ fn run_command<'a>(alloc: Global) -> Result<Command<'a>, AllocError>
     ensures app { IfOk result (λ command. app_of command ≡ run_app) }
     ensures local { IfOk result (λ command. (fields_of command).has_globals ≡ false) }
 {
-    let workers = number_option(alloc, "workers", WORKERS as u8).help(
-        "how many threads may evaluate formulas, 1 to 16; one does for now",
-    );
-    let replica = number_option(alloc, "replica", REPLICAS).help(
-        "the number of this replica, 1 to 32",
-    );
+    let workers = number_option(alloc, "workers", WORKERS as u8).help(WORKERS_HELP);
+    let replica = number_option(alloc, "replica", REPLICAS).help(REPLICA_HELP);
     Command::new(alloc, "run")
         .about("answers each line of standard input on standard output")
         .after_help(RUN_HELP)
@@ -58,9 +54,7 @@ fn table_command<'a>(alloc: Global) -> Result<Command<'a>, AllocError>
     ensures app { IfOk result (λ command. app_of command ≡ table_app) }
     ensures local { IfOk result (λ command. (fields_of command).has_globals ≡ false) }
 {
-    let workers = number_option(alloc, "workers", WORKERS as u8).help(
-        "how many threads may evaluate formulas, 1 to 16; one does for now",
-    );
+    let workers = number_option(alloc, "workers", WORKERS as u8).help(WORKERS_HELP);
     Command::new(alloc, "table")
         .about("reads a table of CSV and writes its settled values as CSV")
         .after_help(TABLE_HELP)
