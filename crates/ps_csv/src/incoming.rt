@@ -61,7 +61,8 @@ pub fn import<S: Source, L: Ledger>(
     ensures refused { IfErr result (λ f. IfNone f.reader_error
         (TableFault (joined_history sheet.old.history) (S.remaining source.old) (S.remaining source.new) f.refusal)) }
     ensures reader { IfErr result (λ f. IfSome f.reader_error
-        (TableReaderFails (joined_history sheet.old.history) (S.remaining source.old) (S.remaining source.new) f.refusal)) }
+        (TableReaderFails (joined_history sheet.old.history) (S.remaining source.old) (S.remaining source.new)
+        f.refusal)) }
     ensures device { IfErr result (λ f. f.refusal ≡ Refusal.Device → S.failures source.old < S.failures source.new) }
     ensures steady { IfErr result (λ f. f.refusal ≢ Refusal.Device
         → S.failures source.new ≡ S.failures source.old) }
@@ -95,7 +96,8 @@ fn checked<S: Source>(alloc: Global, source: &mut S, sheet: &Sheet) -> Result<Ta
     ensures refused { IfErr result (λ f. IfNone f.reader_error
         (TableFault (joined_history sheet.now.history) (S.remaining source.old) (S.remaining source.new) f.refusal)) }
     ensures reader { IfErr result (λ f. IfSome f.reader_error
-        (TableReaderFails (joined_history sheet.now.history) (S.remaining source.old) (S.remaining source.new) f.refusal)) }
+        (TableReaderFails (joined_history sheet.now.history) (S.remaining source.old) (S.remaining source.new)
+        f.refusal)) }
     ensures none { IfErr result (λ f. f.applied ≡ 0) }
     ensures device { IfErr result (λ f. f.refusal ≡ Refusal.Device → S.failures source.old < S.failures source.new) }
     ensures steady { IfErr result (λ f. f.refusal ≢ Refusal.Device

@@ -27,7 +27,8 @@ returns-in_err-take_record-in-Ok-clause-fault c =
     c.in_err-take_record-in-Ok.field-0.0 inv gave c.in_err-take_record-in-Ok.ensures.fault)
 
 -- the fault where `csv` gives an error in place of a record
-of_error : (c : After-drop-table-in-Err) → IsOfCsv (joined_history c.args.sheet.now.history) c.args.bytes.now c.fault_of.result
+of_error : (c : After-drop-table-in-Err)
+    → IsOfCsv (joined_history c.args.sheet.now.history) c.args.bytes.now c.fault_of.result
 of_error c =
     let inv = c.loop-row.invariant in
     let gave = rw (c.in-Some.is, c.in-Err.is) at ((c.next.ensures.steps inv.left inv.trim).0 inv.ready) in
