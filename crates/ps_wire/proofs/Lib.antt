@@ -3,6 +3,7 @@ pub mod AsciiLemmas
 pub mod ContentLemmas
 pub mod CostLemmas
 pub mod EscapeLemmas
+pub mod GrowthLemmas
 pub mod LawLemmas
 pub mod LengthLemmas
 pub mod LexLemmas

@@ -1,4 +1,5 @@
 pub mod Fits
 pub mod Inside
+pub mod Length
 pub mod Line
 pub mod Value

@@ -9,6 +9,7 @@
 //! The contract to use: [`decode`] returns the one delta that the bytes are a line of (`IsLine`), and refuses bytes as
 //! no delta only where they are a line of none; [`encode`] appends the delta's compact text, which is a line of it, and
 //! refuses it only where it is too long. Which deltas never are, [`decoded_lines_fit`] and [`edited_lines_fit`] say.
+//! [`outgrows_line`] returns whether a delta holds so much that no join with it has a line.
 //!
 //! Say `A1` holds 5, assigned at the time 1 by the replica 2. The delta that says so has the line
 //! `[["A1",[1,2,"5"],[],[]]]`, and so has every other spelling of that value, as one with blanks between the tokens.
@@ -20,12 +21,14 @@
 mod cells;
 mod entries;
 mod laws;
+mod length;
 mod line;
 mod parts;
 mod states;
 mod values;
 
 pub use laws::{decoded_lines_fit, edited_lines_fit, values_and_deltas_agree};
+pub use length::outgrows_line;
 pub use line::{decode, encode};
 
 /// The most bytes of a delta's line. `edited_lines_fit` hangs on it, with `COLUMNS`: a batch of a row's cells has to
