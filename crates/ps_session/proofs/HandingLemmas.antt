@@ -1,9 +1,9 @@
 -- Deltas joined, and the line of the greatest number of them that isn't too long.
 use Rattle.std.proofs.Common.{◌≡◌, ◌≢◌, ◌⊎◌, ◌∙◌, ◌+◌, ◌-◌, ◌<◌, ◌≤◌, inl, inr, refl, sym, ap, ap₂, subst}
 use Rattle.std.proofs.Common.{arith, ℕ, List}
-use Rattle.std.proofs.Common.{[], ◌∷◌, length, take, map, min, drop}
-use Rattle.std.proofs.lemmas.List.{length-map, take_rest}
-use Rattle.std.specs.List.{All, drop-map, take-map}
+use Rattle.std.proofs.Common.{[], ◌∷◌, length, take, map, drop}
+use Rattle.std.proofs.lemmas.List.{take_rest}
+use Rattle.std.specs.List.{All, drop-map}
 use Rattle.std.proofs.lemmas.Bool.{cases_lt, cases_order}
 use Rattle.std.proofs.lemmas.List.Elements.{All-head, All-tail}
 use Rattle.ps_delta.specs.declared.cell_state.CellState.{CellState}
@@ -71,15 +71,9 @@ module _ {X : Type 0} (f : X → Entries) (xs : List X) (most : ℕ) where
   abbrev pub NoneAbove : ℕ → Type 0
   NoneAbove count = (k : ℕ) (line : List ℕ) → count < k → k ≤ most → ¬ IsGroupLine (map f xs) k line
 
-  pub none_above_start : NoneAbove (min most (length xs))
-  none_above_start k line above within grouped =
-      let all : length (map f xs) ≡ length xs = length-map xs f in
-      omega (arith, above, within, grouped.within, all)
-
-  pub none_above_next : (count : ℕ) → 0 < count
-      → (delta : Entries) × IsJoint (map f (take count xs)) delta × (DELTA_LINE_LIMIT < length (delta_text delta))
-      → NoneAbove count → NoneAbove (count - 1)
-  none_above_next count some long none k line above within grouped = elim (cases_order k count) [
+  pub none_above_next : (count : ℕ) (joint : Entries) → IsJoint (take count (map f xs)) joint
+      → DELTA_LINE_LIMIT < length (delta_text joint) → NoneAbove count → NoneAbove (count - 1)
+  none_above_next count joint joined long none k line above within grouped = elim (cases_order k count) [
     | inr (inl lt) ↦ omega (arith, lt, above)
     | inr (inr lt) ↦ none k line lt within grouped
     | inl is ↦ at is
@@ -87,28 +81,20 @@ module _ {X : Type 0} (f : X → Entries) (xs : List X) (most : ℕ) where
     where
       at : k ≡ count → ⊥
       at is =
-          let mine : IsJoint (map f (take count xs)) grouped.delta =
-          subst (λ (ds : List Entries). IsJoint ds grouped.delta) (ap (λ m. take m (map f xs)) is ∙ take-map f count xs)
-          grouped.joint in
-          let same : long.0 ≡ grouped.delta = joint_once (map f (take count xs)) long.0 grouped.delta long.1 mine in
-          let longer : length line ≡ length (delta_text long.0) =
+          let mine : IsJoint (take count (map f xs)) grouped.delta =
+          subst (λ m. IsJoint (take m (map f xs)) grouped.delta) is grouped.joint in
+          let same : joint ≡ grouped.delta = joint_once (take count (map f xs)) joint grouped.delta joined mine in
+          let longer : length line ≡ length (delta_text joint) =
           ap length grouped.is ∙ ap (λ (d : Entries). length (delta_text d)) (sym same) in
-          omega (arith, long.2, grouped.fits, longer)
+          omega (arith, long, grouped.fits, longer)
 
-  pub greatest_found : (count : ℕ) (line : List ℕ) → 0 < count → count ≤ most → count ≤ length xs
-      → (delta : Entries) × IsJoint (map f (take count xs)) delta × (line ≡ delta_text delta)
-      × (length line ≤ DELTA_LINE_LIMIT)
-      → NoneAbove count → IsGreatest (map f xs) most count line
-  greatest_found count line some within inside found none = record {
+  pub greatest_found : (count : ℕ) (joint : Entries) (line : List ℕ) → 0 < count → count ≤ most
+      → count ≤ length (map f xs) → IsJoint (take count (map f xs)) joint → line ≡ delta_text joint
+      → length line ≤ DELTA_LINE_LIMIT → NoneAbove count → IsGreatest (map f xs) most count line
+  greatest_found count joint line some within inside joined is fits none = record {
     some = omega (arith, some);
     within = within;
-    grouped = record {
-      within = let all : length (map f xs) ≡ length xs = length-map xs f in omega (arith, inside, all);
-      delta = found.0;
-      joint = subst (λ (ds : List Entries). IsJoint ds found.0) (sym (take-map f count xs)) found.1;
-      is = found.2;
-      fits = found.3;
-    };
+    grouped = record { within = inside; delta = joint; joint = joined; is = is; fits = fits };
     greatest = none;
   }
 

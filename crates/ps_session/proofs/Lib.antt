@@ -14,6 +14,7 @@ mod SplitLemmas
 mod AskedInRange
 mod ReplayLemmas
 mod HandingLemmas
+mod JointLemmas
 mod RangeLemmas
 mod EditLineLemmas
 mod EntryLemmas

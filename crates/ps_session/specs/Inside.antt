@@ -1,3 +1,4 @@
 -- How a session works between two lines, in words that no public contract cites.
 pub mod Holds
+pub mod Joints
 pub mod Stands

@@ -1,23 +1,46 @@
-use Rattle.std.proofs.Common.{◌∙◌, Err, ap, arith}
+use Rattle.std.proofs.Common.{◌∙◌, ◌<◌, Err, ap, length, map, subst, arith}
+use Rattle.std.proofs.lemmas.List.{length-map}
 use Rattle.std.specs.Arc.{arc_value}
+use Rattle.ps_wire.specs.Line.{delta_text}
+use Rattle.ps_wire.specs.declared.TheConstants.{DELTA_LINE_LIMIT}
 use Rattle.ps_session.proofs.HandingLemmas.{greatest_found, none_above_next, none_found}
+use Rattle.ps_session.proofs.JointLemmas.{joint_at}
 use Rattle.ps_session.proofs.handing.greatest_group.Goals as goal
+
+pub counts-init : goal.counts-init
+counts-init c =
+    let joints = c.in_ok-joints.joints.items in (
+      omega (arith, c.len-count.ensures),
+      λ k line above within. c.in_ok-joints.ensures.joints.last k line
+          (omega (arith, above, c.len-count.ensures, length-map joints arc_value)) within,
+    )
 
 pub returns-in-Ok-clause-found : goal.returns-in-Ok-clause-found
 returns-in-Ok-clause-found c =
-    greatest_found arc_value c.args.deltas.now c.args.most c.counts.count c.in-Ok.line.items
-    (omega (arith, c.counts-test.true))
-    c.counts.invariant.0 c.counts.invariant.1 c.in-Ok.ensures.line c.counts.invariant.2
+    let deltas = map arc_value c.args.deltas.now in
+    let joints = c.in_ok-joints.joints.items in
+    let upward = c.in_ok-joints.ensures.joints in
+    let joint = joint_at arc_value deltas joints c.counts.count c.index.result.now (omega (arith, c.counts-test.true))
+    c.counts.invariant.0 upward.first c.index.ensures in
+    let long = length-map joints arc_value in
+    greatest_found arc_value c.args.deltas.now c.args.most c.counts.count (arc_value c.index.result.now)
+    c.in-Ok.line.items (omega (arith, c.counts-test.true)) (omega (arith, c.counts.invariant.0, long, upward.few))
+    (omega (arith, c.counts.invariant.0, long, upward.within)) joint
+    (c.in-Ok.ensures.line ∙ ap delta_text c.deref.ensures) c.in-Ok.ensures.fits c.counts.invariant.1
 
 pub counts-preserved : goal.counts-preserved
-counts-preserved c = (
-  omega (arith, c.counts.invariant.0),
-  omega (arith, c.counts.invariant.1),
-  none_above_next arc_value c.args.deltas.now c.args.most c.counts.count (omega (arith, c.counts-test.true))
-      (c.group_line.ensures.too_long (c.in-Err-TooLong.is ∙ ap Err c.in-Err-TooLong.field-0-is))
-      c.counts.invariant.2,
-)
+counts-preserved c =
+    let deltas = map arc_value c.args.deltas.now in
+    let joints = c.in_ok-joints.joints.items in
+    let upward = c.in_ok-joints.ensures.joints in
+    let joint = joint_at arc_value deltas joints c.counts.count c.index.result.now (omega (arith, c.counts-test.true))
+    c.counts.invariant.0 upward.first c.index.ensures in
+    let long = c.joint_line.ensures.too_long (c.in-Err-TooLong.is ∙ ap Err c.in-Err-TooLong.field-0-is) in (
+      omega (arith, c.counts.invariant.0),
+      none_above_next arc_value c.args.deltas.now c.args.most c.counts.count (arc_value c.index.result.now) joint
+          (subst (λ d. DELTA_LINE_LIMIT < length (delta_text d)) c.deref.ensures long) c.counts.invariant.1,
+    )
 
 pub returns-clause-none : goal.returns-clause-none
 returns-clause-none c = λ _.
-    none_found arc_value c.args.deltas.now c.args.most c.counts.count c.counts-test.false c.counts.invariant.2
+    none_found arc_value c.args.deltas.now c.args.most c.counts.count c.counts-test.false c.counts.invariant.1

@@ -4,7 +4,7 @@ use Rattle.ps_session.proofs.HandingLemmas.{NoneAbove}
 use Rattle.ps_session.proofs.handing.greatest_group.Given as goal
 
 abbrev pub invariant-counts : goal.invariant-counts
-invariant-counts l = (l.count ≤ l.most) × (l.count ≤ length l.deltas) × NoneAbove arc_value l.deltas l.most l.count
+invariant-counts l = (l.count ≤ length l.joints.items) × NoneAbove arc_value l.deltas l.most l.count
 
 abbrev pub decreases-counts : goal.decreases-counts
 decreases-counts l = l.count

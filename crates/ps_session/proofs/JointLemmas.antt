@@ -1,0 +1,144 @@
+-- Deltas joined upward, one more at a time.
+use Rattle.std.proofs.Common.{◌≡◌, ℕ, zero, suc, ◌+◌, ◌-◌, ◌<◌, ◌≤◌, inl, inr, sym, ap, subst, ◌∙◌, arith}
+use Rattle.std.proofs.Common.{List, [], ◌∷◌, ◌++◌, length, take, map, get_or, Result, Ok, Err}
+use Rattle.std.specs.Prelude.{IfOk}
+use Rattle.std.proofs.lemmas.Bool.{cases_lt}
+use Rattle.std.proofs.lemmas.List.{get_or-map, get_or_append_left, get_or_push, length-map, length_push}
+use Rattle.std.proofs.lemmas.List.{map_push, take_more}
+use Rattle.ps_delta.specs.State.{joined_state}
+use Rattle.ps_delta.specs.Deltas.{Entries, IsDelta, joined_history, state_of}
+use Rattle.ps_delta.proofs.HistoryLemmas.{
+  joined_history-cons,
+  joined_history-nil,
+  joined_history-one,
+  joined_history-push,
+}
+use Rattle.ps_delta.proofs.StateLemmas.{joined_state-assoc, joined_state-empty_right, joined_state-idem}
+use Rattle.ps_delta.proofs.StateLemmas.{joined_state-swap}
+use Rattle.ps_wire.specs.Length.{OutgrowsLine}
+use Rattle.ps_session.specs.Handing.{IsGroupLine, IsJoint}
+use Rattle.ps_session.specs.Inside.Joints.{AreFirstJoints, AreJoints}
+
+-- the first delta is the join of itself
+pub joint_first : (ds : List Entries) (d : Entries) → 0 < length ds → d ≡ get_or ds 0 d → IsDelta d
+    → IsJoint (take 1 ds) d
+joint_first ds d some is lawful = record {
+  lawful = lawful;
+  joined =
+      sym (joined_history-one d) ∙ ap (λ x. joined_history (x ∷ [])) is
+      ∙ ap joined_history (sym (take_more ds 0 d some));
+}
+
+-- the join of a join and the next delta
+pub joint_next : (ds : List Entries) (n : ℕ) (d j new : Entries) → n < length ds → d ≡ get_or ds n d
+    → IsJoint (take n ds) j → state_of new ≡ joined_history (j ∷ d ∷ []) → IsDelta new → IsJoint (take (n + 1) ds) new
+joint_next ds n d j new within is joint so lawful = record {
+  lawful = lawful;
+  joined =
+      so ∙ joined_history-push (j ∷ []) d
+      ∙ ap (λ s. joined_state s (state_of d)) (joined_history-one j ∙ joint.joined)
+      ∙ sym (joined_history-push (take n ds) d)
+      ∙ ap joined_history (ap (λ x. take n ds ++ x ∷ []) is ∙ sym (take_more ds n d within));
+}
+
+pub first_none : (ds : List Entries) → AreFirstJoints ds []
+first_none ds k d within = absurd (omega (arith, within))
+
+pub first_more : (ds js : List Entries) (j : Entries) → AreFirstJoints ds js → IsJoint (take (length js + 1) ds) j
+    → AreFirstJoints ds (js ++ j ∷ [])
+first_more ds js j first joint k d within = elim (cases_lt k (length js)) [
+  | inl lt ↦ subst (IsJoint (take (k + 1) ds)) (sym (get_or_append_left js (j ∷ []) d k lt)) (first k d lt)
+  | inr le ↦
+      let is : k ≡ length js = omega (arith, le, within, length_push js j) in
+      subst (IsJoint (take (k + 1) ds)) (sym (get_or_push js j d k (sym is)))
+      (subst (λ m. IsJoint (take (m + 1) ds) j) (sym is) joint)
+]
+
+-- the join of the first so many, where it is read
+pub joint_at : {X : Type 0} (f : X → Entries) (ds : List Entries) (js : List X) (count : ℕ) (x : X) → 0 < count
+    → count ≤ length js → AreFirstJoints ds (map f js) → x ≡ get_or js (count - 1) x → IsJoint (take count ds) (f x)
+joint_at f ds js count x some within first is =
+    let last : count - 1 < length js = omega (arith, some, within) in
+    let here : get_or (map f js) (count - 1) (f x) ≡ f x = get_or-map f js (count - 1) x (f x) last ∙ ap f (sym is) in
+    let long : length (map f js) ≡ length js = length-map js f in
+    let next : count - 1 + 1 ≡ count = omega (arith, some) in
+    subst (λ m. IsJoint (take m ds) (f x)) next
+    (subst (IsJoint (take (count - 1 + 1) ds)) here (first (count - 1) (f x) (omega (arith, last, long))))
+
+-- what was joined first is below what was joined later
+history_below : (ds : List Entries) (m k : ℕ) → m ≤ k
+    → joined_state (joined_history (take k ds)) (joined_history (take m ds)) ≡ joined_history (take k ds)
+history_below ds zero k le =
+    ap (joined_state (joined_history (take k ds))) joined_history-nil
+    ∙ joined_state-empty_right (joined_history (take k ds))
+history_below ds (suc m) zero le = absurd (omega (arith, le))
+history_below [] (suc m) (suc k) le = joined_state-idem (joined_history [])
+history_below (d ∷ ds) (suc m) (suc k) le =
+    let p = joined_history (take k ds) in
+    let q = joined_history (take m ds) in
+    let first = state_of d in
+    ap (λ s. joined_state s (joined_history (d ∷ take m ds))) (joined_history-cons d (take k ds))
+    ∙ ap (joined_state (joined_state first p)) (joined_history-cons d (take m ds))
+    ∙ sym (joined_state-assoc (joined_state first p) first q)
+    ∙ ap (λ s. joined_state s q)
+    (joined_state-swap first p first ∙ ap (λ s. joined_state s p) (joined_state-idem first))
+    ∙ joined_state-assoc first p q
+    ∙ ap (joined_state first) (history_below ds m k (omega (arith, le)))
+    ∙ sym (joined_history-cons d (take k ds))
+
+-- no more deltas have a line where so many have outgrown it
+pub none_later : (ds : List Entries) (n : ℕ) (j : Entries) → IsJoint (take (n + 1) ds) j → OutgrowsLine j
+    → (k : ℕ) (line : List ℕ) → n < k → ¬ IsGroupLine ds k line
+none_later ds n j joint outgrows k line above grouped =
+    let below : joined_state (state_of grouped.delta) (state_of j) ≡ state_of grouped.delta =
+    ap (λ s. joined_state s (state_of j)) grouped.joint.joined
+    ∙ ap (joined_state (joined_history (take k ds))) joint.joined
+    ∙ history_below ds (n + 1) k (omega (arith, above))
+    ∙ sym grouped.joint.joined in
+    let long = outgrows grouped.delta grouped.joint.lawful below in
+    omega (arith, long, grouped.fits, ap length grouped.is)
+
+module _ {X : Type 0} (f : X → Entries) (xs : List X) where
+  -- the first of the deltas, which the value read is
+  pub first_joint : (n : ℕ) (x y : X) → n < length xs → n ≡ 0 → x ≡ get_or xs n x → f y ≡ f x → IsDelta (f x)
+      → IsJoint (take (n + 1) (map f xs)) (f y)
+  first_joint zero x y within none is same lawful =
+      subst (IsJoint (take 1 (map f xs))) (sym same)
+      (joint_first (map f xs) (f x) (omega (arith, within, length-map xs f))
+      (ap f is ∙ sym (get_or-map f xs 0 x (f x) within)) lawful)
+  first_joint (suc n) x y within none is same lawful = absurd (omega (arith, none))
+
+  -- the join of the last join and the next delta
+  pub later_joint : (js : List X) (x j new : X) → length js < length xs → 0 < length js → x ≡ get_or xs (length js) x
+      → j ≡ get_or js (length js - 1) j → AreFirstJoints (map f xs) (map f js)
+      → state_of (f new) ≡ joined_history (f j ∷ f x ∷ []) → IsDelta (f new)
+      → IsJoint (take (length js + 1) (map f xs)) (f new)
+  later_joint js x j new within some is last first so lawful =
+      joint_next (map f xs) (length js) (f x) (f j) (f new) (omega (arith, within, length-map xs f))
+      (ap f is ∙ sym (get_or-map f xs (length js) x (f x) within))
+      (joint_at f (map f xs) js (length js) j some (omega arith) first last) so lawful
+
+module _ {X : Type 0} (f : X → Entries) (ds : List Entries) (js : List X) (j : X) (n : ℕ) (long : n ≡ length js)
+    (first : AreFirstJoints ds (map f js)) (joint : IsJoint (take (n + 1) ds) (f j)) where
+  -- one more join
+  pub more_joints : (new : List X) → new ≡ js ++ j ∷ [] → AreFirstJoints ds (map f new)
+  more_joints new is =
+      subst (AreFirstJoints ds) (sym (ap (map f) is ∙ map_push f js j))
+      (first_more ds (map f js) (f j) first (subst (λ m. IsJoint (take (m + 1) ds) (f j)) (long ∙ sym (length-map js f))
+      joint))
+
+  -- the joins end before one that can have no line
+  pub joints_end : (most : ℕ) → length js ≤ most → length js ≤ length ds → OutgrowsLine (f j)
+      → AreJoints ds most (map f js)
+  joints_end most few within outgrows = record {
+    few = omega (arith, few, length-map js f);
+    within = omega (arith, within, length-map js f);
+    first = first;
+    last = λ k line above _. none_later ds n (f j) joint outgrows k line (omega (arith, above, long, length-map js f));
+  }
+
+-- what holds of a result by two facts
+pub both_ok : {T E : Type 0} {P Q S : T → Type 0} (r : Result T E) → ((t : T) → P t → Q t → S t) → IfOk r P → IfOk r Q
+    → IfOk r S
+both_ok (Ok t) both p q = both t p q
+both_ok (Err e) both p q = tt
