@@ -6,11 +6,10 @@ use Rattle.ps_delta.specs.Deltas.{Entries, state_of, joined_history}
 use Rattle.ps_delta.proofs.StateLemmas.{joined_state-assoc}
 use Rattle.ps_delta.proofs.HistoryLemmas.{by_set, joined_history-append, joined_history-cons, joined_history-push}
 use Rattle.ps_sheet.specs.Sheet.{Takes, AcceptedDeltasJoin, TookTheSame}
-use Rattle.std.proofs.Common.{ℕ, length, arith, subst}
-use Rattle.std.proofs.lemmas.List.{same_lists, get_or_default}
-use Rattle.ps_value.specs.declared.value.Value.{Value}
-use Rattle.ps_value.specs.declared.value.Value.TheVariants.{Empty}
-use Rattle.ps_sheet.specs.Settled.{IsSettled, shown_at}
+use Rattle.std.proofs.Common.{subst}
+use Rattle.std.proofs.Math.Path.{fun_ext}
+use Rattle.ps_shown.specs.Shown.{shown_at}
+use Rattle.ps_sheet.specs.Settled.{IsSettled}
 use Rattle.ps_sheet.specs.Sheet.{SheetView, IsSheet}
 use Rattle.ps_sheet.proofs.SettledValues.{settled_at_most_once}
 
@@ -38,17 +37,10 @@ pub same_taken : (h k : List Entries) → TookTheSame h k → joined_history h �
 same_taken h k took =
     accepted_join took.0 [] h took.3 ∙ (by_set took.0 took.1 took.2 ∙ sym (accepted_join took.1 [] k took.4))
 
--- two lists of one length that give each cell the same value are equal
-same_values : (xs ys : List Value) → length xs ≡ length ys → ((c : ℕ) → shown_at xs c ≡ shown_at ys c) → xs ≡ ys
-same_values xs ys lengths same =
-    same_lists xs ys lengths
-    (λ k d lt. get_or_default xs k d Empty lt ∙
-    (same k ∙ get_or_default ys k Empty d (let e = lengths in omega arith)))
-
 -- two sheets whose joined histories are equal show the same
 pub same_shown : (a b : SheetView) → IsSheet a → IsSheet b → joined_history a.history ≡ joined_history b.history
-    → a.shown ≡ b.shown
+    → shown_at a.shown ≡ shown_at b.shown
 same_shown a b of_a of_b same =
-    same_values a.shown b.shown (of_a.whole ∙ sym of_b.whole)
+    fun_ext
     (settled_at_most_once (joined_history a.history) (shown_at a.shown) (shown_at b.shown) of_a.in_grid of_a.settled
     (subst (λ (s : State). IsSettled s (shown_at b.shown)) (sym same) of_b.settled))

@@ -8,7 +8,7 @@ use Rattle.ps_delta.specs.State.{State}
 use Rattle.ps_sheet.specs.Settled.{content_of}
 use Rattle.ps_eval.specs.Items.{Assignment}
 use Rattle.ps_sheet.specs.Settled.{refers_to, value_of, SettledAtLeastOnce}
-use Rattle.ps_sheet.specs.Inside.Rounds.{is_waiting, is_formula, first_value, Progress, IsReady, IsHeld, Evaluates}
+use Rattle.ps_sheet.specs.Inside.Waiting.{is_waiting, is_formula, first_value, Progress, IsReady, IsHeld, Evaluates}
 use Rattle.ps_grid.proofs.ChainLemmas.{bool_cases}
 use Rattle.ps_sheet.proofs.SettledValues.{true_not_false, formula_below, progress_start, progress_step}
 use Rattle.ps_sheet.proofs.SettledValues.{step_done, settled_at_end}

@@ -16,8 +16,8 @@ use Rattle.ps_grid.specs.Chains.{OnlyBelow}
 use Rattle.ps_eval.specs.Items.{Assignment}
 use Rattle.ps_sheet.specs.Settled.{content_mentions, refers_to, Cyclic, value_by, value_of, IsSettled}
 use Rattle.ps_sheet.specs.Settled.{SettledAtMostOnce}
-use Rattle.ps_sheet.specs.Inside.Rounds.{is_cycle, is_waiting, is_formula, first_by, first_value, Progress, IsReady}
-use Rattle.ps_sheet.specs.Inside.Rounds.{IsHeld, Evaluates}
+use Rattle.ps_sheet.specs.Inside.Waiting.{is_cycle, is_waiting, is_formula, first_by, first_value, Progress, IsReady}
+use Rattle.ps_sheet.specs.Inside.Waiting.{IsHeld, Evaluates}
 use Rattle.ps_grid.proofs.ChainLemmas.{bool_cases}
 use Rattle.ps_grid.proofs.CycleLemmas.{acyclic_above, stuck_is_cyclic, acyclic_induction}
 use Rattle.ps_eval.proofs.Agreement.{ev-agrees}
@@ -41,7 +41,7 @@ waiting_is (Value.Choice o) h = absurd (true_not_false false h refl)
 waiting_is (Err f) h = ap Err (fault_waits f h)
 
 -- the value of a cell hangs on the cells that it refers to alone
-value_by-agrees : (k : Content) (x : CellState) (v w : Assignment)
+pub value_by-agrees : (k : Content) (x : CellState) (v w : Assignment)
     → ((d : ℕ) → content_mentions k d ≡ true → v d ≡ w d) → value_by k x v ≡ value_by k x w
 value_by-agrees Blank x v w h = refl
 value_by-agrees (Number n) x v w h = refl
@@ -51,7 +51,7 @@ value_by-agrees Tally x v w h = refl
 value_by-agrees Choice x v w h = refl
 
 -- and it is #CYCLE! only where a cell that it refers to shows that
-value_by-waits : (k : Content) (x : CellState) (v : Assignment) → is_waiting (value_by k x v) ≡ true
+pub value_by-waits : (k : Content) (x : CellState) (v : Assignment) → is_waiting (value_by k x v) ≡ true
     → (d : ℕ) × (content_mentions k d ≡ true) × (is_waiting (v d) ≡ true)
 value_by-waits Blank x v h = absurd (true_not_false false h refl)
 value_by-waits (Number n) x v h = absurd (true_not_false false h refl)

@@ -1,3 +1,8 @@
 -- How a sheet gets to settled values and what it keeps, in words that no public contract cites.
+pub mod Bounded
+pub mod BoundedLaws
+pub mod Formulas
 pub mod Kept
-pub mod Rounds
+pub mod Steps
+pub mod Waiting
+pub mod Walk

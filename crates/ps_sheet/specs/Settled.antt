@@ -1,5 +1,5 @@
 -- What a sheet shows: references of a cell, the value of a cell, and settled values.
-use Rattle.std.specs.Prelude.{◌≡◌, ℕ, zero, suc, ◌+◌, ◌*◌, ◌↔◌, Bool, false, cond, List, slice_index_or}
+use Rattle.std.specs.Prelude.{◌≡◌, ℕ, zero, suc, ◌+◌, ◌*◌, ◌↔◌, Bool, false, cond}
 use Rattle.ps_grid.specs.Chains.{References, IsCyclic}
 use Rattle.ps_value.specs.declared.value.Value.{Value}
 use Rattle.ps_value.specs.declared.value.Value.TheVariants.{Empty, Num, Err}
@@ -72,7 +72,3 @@ SettledAtMostOnce = (s : State) (v w : Assignment) → IsInGrid s → IsSettled 
 -- LAW: a state has a settled assignment
 abbrev pub SettledAtLeastOnce : Type 0
 SettledAtLeastOnce = (s : State) → IsInGrid s → (v : Assignment) × IsSettled s v
-
--- the values of a list, cell by cell; nothing past its end
-abbrev pub shown_at : List Value → Assignment
-shown_at values c = slice_index_or values c Empty

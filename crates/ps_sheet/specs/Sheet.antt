@@ -1,18 +1,18 @@
 -- The sheet of one replica, as contracts see it.
 use Rattle.std.specs.Prelude.{◌≡◌, ℕ, ◌<◌, ◌≤◌, ◌⊎◌, List, [], ◌∷◌, ◌++◌, length, take, slice_index_or, ◌↔◌}
 use Rattle.std.specs.Prelude.{Contains}
-use Rattle.ps_grid.specs.declared.size.TheConstants.{CELLS}
-use Rattle.ps_value.specs.declared.value.Value.{Value}
+use Rattle.ps_shown.specs.declared.kept.Kept.{Kept}
+use Rattle.ps_shown.specs.Shown.{shown_at}
 use Rattle.ps_delta.specs.State.{IsInGrid, IsBelow}
 use Rattle.ps_delta.specs.Deltas.{Entries, state_of, joined_history}
 use Rattle.ps_grid.specs.declared.parties.TheConstants.{REPLICAS}
-use Rattle.ps_sheet.specs.Settled.{IsSettled, shown_at}
+use Rattle.ps_sheet.specs.Settled.{IsSettled}
 
 -- the replica, the accepted deltas that changed the state, and what each cell shows
 pub record SheetView : Type 0 where
   pub replica : ℕ
   pub history : List Entries
-  pub shown : List Value
+  pub shown : List Kept
 
 -- no delta is below the join of those before it
 abbrev pub IsFresh : List Entries → Type 0
@@ -25,7 +25,6 @@ pub record IsSheet (x : SheetView) : Type 0 where
   pub settled : IsSettled (joined_history x.history) (shown_at x.shown)
   pub fresh : IsFresh x.history
   pub in_grid : IsInGrid (joined_history x.history)
-  pub whole : length x.shown ≡ CELLS
   pub replica : (1 ≤ x.replica) × (x.replica ≤ REPLICAS)
 
 -- ACCEPTED: the delta d is appended to the history h, unless it is below the join of h

@@ -1,17 +1,21 @@
 //! What a cell holds, as the sheet reads it.
 
-ghost use Rattle.std.specs.Prelude.{◌≡◌};
+ghost use Rattle.std.specs.Prelude.{◌≡◌, IfErr, IfOk};
 ghost use Rattle.std.specs.Option.{option_copied, option_map};
 ghost use Rattle.ps_content.specs.Order.{formula_in};
+ghost use Rattle.ps_shown.specs.Kept.{value_of as value_kept};
 ghost use Rattle.ps_sheet.specs.Settled.{content_of, options_of};
-ghost use Rattle.ps_sheet.specs.Inside.Rounds.{first_by, first_value, is_formula};
+ghost use Rattle.ps_sheet.specs.Inside.Waiting.{first_by, first_value, is_formula};
 ghost use Rattle.ps_sheet.specs.Edits.{is_clock_full};
 
 use ps_content::Content;
 use ps_delta::CellState;
 use ps_formula::Formula;
+use ps_grid::{Refusal, Twin};
 use ps_lattice::{Choice, LAST_TIME};
-use ps_value::{Fault, Value};
+use ps_shown::Kept;
+use ps_value::Fault;
+use std::alloc::Global;
 
 /// The content of a cell's register, where something was assigned to it.
 pub(crate) fn content(state: &CellState) -> Option<&Content>
@@ -44,27 +48,31 @@ pub(crate) fn is_clock_full(state: &CellState) -> bool
     }
 }
 
-/// What a cell shows before the first round.
-pub(crate) fn first_of(state: &CellState) -> Value
-    ensures { result ≡ first_value state.now }
+/// What is kept of a cell at first: a formula waits, and any other content shows its value.
+///
+/// Refused only when out of memory.
+pub(crate) fn first_of(alloc: Global, state: &CellState) -> Result<Kept, Refusal>
+    ensures first { IfOk result (λ k. value_kept k ≡ first_value state.now) }
+    ensures memory { IfErr result (λ e. e ≡ Refusal.Memory) }
 {
     match content(state) {
-        None => Value::Empty,
-        Some(content) => first_by(content, state),
+        None => Ok(Kept::Empty),
+        Some(content) => first_by(alloc, content, state),
     }
 }
 
-/// What a cell with this content shows before the first round.
-fn first_by(content: &Content, state: &CellState) -> Value
-    ensures { result ≡ first_by content.now state.now }
+/// What is kept at first of a cell with this content.
+fn first_by(alloc: Global, content: &Content, state: &CellState) -> Result<Kept, Refusal>
+    ensures first { IfOk result (λ k. value_kept k ≡ first_by content.now state.now) }
+    ensures memory { IfErr result (λ e. e ≡ Refusal.Memory) }
 {
     match content {
-        Content::Blank => Value::Empty,
-        Content::Number(number) => Value::Num(*number),
-        Content::Text(text) => Value::Text(*text.label()),
-        Content::Formula(_) => Value::Err(Fault::Cycle),
-        Content::Tally => Value::Num(state.tally.value()),
-        Content::Choice => Value::Choice(options_of(&state.choice)),
+        Content::Blank => Ok(Kept::Empty),
+        Content::Number(number) => Ok(Kept::Num(*number)),
+        Content::Text(text) => Ok(Kept::Text(text.twin(alloc)?)),
+        Content::Formula(_) => Ok(Kept::Err(Fault::Cycle)),
+        Content::Tally => Ok(Kept::Num(state.tally.value())),
+        Content::Choice => Ok(Kept::Choice(options_of(&state.choice))),
     }
 }
 

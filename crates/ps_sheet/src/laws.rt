@@ -1,6 +1,7 @@
 //! Laws of settled values.
 
 ghost use Rattle.std.specs.Prelude.{◌≡◌};
+ghost use Rattle.ps_shown.specs.Shown.{shown_at};
 ghost use Rattle.ps_delta.specs.Deltas.{joined_history};
 ghost use Rattle.ps_sheet.specs.Edits.{EditsAreFresh};
 ghost use Rattle.ps_sheet.specs.Sheet.{AcceptedDeltasJoin, TookTheSame};
@@ -41,7 +42,7 @@ pub fn accepted_deltas_join()
 /// Cost: none.
 pub fn same_deltas_show_the_same(a: &Sheet, b: &Sheet)
     requires { TookTheSame a.now.history b.now.history }
-    ensures { a.now.shown ≡ b.now.shown }
+    ensures { shown_at a.now.shown ≡ shown_at b.now.shown }
 {
     same_join_shows_the_same(a, b)
 }
@@ -51,7 +52,7 @@ pub fn same_deltas_show_the_same(a: &Sheet, b: &Sheet)
 /// Cost: none.
 pub fn same_join_shows_the_same(a: &Sheet, b: &Sheet)
     requires { joined_history a.now.history ≡ joined_history b.now.history }
-    ensures { a.now.shown ≡ b.now.shown }
+    ensures { shown_at a.now.shown ≡ shown_at b.now.shown }
 {
     // Each call brings the fact `IsSheet` of its sheet.
     let _ = a.version();

@@ -6,17 +6,18 @@ ghost use Rattle.std.specs.Arc.{arc_value};
 ghost use Rattle.ps_grid.specs.declared.parties.TheConstants.{WORKERS};
 ghost use Rattle.ps_delta.specs.State.{IsBelow, joined_state};
 ghost use Rattle.ps_delta.specs.Deltas.{joined_history, state_of};
-ghost use Rattle.ps_sheet.specs.Settled.{Cyclic, shown_at};
+ghost use Rattle.ps_shown.specs.Shown.{shown_at};
+ghost use Rattle.ps_sheet.specs.Settled.{Cyclic};
+ghost use Rattle.ps_sheet.specs.Recalculated.{IsReport};
 ghost use Rattle.ps_sheet.specs.Edits.{is_clock_full};
 
-use crate::changes::take_in;
+use crate::cells::Cells;
 use crate::contents;
 use crate::edit::Edit;
 use crate::made::delta_of;
-use crate::rounds::value_in;
-use ps_delta::{Delta, Grid};
+use ps_delta::Delta;
 use ps_eval::{Look, Meter};
-use ps_grid::{CELLS, Cell, REPLICAS, Refusal};
+use ps_grid::{Cell, REPLICAS, Refusal};
 use ps_value::{Fault, Operand, Value};
 use std::alloc::Global;
 use std::marker::Model;
@@ -28,6 +29,12 @@ use std::sync::ledger::Ledger;
 pub struct Report {
     /// The length of the history.
     pub version: u64,
+    /// How many formulas were evaluated.
+    pub evaluated: u64,
+    /// How many formula cells of the region of the change are cyclic.
+    pub cyclic: u64,
+    /// How many levels the other formula cells of the region have.
+    pub levels: u64,
 }
 
 /// The sheet of one replica: the deltas that it accepted, and what each cell shows.
@@ -38,12 +45,8 @@ pub struct Sheet {
     replica: u8,
     /// the accepted deltas that changed the state
     history: Vec<Arc<Delta>>,
-    /// their join
-    grid: Grid,
-    /// the cells that hold a formula
-    formulas: Vec<Cell>,
-    /// what each cell shows
-    shown: Vec<Value>,
+    /// what follows from them
+    cells: Cells,
 }
 
 impl Model for Sheet {
@@ -63,7 +66,7 @@ impl Model for Sheet {
 }
 
 impl Look for Sheet {
-    ghost use Rattle.ps_sheet.specs.Settled.{shown_at};
+    ghost use Rattle.ps_shown.specs.Shown.{shown_at};
 
     ghost value_at = { λ s. shown_at s.shown };
 
@@ -72,7 +75,7 @@ impl Look for Sheet {
     }
 
     fn operand(&self, cell: Cell) -> Operand {
-        self.shown(cell).operand()
+        self.cells.shown.operand(cell)
     }
 }
 
@@ -96,14 +99,11 @@ impl Sheet {
         if replica < 1 || replica > REPLICAS {
             return Err(Refusal::Replica);
         }
-        let shown = all_empty(alloc, CELLS)?;
-        let grid = Grid::new(alloc)?;
+        let cells = Cells::new(alloc)?;
         Ok(Sheet {
             replica,
             history: Vec::new(alloc),
-            grid,
-            formulas: Vec::new(alloc),
-            shown,
+            cells,
         })
     }
 
@@ -113,7 +113,8 @@ impl Sheet {
     /// no set; the count is full, the sequences are used up, the option isn't in the set, or a register has the last
     /// time. Where none of them holds, only out of memory. Then nothing is changed.
     ///
-    /// Cost: that of the delta and its join, and at most f + 1 rounds over the f formula cells.
+    /// Cost: that of the delta and its join, and of the region: its cells, their references, and the evaluations that
+    /// the report counts.
     pub fn edit<L: Ledger>(
         &mut self,
         alloc: Global,
@@ -131,12 +132,15 @@ impl Sheet {
         ensures asked { IsErrOf result Refusal.Memory
             → IsOk (delta_of_edit self.old.replica (joined_history self.old.history) edit) }
         ensures version { IfOk result (λ r. r.version ≡ length self.new.history) }
+        ensures report { IfOk result (IsReport (joined_history self.old.history) (joined_history self.new.history)
+            (shown_at self.old.shown) (shown_at self.new.shown)) }
+        ensures metered { IfOk result (λ r. meter.new ≡ meter.old + r.evaluated) }
         ensures replica { self.new.replica ≡ self.old.replica }
         ensures sheet { IsSheet self.new }
         ensures kept { OnErr result (self.new ≡ self.old) }
         ensures unmetered { OnErr result (meter.new ≡ meter.old) }
     {
-        let delta = delta_of(alloc, &self.grid, self.replica, edit)?;
+        let delta = delta_of(alloc, &self.cells.grid, self.replica, edit)?;
         let made = Arc::new(alloc, delta)?;
         self.append(alloc, made, meter)
     }
@@ -145,7 +149,7 @@ impl Sheet {
     ///
     /// Refused only where it would be appended, out of memory, and then nothing is changed.
     ///
-    /// Cost: that of joining the delta, and where it is appended, at most f + 1 rounds over the f formula cells.
+    /// Cost: that of joining the delta, and where it is appended, of the region as for an edit.
     pub fn receive<L: Ledger>(
         &mut self,
         alloc: Global,
@@ -157,14 +161,19 @@ impl Sheet {
             ≡ joined_state (joined_history self.old.history) (state_of (arc_value delta))) }
         ensures below { IsBelow (state_of (arc_value delta)) (joined_history self.old.history)
             → IsOk result × (self.new ≡ self.old) × (meter.new ≡ meter.old) }
+        ensures idle { IsBelow (state_of (arc_value delta)) (joined_history self.old.history)
+            → IfOk result (λ r. (r.evaluated ≡ 0) × (r.cyclic ≡ 0) × (r.levels ≡ 0)) }
         ensures version { IfOk result (λ r. r.version ≡ length self.new.history) }
+        ensures report { IfOk result (IsReport (joined_history self.old.history) (joined_history self.new.history)
+            (shown_at self.old.shown) (shown_at self.new.shown)) }
+        ensures metered { IfOk result (λ r. meter.new ≡ meter.old + r.evaluated) }
         ensures replica { self.new.replica ≡ self.old.replica }
         ensures sheet { IsSheet self.new }
         ensures memory { IfErr result (λ e. e ≡ Refusal.Memory) }
         ensures kept { OnErr result (self.new ≡ self.old) }
         ensures unmetered { OnErr result (meter.new ≡ meter.old) }
     {
-        if self.grid.covers(&delta) {
+        if self.cells.grid.covers(&delta) {
             return Ok(self.report());
         }
         self.append(alloc, delta, meter)
@@ -183,6 +192,9 @@ impl Sheet {
         ensures joined { OnOk result (joined_history self.new.history
             ≡ joined_state (joined_history self.old.history) (state_of (arc_value delta))) }
         ensures version { IfOk result (λ r. r.version ≡ length self.new.history) }
+        ensures report { IfOk result (IsReport (joined_history self.old.history) (joined_history self.new.history)
+            (shown_at self.old.shown) (shown_at self.new.shown)) }
+        ensures metered { IfOk result (λ r. meter.new ≡ meter.old + r.evaluated) }
         ensures replica { self.new.replica ≡ self.old.replica }
         ensures sheet { IsSheet self.new }
         ensures memory { IfErr result (λ e. e ≡ Refusal.Memory) }
@@ -190,27 +202,27 @@ impl Sheet {
         ensures unmetered { OnErr result (meter.new ≡ meter.old) }
     {
         self.history.reserve(1)?;
-        take_in(
-            alloc,
-            &mut self.grid,
-            &mut self.formulas,
-            &mut self.shown,
-            &delta,
-            meter,
-        )?;
+        let work = self.cells.take_in(alloc, &delta, meter)?;
         put(&mut self.history, delta);
         Ok(Report {
             version: self.history.len() as u64,
+            evaluated: work.evaluated,
+            cyclic: work.cyclic,
+            levels: work.levels,
         })
     }
 
     /// The report of a change that changed nothing.
     fn report(&self) -> Report
         ensures version { result.version ≡ length self.now.history }
+        ensures idle { (result.evaluated ≡ 0) × (result.cyclic ≡ 0) × (result.levels ≡ 0) }
         ensures sheet { IsSheet self.now }
     {
         Report {
             version: self.history.len() as u64,
+            evaluated: 0,
+            cyclic: 0,
+            levels: 0,
         }
     }
 
@@ -222,7 +234,7 @@ impl Sheet {
         ensures cycle { (result ≡ Value.Err Fault.Cycle) ↔ Cyclic (joined_history self.now.history) cell }
         ensures sheet { IsSheet self.now }
     {
-        value_in(&self.shown, cell)
+        self.cells.shown.at(cell)
     }
 
     /// Whether the cell's register has the last time, so that no edit can give the cell a content any more.
@@ -232,7 +244,7 @@ impl Sheet {
         ensures full { result ≡ is_clock_full (joined_history self.now.history cell) }
         ensures sheet { IsSheet self.now }
     {
-        contents::is_clock_full(self.grid.at(cell))
+        contents::is_clock_full(self.cells.grid.at(cell))
     }
 
     /// The accepted deltas that changed the state, in the order in which they came.
@@ -264,15 +276,6 @@ impl Sheet {
     {
         self.replica
     }
-}
-
-/// A list of n empty values.
-fn all_empty(alloc: Global, n: usize) -> Result<Vec<Value>, Refusal>
-    ensures length { IfOk result (λ v. length v.items ≡ n) }
-    ensures empty { IfOk result (λ v. (c : ℕ) → shown_at v.items c ≡ Value.Empty) }
-    ensures memory { IfErr result (λ e. e ≡ Refusal.Memory) }
-{
-    Ok(vec![in alloc; Value::Empty; n]?)
 }
 
 /// Appends a delta to a history that has room for it.

@@ -3,4 +3,5 @@
 mod cycles;
 mod edits;
 mod orders;
+mod reports;
 mod script;

@@ -75,6 +75,16 @@ impl Shown {
         self.kept[place(cell)].value()
     }
 
+    /// What is kept of a cell.
+    ///
+    /// Cost: constant.
+    #[inline]
+    pub fn kept(&self, cell: Cell) -> &Kept
+        ensures { value_of result.now ≡ shown_at self.now cell }
+    {
+        &self.kept[place(cell)]
+    }
+
     /// What evaluation reads of what a cell shows.
     ///
     /// Cost: constant.

@@ -29,7 +29,8 @@ use Rattle.std.specs.Result.{IsErr}
 use Rattle.ps_world.specs.Replicas.{ReplicaView, WorldView, replica_at, has_taken, world_of, IsReplica, IsWorld}
 use Rattle.ps_world.specs.Replicas.{ShowsSettled, SameTakenShowTheSame}
 use Rattle.ps_world.specs.Inside.Steps.{IsNew, AreNew, Follows}
-use Rattle.ps_sheet.specs.Settled.{IsSettled, shown_at}
+use Rattle.ps_shown.specs.Shown.{shown_at}
+use Rattle.ps_sheet.specs.Settled.{IsSettled}
 use Rattle.ps_sheet.proofs.AcceptedRuns.{same_shown}
 use Rattle.ps_world.proofs.PickedJoins.{picked-append, joined_more}
 

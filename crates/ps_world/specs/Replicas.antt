@@ -5,7 +5,8 @@ use Rattle.std.specs.Option.{option_map_or}
 use Rattle.std.specs.Ordering.{nat_cmp}
 use Rattle.std.specs.BTreeSet.{BTreeSet, contains}
 use Rattle.ps_delta.specs.Deltas.{Entries, joined_history}
-use Rattle.ps_sheet.specs.Settled.{IsSettled, shown_at}
+use Rattle.ps_shown.specs.Shown.{shown_at}
+use Rattle.ps_sheet.specs.Settled.{IsSettled}
 use Rattle.ps_sheet.specs.Sheet.{SheetView, IsSheet}
 use Rattle.ps_world.specs.World.{WorldState, joined_of}
 
@@ -53,4 +54,4 @@ ShowsSettled w =
 abbrev pub SameTakenShowTheSame : WorldView → Type 0
 SameTakenShowTheSame w =
     (q r : ℕ) (x y : ReplicaView) → replica_at w.replicas q ≡ Some x → replica_at w.replicas r ≡ Some y
-    → ((k : ℕ) → has_taken w.replicas q k ≡ has_taken w.replicas r k) → x.sheet.shown ≡ y.sheet.shown
+    → ((k : ℕ) → has_taken w.replicas q k ≡ has_taken w.replicas r k) → shown_at x.sheet.shown ≡ shown_at y.sheet.shown

@@ -2,7 +2,7 @@
 use Rattle.std.specs.Prelude.{◌≡◌, ◌==◌, ℕ, List, [], Option, if◌then◌else◌}
 use Rattle.ps_grid.specs.Rectangle.{Area}
 use Rattle.ps_delta.specs.Deltas.{joined_history}
-use Rattle.ps_sheet.specs.Settled.{shown_at}
+use Rattle.ps_shown.specs.Shown.{shown_at}
 use Rattle.ps_sheet.specs.Sheet.{IsSheet, SheetView}
 use Rattle.ps_csv.specs.Exports.{exported}
 use Rattle.ps_csv.specs.Faults.{ReaderFails, TableFault, WholeTable}

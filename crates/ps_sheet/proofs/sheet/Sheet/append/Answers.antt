@@ -1,21 +1,19 @@
-use Rattle.std.proofs.Common.{◌≡◌, ◌++◌, [], ◌∷◌, List, length, map, vec_len, sym, ap, ◌∙◌, subst}
-use Rattle.std.proofs.lemmas.List.{with_items_is}
+use Rattle.std.proofs.Common.{◌≡◌, ◌++◌, ◌∷◌, [], List, map, sym, ap, ◌∙◌, subst}
 use Rattle.std.specs.Arc.{arc_value}
-use Rattle.ps_value.specs.declared.value.Value.{Value}
-use Rattle.ps_delta.specs.State.{IsInGrid, IsBelow, state_at}
+use Rattle.ps_delta.specs.State.{IsBelow, state_at}
 use Rattle.ps_delta.specs.Deltas.{Entries, joined_history, state_of}
-use Rattle.ps_sheet.specs.Inside.Kept.{view_of}
-use Rattle.ps_sheet.specs.Sheet.{SheetView, IsSheet}
-use Rattle.ps_grid.specs.declared.size.TheConstants.{CELLS}
-use Rattle.std.specs.Vec.{with_items}
 use Rattle.ps_delta.proofs.HistoryLemmas.{joined_history-push}
+use Rattle.ps_sheet.specs.Inside.Kept.{view_of}
+use Rattle.ps_sheet.specs.Sheet.{SheetView}
+use Rattle.ps_shown.specs.Shown.{shown_at}
+use Rattle.ps_sheet.proofs.IdleChanges.{recalculated_as}
 use Rattle.ps_sheet.proofs.AppendedDeltas.{sheet_after, joined_after}
 use Rattle.ps_sheet.proofs.sheet.Sheet.append.Given.{Over}
 use Rattle.ps_sheet.proofs.sheet.Sheet.append.Goals as goal
 use Rattle.ps_sheet.proofs.sheet.Sheet.append.Goals.{After-len}
 
-pub take_in-requires-clause-in_grid : goal.take_in-requires-clause-in_grid
-take_in-requires-clause-in_grid g c = subst IsInGrid (sym c.self.invariant.joined) c.self.invariant.sheet.in_grid
+pub take_in-requires : goal.take_in-requires
+take_in-requires g c = record { whole = c.self.invariant.whole }
 
 -- the history after the delta was put
 pushed : (g : Over) (c : After-len g)
@@ -24,6 +22,14 @@ pushed g c =
     c.put.ensures
     ∙ ap (λ (h : List Entries). h ++ arc_value c.args.delta ∷ []) (ap (map arc_value) c.reserve.ensures.items)
 
+-- what the cells hold is the join of the history
+joined_now : (g : Over) (c : After-len g)
+    → state_at c.take_in.new.self.grid ≡ joined_history (map arc_value c.put.new.history.items)
+joined_now g c =
+    joined_after (view_of c.self.inside).history (arc_value c.args.delta) c.deref.result.now
+    (state_at c.self.inside.cells.grid) (state_at c.take_in.new.self.grid) (map arc_value c.put.new.history.items)
+    (pushed g c) c.self.invariant.joined c.deref.ensures c.in_ok-work.ensures.joined
+
 pub invariant_of-self-2 : goal.invariant_of-self-2
 invariant_of-self-2 g c =
     let d : Entries = arc_value c.args.delta in
@@ -31,25 +37,12 @@ invariant_of-self-2 g c =
     let new : ¬ IsBelow (state_of d) (joined_history x.history) =
     subst (λ (y : SheetView). ¬ IsBelow (state_of d) (joined_history y.history))
     (sym c.self.view_is) c.requires.fresh in
-    let same_length : length c.take_in.new.shown ≡ vec_len c.self.inside.shown = c.take_in.auto.shown
-    ∙ c.deref_mut.ensures.len in
-    let shown : (with_items c.self.inside.shown c.take_in.new.shown).items ≡ c.take_in.new.shown =
-    with_items_is c.self.inside.shown c.take_in.new.shown same_length in
-    let whole : length c.take_in.new.shown ≡ CELLS =
-    c.take_in.auto.shown ∙ (ap length c.deref_mut.ensures.value ∙ c.self.invariant.sheet.whole) in
+    let whole = c.in_ok-work.ensures.whole in
     record {
-      sheet = subst (λ (values : List Value). IsSheet
-          (record { replica = x.replica; history = map arc_value c.put.new.history.items; shown = values }))
-          (sym shown)
-          (sheet_after x d c.deref.result.now (state_at c.self.inside.grid) (state_at c.take_in.new.grid)
-          (map arc_value c.put.new.history.items) c.take_in.new.shown c.self.invariant.sheet new (pushed g c)
-          c.self.invariant.joined c.deref.ensures c.in_ok-take_in.ensures.joined c.in_ok-take_in.ensures.in_grid
-          c.in_ok-take_in.ensures.settled whole);
-      joined = joined_after x.history d c.deref.result.now (state_at c.self.inside.grid)
-          (state_at c.take_in.new.grid)
-          (map arc_value c.put.new.history.items) (pushed g c) c.self.invariant.joined c.deref.ensures
-          c.in_ok-take_in.ensures.joined;
-      listed = c.in_ok-take_in.ensures.listed;
+      sheet = sheet_after x d (state_at c.take_in.new.self.grid) (map arc_value c.put.new.history.items)
+          c.take_in.new.self.shown c.self.invariant.sheet new (pushed g c) (joined_now g c) whole.in_grid whole.settled;
+      joined = joined_now g c;
+      whole = whole;
     }
 
 pub returns-clause-joined : goal.returns-clause-joined
@@ -60,3 +53,14 @@ returns-clause-joined g c =
 
 pub returns-clause-sheet : goal.returns-clause-sheet
 returns-clause-sheet g c = (invariant_of-self-2 g c).sheet
+
+pub returns-clause-report : goal.returns-clause-report
+returns-clause-report g c =
+    recalculated_as (state_at c.self.inside.cells.grid) (joined_history c.args.self.now.history)
+    (state_at c.take_in.new.self.grid) (joined_history (map arc_value c.put.new.history.items))
+    (shown_at c.self.inside.cells.shown) (shown_at c.args.self.now.shown) (shown_at c.take_in.new.self.shown)
+    c.in_ok-work.work.evaluated c.in_ok-work.work.cyclic c.in_ok-work.work.levels
+    (c.self.invariant.joined ∙ ap (λ (x : SheetView). joined_history x.history) c.self.view_is)
+    (joined_now g c)
+    (ap (λ (x : SheetView). shown_at x.shown) c.self.view_is)
+    c.in_ok-work.ensures.work

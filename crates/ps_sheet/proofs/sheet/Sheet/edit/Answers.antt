@@ -7,10 +7,10 @@ use Rattle.ps_sheet.proofs.sheet.Sheet.edit.Goals as goal
 
 pub append-requires : goal.append-requires
 append-requires g c =
-    let state_is : state_at c.self.inside.grid ≡ joined_history c.args.self.now.history =
+    let state_is : state_at c.self.inside.cells.grid ≡ joined_history c.args.self.now.history =
     c.self.invariant.joined ∙ ap (λ (x : SheetView). joined_history x.history) c.self.view_is in
-    let fresh : ¬ IsBelow (state_of c.in_ok-delta.delta) (state_at c.self.inside.grid) =
-    edits_are_fresh c.self.inside.replica (state_at c.self.inside.grid) c.args.edit c.in_ok-delta.delta
+    let fresh : ¬ IsBelow (state_of c.in_ok-delta.delta) (state_at c.self.inside.cells.grid) =
+    edits_are_fresh c.self.inside.replica (state_at c.self.inside.cells.grid) c.args.edit c.in_ok-delta.delta
     c.in_ok-delta.ensures.delta c.in_ok-delta.ensures.made in
     record {
       fresh = subst (λ (d : Entries). ¬ IsBelow (state_of d) (joined_history c.args.self.now.history))

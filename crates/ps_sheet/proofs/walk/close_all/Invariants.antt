@@ -1,0 +1,8 @@
+use Rattle.std.proofs.Common.{take}
+use Rattle.ps_shown.specs.Shown.{shown_at}
+use Rattle.ps_sheet.specs.Inside.Steps.{ClosesAll}
+use Rattle.ps_sheet.proofs.walk.close_all.Given as goal
+
+-- the cells so far show #CYCLE!
+abbrev pub invariant-loop-cell : goal.invariant-loop-cell
+invariant-loop-cell l = ClosesAll (take l.cell-index l.cells) (shown_at l.initial.shown) (shown_at l.shown)

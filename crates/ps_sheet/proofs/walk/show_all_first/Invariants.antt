@@ -1,0 +1,14 @@
+use Rattle.std.proofs.Common.{◌≡◌, ◌++◌, map}
+use Rattle.ps_delta.specs.State.{state_at}
+use Rattle.ps_region.specs.Listed.{listed}
+use Rattle.ps_shown.specs.Shown.{shown_at}
+use Rattle.ps_sheet.specs.Inside.Steps.{BeginsAll, flag_at}
+use Rattle.ps_sheet.proofs.walk.show_all_first.Given as goal
+
+-- the cells so far are dealt with, and the others are still to come
+abbrev pub invariant-loop-cell : goal.invariant-loop-cell
+invariant-loop-cell l = record {
+  begun : BeginsAll (state_at l.grid) (listed l.index) (map (λ e. e.0) l.yielded)
+      (shown_at l.initial.shown) (shown_at l.shown) (flag_at l.initial.flags) (flag_at l.flags);
+  all : l.yielded ++ l.cell-iterator.rest.items ≡ l.fn.first.items;
+}

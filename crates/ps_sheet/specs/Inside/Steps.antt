@@ -1,0 +1,76 @@
+-- What the steps of a recalculation need to know, and what they do to the shown values and the flags.
+use Rattle.std.specs.Prelude.{◌≡◌, ◌≢◌, ◌+◌, ◌<◌, ◌≤◌, ℕ, Bool, true, false, ◌⊎◌, List, [], slice_index_or}
+use Rattle.ps_grid.specs.Chains.{References, In, InRegion}
+use Rattle.ps_grid.specs.declared.size.TheConstants.{CELLS}
+use Rattle.ps_value.specs.declared.value.Value.{Value}
+use Rattle.ps_value.specs.declared.value.Value.TheVariants.{Empty, Num, Text, Choice, Err}
+use Rattle.ps_eval.specs.Items.{Assignment}
+use Rattle.ps_delta.specs.State.{State}
+use Rattle.ps_sheet.specs.Settled.{refers_to, Cyclic}
+use Rattle.ps_sheet.specs.Inside.Walk.{formula_at, IsChange, Lists, Shows, Begun, Walked, AreLevels, IsPassed}
+
+-- whether a cell is flagged
+abbrev pub flag_at : List Bool → ℕ → Bool
+flag_at flags c = slice_index_or flags c false
+
+-- each list of a cell of the grid has the cells that refer to it, and others at most where they are touched
+abbrev pub AreListed : References → List ℕ → (ℕ → List ℕ) → Type 0
+AreListed refers touched listed = (x : ℕ) → x < CELLS → Lists refers touched x (listed x)
+
+-- ONE TOUCHED CELL: it is flagged where it has a formula, and shows y where it has none
+abbrev pub IsFirst : State → ℕ → Value → List ℕ → Assignment → Assignment → (ℕ → Bool) → (ℕ → Bool) → Type 0
+IsFirst t x y listed u u2 flags flags2 =
+    ((formula_at t x ≡ true) × (u2 ≡ u) × (flags2 x ≡ true) × ((c : ℕ) → c ≢ x → flags2 c ≡ flags c))
+    ⊎ ((formula_at t x ≡ false) × Shows x y listed u u2 flags flags2)
+
+-- THE TOUCHED CELLS: each is looked after
+abbrev pub BeginsAll : State → (ℕ → List ℕ) → List ℕ → Assignment → Assignment → (ℕ → Bool) → (ℕ → Bool) → Type 0
+BeginsAll t listed cells u u2 flags flags2 =
+    (v : Assignment) (touched : List ℕ) → AreListed (refers_to t) touched listed
+    → ((c : ℕ) → In cells c → In touched c × (c < CELLS))
+    → Begun t v touched [] [] u flags → Begun t v touched cells [] u2 flags2
+
+-- THE CYCLIC CELLS: each shows #CYCLE!
+abbrev pub ClosesAll : List ℕ → Assignment → Assignment → Type 0
+ClosesAll cells u u2 =
+    (t : State) (v : Assignment) (touched walked : List ℕ) (flags : ℕ → Bool)
+    → ((c : ℕ) → In cells c → InRegion (refers_to t) touched c × Cyclic t c)
+    → Begun t v touched walked [] u flags → Begun t v touched walked cells u2 flags
+
+-- what a walk level after level rests on
+pub record Road (t : State) (listed : ℕ → List ℕ) (v : Assignment) (touched : List ℕ) (level : ℕ → List ℕ) (top : ℕ)
+    : Type 0 where
+  pub before : State
+  pub change : IsChange before t v touched
+  pub lists : AreListed (refers_to t) touched listed
+  pub levels : AreLevels t touched level top
+
+-- ONE LEVEL: n of its cells were evaluated
+abbrev pub StepsLevel : State → (ℕ → List ℕ) → List ℕ → Assignment → Assignment → (ℕ → Bool) → (ℕ → Bool) → ℕ → Type 0
+StepsLevel t listed cells u u2 flags flags2 n =
+    (v : Assignment) (touched : List ℕ) (level : ℕ → List ℕ) (top k m : ℕ) → Road t listed v touched level top
+    → 0 < k → k ≤ top → level k ≡ cells
+    → Walked t v touched (IsPassed level k []) u flags m
+    → Walked t v touched (IsPassed level k cells) u2 flags2 (m + n)
+
+-- a walk may begin
+abbrev pub MayWalk : State → (ℕ → List ℕ) → (ℕ → List ℕ) → ℕ → Assignment → (ℕ → Bool) → Type 0
+MayWalk t listed level top u flags =
+    (v : Assignment) × (touched : List ℕ) × Road t listed v touched level top
+    × Walked t v touched (λ c. ⊥) u flags 0
+
+-- THE LEVELS below n: so many of their cells were evaluated
+abbrev pub StepsLevels : State → (ℕ → List ℕ) → (ℕ → List ℕ) → ℕ → ℕ → Assignment → Assignment → (ℕ → Bool) → (ℕ → Bool)
+    → ℕ → Type 0
+StepsLevels t listed level top n u u2 flags flags2 count =
+    (v : Assignment) (touched : List ℕ) → Road t listed v touched level top
+    → Walked t v touched (λ c. ⊥) u flags 0
+    → Walked t v touched (IsPassed level n []) u2 flags2 count
+
+-- a text, which takes memory to keep
+abbrev pub is_text : Value → Bool
+is_text Empty = false
+is_text (Num n) = false
+is_text (Text text) = true
+is_text (Choice options) = false
+is_text (Err fault) = false

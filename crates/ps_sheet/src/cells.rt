@@ -1,0 +1,217 @@
+//! What the cells of a sheet hold and show, and what is kept beside it so that a change costs what its region costs.
+
+ghost use Rattle.std.specs.Prelude.{◌≡◌, ◌+◌, ◌≤◌, ◌++◌, ℕ, false, filter, length, nat_eq, not, IfOk, IfErr, OnOk, OnErr};
+ghost use Rattle.std.specs.Prelude.{vec_capacity};
+ghost use Rattle.std.specs.List.{list_any};
+ghost use Rattle.ps_formula.specs.References.{mentions};
+ghost use Rattle.ps_shown.specs.Shown.{shown_at};
+ghost use Rattle.ps_delta.specs.State.{empty_state, joined_state, state_at};
+ghost use Rattle.ps_delta.specs.Deltas.{state_of};
+ghost use Rattle.ps_sheet.specs.Recalculated.{IsRecalculated};
+ghost use Rattle.ps_sheet.specs.Inside.Steps.{flag_at};
+ghost use Rattle.ps_sheet.specs.Inside.Kept.{IsWhole, MayRecalculate, Recalculates};
+
+use crate::change::{Change, begin, take_formulas};
+use crate::contents::{formula_of, holds_formula};
+use crate::walk::{clear, close_all, settle_frame, show_all_first};
+use ps_delta::{Delta, Grid};
+use ps_eval::Meter;
+use ps_formula::Formula;
+use ps_grid::{CELLS, Cell, Refusal};
+use ps_index::Index;
+use ps_region::{After, Region};
+use ps_shown::{Kept, Shown};
+use std::alloc::Global;
+use std::sync::ledger::Ledger;
+
+/// What follows from the history of a sheet.
+#[derive(Drop)]
+pub(crate) struct Cells {
+    /// what each cell holds
+    pub(crate) grid: Grid,
+    /// which formulas refer to a cell
+    index: Index,
+    /// what each cell shows
+    pub(crate) shown: Shown,
+    /// the region of the last change
+    region: Region,
+    /// the cells that show `#CYCLE!`, each once
+    cyclic: Vec<Cell>,
+    /// which cells are due, while a change is made
+    flags: Vec<bool>,
+}
+
+/// What a recalculation did.
+#[derive(Drop)]
+pub(crate) struct Work {
+    /// how many formulas were evaluated
+    pub(crate) evaluated: u64,
+    /// how many formula cells of the region are cyclic
+    pub(crate) cyclic: u64,
+    /// how many levels the other ones have
+    pub(crate) levels: u64,
+}
+
+/// The formulas that the cells hold.
+#[derive(Drop)]
+struct Formulas<'a> {
+    grid: &'a Grid,
+}
+
+impl After for Formulas<'_> {
+    ghost use Rattle.ps_delta.specs.State.{state_at};
+    ghost use Rattle.ps_sheet.specs.Settled.{refers_to};
+    ghost use Rattle.ps_sheet.specs.Inside.Walk.{formula_at};
+    ghost use Rattle.ps_sheet.specs.Inside.Bounded.{bounded};
+    ghost use Rattle.ps_sheet.specs.Inside.BoundedLaws.{bounded_above, bounded_below, bounded_formula};
+
+    ghost refers = { λ f. bounded (refers_to (state_at f.grid.now)) };
+
+    ghost formula = { λ f. formula_at (state_at f.grid.now) };
+
+    fn refers(&self, c: Cell, d: Cell) -> bool {
+        let _ = (c.index(), d.index());
+        match formula_of(self.grid.at(c)) {
+            None => false,
+            Some(formula) => refers(formula, d),
+        }
+    }
+
+    fn is_formula(&self, c: Cell) -> bool {
+        holds_formula(self.grid.at(c))
+    }
+
+    ghost refers_formula = { λ f c d r. bounded_formula (state_at f.grid.now) c d r };
+
+    ghost refers_below = { λ f c d r. bounded_below (refers_to (state_at f.grid.now)) c d r };
+
+    ghost below = { λ f c d r. bounded_above (refers_to (state_at f.grid.now)) c d r };
+}
+
+/// Whether the formula refers to the cell.
+fn refers(formula: &Formula, cell: Cell) -> bool
+    ensures { result ≡ mentions formula.now cell }
+{
+    for rect in formula.rects() {
+        if rect.contains(cell) {
+            return true;
+        }
+    }
+    false
+}
+
+impl Cells {
+    /// Cells that hold and show nothing.
+    ///
+    /// Refused only when out of memory.
+    pub(crate) fn new(alloc: Global) -> Result<Cells, Refusal>
+        ensures whole { IfOk result IsWhole }
+        ensures empty { IfOk result (λ x. state_at x.grid ≡ empty_state) }
+        ensures memory { IfErr result (λ e. e ≡ Refusal.Memory) }
+    {
+        let flags = no_flags(alloc, CELLS)?;
+        let cyclic = Vec::with_capacity(alloc, CELLS)?;
+        Ok(Cells {
+            grid: Grid::new(alloc)?,
+            index: Index::new(alloc)?,
+            shown: Shown::new(alloc)?,
+            region: Region::new(alloc)?,
+            cyclic,
+            flags,
+        })
+    }
+
+    /// Joins a delta to what the cells hold, and settles again what they show.
+    ///
+    /// Refused only when out of memory, and then the cells hold and show what they did.
+    pub(crate) fn take_in<L: Ledger>(
+        &mut self,
+        alloc: Global,
+        delta: &Delta,
+        meter: &mut Meter<L>,
+    ) -> Result<Work, Refusal>
+        requires whole { IsWhole self.old }
+        ensures whole { IsWhole self.new }
+        ensures joined { OnOk result (state_at self.new.grid
+            ≡ joined_state (state_at self.old.grid) (state_of delta.now)) }
+        ensures work { IfOk result (λ w. IsRecalculated (state_at self.old.grid) (state_at self.new.grid)
+            (shown_at self.old.shown) (shown_at self.new.shown) w.evaluated w.cyclic w.levels) }
+        ensures metered { IfOk result (λ w. meter.new ≡ meter.old + w.evaluated) }
+        ensures memory { IfErr result (λ e. e ≡ Refusal.Memory) }
+        ensures kept { OnErr result ((state_at self.new.grid ≡ state_at self.old.grid)
+            × (self.new.shown ≡ self.old.shown)) }
+        ensures unmetered { OnErr result (meter.new ≡ meter.old) }
+    {
+        let change = begin(alloc, &mut self.grid, &mut self.index, delta)?;
+        let Change {
+            mut raised,
+            touched,
+            first,
+        } = change;
+        self.grid.exchange(&mut raised);
+        let work = self.recalculate(&touched, first, meter);
+        take_formulas(&mut self.index, &raised);
+        Ok(work)
+    }
+
+    /// Settles what the cells show, after the touched cells got what they hold.
+    fn recalculate<L: Ledger>(
+        &mut self,
+        touched: &[Cell],
+        first: Vec<(Cell, Kept)>,
+        meter: &mut Meter<L>,
+    ) -> Work
+        requires { MayRecalculate self.old touched.now first.items }
+        ensures done { Recalculates self.old self.new touched.now result.evaluated result.cyclic result.levels }
+        ensures metered { meter.new ≡ meter.old + result.evaluated }
+    {
+        let formulas = Formulas { grid: &self.grid };
+        self.region
+            .mark(&self.index, &formulas, touched, &self.cyclic);
+        show_all_first(
+            &self.grid,
+            &self.index,
+            first,
+            &mut self.shown,
+            &mut self.flags,
+        );
+        close_all(self.region.cyclic(), &mut self.shown);
+        let evaluated = settle_frame(
+            &self.grid,
+            &self.index,
+            &self.region,
+            &mut self.shown,
+            &mut self.flags,
+            meter,
+        );
+        clear(self.region.members(), &mut self.flags);
+        renew(&self.region, &mut self.cyclic);
+        Work {
+            evaluated,
+            cyclic: self.region.cyclic().len() as u64,
+            levels: self.region.levels() as u64,
+        }
+    }
+}
+
+/// A table of `n` flags, none of which is set.
+fn no_flags(alloc: Global, n: usize) -> Result<Vec<bool>, Refusal>
+    ensures length { IfOk result (λ v. length v.items ≡ n) }
+    ensures off { IfOk result (λ v. (c : ℕ) → flag_at v.items c ≡ false) }
+    ensures memory { IfErr result (λ e. e ≡ Refusal.Memory) }
+{
+    let flags = vec![in alloc; false; n]?;
+    Ok(flags)
+}
+
+/// Brings the list of the cyclic cells up to date: those outside the region stay, and those of the region come after.
+fn renew(region: &Region, cyclic: &mut Vec<Cell>)
+    requires room { length (filter (λ c. not (list_any (nat_eq c) region.now.members)) cyclic.old.items)
+        + length region.now.cyclic ≤ vec_capacity cyclic.old }
+    ensures items { cyclic.new.items ≡ filter (λ c. not (list_any (nat_eq c) region.now.members)) cyclic.old.items
+        ++ region.now.cyclic }
+    ensures room { vec_capacity cyclic.old ≤ vec_capacity cyclic.new }
+{
+    cyclic.retain(|c| !region.contains(*c));
+    let _ = cyclic.extend_from_slice(region.cyclic());
+}
