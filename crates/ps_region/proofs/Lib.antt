@@ -1,5 +1,6 @@
 pub mod CellListLemmas
 pub mod CountLemmas
+pub mod ExampleLemmas
 pub mod FoundLemmas
 pub mod GrowthCounts
 pub mod GrowthLemmas

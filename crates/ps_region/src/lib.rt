@@ -34,3 +34,6 @@ mod region;
 pub use after::After;
 pub use laws::{cycles_stay_outside, listed_cells_refer, old_and_new_give_one_region};
 pub use region::Region;
+
+#[cfg(test)]
+mod tests;
