@@ -99,6 +99,23 @@ fn mark(sheet: &Sheet, index: &Index, touched: &[Cell], whole: &mut Region, regi
     region.mark(index, sheet, touched, whole.cyclic());
 }
 
+/// Marks the change of a cell, where the index lists what the cell referred to before as well.
+fn mark_listed_before(
+    sheet: &Sheet,
+    index: &mut Index,
+    cell: Cell,
+    before: &Formula,
+    whole: &mut Region,
+    region: &mut Region,
+) -> Result<(), Refusal>
+    requires { IsSmallSheet index.old sheet.now.formulas.items sheet.now.cells.items }
+{
+    whole.mark(index, sheet, &sheet.cells, &[]);
+    index.set(cell, None, Some(before))?;
+    region.mark(index, sheet, &[cell], whole.cyclic());
+    Ok(())
+}
+
 /// The cell of a name.
 fn cell(name: &str) -> Result<Cell, Refusal> {
     Cell::read(name.as_bytes()).ok_or(Refusal::Cell)
@@ -243,5 +260,38 @@ fn outside(alloc: Global) -> Result<bool, Refusal> {
             && region.left(cell("A1")?).is_none()
             && region.levels() == 1
             && are(region.level(1), "E1"),
+    )
+}
+
+#[test]
+fn references_of_the_formula_before_lead_nowhere(rt: HostRuntime) {
+    assert!(rt; listed_before(rt.alloc()) == Ok(true));
+}
+
+fn listed_before(alloc: Global) -> Result<bool, Refusal> {
+    let mut index = Index::new(alloc)?;
+    let mut sheet = Sheet {
+        formulas: Vec::new(alloc),
+        cells: Vec::new(alloc),
+    };
+    put_lines(alloc, &mut sheet, &mut index, "A1 =1\nB1 =[.A1]")?;
+    let mut whole = Region::new(alloc)?;
+    let mut region = Region::new(alloc)?;
+    let before = Formula::read(alloc, b"=[.B1]")?;
+    mark_listed_before(
+        &sheet,
+        &mut index,
+        cell("A1")?,
+        &before,
+        &mut whole,
+        &mut region,
+    )?;
+    Ok(
+        are(region.members(), "A1 B1")
+            && region.levels() == 2
+            && are(region.level(1), "A1")
+            && are(region.level(2), "B1")
+            && are(region.cyclic(), "")
+            && region.left(cell("A1")?) == Some(0),
     )
 }
