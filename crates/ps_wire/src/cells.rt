@@ -52,7 +52,7 @@ pub(crate) fn read_cells(alloc: Global, values: &[Value]) -> Result<Vec<(Cell, C
     ensures refused { IfErr result (λ r. RefusedAs r ((all : Entries) → All (λ e. (e.0 < CELLS) × IsState e.1) all
         → each view values.now ≡ each cell_value all → ⊥)) }
 {
-    let mut cells = Vec::new(alloc);
+    let mut cells = Vec::with_capacity(alloc, values.len())?;
     for value in values {
         cells.push(read_cell(alloc, value)?)?;
     }
