@@ -33,6 +33,7 @@ use Rattle.ps_lattice.specs.Register.{is_stamp}
 use Rattle.ps_lattice.specs.Tally.{is_count, is_tally}
 use Rattle.ps_lattice.specs.Choice.{is_pair, is_choice, pair_cmp}
 use Rattle.ps_value.proofs.LabelLemmas.{IsLabel-short}
+use Rattle.ps_formula.specs.declared.formula.TheConstants.{LONGEST_TEXT}
 use Rattle.ps_content.specs.Content.{canonical_text, IsContent}
 use Rattle.ps_content.specs.declared.content.Content.{Content}
 use Rattle.ps_content.specs.declared.content.Content.TheVariants.{Blank, Number, Text, Formula, Tally, Choice}
@@ -126,7 +127,7 @@ name-short c below =
     let letters = column_name-short (column_of c) (nat_lt (column_of c) LETTERS) in
     omega (arith, digits, letters, length-append (column_name (column_of c)) (decimal (row_of c)))
 
-content-short : (c : Content) → IsContent c → length (canonical_text c) ≤ 256
+content-short : (c : Content) → IsContent c → length (canonical_text c) ≤ LONGEST_TEXT
 content-short Blank h = omega arith
 content-short (Number z) h = omega (arith, length_signed_le 19 z (omega (arith, h.sfits)) h.sfits)
 content-short (Text t) h = omega (arith, IsLabel-short t h)
@@ -233,21 +234,21 @@ less_number : (a b : ℕ) → nat_cmp a b ≡ Less → a < b
 less_number a b e = ranked a b Less (sym e)
 
 -- at most as many counts as there are replicas
-pub counts_few : (es : List (ℕ × Count)) → is_tally es ≡ true → length es ≤ 32
+pub counts_few : (es : List (ℕ × Count)) → is_tally es ≡ true → length es ≤ REPLICAS
 counts_few es h =
     let both = and_parts (maps.is_sorted nat_cmp es) (list_all is_count es) h in
     let each = All-list_all is_count es both.1 in
-    how_many nat_cmp (λ _. Unit {0}) (λ k. k) (λ x y _ _ e. less_number x y e) 1 33 es both.0 (λ _ _ _. tt)
+    how_many nat_cmp (λ _. Unit {0}) (λ k. k) (λ x y _ _ e. less_number x y e) 1 (REPLICAS + 1) es both.0 (λ _ _ _. tt)
     (λ i d within. let r = count_ranges (get_or es i d) (each i d within) in (omega (arith, r.0), omega (arith, r.1)))
 
 -- a pair of the option, with a replica and a sequence in range
 record IsOf (option : ℕ) (p : Pair) : Type 0 where
   same : p.option ≡ option
   some : 1 ≤ p.sequence
-  few : p.sequence ≤ 256
+  few : p.sequence ≤ SEQUENCES
 
 abbrev place : Pair → ℕ
-place p = p.replica * 256 + p.sequence
+place p = p.replica * SEQUENCES + p.sequence
 
 by_replica : (a b c d : ℕ) → ordering_then (nat_cmp a b) (nat_cmp c d) ≡ Less → (a < b) ⊎ ((a ≡ b) × (c < d))
 by_replica a b c d e = grind (arith, nat_tests, e)
@@ -265,11 +266,12 @@ places_rise option p q h k e =
 
 -- at most as many pairs of one option as there are replicas with sequences
 pub pairs_few : (option : ℕ) (es : List (Pair × Bool)) → is_choice es ≡ true → All (λ e. e.0.option ≡ option) es
-    → length es ≤ 8192
+    → length es ≤ REPLICAS * SEQUENCES
 pairs_few option es h same =
     let both = and_parts (maps.is_sorted pair_cmp es) (list_all is_pair es) h in
     let each = All-list_all is_pair es both.1 in
-    how_many pair_cmp (IsOf option) place (places_rise option) 257 8449 es both.0
+    how_many pair_cmp (IsOf option) place (places_rise option) (SEQUENCES + 1)
+    (REPLICAS * SEQUENCES + SEQUENCES + 1) es both.0
     (λ i d within. let r = pair_ranges (get_or es i d) (each i d within) in
     record { same = same i d within; some = r.3; few = omega (arith, r.4) })
     (λ i d within. let r = pair_ranges (get_or es i d) (each i d within) in
