@@ -1,9 +1,10 @@
 //! Lines of deltas, good and bad.
 
-use crate::{DELTA_LINE_LIMIT, decode, encode};
+use crate::{DELTA_LINE_LIMIT, decode, encode, outgrows_line};
 use ps_delta::Delta;
 use ps_grid::Refusal;
 use std::alloc::Global;
+use std::sync::Arc;
 use std::test::Fail;
 
 /// The compact text of the delta that the bytes stand for.
@@ -126,6 +127,43 @@ fn lines_are_padded_up_to_the_limit(rt: HostRuntime) -> Result<(), Fail> {
     assert_eq!(rt; read.as_slice(), text);
     line.push(b' ')?;
     assert!(rt; is_refused(rt.alloc(), &line));
+    Ok(())
+}
+
+/// The delta of A1 with the first so many pairs of eight options from the given one on, 256 of each of eight replicas.
+fn pairs_from(alloc: Global, first: u64, count: usize) -> Result<Arc<Delta>, Refusal> {
+    let mut line = b"[[\"A1\",null,[],[".as_slice().to_vec(alloc)?;
+    let mut left = count;
+    for option in first..first.saturating_add(8) {
+        for replica in 1..=8 {
+            for sequence in 1..=256 {
+                if left > 0 {
+                    left -= 1;
+                    let pair = format!(in alloc; "[{option},{replica},{sequence},0],")?;
+                    line.extend_from_slice(pair.as_bytes())?;
+                }
+            }
+        }
+    }
+    let _ = line.pop();
+    line.extend_from_slice(b"]]]")?;
+    Ok(Arc::new(alloc, decode(alloc, &line)?)?)
+}
+
+/// Two deltas of a cell with 16,384 pairs each are lines. Their join has 32,769 cells and pairs, of 8 bytes at least,
+/// and no line; with a pair less nothing is said of it.
+#[test]
+fn what_outgrows_a_line(rt: HostRuntime) -> Result<(), Refusal> {
+    let first = pairs_from(rt.alloc(), 0, 16_384)?;
+    let second = pairs_from(rt.alloc(), 8, 16_384)?;
+    let fewer = pairs_from(rt.alloc(), 8, 16_383)?;
+    assert!(rt; !outgrows_line(&first) && !outgrows_line(&second));
+    let both = Delta::joined(rt.alloc(), &[first.clone()?, second])?;
+    assert!(rt; outgrows_line(&both));
+    let mut line = Vec::new(rt.alloc());
+    assert!(rt; matches!(encode(rt.alloc(), &both, &mut line), Err(Refusal::TooLong)));
+    let most = Delta::joined(rt.alloc(), &[first, fewer])?;
+    assert!(rt; !outgrows_line(&most));
     Ok(())
 }
 
