@@ -37,14 +37,15 @@ impl Model for Delta {
 }
 
 impl Delta {
-    /// The delta of the cells; none where there are no cells, where they aren't ascending and distinct, or where one
-    /// has an empty state.
+    /// The delta of the cells, whose list keeps no spare room; none where there are no cells, where they aren't
+    /// ascending and distinct, or where one has an empty state.
     ///
     /// Cost: the number of cells.
-    pub fn new(cells: Vec<(Cell, CellState)>) -> Option<Delta>
+    pub fn new(mut cells: Vec<(Cell, CellState)>) -> Option<Delta>
         ensures { SomeIff result (IsDelta cells.items) cells.items }
     {
         if are_entries(&cells) && !cells.is_empty() {
+            cells.shrink_to_fit();
             Some(Delta { cells })
         } else {
             None
@@ -65,6 +66,7 @@ impl Delta {
         for delta in deltas {
             cells = merge_entries(alloc, &cells, delta.parts())?;
         }
+        cells.shrink_to_fit();
         Ok(Delta { cells })
     }
 

@@ -201,8 +201,8 @@ fn raised_of(alloc: Global, grid: &Grid, delta: &Delta) -> Result<Vec<(Cell, Cel
     ensures raised { IfOk result (λ r. IsRaised (state_at grid.now) (state_of delta.now) r.items) }
     ensures memory { IfErr result (λ e. e ≡ Refusal.Memory) }
 {
-    let mut raised = Vec::new(alloc);
     let parts = delta.parts();
+    let mut raised = Vec::with_capacity(alloc, parts.len())?;
     for change in parts {
         let here = grid.at(change.0);
         if !change.1.below(here) {
