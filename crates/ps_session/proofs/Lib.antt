@@ -13,6 +13,7 @@ pub mod ReadingLaws
 mod SplitLemmas
 mod AskedInRange
 mod ReplayLemmas
+mod GridHistories
 mod HandingLemmas
 mod JointLemmas
 mod RangeLemmas
