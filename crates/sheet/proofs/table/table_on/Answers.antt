@@ -1,9 +1,10 @@
-use Rattle.std.proofs.Common.{rules, ◌≡◌, ℕ, List, Option, inr, length, take, refl, sym, ap, subst}
+use Rattle.std.proofs.Common.{rules, ◌≡◌, ◌∙◌, ℕ, Bool, true, false, List, Option, inl, inr, length, take, refl, sym, ap, subst}
 use Rattle.std.proofs.Common.{Result, Ok, Err, Some, None, IfSome, IfNone, []}
 use Rattle.std.specs.Io.KnownBytes.{Appends}
 use Rattle.std.proofs.Math.Seq.{take-length}
 use Rattle.csv.specs.declared.error.Error.{Error}
 use Rattle.ps_grid.specs.declared.refusal.Refusal.{Refusal}
+use Rattle.ps_grid.specs.declared.refusal.Refusal.TheVariants.{Device}
 use Rattle.ps_delta.specs.Deltas.{joined_history}
 use Rattle.ps_sheet.specs.Sheet.{IsSheet, SheetView}
 use Rattle.ps_csv.specs.Faults.{TableReaderFails}
@@ -24,6 +25,19 @@ refusal_in other (Err (ReaderFailed error)) = other
 same_refusal : (e wanted : Refusal) → ◌≡◌ {A = Result (Unit {0}) ProgramFault} (Err (Refused e)) (Err (Refused wanted))
     → e ≡ wanted
 same_refusal e wanted is = ap (refusal_in e) is
+
+abbrev fault_in : ProgramFault → Result (Unit {0}) ProgramFault → ProgramFault
+fault_in other (Ok done) = other
+fault_in other (Err fault) = fault
+
+abbrev is_refused : ProgramFault → Bool
+is_refused (Refused e) = true
+is_refused (ReaderFailed error) = false
+
+-- an import ends the program with a device's fault only where a device failed
+device_of : (own : Option Error) (e : Refusal) → program_fault own e ≡ Refused Device → e ≡ Device
+device_of None e h = same_refusal e Device (ap Err h)
+device_of (Some error) e h = absurd (let f : false ≡ true = ap is_refused h in cc)
 
 -- the cause of the fault that an import's fault is
 cause_of : (old new : Option (List ℕ)) (own : Option Error) (e : Refusal)
@@ -102,3 +116,11 @@ returns-clause-device g c told =
           c.import.new.sheet (search rules) imported.3 (search rules),
       whole _ _ _ (Appends-keeps _ _ _ _ c.in-Ok-put_table.ensures.written c.in-Err-hand_on.ensures.same),
     )
+
+pub returns-in-Err-import-clause-device : goal.returns-in-Err-import-clause-device
+returns-in-Err-import-clause-device g c = λ h. inl (
+  c.in-Err-import.ensures.device
+      (device_of c.in-Err-import.fault.reader_error c.in-Err-import.fault.refusal
+      (sym c.fault_of_import.ensures ∙ ap (fault_in (Refused Device)) h)),
+  refl,
+)
