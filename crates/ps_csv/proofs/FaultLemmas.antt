@@ -3,8 +3,7 @@ use Rattle.std.proofs.Common.{◌≡◌, ◌⊎◌, ◌∷◌, [], ℕ, List, Bo
 use Rattle.std.proofs.Common.{inl, inr, Result, Ok, Err, IfErr, Option, Some, None, IfSome, IfNone}
 use Rattle.csv.specs.declared.error.Error.{Error}
 use Rattle.ps_grid.specs.declared.refusal.Refusal.{Refusal}
-use Rattle.ps_grid.specs.declared.refusal.Refusal.TheVariants.{Csv, Device, Memory, Text}
-use Rattle.ps_content.specs.declared.content.Content.{Content}
+use Rattle.ps_grid.specs.declared.refusal.Refusal.TheVariants.{Csv, Device, Memory}
 use Rattle.ps_value.specs.Label.{is_label}
 use Rattle.ps_content.specs.Entry.{Kind, Reads, ReadsText, too_long, empty, formula, tally, choice, number, text}
 use Rattle.ps_delta.specs.State.{State}
