@@ -38,15 +38,15 @@ same_rising n (a ∷ more) [] r s p q same =
     absurd (lower_first a more [] (All-head IsFilled a more p) tt (same a.0))
 same_rising n (a ∷ more) (b ∷ others) r s p q same = elim (cases_order a.0 b.0) [
   | inl is ↦ at is (same_rising (a.0 + 1) more others r.1 (subst (λ m. Rising (m + 1) (cells_of others)) (sym is) s.1)
-      (All-tail IsFilled a more p) (All-tail IsFilled b others q) (λ c. behind c is))
+      (All-tail IsFilled a more p) (All-tail IsFilled b others q) (λ c. rest_same c is))
   | inr (inl lt) ↦ absurd (lower_first a more (b ∷ others) (All-head IsFilled a more p) (omega (arith, lt), s.1)
       (same a.0))
   | inr (inr lt) ↦ absurd (lower_first b others (a ∷ more) (All-head IsFilled b others q) (omega (arith, lt), r.1)
       (sym (same b.0)))
 ]
   where
-    behind : (c : ℕ) → a.0 ≡ b.0 → state_of more c ≡ state_of others c
-    behind c is = elim (cases_lt c (a.0 + 1)) [
+    rest_same : (c : ℕ) → a.0 ≡ b.0 → state_of more c ≡ state_of others c
+    rest_same c is = elim (cases_lt c (a.0 + 1)) [
       | inl lt ↦ state_of-rising (a.0 + 1) more c r.1 lt
           ∙ sym (state_of-rising (b.0 + 1) others c s.1 (omega (arith, lt, is)))
       | inr le ↦ sym (state_of-there a more c (λ eq. omega (arith, le, eq))) ∙ same c
@@ -101,6 +101,10 @@ module _ {X : Type 0} (f : X → Entries) (xs : List X) (most : ℕ) where
   pub none_found : (count : ℕ) → count ≤ 0 → NoneAbove count → HasNone (map f xs) most
   none_found count none_left none k line some within = none k line (omega (arith, some, none_left)) within
 
+-- a version that is not beyond the end and not the end is before the end
+pub is_before_end : (from version end : ℕ) → version ≡ end → from ≤ version → ¬ (from ≡ version) → from < end
+is_before_end from version end is within other = omega (arith, is, within, other)
+
 module _ {X : Type 0} (f : X → Entries) (xs : List X) (history : List Entries) (from most : ℕ)
     (same : map f xs ≡ history) (inside : from < length history) where
   rest : map f (take (length xs - from) (drop from xs)) ≡ drop from history
@@ -110,7 +114,7 @@ module _ {X : Type 0} (f : X → Entries) (xs : List X) (history : List Entries)
   handed text hands = record {
     beyond = λ lt. absurd (omega (arith, lt, inside));
     at_end = λ is. absurd (omega (arith, is, inside));
-    behind = λ _. hands;
+    before_end = λ _. hands;
   }
 
   pub hands_group : (n : ℕ) (line : List ℕ) → IsGreatest (map f (take (length xs - from) (drop from xs))) most n line
@@ -158,6 +162,6 @@ pub hands_once : (history : List Entries) (from most : ℕ) (text told : List �
     → HandsOut history from most told → text ≡ told
 hands_once history from most text told a b = elim (cases_order from (length history)) [
   | inl is ↦ a.at_end is ∙ sym (b.at_end is)
-  | inr (inl lt) ↦ group_once from most (drop from history) text told (a.behind lt) (b.behind lt)
+  | inr (inl lt) ↦ group_once from most (drop from history) text told (a.before_end lt) (b.before_end lt)
   | inr (inr lt) ↦ a.beyond lt ∙ sym (b.beyond lt)
 ]

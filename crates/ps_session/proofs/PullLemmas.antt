@@ -32,4 +32,4 @@ group_handed from most (d ∷ others) text have some most_some (inr none) =
 pub pulls_hand_out : PullsHandOut
 pulls_hand_out history from most text have inside some hands =
     group_handed from most (drop from history) text (All-drop HasLine from history have)
-    (omega (arith, inside, length-drop from history)) some (hands.behind inside)
+    (omega (arith, inside, length-drop from history)) some (hands.before_end inside)

@@ -40,4 +40,4 @@ HandsGroup from most deltas text =
 pub record HandsOut (history : List Entries) (from most : ℕ) (text : List ℕ) : Type 0 where
   pub beyond : length history < from → text ≡ refusal_text refusals.Version
   pub at_end : from ≡ length history → text ≡ end_text from
-  pub behind : from < length history → HandsGroup from most (drop from history) text
+  pub before_end : from < length history → HandsGroup from most (drop from history) text
