@@ -1,16 +1,15 @@
 -- An entry is read as a content that there is.
-use Rattle.std.proofs.Common.{◌≡◌, refl, sym, subst, ℕ, ℤ, Bool, true, false, List, Ok, Err}
+use Rattle.std.proofs.Common.{◌≡◌, refl, sym, subst, ℕ, ℤ, Bool, true, false, List, Ok}
 use Rattle.std.specs.Prelude.{FitsSigned, if◌then◌else◌}
 use Rattle.std.specs.Int.{w64}
 use Rattle.std.specs.Str.Parse.{signed_digits_value}
-use Rattle.ps_grid.specs.declared.refusal.Refusal.TheVariants as refusals
 use Rattle.ps_value.specs.Label.{is_label}
 use Rattle.ps_formula.proofs.Texts.{canonical_text_has_tree}
 use Rattle.ps_content.specs.Content.{IsContent}
 use Rattle.ps_content.specs.Entry.{Kind, Reads, ReadsText, is_number, kind_of, word_of}
 use Rattle.ps_content.specs.Entry.{choice, empty, formula, number, tally, text, too_long}
 use Rattle.ps_content.specs.declared.content.Content.{Content}
-use Rattle.ps_content.specs.declared.content.Content.TheVariants.{Blank, Choice, Number, Tally, Text}
+use Rattle.ps_content.specs.declared.content.Content.TheVariants.{Blank, Choice, Number, Tally}
 use Rattle.ps_content.proofs.NumberLemmas.{is_number-to}
 use Rattle.ps_session.specs.Commands.{Read}
 
