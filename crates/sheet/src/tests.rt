@@ -1,7 +1,11 @@
+mod cells;
+mod cycles;
+mod deltas;
 mod devices;
+mod formulas;
 mod limits;
+mod lines;
 mod replicas;
-mod scripts;
 mod session;
 mod table;
 mod words;
