@@ -6,7 +6,7 @@ use ps_session::LINE_LIMIT;
 use std::alloc::Global;
 use std::test::Fail;
 
-/// The replies to a beginning and so many letters behind it as one line, and to a `get` on the next.
+/// The replies to a beginning and so many letters after it as one line, and to a `get` on the next.
 fn replies_to_long(alloc: Global, beginning: &[u8], letters: usize) -> Result<Vec<u8>, Refusal> {
     let mut script = Vec::from_slice(alloc, beginning)?;
     for _ in 0..letters {
