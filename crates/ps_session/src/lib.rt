@@ -31,7 +31,7 @@ mod verb;
 mod words;
 
 pub use board::Board;
-pub use command::Command;
+pub use command::{Command, LARGEST_GROUP};
 pub use laws::{bytes_divide_one_way, edit_lines_fit, pulls_hand_out, transcript_is_decided};
 pub use reply::{Reply, send};
 pub use session::{Fed, LINE_LIMIT, Line, Session};

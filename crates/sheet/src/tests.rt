@@ -3,6 +3,7 @@ mod cycles;
 mod deltas;
 mod devices;
 mod formulas;
+mod help;
 mod limits;
 mod lines;
 mod replicas;
