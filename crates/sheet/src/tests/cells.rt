@@ -1,6 +1,7 @@
 //! Cells, their entries, counters and sets, as scripts with their replies.
 
 use crate::tests::session::has_replies;
+use ps_lattice::COUNT_LIMIT;
 use std::test::Fail;
 
 /// The last cell and cells past the edges; each refusal in its turn; an empty cell shows nothing.
@@ -83,15 +84,21 @@ fn a_counter(rt: HostRuntime) -> Result<(), Fail> {
 /// A count at its limit.
 #[test]
 fn a_full_counter(rt: HostRuntime) -> Result<(), Fail> {
-    let script = b"push [[\"A1\",[1,2,\"@tally\"],[[1,1099511627776,0]],[]]]\n\
+    let alloc = rt.alloc();
+    let one_less = COUNT_LIMIT - 1;
+    let script = format!(in alloc;
+        "push [[\"A1\",[1,2,\"@tally\"],[[1,{COUNT_LIMIT},0]],[]]]\n\
         add A1 1\n\
         sub A1 1\n\
-        get A1\n";
-    let expected = b"ok 1\n\
+        get A1\n"
+    )?;
+    let expected = format!(in alloc;
+        "ok 1\n\
         err 10 tally-full\n\
         ok 2\n\
-        val 1099511627775\n";
-    assert!(rt; has_replies(rt.alloc(), script, expected)?);
+        val {one_less}\n"
+    )?;
+    assert!(rt; has_replies(alloc, script.as_bytes(), expected.as_bytes())?);
     Ok(())
 }
 

@@ -1,6 +1,7 @@
 //! Deltas pushed and pulled, as scripts with their replies.
 
 use crate::tests::session::has_replies;
+use ps_lattice::LAST_TIME;
 use std::test::Fail;
 
 /// Two contents at one stamp, in both orders.
@@ -32,15 +33,19 @@ fn equal_stamps_in_the_other_order(rt: HostRuntime) -> Result<(), Fail> {
 /// The last time of a register, and a time past it.
 #[test]
 fn no_edit_follows_the_last_time(rt: HostRuntime) -> Result<(), Fail> {
-    let script = b"push [[\"A1\",[9007199254740991,2,\"1\"],[],[]]]\n\
+    let alloc = rt.alloc();
+    let past = LAST_TIME + 1;
+    let script = format!(in alloc;
+        "push [[\"A1\",[{LAST_TIME},2,\"1\"],[],[]]]\n\
         set A1 2\n\
         get A1\n\
-        push [[\"A1\",[9007199254740992,2,\"1\"],[],[]]]\n";
+        push [[\"A1\",[{past},2,\"1\"],[],[]]]\n"
+    )?;
     let expected = b"ok 1\n\
         err 13 clock-full\n\
         val 1\n\
         err 14 delta\n";
-    assert!(rt; has_replies(rt.alloc(), script, expected)?);
+    assert!(rt; has_replies(alloc, script.as_bytes(), expected)?);
     Ok(())
 }
 
