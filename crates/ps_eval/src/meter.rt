@@ -1,6 +1,6 @@
 //! The count of evaluations.
 
-ghost use Rattle.std.specs.Prelude.{◌≡◌, ◌+◌};
+ghost use Rattle.std.specs.Prelude.{◌≡◌, ◌+◌, ◌^◌, ◌<◌};
 ghost use Rattle.ps_grid.specs.Blanks.{IsBlankOf};
 
 use ps_grid::Count;
@@ -76,5 +76,19 @@ impl<L: Ledger> Meter<L> {
         ensures { self.new ≡ self.old + 1 }
     {
         self.ticks.rise();
+    }
+}
+
+impl Counted {
+    /// The two counts together.
+    ///
+    /// Cost: none.
+    pub fn with(self, other: Counted) -> Counted
+        requires { self + other < 2 ^ 64 }
+        ensures { result ≡ self + other }
+    {
+        Counted {
+            ticks: self.ticks + other.ticks,
+        }
     }
 }
