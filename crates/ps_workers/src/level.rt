@@ -1,0 +1,152 @@
+//! A level, divided among workers.
+
+ghost use Rattle.std.specs.Prelude.{◌≡◌, ◌+◌, ◌-◌, ◌*◌, ◌/◌, ◌%◌, ◌<◌, ◌≤◌, false, min, length};
+ghost use Rattle.std.specs.Thread.{IsSync};
+ghost use Rattle.ps_grid.specs.Blanks.{IsBlankOf};
+ghost use Rattle.ps_grid.specs.declared.parties.TheConstants.{WORKERS};
+ghost use Rattle.ps_shown.specs.Kept.{value_of as value_kept};
+ghost use Rattle.ps_workers.specs.Level.{HaveFormulas, IsDone, IsWorkFor, is_text, kept_values, values_of};
+
+use crate::gate::Gate;
+use ps_eval::{Counted, Look, Meter, eval};
+use ps_formula::Formulas;
+use ps_grid::Cell;
+use ps_shown::Kept;
+use ps_value::Value;
+use std::marker::Brand;
+use std::sync::ledger::{Blank, Ledger};
+use std::thread::{Threads, join_mut};
+
+/// What is kept of a formula's value, which is never a text.
+fn kept_of(value: Value) -> Kept
+    ensures { is_text value ≡ false → value_kept result ≡ value }
+{
+    match value {
+        Value::Num(number) => Kept::Num(number),
+        Value::Choice(options) => Kept::Choice(options),
+        Value::Err(fault) => Kept::Err(fault),
+        _ => Kept::Empty,
+    }
+}
+
+/// How many of the cells the first `low` of `count` workers get: the first workers have one cell more than the others
+/// where the cells don't divide evenly.
+fn share(cells: usize, count: usize, low: usize) -> usize
+    requires count { 0 < count }
+    requires low { low ≤ count }
+    ensures is { result ≡ low * (cells / count) + min low (cells % count) }
+    ensures inside { result ≤ cells }
+    ensures some { count ≤ cells → low ≤ result }
+    ensures rest { count ≤ cells → count - low ≤ cells - result }
+{
+    low * (cells / count) + low.min(cells % count)
+}
+
+/// What the workers of a level share.
+#[derive_where(Clone, Copy)]
+struct Level<'a, R, F, K, G> {
+    rt: &'a R,
+    formulas: &'a F,
+    look: &'a K,
+    gate: &'a G,
+}
+
+impl<R: Threads + Sync, F: Formulas + Sync, K: Look + Sync, G: Gate> Level<'_, R, F, K, G> {
+    /// Evaluates the cells of one worker, one after the other, and counts them by a meter of its own.
+    fn by_one(&self, worker: usize, cells: &[Cell], out: &mut [Kept]) -> Counted
+        requires { IsWorkFor (F.formula_at self.now.formulas.now) worker 1 cells.now out.old }
+        ensures { IsDone (F.formula_at self.now.formulas.now) (K.value_at self.now.look.now) cells.now out.new result }
+    {
+        self.by_one_counted::<Brand>(Blank::new(1), worker, cells, out)
+    }
+
+    /// The same, with a meter over a blank.
+    fn by_one_counted<L: Ledger>(
+        &self,
+        blank: Blank,
+        worker: usize,
+        cells: &[Cell],
+        out: &mut [Kept],
+    ) -> Counted
+        requires blank { IsBlankOf blank L.name L.parts }
+        requires work { IsWorkFor (F.formula_at self.now.formulas.now) worker 1 cells.now out.old }
+        ensures { IsDone (F.formula_at self.now.formulas.now) (K.value_at self.now.look.now) cells.now out.new result }
+    {
+        let mut meter = Meter::<L>::new(blank);
+        for k in 0..cells.len() {
+            self.gate.pass(worker);
+            if let Some(formula) = self.formulas.formula(cells[k]) {
+                out[k] = kept_of(eval(formula, self.look, &mut meter));
+            } else {
+                unreachable!()
+            }
+        }
+        meter.finish(cells.len() as u64)
+    }
+
+    /// Evaluates the cells of `count` workers, the first of which has the number `first`: those of one half of the
+    /// workers in this thread, and those of the other half in a thread of its own.
+    #[cycle(halves)]
+    fn by_several(&self, first: usize, count: usize, cells: &[Cell], out: &mut [Kept]) -> Counted
+        requires { IsWorkFor (F.formula_at self.now.formulas.now) first count cells.now out.old }
+        ensures { IsDone (F.formula_at self.now.formulas.now) (K.value_at self.now.look.now) cells.now out.new result }
+    {
+        if count == 1 {
+            return self.by_one(first, cells, out);
+        }
+        let low = count / 2;
+        let high = count - low;
+        let next = first + low;
+        let cut = share(cells.len(), count, low);
+        let (mine, theirs) = cells.split_at(cut);
+        let (here, there) = out.split_at_mut(cut);
+        let mut at_home = || -> Counted
+            requires { IsSync R.row × IsSync F.row × IsSync K.row × IsSync G.row
+                × IsWorkFor (F.formula_at self.now.formulas.now) first low mine.now here.now }
+            ensures { IsDone (F.formula_at self.entry.now.formulas.now) (K.value_at self.entry.now.look.now)
+                mine.entry.now here.exit.now result }
+        { self.by_several(first, low, mine, here) };
+        let mut away = || -> Counted
+            requires { IsSync R.row × IsSync F.row × IsSync K.row × IsSync G.row
+                × IsWorkFor (F.formula_at self.now.formulas.now) next high theirs.now there.now }
+            ensures { IsDone (F.formula_at self.entry.now.formulas.now) (K.value_at self.entry.now.look.now)
+                theirs.entry.now there.exit.now result }
+        { self.by_several(next, high, theirs, there) };
+        let (b, a) = join_mut(self.rt, &mut away, &mut at_home);
+        a.with(b)
+    }
+}
+
+/// Evaluates the formula of each cell, by at most `workers` workers, each of which has cells of its own, one after the
+/// other. Place i of `out` is then the value of cell i's formula where each cell shows what `look` says, and the meter
+/// has one tick more for each cell, whatever the number of workers. A worker for which no thread can be started is run
+/// by the caller, and one worker starts none. It takes no memory but for the threads.
+///
+/// Cost: the evaluations, divided evenly, and the start of a thread for each worker but one.
+pub fn eval_level<R: Threads + Sync, F: Formulas + Sync, K: Look + Sync, G: Gate, L: Ledger>(
+    rt: &R,
+    cells: &[Cell],
+    formulas: &F,
+    look: &K,
+    out: &mut [Kept],
+    workers: usize,
+    gate: &G,
+    meter: &mut Meter<L>,
+)
+    requires workers { (0 < workers) × (workers ≤ WORKERS) }
+    requires formulas { HaveFormulas (F.formula_at formulas.now) cells.now }
+    requires places { length out.old ≡ length cells.now }
+    ensures values { kept_values out.new ≡ values_of (F.formula_at formulas.now) (K.value_at look.now) cells.now }
+    ensures ticks { meter.new ≡ meter.old + length cells.now }
+{
+    if cells.is_empty() {
+        return;
+    }
+    let level = &Level {
+        rt,
+        formulas,
+        look,
+        gate,
+    };
+    meter.add(level.by_several(0, workers.min(cells.len()), cells, out));
+}
