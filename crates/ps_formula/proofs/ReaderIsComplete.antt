@@ -18,8 +18,8 @@ use Rattle.ps_formula.specs.Inside.Reading.{level_at, more_at, prefixed_at, argu
 use Rattle.ps_formula.specs.Inside.Reading.{argument_at}
 use Rattle.ps_formula.specs.Inside.Reading.{either_way}
 use Rattle.ps_formula.specs.Inside.Reading.{closed_at, range_at, operator_at, sign_of}
-use Rattle.ps_formula.specs.Tree.{Tree, Item, Items, number, reference, signed, joined, group, call, expression, range, no_items}
-use Rattle.ps_formula.specs.Tree.{in_row}
+use Rattle.ps_formula.specs.Tree.{Tree, Item, Items, number, reference, signed, joined, group, call, expression}
+use Rattle.ps_formula.specs.Tree.{range, no_items, in_row}
 use Rattle.ps_formula.proofs.FirstTokens.{Stops, operator_at-stops}
 use Rattle.ps_formula.proofs.ArgumentLists.{listed, in_row-listed, length-listed}
 
@@ -76,7 +76,8 @@ arguments_not_closed (next_argument {ts = ts} {us = us} h others) rest =
     ap closed_at (append_assoc ts (Separator ∷ us) rest) ∙ argument_not_closed h (Separator ∷ us ++ rest)
 
 -- the loop of operands came past the tokens, with fuel left, and found the tree
-pub record Goes (n : ℕ) (found : ℕ → Option (Tree × List Token)) (l : ℕ) (ts rest : List Token) (t : Tree) : Type 0 where
+pub record Goes (n : ℕ) (found : ℕ → Option (Tree × List Token)) (l : ℕ) (ts rest : List Token) (t : Tree)
+    : Type 0 where
   pub left : ℕ
   pub enough : n ≤ left + 8 * length ts
   pub goes : found n ≡ more_at left l t rest
@@ -166,7 +167,8 @@ mutual
   again_more : {k : ℕ} {a t : Tree} {us : List Token} → More k a us t → (n l : ℕ) (rest : List Token)
       → k < l → 8 * length us < n → Stops (suc k) rest → Goes n (λ m. more_at m l a (us ++ rest)) l us rest t
   again_more no_more n l rest below fuel stops = record { left = n; enough = omega arith; goes = refl }
-  again_more {k} {a} {t} (one_more {b = b} {o = o} {ts = ts} {us = us} here operand others) (suc n) l rest below fuel stops =
+  again_more {k} {a} {t} (one_more {b = b} {o = o} {ts = ts} {us = us} here operand others) (suc n) l rest below
+      fuel stops =
       let sizes = length-append ts us in
       let enough : 8 * length ts < n = omega (arith, fuel, sizes) in
       let stop = Stops-after others rest stops in
@@ -212,6 +214,7 @@ mutual
       ap (λ o. either_way o (option_and_then (λ b. Some (expression b.0, b.1)) (level_at n 3 (ts ++ rest)))
       (λ x. cond (takes_ranges f) (Some (range x.0, x.1)) None)) ((starts h rest).no_range)
       ∙ ap (option_and_then (λ b. Some (expression b.0, b.1)))
-      (all_read n 3 ts rest a (again_level h n 3 rest (omega arith) (omega (arith, fuel)) stops) (omega (arith, fuel)) stops)
+      (all_read n 3 ts rest a (again_level h n 3 rest (omega arith) (omega (arith, fuel)) stops)
+      (omega (arith, fuel)) stops)
   again_argument {f} (a_range {r = r} h) (suc n) rest fuel stops = ap (λ b. cond b (Some (range r, rest)) None) h
   again_argument _ zero rest fuel stops = absurd (omega (arith, fuel))

@@ -1,6 +1,6 @@
 -- What the reader takes is what the grammar says: where it reads a tree, some first tokens have that tree.
-use Rattle.std.proofs.Common.{◌≡◌, ℕ, zero, suc, ◌+◌, ◌-◌, ◌≤◌, cond, refl, sym, ap, ◌∙◌, subst, List, [], ◌∷◌, ◌++◌, length}
-use Rattle.std.proofs.Common.{append-nil, arith}
+use Rattle.std.proofs.Common.{◌≡◌, ℕ, zero, suc, ◌+◌, ◌-◌, ◌≤◌, cond, refl, sym, ap, ◌∙◌, subst, List, [], ◌∷◌, ◌++◌}
+use Rattle.std.proofs.Common.{length, append-nil, arith}
 use Rattle.std.specs.Prelude.{Some, None, option_and_then}
 use Rattle.std.proofs.lemmas.Option.{option_and_then_some, cond_some}
 use Rattle.std.proofs.lemmas.List.{append_assoc}
@@ -9,9 +9,9 @@ use Rattle.ps_tokens.specs.declared.token.Operator.{Operator}
 use Rattle.ps_tokens.specs.declared.token.Token.{Token}
 use Rattle.ps_tokens.specs.declared.token.Token.TheVariants.{Numeral, Reference, Range, Name, Symbol, Open, Close}
 use Rattle.ps_tokens.specs.declared.token.Token.TheVariants.{Separator}
-use Rattle.ps_formula.specs.Grammar.{Has, More, Arguments, Argument, accepts, takes_ranges, level_of, a_numeral, a_reference}
-use Rattle.ps_formula.specs.Grammar.{a_sign, a_group, a_bare_call, a_call, a_chain, no_more, one_more, last_argument}
-use Rattle.ps_formula.specs.Grammar.{next_argument, a_comparison, a_range}
+use Rattle.ps_formula.specs.Grammar.{Has, More, Arguments, Argument, accepts, takes_ranges, level_of, a_numeral}
+use Rattle.ps_formula.specs.Grammar.{a_reference, a_sign, a_group, a_bare_call, a_call, a_chain, no_more}
+use Rattle.ps_formula.specs.Grammar.{one_more, last_argument, next_argument, a_comparison, a_range}
 use Rattle.ps_formula.specs.Canonical.{symbol_of}
 use Rattle.ps_formula.specs.Inside.Reading.{level_at, more_at, prefixed_at, call_at, arguments_at, after_argument_at}
 use Rattle.ps_formula.specs.Inside.Reading.{argument_at}
