@@ -1,10 +1,14 @@
 -- What is known of the cells that an index lists.
 use Rattle.std.proofs.Common.{◌≡◌, ℕ, zero, suc, ◌<◌, ◌-◌, ◌+◌, Bool, true, false, List, sym, ◌∙◌, arith}
-use Rattle.std.proofs.Common.{⊎_elim, eqb, ap, ◌≤◌}
-use Rattle.std.specs.List.{list_any, filter, range_with_len}
+use Rattle.std.proofs.Common.{⊎_elim, eqb, ap, subst, ◌≤◌, ◌++◌, ◌∷◌, [], length, take, get_or}
+use Rattle.std.specs.Prelude.{Option, None, Some}
+use Rattle.std.specs.List.{list_any, filter, range_with_len, IsDistinct}
+use Rattle.std.specs.Iterator.{Yields, YieldsFirst}
+use Rattle.std.proofs.lemmas.Iterator.Consumers.{YieldsList-from_first, YieldsList-turn, YieldsList-end}
+use Rattle.std.proofs.lemmas.List.{take_more, take_all, length_push, get_or_read}
 use Rattle.ps_grid.specs.Chains.{In}
 use Rattle.ps_grid.proofs.ChainLemmas.{In-cases}
-use Rattle.ps_region.proofs.CellListLemmas.{in-filter}
+use Rattle.ps_region.proofs.CellListLemmas.{in-filter, in-get_or, in-take_apart}
 use Rattle.ps_region.proofs.CountLemmas.{and_true_left}
 use Rattle.ps_grid.specs.Place.{cell_at, column_of, row_of}
 use Rattle.ps_grid.specs.declared.size.TheConstants.{CELLS, COLUMNS, ROWS}
@@ -52,3 +56,45 @@ listed_refers index forms stands c d c_lt d_lt =
     cells_from-any (refers_at (spans_of index (column_of d)) (row_of d)) CELLS c c_lt
     ∙ (pairs index forms stands (column_of d) (row_of d) c column (omega arith) row
     ∙ ap (λ x. list_any (λ t. mentions t x) (forms c)) back)
+
+-- what is known of the cell e that comes next of all cells, where these came before it
+pub record IsNext (all came : List ℕ) (e : ℕ) : Type 0 where
+  pub below : length came < length all
+  pub at : e ≡ get_or all (length came) 0
+  pub inside : In all e
+  pub new : list_any (eqb e) (take (length came) all) ≡ false
+  pub push : length (came ++ e ∷ []) ≡ length came + 1
+  pub more : take (length came + 1) all ≡ take (length came) all ++ e ∷ []
+
+-- a loop over the cells that are listed for d
+module _ (index : List (List Span)) (d : ℕ) (came rest after : List ℕ) {walk start : List ℕ} {item : Option ℕ}
+    (is : start ≡ walk) (list : walk ≡ cells_from (refers_at (spans_of index (column_of d)) (row_of d)) 0 CELLS)
+    (once : IsDistinct eqb walk) (yielded : Yields (YieldsFirst (λ (r : List ℕ). r)) start came rest)
+    (steps : YieldsFirst (λ (r : List ℕ). r) rest item after) where
+  pub next_listed : (e : ℕ) → item ≡ Some e → IsNext (listed index d) came e
+  next_listed e some =
+      let all = listed index d in
+      let of = listed_is index d walk list in
+      let t = YieldsList-turn (YieldsList-from_first (λ (x : ℕ). x) (λ (r : List ℕ). r) all (is ∙ of)) came _ yielded
+      item after e some steps in
+      let i = length came in
+      let at : e ≡ get_or all i 0 = get_or_read all i e t.0 t.1 0 in
+      let distinct : IsDistinct eqb all = subst (λ xs. IsDistinct eqb xs) of once in
+      record {
+        below = t.0;
+        at = at;
+        inside = rw t.1 (in-get_or all i e t.0);
+        new = subst (λ x. list_any (eqb x) (take i all) ≡ false) (sym at) (in-take_apart all i distinct t.0);
+        push = length_push came e;
+        more = take_more all i 0 t.0 ∙ ap (λ x. take i all ++ x ∷ []) (sym at);
+      }
+
+  pub none_listed : item ≡ None → length came ≡ length (listed index d)
+  none_listed none =
+      (YieldsList-end (YieldsList-from_first (λ (x : ℕ). x) (λ (r : List ℕ). r) (listed index d)
+      (is ∙ listed_is index d walk list)) came _ yielded item after none steps).1
+
+  pub all_listed : item ≡ None → take (length came) (listed index d) ≡ listed index d
+  all_listed none =
+      let end : length came ≡ length (listed index d) = none_listed none in
+      take_all (length came) (listed index d) (omega (arith, end))
