@@ -48,7 +48,7 @@ more : (n m : ℕ) (r : Option (List ℕ)) → Escaped m r → m ≤ n → Escap
 more n m None h le = tt
 more n m (Some s) h le = omega arith
 
-length-escape-append : (a s : List ℕ) → length (escape (a ++ s)) ≡ length (escape a) + length (escape s)
+pub length-escape-append : (a s : List ℕ) → length (escape (a ++ s)) ≡ length (escape a) + length (escape s)
 length-escape-append a s = ap length (flat_map-append escape_byte a s) ∙ length-append (escape a) (escape s)
 
 longer : (n m : ℕ) (a : List ℕ) (r : Option (List ℕ)) → Escaped m r → length (escape a) + m ≤ n

@@ -2,7 +2,6 @@
 use Rattle.std.proofs.Common.{◌≡◌, ◌≢◌, inl, inr, ℕ, zero, suc, ◌+◌, ◌*◌, ◌/◌, ◌%◌, ◌<◌, ◌≤◌, ◌==◌}
 use Rattle.std.proofs.Common.{Bool, true, false, ◌||◌, cond, if◌then◌else◌}
 use Rattle.std.proofs.Common.{List, [], ◌∷◌, map, length, take, get_or, ◌-◌, refl, sym, ap, subst, ◌∙◌, arith}
-use Rattle.std.proofs.Common.{length-append}
 use Rattle.std.proofs.lemmas.Bool.{cases_lt, cases_order}
 use Rattle.std.proofs.lemmas.List.Elements.{All-head, All-tail}
 use Rattle.std.proofs.lemmas.List.Sums.{sum_by-cons, sum_by-take-le, sum_by_more}
@@ -13,9 +12,9 @@ use Rattle.std.specs.Ordering.{nat_cmp}
 use Rattle.std.specs.Cmp.{IsTotalOrder, nat_cmp_total}
 use Rattle.std.specs.declared.cmp.Ordering.{Ordering}
 use Rattle.std.specs.FinMap as maps
-use Rattle.serde_json.specs.Data.{Data, Items, item, string}
+use Rattle.serde_json.specs.Data.{Data, string}
 use Rattle.serde_json.specs.View.{items_of}
-use Rattle.serde_json.specs.Written.{items_text, compact_text}
+use Rattle.serde_json.specs.Written.{items_text}
 use Rattle.ps_lattice.specs.Maps.{joined_maps, raised, with_entries}
 use Rattle.ps_lattice.specs.Choice.{pair_cmp}
 use Rattle.ps_lattice.specs.ChoiceLaws.{pairs_total}
@@ -31,20 +30,14 @@ use Rattle.ps_delta.specs.Order.{Rising}
 use Rattle.ps_delta.proofs.EntryLemmas.{state_of-here, state_of-rising, state_of-there}
 use Rattle.ps_delta.proofs.StateLemmas.{joined_state-at}
 use Rattle.ps_delta.proofs.WalkLemmas.{rising_of}
-use Rattle.ps_wire.specs.Length.{OutgrowsLine, entry_count, parts_count}
+use Rattle.ps_wire.specs.Length.{OutgrowsLine, entry_count, parts_count, size}
 use Rattle.ps_wire.specs.Line.{delta_text}
 use Rattle.ps_wire.specs.declared.TheConstants.{DELTA_LINE_LIMIT}
 use Rattle.ps_wire.specs.Value.{array_of, cell_value, count_value, delta_value, gone_number, pair_value, register_value}
 use Rattle.ps_wire.specs.Value.{whole}
-use Rattle.ps_wire.proofs.LengthLemmas.{size}
+use Rattle.ps_wire.proofs.SizeLemmas.{item_first, item_later, size_of_four, size_of_three}
 
 -- ---- bytes
-
-item_later : (d : Data) (ds : Items) → length (items_text true (item d ds)) ≡ 1 + size d + length (items_text true ds)
-item_later d ds = omega (arith, length-append (compact_text d) (items_text true ds))
-
-item_first : (d : Data) (ds : Items) → length (items_text false (item d ds)) ≡ size d + length (items_text true ds)
-item_first d ds = omega (arith, length-append (compact_text d) (items_text true ds))
 
 -- items that take so many bytes each, with a comma
 items_least : {X : Type 0} (f : X → Data) (least : X → ℕ) → ((x : X) → least x ≤ 1 + size (f x)) → (xs : List X)
@@ -97,25 +90,6 @@ whole_least n = by_last (n / 10 == 0)
         else digits_onto 63 10 false (n / 10) (digit_glyph false (n % 10) ∷ []))
     by_last true = omega arith
     by_last false = omega (arith, digits_more 63 (n / 10) (digit_glyph false (n % 10) ∷ []))
-
-size_of_three : (a b c : Data) → size (array_of (a ∷ b ∷ c ∷ [])) ≡ 4 + size a + size b + size c
-size_of_three a b c =
-    omega (
-      arith,
-      item_first a (items_of (b ∷ c ∷ [])),
-      item_later b (items_of (c ∷ [])),
-      item_later c (items_of []),
-    )
-
-size_of_four : (a b c d : Data) → size (array_of (a ∷ b ∷ c ∷ d ∷ [])) ≡ 5 + size a + size b + size c + size d
-size_of_four a b c d =
-    omega (
-      arith,
-      item_first a (items_of (b ∷ c ∷ d ∷ [])),
-      item_later b (items_of (c ∷ d ∷ [])),
-      item_later c (items_of (d ∷ [])),
-      item_later d (items_of []),
-    )
 
 count_least : (e : ℕ × Count) → 8 ≤ 1 + size (count_value e)
 count_least e =
@@ -231,7 +205,7 @@ counts_under n (a ∷ more) [] r s filled under =
 counts_under n (a ∷ more) (b ∷ others) r s filled under = elim (cases_order a.0 b.0) [
   | inl is ↦
       let rest = counts_under (a.0 + 1) more others r.1 (subst (λ m. Rising (m + 1) (cells_of others)) (sym is) s.1)
-      (All-tail IsFilled a more filled) (λ c. behind c is) in
+      (All-tail IsFilled a more filled) (λ c. rest_under c is) in
       let here : IsUnder a.1 b.1 =
       subst (λ x. IsUnder a.1 x) (state_of-here b others a.0 (sym is))
       (subst (λ x. IsUnder x (state_of (b ∷ others) a.0)) (state_of-here a more a.0 refl) (under a.0)) in
@@ -245,8 +219,8 @@ counts_under n (a ∷ more) (b ∷ others) r s filled under = elim (cases_order 
       omega (arith, rest, count_cons b others)
 ]
   where
-    behind : (c : ℕ) → a.0 ≡ b.0 → IsUnder (state_of more c) (state_of others c)
-    behind c is = elim (cases_lt c (a.0 + 1)) [
+    rest_under : (c : ℕ) → a.0 ≡ b.0 → IsUnder (state_of more c) (state_of others c)
+    rest_under c is = elim (cases_lt c (a.0 + 1)) [
       | inl lt ↦ empty_under _ _ (state_of-rising (a.0 + 1) more c r.1 lt)
           (state_of-rising (b.0 + 1) others c s.1 (omega (arith, lt, is)))
       | inr le ↦

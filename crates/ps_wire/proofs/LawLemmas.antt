@@ -16,7 +16,8 @@ use Rattle.ps_delta.specs.Deltas.{Entries}
 use Rattle.ps_wire.specs.Value.{array_of, count_value, pair_value, cell_value, delta_value}
 use Rattle.ps_wire.specs.Line.{delta_text}
 use Rattle.ps_wire.specs.Fits.{BatchesFit, EditsFit}
-use Rattle.ps_wire.proofs.LengthLemmas.{size, size-cell, size-counts, size-each, size-pairs}
+use Rattle.ps_wire.specs.Length.{size}
+use Rattle.ps_wire.proofs.LengthLemmas.{size-cell, size-counts, size-each, size-pairs}
 
 -- an array without items
 no_items : {X : Type 0} (f : X → Data) (xs : List X) → length xs ≡ 0 → size (array_of (map f xs)) ≤ 2

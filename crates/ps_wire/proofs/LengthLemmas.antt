@@ -38,14 +38,12 @@ use Rattle.ps_content.specs.Content.{canonical_text, IsContent}
 use Rattle.ps_content.specs.declared.content.Content.{Content}
 use Rattle.ps_content.specs.declared.content.Content.TheVariants.{Blank, Number, Text, Formula, Tally, Choice}
 use Rattle.ps_delta.specs.declared.cell_state.CellState.{CellState}
+use Rattle.ps_wire.specs.Length.{size}
 use Rattle.ps_wire.specs.Value.{array_of, whole, register_value, count_value, pair_value, cell_value, gone_number}
 use Rattle.ps_wire.specs.Value.{IsRegister, IsState}
 use Rattle.ps_wire.proofs.ArrayLemmas.{All-list_all}
 
 -- ---- texts of values
-
-abbrev pub size : Data → ℕ
-size value = length (compact_text value)
 
 -- an item, a comma before it, and what stands after it
 size-item : (later : Bool) (d : Data) (ds : Items)

@@ -12,3 +12,4 @@ pub mod NoFloatLemmas
 pub mod OneDeltaLemmas
 pub mod PartLemmas
 pub mod ShorterLemmas
+pub mod SizeLemmas

@@ -1,11 +1,17 @@
 -- How much a delta holds, and when a line has no room for it.
 use Rattle.std.specs.Prelude.{ℕ, ◌+◌, ◌<◌, length, sum_by}
 use Rattle.std.specs.FinMap as map
+use Rattle.serde_json.specs.Data.{Data}
+use Rattle.serde_json.specs.Written.{compact_text}
 use Rattle.ps_delta.specs.declared.cell_state.CellState.{CellState}
 use Rattle.ps_delta.specs.Deltas.{Entries, IsDelta, state_of}
 use Rattle.ps_delta.specs.State.{IsBelow}
 use Rattle.ps_wire.specs.Line.{delta_text}
 use Rattle.ps_wire.specs.declared.TheConstants.{DELTA_LINE_LIMIT}
+
+-- how long the text of a value is
+abbrev pub size : Data → ℕ
+size value = length (compact_text value)
 
 -- a cell, and the counts and pairs that it has
 abbrev pub parts_count : ℕ × CellState → ℕ

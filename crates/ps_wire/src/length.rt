@@ -1,13 +1,24 @@
 //! How long the line of a delta is, without writing it.
 
-ghost use Rattle.std.specs.Prelude.{◌≡◌, ◌↔◌, ◌+◌, ◌*◌, ◌-◌, ◌<◌, ◌≤◌, IsTrue, SomeIff};
+ghost use Rattle.std.specs.Prelude.{◌≡◌, ◌↔◌, ℕ, ◌+◌, ◌*◌, ◌-◌, ◌<◌, ◌≤◌, map as each, length, IsTrue, SomeIff};
 ghost use Rattle.std.specs.Bool.{OnTrue};
+ghost use Rattle.json.specs.Print.{escape_byte, escape_letter};
+ghost use Rattle.serde_json.specs.Data.{Data, string};
+ghost use Rattle.ps_grid.specs.Place.{cell_name};
+ghost use Rattle.ps_formula.specs.declared.formula.TheConstants.{LONGEST_TEXT};
+ghost use Rattle.ps_content.specs.Content.{canonical_text};
 ghost use Rattle.ps_delta.specs.Deltas.{Entries, IsDelta, state_of};
 ghost use Rattle.ps_delta.specs.State.{IsBelow};
-ghost use Rattle.ps_wire.specs.Length.{OutgrowsLine, entry_count};
+ghost use Rattle.ps_wire.specs.Fits.{FitsLine};
+ghost use Rattle.ps_wire.specs.Length.{OutgrowsLine, entry_count, size};
+ghost use Rattle.ps_wire.specs.Value.{array_of, whole, register_value, count_value, pair_value, cell_value};
 
 use crate::DELTA_LINE_LIMIT;
-use ps_delta::Delta;
+use itoa::Buffer;
+use ps_content::Content;
+use ps_delta::{CellState, Delta};
+use ps_grid::{Cell, NAME_BYTES};
+use ps_lattice::{Count, Pair, Register};
 
 /// Whether the delta has so many cells, counts and pairs that whatever it is joined with has no line: each of them
 /// takes 8 bytes at least, and joins never take one away.
@@ -34,4 +45,167 @@ fn left_after(left: usize, counts: usize, pairs: usize) -> Option<usize>
     ensures { SomeIff result (1 + counts + pairs ≤ left) (left - (1 + counts + pairs)) }
 {
     left.checked_sub(1)?.checked_sub(counts)?.checked_sub(pairs)
+}
+
+/// Whether the compact text of the delta is short enough for a line.
+///
+/// Cost: that of the cells, counts and pairs for which a line has room, however many there are; it takes no memory.
+#[tactic(auto, unfolding(crate::specs::Line::delta_text, crate::specs::Value::delta_value))]
+pub fn fits_line(delta: &Delta) -> bool
+    ensures { IsTrue result ↔ FitsLine delta.now }
+{
+    array_left(delta.parts(), DELTA_LINE_LIMIT).is_some()
+}
+
+/// A part of a delta that is an item of an array.
+trait Part {
+    // the value that stands for it
+    ghost spelled: { Self → Data };
+
+    /// What is left of so many bytes after its text, if that isn't longer.
+    fn left_after(&self, left: usize) -> Option<usize>
+        ensures { SomeIff result (size (spelled self.now) ≤ left) (left - size (spelled self.now)) };
+}
+
+/// A replica with its two counts: two brackets, two commas and the numbers.
+impl Part for (u8, Count) {
+    ghost spelled = { count_value };
+
+    fn left_after(&self, left: usize) -> Option<usize> {
+        let (replica, count) = *self;
+        let counts = digits(count.added) + digits(count.subtracted);
+        left.checked_sub(4 + digits(u64::from(replica)) + counts)
+    }
+}
+
+/// A pair, and whether it is gone: two brackets, three commas, the numbers and one digit.
+impl Part for (Pair, bool) {
+    ghost spelled = { pair_value };
+
+    fn left_after(&self, left: usize) -> Option<usize> {
+        let (pair, _) = *self;
+        let tag = digits(u64::from(pair.replica)) + digits(u64::from(pair.sequence));
+        left.checked_sub(6 + digits(u64::from(pair.option)) + tag)
+    }
+}
+
+/// A cell with its state: two brackets, three commas and the four parts.
+impl Part for (Cell, CellState) {
+    ghost spelled = { cell_value };
+
+    #[tactic(auto, unfolding(crate::specs::Value::cell_value))]
+    fn left_after(&self, left: usize) -> Option<usize> {
+        let (register, tally, choice) = self.1.parts();
+        let left = left.checked_sub(5 + name_size(self.0) + register_size(register))?;
+        let left = array_left(tally.parts(), left)?;
+        array_left(choice.parts(), left)
+    }
+}
+
+/// What is left of so many bytes after the text of an array, if that isn't longer.
+fn array_left<P: Part>(parts: &[P], room: usize) -> Option<usize>
+    ensures { SomeIff result (size (array_of (each P.spelled parts.now)) ≤ room)
+        (room - size (array_of (each P.spelled parts.now))) }
+{
+    let mut left = room.checked_sub(1)?;
+    if parts.is_empty() {
+        return left.checked_sub(1);
+    }
+    for part in parts {
+        // a comma or the last bracket comes after it
+        left = part.left_after(left)?.checked_sub(1)?;
+    }
+    Some(left)
+}
+
+/// How long the name of a cell is, as a value.
+fn name_size(cell: Cell) -> usize
+    ensures value { result ≡ size (string (cell_name cell)) }
+    ensures few { result ≤ 2 + 6 * LONGEST_TEXT }
+{
+    let mut name = [0; NAME_BYTES];
+    let len = cell.write(&mut name);
+    string_size(&name[..len])
+}
+
+/// How long the value of a register is.
+fn register_size(register: &Register<Content>) -> usize
+    ensures value { result ≡ size (register_value register.now) }
+    ensures few { result ≤ 46 + 6 * LONGEST_TEXT }
+{
+    match register.parts() {
+        None => 4,
+        Some(assignment) => {
+            let stamp = digits(assignment.time) + digits(u64::from(assignment.replica));
+            4 + stamp + content_size(&assignment.content)
+        }
+    }
+}
+
+/// How long the value of a content is.
+fn content_size(content: &Content) -> usize
+    ensures value { result ≡ size (string (canonical_text content.now)) }
+    ensures few { result ≤ 2 + 6 * LONGEST_TEXT }
+{
+    match content {
+        Content::Blank => 2,
+        Content::Number(number) => string_size(Buffer::new().format(*number).as_bytes()),
+        Content::Text(label) => 1 + string_size(label.label().bytes()),
+        Content::Formula(formula) => string_size(formula.formula().text()),
+        Content::Tally => 8,
+        Content::Choice => 9,
+    }
+}
+
+/// How long a string is: its bytes and the quotes, and what escapes add.
+fn string_size(bytes: &[u8]) -> usize
+    requires { length bytes.now ≤ LONGEST_TEXT }
+    ensures value { result ≡ size (string bytes.now) }
+    ensures few { result ≤ 2 + 6 * length bytes.now }
+{
+    let mut size = 2;
+    for byte in bytes {
+        size += escaped_size(*byte);
+    }
+    size
+}
+
+/// How many bytes of a string stand for the byte.
+fn escaped_size(byte: u8) -> usize
+    ensures value { result ≡ length (escape_byte byte) }
+    ensures few { result ≤ 6 }
+{
+    if escape_letter(byte) > 0 {
+        return 2;
+    }
+    if byte < 32 { 6 } else { 1 }
+}
+
+/// The letter of the byte's short escape, 0 where it has none.
+fn escape_letter(byte: u8) -> u8
+    ensures { result ≡ escape_letter byte }
+{
+    match byte {
+        b'"' | b'\\' => byte,
+        8 => b'b',
+        9 => b't',
+        10 => b'n',
+        12 => b'f',
+        13 => b'r',
+        _ => 0,
+    }
+}
+
+/// How many digits a number has.
+fn digits(number: u64) -> usize
+    ensures value { result ≡ size (whole number) }
+    ensures few { result ≤ 20 }
+{
+    let mut rest = number;
+    let mut count = 1;
+    'digits: while rest >= 10 {
+        rest /= 10;
+        count += 1;
+    }
+    count
 }

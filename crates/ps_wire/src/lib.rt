@@ -6,9 +6,10 @@
 //! It is not the session: it knows no commands and no replies, and it carries nothing out. It is no store: a delta that
 //! was read is handed on, and nothing is kept.
 //!
-//! The contract to use: [`decode`] returns the one delta that the bytes are a line of (`IsLine`), and refuses bytes as
-//! no delta only where they are a line of none; [`encode`] appends the delta's compact text, which is a line of it, and
-//! refuses it only where it is too long. Which deltas never are, [`decoded_lines_fit`] and [`edited_lines_fit`] say.
+//! The contract to use: [`decode`] returns the one delta that the bytes are a line of (`IsLine`), and refuses bytes
+//! as no delta only where they are a line of none; [`encode`] appends the delta's compact text, which is a line of
+//! it, and refuses it only where it is too long. Which deltas never are, [`decoded_lines_fit`] and
+//! [`edited_lines_fit`] say. [`fits_line`] returns whether a delta's text fits a line, without writing it;
 //! [`outgrows_line`] returns whether a delta holds so much that no join with it has a line.
 //!
 //! Say `A1` holds 5, assigned at the time 1 by the replica 2. The delta that says so has the line
@@ -28,7 +29,7 @@ mod states;
 mod values;
 
 pub use laws::{decoded_lines_fit, edited_lines_fit, values_and_deltas_agree};
-pub use length::outgrows_line;
+pub use length::{fits_line, outgrows_line};
 pub use line::{decode, encode};
 
 /// The most bytes of a delta's line. `edited_lines_fit` hangs on it, with `COLUMNS`: a batch of a row's cells has to

@@ -12,6 +12,7 @@ ghost use Rattle.ps_wire.specs.Inside.{ReadsAs, RefusedAs};
 
 use crate::DELTA_LINE_LIMIT;
 use crate::cells::read_cells;
+use crate::length::fits_line;
 use crate::parts::items;
 use crate::values::delta_value;
 use ps_delta::Delta;
@@ -22,7 +23,8 @@ use std::alloc::Global;
 /// Appends the compact text of the delta: JSON of its value without blanks. Refused as `TooLong` only where that text
 /// has more than `DELTA_LINE_LIMIT` bytes, and as `Memory` where memory ran out; then the line is as before.
 ///
-/// Cost: t, for t bytes of the text; memory for them and for the delta's cells, counts and pairs.
+/// Cost: t, for t bytes of the text; memory for them and for the delta's cells, counts and pairs. A text that is too
+/// long costs what a line may hold, and no memory.
 pub fn encode(alloc: Global, delta: &Delta, line: &mut Vec<u8>) -> Result<(), Refusal>
     ensures appended { OnOk result (line.new.items ≡ line.old.items ++ delta_text delta.now) }
     ensures is_line { OnOk result (IsLine (delta_text delta.now) delta.now) }
@@ -30,10 +32,10 @@ pub fn encode(alloc: Global, delta: &Delta, line: &mut Vec<u8>) -> Result<(), Re
     ensures too_long { result ≡ Err Refusal.TooLong → DELTA_LINE_LIMIT < length (delta_text delta.now) }
     ensures refused { IfErr result (λ e. (e ≡ Refusal.TooLong) ⊎ (e ≡ Memory)) }
 {
-    let text = compact_text(alloc, delta)?;
-    if text.len() > DELTA_LINE_LIMIT {
+    if !fits_line(delta) {
         return Err(Refusal::TooLong);
     }
+    let text = compact_text(alloc, delta)?;
     line.extend_from_slice(&text)?;
     Ok(())
 }

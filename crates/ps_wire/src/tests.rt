@@ -1,6 +1,6 @@
 //! Lines of deltas, good and bad.
 
-use crate::{DELTA_LINE_LIMIT, decode, encode, outgrows_line};
+use crate::{DELTA_LINE_LIMIT, decode, encode, fits_line, outgrows_line};
 use ps_delta::Delta;
 use ps_grid::Refusal;
 use std::alloc::Global;
@@ -151,7 +151,7 @@ fn pairs_from(alloc: Global, first: u64, count: usize) -> Result<Arc<Delta>, Ref
 }
 
 /// Two deltas of a cell with 16,384 pairs each are lines. Their join has 32,769 cells and pairs, of 8 bytes at least,
-/// and no line; with a pair less nothing is said of it.
+/// and no line; with a pair less that isn't known from the numbers, and it has none either.
 #[test]
 fn what_outgrows_a_line(rt: HostRuntime) -> Result<(), Refusal> {
     let first = pairs_from(rt.alloc(), 0, 16_384)?;
@@ -162,8 +162,9 @@ fn what_outgrows_a_line(rt: HostRuntime) -> Result<(), Refusal> {
     assert!(rt; outgrows_line(&both));
     let mut line = Vec::new(rt.alloc());
     assert!(rt; matches!(encode(rt.alloc(), &both, &mut line), Err(Refusal::TooLong)));
-    let most = Delta::joined(rt.alloc(), &[first, fewer])?;
+    let most = Delta::joined(rt.alloc(), &[first.clone()?, fewer])?;
     assert!(rt; !outgrows_line(&most));
+    assert!(rt; fits_line(&first) && !fits_line(&both) && !fits_line(&most));
     Ok(())
 }
 
