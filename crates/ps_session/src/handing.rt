@@ -19,8 +19,8 @@ use std::sync::Arc;
 
 /// The reply to one who has the first `from` deltas of a sheet, and takes at most so many at once.
 ///
-/// Cost: that of joining the deltas upward, one more at a time, for as long as one more may fit, and of writing each
-/// join that is tried, the greatest first; the deltas before `from` aren't looked at.
+/// Cost: that of joining the deltas upward, one more at a time, for as long as one more may fit, of the line that is
+/// handed out, and of what one line may hold for each greater join; the deltas before `from` aren't looked at.
 pub(crate) fn hand_out(alloc: Global, from: u64, most: usize, sheet: &Sheet) -> Reply
     ensures { HandsOut sheet.now.history from most (reply_text result)
         ⊎ ((from < length sheet.now.history) × (reply_text result ≡ refusal_text Refusal.Memory)) }
