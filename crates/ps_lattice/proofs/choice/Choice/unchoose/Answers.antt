@@ -26,7 +26,8 @@ returns-clause-ok c =
     let es = items_of c.self.inside.pairs in
     let o = c.args.option in
     let sorted = and_left (map.is_sorted pair_cmp es) (list_all is_pair es) c.self.invariant in
-    ap (λ l. map.from_sorted {R = pair_cmp} l) (c.in_ok-pairs.ensures.ok ∙ c.in_ok-withdrawn.ensures ∙ ap (kept o) c.items.ensures)
+    ap (λ l. map.from_sorted {R = pair_cmp} l)
+    (c.in_ok-pairs.ensures.ok ∙ c.in_ok-withdrawn.ensures ∙ ap (kept o) c.items.ensures)
     ∙ seen_withdrawn c.args.self.now o es sorted (entries_of pair_cmp es sorted ∙ ap map.entries c.self.view_is)
 
 pub returns-clause-added : goal.returns-clause-added
