@@ -2,6 +2,8 @@
 
 mod cycles;
 mod edits;
+mod long;
 mod orders;
 mod reports;
+mod rounds;
 mod script;

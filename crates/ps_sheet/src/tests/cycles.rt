@@ -1,17 +1,11 @@
 //! What formulas show, and where they are cyclic. The expected values are worked by hand from the rules.
 
-ghost use Rattle.std.specs.Prelude.{◌<◌};
-
 use crate::tests::script::Asked::Set;
 use crate::tests::script::Part::{self, Assigned};
-use crate::tests::script::Step::{Ask, GetAll, Show, ShowText, Type};
-use crate::tests::script::{CYCLE, apply, go_on, play};
-use crate::{Batch, Edit, Sheet};
-use ps_content::{Content, read_entry};
-use ps_grid::{Cell, Refusal};
+use crate::tests::script::Step::{Ask, Enter, Receive, Show, ShowText, Type};
+use crate::tests::script::{CYCLE, play};
+use ps_grid::Refusal;
 use ps_value::{Fault, Value};
-use std::alloc::Global;
-use std::process::Abort;
 
 /// A formula shows the value of the cells that it refers to.
 #[test]
@@ -29,13 +23,13 @@ fn a_formula_shows_what_its_references_make(rt: HostRuntime) -> Result<(), Refus
 #[test]
 fn a_number_ends_a_cycle(rt: HostRuntime) -> Result<(), Refusal> {
     let steps = [
-        Ask("A1", Set("=[.B1]"), Ok(1)),
-        Ask("B1", Set("=[.A1]"), Ok(2)),
-        Ask("C1", Set("=[.A1]+1"), Ok(3)),
+        Enter("A1", "=[.B1]", [1, 1, 0, 1]),
+        Enter("B1", "=[.A1]", [2, 0, 2, 0]),
+        Enter("C1", "=[.A1]+1", [3, 0, 1, 0]),
         Show("A1", CYCLE),
         Show("B1", CYCLE),
         Show("C1", CYCLE),
-        Ask("B1", Set("4"), Ok(4)),
+        Enter("B1", "4", [4, 2, 0, 2]),
         Show("A1", Value::Num(4)),
         Show("C1", Value::Num(5)),
     ];
@@ -58,16 +52,6 @@ fn a_range_over_its_own_cell_is_a_cycle(rt: HostRuntime) -> Result<(), Refusal> 
     play(&rt, rt.alloc(), 1, &steps)
 }
 
-/// A cycle of `A1` and `B1`, with `E1` above it, and `C1` and `D1` without one, with `F1` above them.
-static CLOSED_LEFT: [(&str, &str); 6] = [
-    ("A1", "=[.B1]"),
-    ("B1", "=[.A1]"),
-    ("C1", "=[.D1]"),
-    ("D1", "7"),
-    ("E1", "=[.A1]+1"),
-    ("F1", "=[.C1]+1"),
-];
-
 /// `D1` closes a cycle and `B1` opens one, and the other way round.
 static OVER: [(&str, Part); 2] = [
     ("B1", Assigned(2, 2, "4")),
@@ -83,19 +67,27 @@ static BACK: [(&str, Part); 2] = [
 #[test]
 fn one_delta_ends_a_cycle_and_closes_another(rt: HostRuntime) -> Result<(), Refusal> {
     let steps = [
-        Type(&CLOSED_LEFT, Ok(1)),
+        Enter("A1", "=[.B1]", [1, 1, 0, 1]),
+        Enter("B1", "=[.A1]", [2, 0, 2, 0]),
+        Enter("C1", "=[.D1]", [3, 1, 0, 1]),
+        Enter("D1", "7", [4, 1, 0, 1]),
+        Enter("E1", "=[.A1]+1", [5, 0, 1, 0]),
+        Enter("F1", "=[.C1]+1", [6, 1, 0, 1]),
+        Show("A1", CYCLE),
         Show("B1", CYCLE),
-        Show("D1", Value::Num(7)),
         Show("E1", CYCLE),
+        Show("C1", Value::Num(7)),
         Show("F1", Value::Num(8)),
-        GetAll(&OVER, Ok(2)),
+        Receive(&OVER, [7, 2, 3, 2]),
         Show("A1", Value::Num(4)),
+        Show("B1", Value::Num(4)),
+        Show("E1", Value::Num(5)),
         Show("C1", CYCLE),
         Show("D1", CYCLE),
-        Show("E1", Value::Num(5)),
         Show("F1", CYCLE),
-        GetAll(&BACK, Ok(3)),
+        Receive(&BACK, [8, 2, 3, 2]),
         Show("A1", CYCLE),
+        Show("B1", CYCLE),
         Show("E1", CYCLE),
         Show("C1", Value::Num(7)),
         Show("F1", Value::Num(8)),
@@ -126,41 +118,4 @@ fn formulas_take_faults_texts_and_blanks(rt: HostRuntime) -> Result<(), Refusal>
         Show("B5", Value::Num(4)),
     ];
     play(&rt, rt.alloc(), 1, &steps)
-}
-
-/// The formula that adds 1 to the cell of column A in a row.
-fn one_more(alloc: Global, row: u16) -> Result<Content, Refusal> {
-    let entry = format!(in alloc; "=[.A{row}]+1")?;
-    read_entry(alloc, entry.as_bytes())
-}
-
-/// The first n cells of column A, each one more than the cell below it.
-fn chain(rt: &impl Abort, alloc: Global, n: u16) -> Result<Batch, Refusal>
-    requires { n < 1024 }
-{
-    let mut cells = Vec::new(alloc);
-    for row in 1..n + 1 {
-        let cell = Cell::new(0, row).expect(rt, "a cell");
-        cells.push((cell, one_more(alloc, row + 1)?))?;
-    }
-    Ok(Batch::new(cells).expect(rt, "a batch"))
-}
-
-/// A chain of 300 formulas, closed to a cycle of 301 cells and opened again.
-#[test]
-fn a_long_cycle_closes_and_opens(rt: HostRuntime) -> Result<(), Refusal> {
-    let alloc = rt.alloc();
-    let mut sheet = Sheet::open(alloc, 1, 1)?;
-    apply(alloc, &mut sheet, Edit::SetAll(chain(&rt, alloc, 300)?))?;
-    let steps = [
-        Show("A1", Value::Num(300)),
-        Ask("A301", Set("=[.A1]+1"), Ok(2)),
-        Show("A1", CYCLE),
-        Show("A150", CYCLE),
-        Show("A301", CYCLE),
-        Ask("A151", Set("7"), Ok(3)),
-        Show("A1", Value::Num(157)),
-        Show("A301", Value::Num(158)),
-    ];
-    go_on(&rt, alloc, &mut sheet, &steps)
 }

@@ -3,11 +3,12 @@
 use crate::tests::script::Asked::{Add, Choose, Set, Sub, Unchoose};
 use crate::tests::script::Part::{self, Assigned, Counted, Paired};
 use crate::tests::script::Step::{Ask, Get, GetAll, Show, Type};
-use crate::tests::script::{apply, cell, go_on, play};
+use crate::tests::script::{apply, cell, go_on, play, version_of};
 use crate::{Edit, Sheet};
 use ps_content::Content;
 use ps_eval::Look;
 use ps_grid::Refusal;
+use ps_lattice::{COUNT_LIMIT, LAST_TIME};
 use ps_value::Value;
 
 /// A counter counts what two replicas did, once each; what is below the state isn't appended.
@@ -49,9 +50,9 @@ fn an_option_comes_back_by_an_unseen_pair(rt: HostRuntime) -> Result<(), Refusal
 
 /// A full counter, a set without a sequence left, and a register without a time left.
 static FULL: [(&str, Part); 3] = [
-    ("A1", Counted(1, 1_099_511_627_776, 7)),
+    ("A1", Counted(1, COUNT_LIMIT, 7)),
     ("B1", Paired(5, 1, 256)),
-    ("C1", Assigned(9_007_199_254_740_991, 2, "1")),
+    ("C1", Assigned(LAST_TIME, 2, "1")),
 ];
 
 static KINDS: [(&str, &str); 2] = [("A1", "@tally"), ("B1", "@choice")];
@@ -92,7 +93,7 @@ fn a_refused_growth_changes_nothing(rt: HostRuntime) -> Result<(), Refusal> {
     let mut sheet = Sheet::open(alloc, 3, 1)?;
     go_on(&rt, alloc, &mut sheet, &[Ask("A1", Set("5"), Ok(1))])?;
     let seven = Edit::Set(cell(&rt, "A1"), Content::Number(7));
-    let answer = apply(alloc, &mut sheet, seven);
+    let answer = version_of(apply(alloc, &mut sheet, seven));
     let (version, shown) = if answer.is_ok() { (2, 7) } else { (1, 5) };
     assert!(rt; answer == Ok(2) || answer == Err(Refusal::Memory));
     assert_eq!(rt; sheet.version(), version);

@@ -3,10 +3,10 @@
 ghost use Rattle.std.specs.Prelude.{◌≡◌, ◌<◌};
 ghost use Rattle.ps_grid.specs.Blanks.{IsBlankOf};
 
-use crate::{Batch, Edit, Sheet};
+use crate::{Batch, Edit, Report, Sheet};
 use Asked::{Add, Choose, Set, Sub, Unchoose};
 use Part::{Assigned, Counted, Paired};
-use Step::{Ask, Get, GetAll, Show, ShowText, Type};
+use Step::{Ask, Enter, Get, GetAll, Receive, Show, ShowText, Type};
 use ps_content::read_entry;
 use ps_delta::{CellState, Delta};
 use ps_eval::Meter;
@@ -20,6 +20,9 @@ use std::sync::Arc;
 use std::sync::ledger::{Blank, Ledger};
 
 pub(crate) const CYCLE: Value = Value::Err(Fault::Cycle);
+
+/// What a change reports: the version, and how many formulas were evaluated, cells are cyclic and levels there are.
+pub(crate) type Figures = [u64; 4];
 
 /// What is asked of a cell.
 #[derive(Clone, Copy)]
@@ -48,12 +51,16 @@ pub(crate) enum Part {
 pub(crate) enum Step {
     /// Asks for a change of a cell, and has this answer: the version or a refusal.
     Ask(&'static str, Asked, Result<u64, Refusal>),
+    /// Enters an entry into a cell, and has this report.
+    Enter(&'static str, &'static str, Figures),
     /// Types these entries into these cells as one batch.
     Type(&'static [(&'static str, &'static str)], Result<u64, Refusal>),
     /// Receives a delta of one cell.
     Get(&'static str, Part, Result<u64, Refusal>),
     /// Receives a delta of several cells.
     GetAll(&'static [(&'static str, Part)], Result<u64, Refusal>),
+    /// Receives a delta of several cells, and has this report.
+    Receive(&'static [(&'static str, Part)], Figures),
     /// Looks at a cell.
     Show(&'static str, Value),
     /// Looks at a cell that shows a text.
@@ -64,38 +71,52 @@ pub(crate) fn cell(rt: &impl Abort, name: &str) -> Cell {
     Cell::read(name.as_bytes()).expect(rt, "a cell")
 }
 
-/// The edit with a meter of its own; the version after it.
+/// The edit with a meter of its own.
 fn edited<L: Ledger>(
     blank: Blank,
     alloc: Global,
     sheet: &mut Sheet,
     edit: Edit,
-) -> Result<u64, Refusal>
+) -> Result<Report, Refusal>
     requires { IsBlankOf blank L.name L.parts }
 {
     let mut meter = Meter::<L>::new(blank);
-    Ok(sheet.edit(alloc, edit, &mut meter)?.version)
+    sheet.edit(alloc, edit, &mut meter)
 }
 
-/// The delta received with a meter of its own; the version after it.
+/// The delta received with a meter of its own.
 fn received<L: Ledger>(
     blank: Blank,
     alloc: Global,
     sheet: &mut Sheet,
     delta: Arc<Delta>,
-) -> Result<u64, Refusal>
+) -> Result<Report, Refusal>
     requires { IsBlankOf blank L.name L.parts }
 {
     let mut meter = Meter::<L>::new(blank);
-    Ok(sheet.receive(alloc, delta, &mut meter)?.version)
+    sheet.receive(alloc, delta, &mut meter)
 }
 
-pub(crate) fn apply(alloc: Global, sheet: &mut Sheet, edit: Edit) -> Result<u64, Refusal> {
+pub(crate) fn apply(alloc: Global, sheet: &mut Sheet, edit: Edit) -> Result<Report, Refusal> {
     edited::<Brand>(Blank::new(1), alloc, sheet, edit)
 }
 
-pub(crate) fn take(alloc: Global, sheet: &mut Sheet, delta: Arc<Delta>) -> Result<u64, Refusal> {
+pub(crate) fn take(alloc: Global, sheet: &mut Sheet, delta: Arc<Delta>) -> Result<Report, Refusal> {
     received::<Brand>(Blank::new(1), alloc, sheet, delta)
+}
+
+/// The version that a change ends with.
+pub(crate) fn version_of(answer: Result<Report, Refusal>) -> Result<u64, Refusal> {
+    Ok(answer?.version)
+}
+
+pub(crate) fn figures_of(report: Report) -> Figures {
+    [
+        report.version,
+        report.evaluated,
+        report.cyclic,
+        report.levels,
+    ]
 }
 
 fn edit_of(alloc: Global, cell: Cell, asked: &Asked) -> Result<Edit, Refusal> {
@@ -202,19 +223,32 @@ fn take_step(
     match step {
         Ask(name, asked, answer) => {
             let edit = edit_of(alloc, cell(rt, name), asked)?;
-            assert_eq!(rt; apply(alloc, sheet, edit), *answer, "{name}");
+            assert_eq!(rt; version_of(apply(alloc, sheet, edit)), *answer, "{name}");
+        }
+        Enter(name, entry, figures) => {
+            let edit = edit_of(alloc, cell(rt, name), &Set(entry))?;
+            let report = apply(alloc, sheet, edit)?;
+            assert_eq!(rt; figures_of(report), *figures, "{name}");
         }
         Type(entries, answer) => {
             let batch = batch_of(rt, alloc, entries)?;
-            assert_eq!(rt; apply(alloc, sheet, Edit::SetAll(batch)), *answer);
+            assert_eq!(rt;
+                version_of(apply(alloc, sheet, Edit::SetAll(batch))),
+                *answer
+            );
         }
         Get(name, part, answer) => {
             let delta = delta_of(rt, alloc, &[(*name, *part)])?;
-            assert_eq!(rt; take(alloc, sheet, delta), *answer, "{name}");
+            assert_eq!(rt; version_of(take(alloc, sheet, delta)), *answer, "{name}");
         }
         GetAll(parts, answer) => {
             let delta = delta_of(rt, alloc, parts)?;
-            assert_eq!(rt; take(alloc, sheet, delta), *answer);
+            assert_eq!(rt; version_of(take(alloc, sheet, delta)), *answer);
+        }
+        Receive(parts, figures) => {
+            let delta = delta_of(rt, alloc, parts)?;
+            let report = take(alloc, sheet, delta)?;
+            assert_eq!(rt; figures_of(report), *figures);
         }
         Show(name, value) => {
             assert!(rt; sheet.shown(cell(rt, name)) == *value, "{name}");

@@ -1,0 +1,270 @@
+//! Pseudo-random changes of a small block of cells, after each of which the sheet shows what a plain program gives: it
+//! evaluates in rounds, in each of them every formula whose references all have their values.
+
+ghost use Rattle.std.specs.Prelude.{◌<◌};
+
+use crate::tests::script::{CYCLE, apply, cell};
+use crate::{Batch, Edit, Sheet};
+use Entry::{Blank, Branch, Count, Greater, Number, Rest, Sum, Total};
+use ps_content::{Content, read_entry};
+use ps_grid::Refusal;
+use ps_value::{Fault, Value};
+use std::alloc::Global;
+use std::process::Abort;
+
+/// The rows and the columns of the block.
+const SIDE: usize = 6;
+
+/// The cells of the block, which have places row by row.
+const PLACES: usize = SIDE * SIDE;
+
+static NAMES: [&str; PLACES] = [
+    "A1", "B1", "C1", "D1", "E1", "F1", "A2", "B2", "C2", "D2", "E2", "F2", "A3", "B3", "C3", "D3",
+    "E3", "F3", "A4", "B4", "C4", "D4", "E4", "F4", "A5", "B5", "C5", "D5", "E5", "F5", "A6", "B6",
+    "C6", "D6", "E6", "F6",
+];
+
+/// What a cell is given; the formulas refer to places.
+#[derive(Clone, Copy)]
+enum Entry {
+    Blank,
+    /// A number that isn't negative, so no value is.
+    Number(i64),
+    /// `=[.A1]+[.B1]`
+    Sum(usize, usize),
+    /// `=[.A1]>[.B1]`
+    Greater(usize, usize),
+    /// `=MOD(9;[.A1])`
+    Rest(usize),
+    /// `=IF([.A1];[.B1];3)`
+    Branch(usize, usize),
+    /// `=COUNT([.A1:.B1])`
+    Count(usize, usize),
+    /// `=SUM([.A1:.B1])`
+    Total(usize, usize),
+}
+
+/// What the cells of the block show, as far as they are settled.
+type Settled = [Option<Value>; PLACES];
+
+/// Whether a place lies in the rectangle with these corners, whichever they are.
+fn is_within(place: usize, a: usize, b: usize) -> bool {
+    let (row, column) = (place / SIDE, place % SIDE);
+    let (top, bottom) = ((a / SIDE).min(b / SIDE), (a / SIDE).max(b / SIDE));
+    let (left, right) = ((a % SIDE).min(b % SIDE), (a % SIDE).max(b % SIDE));
+    top <= row && row <= bottom && left <= column && column <= right
+}
+
+/// Whether an entry refers to a place.
+fn refers(entry: Entry, place: usize) -> bool {
+    match entry {
+        Blank | Number(_) => false,
+        Rest(a) => place == a,
+        Sum(a, b) | Greater(a, b) | Branch(a, b) => place == a || place == b,
+        Count(a, b) | Total(a, b) => is_within(place, a, b),
+    }
+}
+
+/// The number at a place: an empty cell is 0.
+fn number_at(shown: &Settled, place: usize) -> Result<i64, Fault> {
+    match shown.get(place) {
+        Some(Some(Value::Num(number))) => Ok(*number),
+        Some(Some(Value::Err(fault))) => Err(*fault),
+        _ => Ok(0),
+    }
+}
+
+/// How many numbers a rectangle has.
+fn count(shown: &Settled, a: usize, b: usize) -> i64 {
+    let mut numbers = 0u8;
+    for place in 0..PLACES {
+        if is_within(place, a, b) && matches!(shown[place], Some(Value::Num(_))) {
+            numbers += 1;
+        }
+    }
+    i64::from(numbers)
+}
+
+/// The sum of the numbers in a rectangle, or the first fault, row by row.
+fn total(shown: &Settled, a: usize, b: usize) -> Result<i64, Fault> {
+    let mut sum = 0i64;
+    for place in 0..PLACES {
+        if is_within(place, a, b) {
+            sum = sum.checked_add(number_at(shown, place)?).ok_or(Fault::Num)?;
+        }
+    }
+    Ok(sum)
+}
+
+fn sum(shown: &Settled, a: usize, b: usize) -> Result<i64, Fault> {
+    let left = number_at(shown, a)?;
+    left.checked_add(number_at(shown, b)?).ok_or(Fault::Num)
+}
+
+fn is_greater(shown: &Settled, a: usize, b: usize) -> Result<i64, Fault> {
+    let left = number_at(shown, a)?;
+    let right = number_at(shown, b)?;
+    Ok(if left > right { 1 } else { 0 })
+}
+
+fn rest(shown: &Settled, a: usize) -> Result<i64, Fault> {
+    let divisor = number_at(shown, a)?;
+    if divisor < 1 {
+        return Err(Fault::DivZero);
+    }
+    Ok(9 % divisor)
+}
+
+fn branch(shown: &Settled, a: usize, b: usize) -> Result<i64, Fault> {
+    if number_at(shown, a)? == 0 {
+        return Ok(3);
+    }
+    number_at(shown, b)
+}
+
+/// What an entry shows, whose references all have their values.
+fn value_of(shown: &Settled, entry: Entry) -> Value {
+    let number = match entry {
+        Blank => return Value::Empty,
+        Number(number) => Ok(number),
+        Sum(a, b) => sum(shown, a, b),
+        Greater(a, b) => is_greater(shown, a, b),
+        Rest(a) => rest(shown, a),
+        Branch(a, b) => branch(shown, a, b),
+        Count(a, b) => Ok(count(shown, a, b)),
+        Total(a, b) => total(shown, a, b),
+    };
+    match number {
+        Ok(number) => Value::Num(number),
+        Err(fault) => Value::Err(fault),
+    }
+}
+
+/// Whether all that an entry refers to has its value.
+fn is_ready(shown: &Settled, entry: Entry) -> bool {
+    shown
+        .iter()
+        .enumerate()
+        .all(|(place, value)| value.is_some() || !refers(entry, place))
+}
+
+/// As many rounds as there are cells.
+fn settle(entries: &[Entry; PLACES]) -> Settled {
+    let mut shown = [None; PLACES];
+    for _ in 0..PLACES {
+        for place in 0..PLACES {
+            if shown[place].is_none() && is_ready(&shown, entries[place]) {
+                shown[place] = Some(value_of(&shown, entries[place]));
+            }
+        }
+    }
+    shown
+}
+
+fn name(place: usize) -> &'static str {
+    match NAMES.get(place) {
+        Some(name) => name,
+        None => "",
+    }
+}
+
+fn content_of(alloc: Global, entry: Entry) -> Result<Content, Refusal> {
+    let text = match entry {
+        Blank => String::new(alloc),
+        Number(number) => format!(in alloc; "{number}")?,
+        Sum(a, b) => format!(in alloc; "=[.{}]+[.{}]", name(a), name(b))?,
+        Greater(a, b) => format!(in alloc; "=[.{}]>[.{}]", name(a), name(b))?,
+        Rest(a) => format!(in alloc; "=MOD(9;[.{}])", name(a))?,
+        Branch(a, b) => format!(in alloc; "=IF([.{}];[.{}];3)", name(a), name(b))?,
+        Count(a, b) => format!(in alloc; "=COUNT([.{}:.{}])", name(a), name(b))?,
+        Total(a, b) => format!(in alloc; "=SUM([.{}:.{}])", name(a), name(b))?,
+    };
+    read_entry(alloc, text.as_bytes())
+}
+
+/// Pseudo-random numbers: Knuth's linear congruential generator of 64 bits.
+#[derive(Drop)]
+struct Random {
+    state: u64,
+}
+
+impl Random {
+    /// The next number, below `n`.
+    fn below(&mut self, n: usize) -> usize
+        requires { 0 < n }
+        ensures { result < n }
+    {
+        self.state = self
+            .state
+            .wrapping_mul(6_364_136_223_846_793_005)
+            .wrapping_add(1_442_695_040_888_963_407);
+        (self.state >> 33) as usize % n
+    }
+
+    /// The next entry: half of them formulas, whose ranges are small or lie across the block.
+    fn entry(&mut self) -> Entry {
+        let a = self.below(PLACES);
+        let b = self.below(PLACES);
+        let near = a + self.below(2) + SIDE * self.below(2);
+        match self.below(12) {
+            0..3 => Blank,
+            3..6 => Number(self.below(10) as i64),
+            6 => Sum(a, b),
+            7 => Greater(a, b),
+            8 => Rest(a),
+            9 => Branch(a, b),
+            10 => Count(a, near.min(PLACES - 1)),
+            _ => Total(a, near.min(PLACES - 1)),
+        }
+    }
+}
+
+/// Gives one to six cells new entries, by one edit.
+fn change(
+    rt: &impl Abort,
+    alloc: Global,
+    sheet: &mut Sheet,
+    entries: &mut [Entry; PLACES],
+    random: &mut Random,
+) -> Result<(), Refusal> {
+    let first = random.below(PLACES);
+    let end = (first + 1 + random.below(6)).min(PLACES);
+    let mut cells = Vec::new(alloc);
+    for place in first..end {
+        entries[place] = random.entry();
+        cells.push((cell(rt, name(place)), content_of(alloc, entries[place])?))?;
+    }
+    let batch = Batch::new(cells).expect(rt, "a batch");
+    apply(alloc, sheet, Edit::SetAll(batch))?;
+    Ok(())
+}
+
+/// Compares what the sheet shows with what the rounds give.
+fn compare(rt: &impl Abort, sheet: &Sheet, entries: &[Entry; PLACES]) {
+    let shown = settle(entries);
+    for (place, value) in shown.iter().enumerate() {
+        let name = name(place);
+        assert!(rt;
+            sheet.shown(cell(rt, name)) == value.unwrap_or(CYCLE),
+            "{name}"
+        );
+    }
+}
+
+/// Two hundred changes, after each of which the sheet is compared.
+fn change_often(rt: &impl Abort, alloc: Global, sheet: &mut Sheet) -> Result<(), Refusal> {
+    let mut entries = [Blank; PLACES];
+    let mut random = Random { state: 1 };
+    for _ in 0..200 {
+        change(rt, alloc, sheet, &mut entries, &mut random)?;
+        compare(rt, sheet, &entries);
+    }
+    Ok(())
+}
+
+/// Two hundred changes with cycles that begin, grow and end: after each of them all cells show what rounds give.
+#[test]
+fn a_random_script_shows_what_rounds_give(rt: HostRuntime) -> Result<(), Refusal> {
+    let mut sheet = Sheet::open(rt.alloc(), 1, 1)?;
+    change_often(&rt, rt.alloc(), &mut sheet)
+}
