@@ -1,8 +1,7 @@
 -- Where cells lie, and what a table shows that one of them was put into.
 use Rattle.std.proofs.Common.{◌≡◌, ◌≢◌, ◌⊎◌, ℕ, ◌/◌, ◌%◌, ◌<◌, ◌≤◌, List, length, get_or, set, refl, sym, ap}
 use Rattle.std.proofs.Common.{◌∙◌, eq-eqb, ne_eqb, arith, subst, inl, inr, ⊎_elim, get_or-set_same, get_or-set_other}
-use Rattle.std.proofs.Common.{if◌then◌else◌}
-use Rattle.std.specs.List.{All}
+use Rattle.std.proofs.Common.{[], if◌then◌else◌}
 use Rattle.std.proofs.lemmas.Bool.{cases_eq, cases_lt, lt-ltb, le-ltb}
 use Rattle.std.proofs.lemmas.List.{get_or_read, get_or_past}
 use Rattle.std.proofs.lemmas.Nat.{same_from_place, div_below, div-add-mod', mod_below}
@@ -45,11 +44,24 @@ unfolding shown_at
 shown_at-past kept c h =
     ap (λ b. if b then value_of (get_or kept (place_of c) Empty) else Nothing) (le-ltb c CELLS h)
 
-pub shown_at-read : (kept : List Kept) (c : ℕ) (x : Kept) → c < CELLS → length kept ≡ PLACES
+pub shown_at-read : (kept : List Kept) (c : ℕ) (x : Kept) → c < CELLS → place_of c < length kept
     → x ≡ get_or kept (place_of c) x → value_of x ≡ shown_at kept c
-shown_at-read kept c x h size is =
-    ap value_of (get_or_read kept (place_of c) x (omega (arith, size, place_of-within c h)) is Empty)
-    ∙ sym (shown_at-here kept c h)
+shown_at-read kept c x h within is =
+    ap value_of (get_or_read kept (place_of c) x within is Empty) ∙ sym (shown_at-here kept c h)
+
+-- what a cell shows that the table doesn't reach
+pub shown_at-beyond : (kept : List Kept) (c : ℕ) (x : Kept) → c < CELLS → length kept ≤ place_of c
+    → x ≡ Empty → value_of x ≡ shown_at kept c
+shown_at-beyond kept c x h beyond is =
+    ap value_of (is ∙ sym (get_or_past kept (place_of c) Empty beyond)) ∙ sym (shown_at-here kept c h)
+
+-- tables that keep the same show the same
+pub shown_at-same : (kept others : List Kept) → ((p : ℕ) → get_or kept p Empty ≡ get_or others p Empty)
+    → shown_at kept ≡ shown_at others
+shown_at-same kept others same =
+    fun_ext (λ c. ⊎_elim
+    (λ h. shown_at-here kept c h ∙ ap value_of (same (place_of c)) ∙ sym (shown_at-here others c h))
+    (λ h. shown_at-past kept c h ∙ sym (shown_at-past others c h)) (cases_lt c CELLS))
 
 with_value-same : (v : ℕ → Value) (c : ℕ) (x : Value) → with_value v c x c ≡ x
 unfolding with_value
@@ -59,33 +71,32 @@ with_value-other : (v : ℕ → Value) (cell c : ℕ) (x : Value) → cell ≢ c
 unfolding with_value
 with_value-other v cell c x h = ap (λ b. if b then x else v c) (ne_eqb cell c h)
 
-put_at : (kept : List Kept) (cell c : ℕ) (x : Kept) → cell < CELLS → length kept ≡ PLACES
+put_at : (kept : List Kept) (cell c : ℕ) (x : Kept) → cell < CELLS → place_of cell < length kept
     → (cell ≡ c) ⊎ (cell ≢ c) → (c < CELLS) ⊎ (CELLS ≤ c)
     → shown_at (set kept (place_of cell) x) c ≡ with_value (shown_at kept) cell (value_of x) c
-put_at kept cell c x h size (inl p) _ =
+put_at kept cell c x h within (inl p) _ =
     subst (λ b. shown_at (set kept (place_of cell) x) b ≡ with_value (shown_at kept) cell (value_of x) b) p
     (shown_at-here (set kept (place_of cell) x) cell h
-    ∙ ap value_of (get_or-set_same kept (place_of cell) x Empty (omega (arith, size, place_of-within cell h)))
+    ∙ ap value_of (get_or-set_same kept (place_of cell) x Empty within)
     ∙ sym (with_value-same (shown_at kept) cell (value_of x)))
-put_at kept cell c x h size (inr p) (inl q) =
+put_at kept cell c x h within (inr p) (inl q) =
     shown_at-here (set kept (place_of cell) x) c q
     ∙ ap value_of (get_or-set_other kept (place_of cell) (place_of c) x Empty
     (λ e. p (place_of-once cell c h q (sym e))))
     ∙ sym (shown_at-here kept c q)
     ∙ sym (with_value-other (shown_at kept) cell c (value_of x) p)
-put_at kept cell c x h size (inr p) (inr q) =
+put_at kept cell c x h within (inr p) (inr q) =
     shown_at-past (set kept (place_of cell) x) c q ∙ sym (shown_at-past kept c q)
     ∙ sym (with_value-other (shown_at kept) cell c (value_of x) p)
 
-pub shown_at-set : (kept : List Kept) (cell : ℕ) (x : Kept) → cell < CELLS → length kept ≡ PLACES
+pub shown_at-set : (kept : List Kept) (cell : ℕ) (x : Kept) → cell < CELLS → place_of cell < length kept
     → shown_at (set kept (place_of cell) x) ≡ with_value (shown_at kept) cell (value_of x)
-shown_at-set kept cell x h size =
-    fun_ext (λ c. put_at kept cell c x h size (cases_eq cell c) (cases_lt c CELLS))
+shown_at-set kept cell x h within =
+    fun_ext (λ c. put_at kept cell c x h within (cases_eq cell c) (cases_lt c CELLS))
 
--- a table of nothing shows nothing
-pub shown_at-empty : (kept : List Kept) → All (λ x. x ≡ Empty) kept → shown_at kept ≡ λ _. Nothing
+-- a table that keeps nothing shows nothing
+pub shown_at-empty : (kept : List Kept) → kept ≡ [] → shown_at kept ≡ λ _. Nothing
 shown_at-empty kept empty =
     fun_ext (λ c. ⊎_elim
-    (λ h. shown_at-here kept c h ∙ ap value_of (⊎_elim (λ l. empty (place_of c) Empty l)
-    (λ l. get_or_past kept (place_of c) Empty l) (cases_lt (place_of c) (length kept))))
+    (λ h. shown_at-here kept c h ∙ ap (λ (xs : List Kept). value_of (get_or xs (place_of c) Empty)) empty)
     (λ h. shown_at-past kept c h) (cases_lt c CELLS))
