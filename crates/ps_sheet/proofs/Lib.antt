@@ -1,4 +1,5 @@
 pub mod AcceptedRuns
+pub mod AloneCells
 pub mod AppendedDeltas
 pub mod BatchDeltas
 pub mod Begins

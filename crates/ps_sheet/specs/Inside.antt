@@ -1,4 +1,5 @@
 -- How a sheet gets to settled values and what it keeps, in words that no public contract cites.
+pub mod Alone
 pub mod Bounded
 pub mod BoundedLaws
 pub mod Formulas

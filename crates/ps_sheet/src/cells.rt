@@ -1,8 +1,9 @@
 //! What the cells of a sheet hold and show, and what is kept beside it so that a change costs what its region costs.
 
-ghost use Rattle.std.specs.Prelude.{◌≡◌, ◌+◌, ◌≤◌, ◌++◌, ℕ, false, filter, length, nat_eq, not, IfOk, IfErr, OnOk, OnErr};
+ghost use Rattle.std.specs.Prelude.{◌≡◌, ◌+◌, ◌≤◌, ◌++◌, [], ℕ, true, false, filter, length, nat_eq, not};
+ghost use Rattle.std.specs.Prelude.{IfOk, IfErr, OnOk, OnErr};
 ghost use Rattle.std.specs.Prelude.{vec_capacity};
-ghost use Rattle.std.specs.List.{list_any};
+ghost use Rattle.std.specs.List.{list_all, list_any};
 ghost use Rattle.ps_formula.specs.References.{mentions};
 ghost use Rattle.ps_shown.specs.Shown.{shown_at};
 ghost use Rattle.ps_delta.specs.State.{empty_state, joined_state, state_at};
@@ -10,6 +11,9 @@ ghost use Rattle.ps_delta.specs.Deltas.{state_of};
 ghost use Rattle.ps_sheet.specs.Recalculated.{IsRecalculated};
 ghost use Rattle.ps_sheet.specs.Inside.Steps.{flag_at};
 ghost use Rattle.ps_sheet.specs.Inside.Kept.{IsWhole, MayRecalculate, Recalculates};
+ghost use Rattle.ps_sheet.specs.Inside.Alone.{is_alone, is_empty};
+ghost use Rattle.ps_sheet.specs.Inside.Walk.{formula_at};
+ghost use Rattle.ps_region.specs.Listed.{listed};
 
 use crate::change::{Change, begin, take_formulas};
 use crate::contents::{formula_of, holds_formula};
@@ -165,6 +169,49 @@ impl Cells {
         ensures done { Recalculates self.old self.new touched.now result.evaluated result.cyclic result.levels }
         ensures metered { meter.new ≡ meter.old + result.evaluated }
     {
+        if self.cyclic.is_empty() && are_alone(&self.grid, &self.index, touched) {
+            self.show_alone(touched, first)
+        } else {
+            self.recalculate_region(touched, first, meter)
+        }
+    }
+
+    /// Settles what the cells show where no touched cell has a formula, no formula refers to one, and no cell was
+    /// cyclic: the touched cells are the region.
+    fn show_alone(&mut self, touched: &[Cell], first: Vec<(Cell, Kept)>) -> Work
+        requires may { MayRecalculate self.old touched.now first.items }
+        requires alone { list_all (is_alone (formula_at (state_at self.old.grid)) (listed self.old.index)) touched.now
+            ≡ true }
+        requires none { self.old.cyclic.items ≡ [] }
+        ensures done { Recalculates self.old self.new touched.now result.evaluated result.cyclic result.levels }
+        ensures idle { result.evaluated ≡ 0 }
+    {
+        show_all_first(
+            &self.grid,
+            &self.index,
+            first,
+            &mut self.shown,
+            &mut self.flags,
+        );
+        clear(touched, &mut self.flags);
+        Work {
+            evaluated: 0,
+            cyclic: 0,
+            levels: 0,
+        }
+    }
+
+    /// Settles what the cells show, by the region of the change.
+    fn recalculate_region<L: Ledger>(
+        &mut self,
+        touched: &[Cell],
+        first: Vec<(Cell, Kept)>,
+        meter: &mut Meter<L>,
+    ) -> Work
+        requires { MayRecalculate self.old touched.now first.items }
+        ensures done { Recalculates self.old self.new touched.now result.evaluated result.cyclic result.levels }
+        ensures metered { meter.new ≡ meter.old + result.evaluated }
+    {
         let formulas = Formulas { grid: &self.grid };
         self.region
             .mark(&self.index, &formulas, touched, &self.cyclic);
@@ -192,6 +239,27 @@ impl Cells {
             levels: self.region.levels() as u64,
         }
     }
+}
+
+/// Whether no formula refers to the cell.
+fn is_unread(index: &Index, cell: Cell) -> bool
+    ensures { result ≡ is_empty (listed index.now cell) }
+{
+    index.dependents(cell).next().is_none()
+}
+
+/// Whether the cell has no formula, and no formula refers to it.
+fn is_alone(grid: &Grid, index: &Index, cell: Cell) -> bool
+    ensures { result ≡ is_alone (formula_at (state_at grid.now)) (listed index.now) cell }
+{
+    !holds_formula(grid.at(cell)) && is_unread(index, cell)
+}
+
+/// Whether no cell of these has a formula, and no formula refers to one.
+fn are_alone(grid: &Grid, index: &Index, cells: &[Cell]) -> bool
+    ensures { result ≡ list_all (is_alone (formula_at (state_at grid.now)) (listed index.now)) cells.now }
+{
+    cells.iter().all(|cell| is_alone(grid, index, *cell))
 }
 
 /// A table of `n` flags, none of which is set.

@@ -14,9 +14,9 @@ use Rattle.ps_sheet.proofs.FirstValues.{begun_start}
 use Rattle.ps_sheet.proofs.FoundLevels.{walked_flags, walked_settled, walked_counted, cyclic_counted}
 use Rattle.ps_sheet.proofs.Recalculations.{extra_bounded, outside_yes, outside_no, found_now, may_walk, levels_found, walked_now, cyclic_now, cyclic_room}
 use Rattle.ps_sheet.proofs.Recalculations.{deepest_now, reached_now}
-use Rattle.ps_sheet.proofs.cells.Cells.recalculate.Given.{Over}
-use Rattle.ps_sheet.proofs.cells.Cells.recalculate.Goals as goal
-use Rattle.ps_sheet.proofs.cells.Cells.recalculate.Goals.{After-settle_frame-arg-5-1}
+use Rattle.ps_sheet.proofs.cells.Cells.recalculate_region.Given.{Over}
+use Rattle.ps_sheet.proofs.cells.Cells.recalculate_region.Goals as goal
+use Rattle.ps_sheet.proofs.cells.Cells.recalculate_region.Goals.{After-settle_frame-arg-5-1}
 
 pub mark-requires-clause-extra : goal.mark-requires-clause-extra
 mark-requires-clause-extra g c =
