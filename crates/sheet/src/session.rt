@@ -15,6 +15,7 @@ use ps_grid::Refusal;
 use ps_session::{RunFault, run};
 use ps_sheet::Sheet;
 use std::alloc::Global;
+use std::mem;
 use std::sync::ledger::Ledger;
 
 /// The sheet that a session begins with: an empty one, of the replica that was asked for.
@@ -36,7 +37,7 @@ pub fn open_sheet(alloc: Global, options: RunOptions) -> Result<Sheet, Refusal>
 /// read and answered then is the transcript of the same empty sheet; the replies that were due before a read that
 /// failed are handed on still.
 ///
-/// Cost: that of opening a sheet, and of [`run`].
+/// Cost: that of opening a sheet, and of [`run`]. The memory of the sheet isn't given back, for the program ends next.
 pub fn answer_lines<S: Source, K: Sink, L: Ledger>(
     alloc: Global,
     source: &mut S,
@@ -66,7 +67,10 @@ pub fn answer_lines<S: Source, K: Sink, L: Ledger>(
         Ok(sheet) => sheet,
         Err(refusal) => return Err(ProgramFault::Refused(refusal)),
     };
-    match run(alloc, source, sink, &mut sheet, meter) {
+    let done = run(alloc, source, sink, &mut sheet, meter);
+    // The program ends after this, and the system takes back at once what would be freed piece by piece.
+    mem::forget(sheet);
+    match done {
         Ok(_) => Ok(()),
         Err(RunFault::Memory) => Err(ProgramFault::Refused(Refusal::Memory)),
         Err(RunFault::Source) => Err(ProgramFault::Refused(Refusal::Device)),
