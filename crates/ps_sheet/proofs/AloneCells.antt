@@ -12,7 +12,7 @@ use Rattle.ps_grid.specs.declared.size.TheConstants.{CELLS}
 use Rattle.ps_grid.specs.Chains.{References, In, InRegion, IsDepth}
 use Rattle.ps_grid.proofs.ChainLemmas.{All-In}
 use Rattle.ps_grid.proofs.RegionLemmas.{InRegion-touched, InRegion-least}
-use Rattle.ps_region.specs.Found.{Found, IsFound, IsFrame, level_cells}
+use Rattle.ps_region.specs.Found.{Found, IsFound, level_cells}
 use Rattle.ps_sheet.specs.Inside.Alone.{is_alone, is_empty}
 use Rattle.ps_eval.specs.Items.{Assignment}
 use Rattle.ps_delta.specs.State.{State}
