@@ -157,7 +157,8 @@ module _ (r : References) (formula : ℕ → Bool) (touched : List ℕ)
   only_below c d h = formula_below c (refers_formula c d (down_bounded c d h))
 
   pub region_bounded : (c : ℕ)
-      → (InRegion (bounded r) touched c → InRegion r touched c) × (InRegion r touched c → InRegion (bounded r) touched c)
+      → (InRegion (bounded r) touched c → InRegion r touched c)
+      × (InRegion r touched c → InRegion (bounded r) touched c)
   region_bounded c = (
     region_to (bounded r) r formula touched CELLS down_bounded (λ e d h f. up_bounded e d h (formula_below d f))
         (λ e d h t. up_bounded e d h (touched_below d t)) only_below refers_formula c,

@@ -1,5 +1,6 @@
 -- What an index lists that has the formulas of a change put in beside those before it, and how many cells there can be.
-use Rattle.std.proofs.Common.{◌≡◌, ◌≢◌, ℕ, ◌<◌, get_or, true, false, ◌||◌, ◌⊎◌, inl, inr, List, [], ◌∷◌, refl, sym, ap, ◌∙◌}
+use Rattle.std.proofs.Common.{◌≡◌, ◌≢◌, ℕ, ◌<◌, get_or, true, false, ◌||◌, ◌⊎◌, inl, inr, List, [], ◌∷◌, refl, sym, ap}
+use Rattle.std.proofs.Common.{◌∙◌}
 use Rattle.std.proofs.Common.{arith, ⊎_elim, eqb, subst, eq-eqb, ne_eqb, eqb-true}
 use Rattle.std.specs.Prelude.{Option, Some, None, nat_eq}
 use Rattle.std.specs.List.{list_any, IsDistinct}
@@ -43,7 +44,9 @@ with_put-other x None forms c apart = refl
 with_put-other x (Some t) forms c apart = rw (ne_eqb x c apart) refl
 
 nat_cases : (x c : ℕ) → (x ≡ c) ⊎ (x ≢ c)
-nat_cases x c = ⊎_elim (λ (h : eqb x c ≡ true). inl (eqb-true x c h)) (λ (h : eqb x c ≡ false). inr (λ e. absurd (let f : true ≡ false = sym (eq-eqb x c e) ∙ h in cc))) (bool_cases (eqb x c))
+nat_cases x c = ⊎_elim (λ (h : eqb x c ≡ true). inl (eqb-true x c h))
+    (λ (h : eqb x c ≡ false). inr (λ e. absurd (let f : true ≡ false = sym (eq-eqb x c e) ∙ h in cc)))
+    (bool_cases (eqb x c))
 
 -- what a cell's formula mentions after the change, it refers to with the new formulas put in
 new_listed : (es : Entries) (s : State) (forms : Puts) (c d : ℕ)
@@ -55,7 +58,8 @@ new_listed (e ∷ es) s forms c d here h =
     (λ now. ⊎_elim
     (λ (same : e.0 ≡ c).
     let at : content_mentions (content_of e.1) d ≡ true =
-    ap (λ x. content_mentions (content_of x) d) (sym (with_cell-same s e.0 e.1) ∙ ap (with_cell s e.0 e.1) same) ∙ now in
+    ap (λ x. content_mentions (content_of x) d) (sym (with_cell-same s e.0 e.1) ∙ ap (with_cell s e.0 e.1) same) ∙ now
+    in
     subst (λ q. refers (with_put e.0 (formula_in (content_of e.1)) forms) q d ≡ true) same
     (with_put-here e.0 (formula_in (content_of e.1)) forms d
     ∙ or_left (list_any (λ t. mentions t d) (as_list (formula_in (content_of e.1)))) (refers forms e.0 d)
@@ -63,7 +67,8 @@ new_listed (e ∷ es) s forms c d here h =
     (λ (apart : e.0 ≢ c).
     let before : content_mentions (content_of (s c)) d ≡ true =
     ap (λ x. content_mentions (content_of x) d) (sym (with_cell-other s e.0 c e.1 apart)) ∙ now in
-    ap (λ ts. list_any (λ t. mentions t d) ts) (with_put-other e.0 (formula_in (content_of e.1)) forms c apart) ∙ here before)
+    ap (λ ts. list_any (λ t. mentions t d) ts) (with_put-other e.0 (formula_in (content_of e.1)) forms c apart) ∙ here
+    before)
     (nat_cases e.0 c))
     h
 
@@ -87,7 +92,8 @@ others_refer : (s : State) (es : Entries) (c d : ℕ) → ¬ In (cells_of es) c
     → refers (with_puts es (forms_of s)) c d ≡ refers_to (overlaid s es) c d
 others_refer s es c d out =
     ap (λ ts. list_any (λ t. mentions t d) ts) (with_puts-others es (forms_of s) c out)
-    ∙ (mentions_by (content_of (s c)) d ∙ ap (λ x. content_mentions (content_of x) d) (sym (overlaid-others es s c out)))
+    ∙ (mentions_by (content_of (s c)) d ∙ ap (λ x. content_mentions (content_of x) d)
+    (sym (overlaid-others es s c out)))
 
 -- what an index lists for a cell of the grid, with the new formulas beside the old ones: the cells that refer to it
 -- after the change, and others at most where they are named

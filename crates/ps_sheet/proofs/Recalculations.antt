@@ -1,5 +1,6 @@
 -- What a recalculation hands to the marking of the region, and what it takes from it.
-use Rattle.std.proofs.Common.{◌≡◌, ◌&&◌, ℕ, ◌<◌, ◌≤◌, ◌+◌, Bool, true, false, ◌⊎◌, inl, inr, List, [], refl, subst, ⊎_elim}
+use Rattle.std.proofs.Common.{◌≡◌, ◌&&◌, ℕ, ◌<◌, ◌≤◌, ◌+◌, Bool, true, false, ◌⊎◌, inl, inr, List, [], refl, subst}
+use Rattle.std.proofs.Common.{⊎_elim}
 use Rattle.std.proofs.Common.{lt-ltb, arith, ◌++◌, ◌≢◌, length, length-append, filter, not, eqb, get_or}
 use Rattle.std.specs.List.{list_any}
 use Rattle.ps_sheet.proofs.CellCounts.{distinct_below_cells}

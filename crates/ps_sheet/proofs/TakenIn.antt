@@ -61,7 +61,8 @@ first_values t (f ∷ first) (e ∷ es) h hold =
     let cell : f.0 ≡ e.0 = ap (λ (p : ℕ × Value). p.0) here in
     let value : value_kept f.1 ≡ first_value e.1 = ap (λ (p : ℕ × Value). p.1) here in
     All-cons (λ (q : ℕ × Kept). value_kept q.1 ≡ first_value (t q.0)) f first
-    (value ∙ (ap first_value (All-head (λ (q : ℕ × CellState). q.1 ≡ t q.0) e es hold) ∙ ap (λ c. first_value (t c)) (sym cell)))
+    (value ∙ (ap first_value (All-head (λ (q : ℕ × CellState). q.1 ≡ t q.0) e es hold) ∙ ap (λ c. first_value (t c))
+    (sym cell)))
     (first_values t first es
     (tail_same (ℕ × Value) (f.0, value_kept f.1) (e.0, first_value e.1) (shown_firsts first) (firsts es) h)
     (All-tail (λ (q : ℕ × CellState). q.1 ≡ t q.0) e es hold))
@@ -89,7 +90,8 @@ old_formulas_of s b es es1 back i j taken same list index once stands =
     let here : back ≡ entries_from s es =
     taken ∙ (ap (λ (q : State). entries_from q es1) same ∙ ap (λ (xs : Entries). entries_from s xs) list) in
     subst (λ (k : List (List Span)). Stands k (with_puts back (forms_of (overlaid s es)))) (sym index)
-    (subst (λ (xs : Entries). Stands i (with_puts xs (forms_of (overlaid s es)))) (sym here) (swapped s es i once stands))
+    (subst (λ (xs : Entries). Stands i (with_puts xs (forms_of (overlaid s es)))) (sym here)
+    (swapped s es i once stands))
 
 -- after the exchange of the states a recalculation may begin
 pub may_recalculate : (s d : State) (es : Entries) (x : Cells) (touched : List ℕ) (first : List (ℕ × Kept))
@@ -111,7 +113,8 @@ may_recalculate s d es x touched first in_grid settled tidy stands joins given c
       change = subst (λ (ts : List ℕ). IsChange s t (shown_at x.shown) ts) (sym cells) change;
       tidy = tidy;
       once = subst (λ (ts : List ℕ). IsDistinct eqb ts) (sym cells) (increasing_once (cells_of es) joins.ascending);
-      inside = λ c i. touched_inside s t (shown_at x.shown) es changes in_grid settled c (subst (λ (ts : List ℕ). In ts c) cells i);
+      inside = λ c i. touched_inside s t (shown_at x.shown) es changes in_grid settled c
+          (subst (λ (ts : List ℕ). In ts c) cells i);
       lists = λ p lt.
           subst (λ (r : State). Lists (refers_to r) touched p (listed x.index p)) (sym given)
           (subst (λ (ts : List ℕ). Lists (refers_to (overlaid s es)) ts p (listed x.index p)) (sym cells) (both p lt));
@@ -128,7 +131,8 @@ pub recalculated : (s d : State) (es : Entries) (x y : Cells) (touched : List �
 recalculated s d es x y touched evaluated cyclic levels joins given cells did =
     let t = state_at x.grid in
     let changes : AreChanges s t es = subst (λ (q : State). AreChanges s q es) (sym (given ∙ joins.gives)) joins in
-    subst (λ g. IsRecalculated s (state_at g) (shown_at x.shown) (shown_at y.shown) evaluated cyclic levels) (sym did.grid)
+    subst (λ g. IsRecalculated s (state_at g) (shown_at x.shown) (shown_at y.shown) evaluated cyclic levels)
+    (sym did.grid)
     (record {
       touched = touched;
       exact = λ c. (

@@ -18,13 +18,13 @@
 //! Then a delta of replica 2 comes that gives A1 the number 7 at time 1, as replica 1 did. The greater replica wins: A1
 //! shows 7 and B1 shows 14. The same delta once more is below the state: `version` stays 3.
 //!
-//! A change evaluates the formulas that it can reach, that reach no cycle, and that are touched or refer to a cell whose
-//! value changed: [`Report`] says how many, and the meter rises by as much. In the example the second replica's delta
-//! touches A1 and reaches B1: one evaluation, one level, no cyclic cell.
+//! A change evaluates the formulas that it can reach, that reach no cycle, and that are touched or refer to a cell
+//! whose value changed: [`Report`] says how many, and the meter rises by as much. In the example the second replica's
+//! delta touches A1 and reaches B1: one evaluation, one level, no cyclic cell.
 //!
 //! Cost: a sheet keeps its deltas, and for each cell of the grid what it shows and some numbers for recalculating. A
-//! change costs its delta and its region: the cells that it reaches, the references to them, and the evaluations; and it
-//! looks once at each cell that shows `#CYCLE!`. A look at a cell costs a constant.
+//! change costs its delta and its region: the cells that it reaches, the references to them, and the evaluations; and
+//! it looks once at each cell that shows `#CYCLE!`. A look at a cell costs a constant.
 #![tactic(auto)]
 
 mod cells;

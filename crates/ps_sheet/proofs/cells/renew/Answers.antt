@@ -6,7 +6,8 @@ use Rattle.ps_sheet.proofs.cells.renew.Goals as goal
 
 pub returns-clause-items : goal.returns-clause-items
 returns-clause-items c =
-    let stays : c.retain.new.self.items ≡ filter (λ q. not (list_any (nat_eq q) c.args.region.now.members)) c.args.cyclic.now.items =
+    let stays : c.retain.new.self.items ≡ filter (λ q. not (list_any (nat_eq q) c.args.region.now.members))
+    c.args.cyclic.now.items =
     filter_same _ (λ q. not (list_any (nat_eq q) c.args.region.now.members)) _ (λ x b f k. search rules)
     c.args.cyclic.now.items c.retain.new.self.items c.retain.ensures.filtered in
     let room = c.requires.room in
@@ -18,4 +19,5 @@ returns-clause-items c =
     c.extend_from_slice.ensures.items
     ∙ ap (λ b. if b then c.retain.new.self.items ++ c.cyclic.result.now else c.retain.new.self.items) ok
     ∙ ap (λ (xs : List ℕ). xs ++ c.cyclic.result.now) stays
-    ∙ ap (λ (xs : List ℕ). filter (λ q. not (list_any (nat_eq q) c.args.region.now.members)) c.args.cyclic.now.items ++ xs) c.cyclic.ensures
+    ∙ ap (λ (xs : List ℕ). filter (λ q. not (list_any (nat_eq q) c.args.region.now.members)) c.args.cyclic.now.items
+    ++ xs) c.cyclic.ensures

@@ -1,4 +1,5 @@
-use Rattle.std.proofs.Common.{◌≡◌, ◌<◌, ◌≤◌, ◌+◌, ◌-◌, ℕ, List, Option, Some, None, length, take, get_or, arith, sym, subst}
+use Rattle.std.proofs.Common.{◌≡◌, ◌<◌, ◌≤◌, ◌+◌, ◌-◌, ℕ, List, Option, Some, None, length, take, get_or, arith, sym}
+use Rattle.std.proofs.Common.{subst}
 use Rattle.ps_formula.specs.Tree.{Tree}
 use Rattle.ps_content.specs.Order.{formula_in}
 use Rattle.ps_index.specs.Stands.{Puts, Stands, with_put}
@@ -29,7 +30,8 @@ pub remove-requires : goal.remove-requires
 remove-requires c =
     let was = c.requires.stands in (
       with_puts (take (c.loop-left.left - 1) c.args.cells.now) was.0,
-      put_back c.loop-left.index c.args.cells.now c.loop-left.left c.index-cells-left.result (Some c.in-Some.formula.now) was.0
+      put_back c.loop-left.index c.args.cells.now c.loop-left.left c.index-cells-left.result
+          (Some c.in-Some.formula.now) was.0
           c.loop-left-test.true c.loop-left.invariant.within c.index-cells-left.is c.in-Some.ensures
           (c.loop-left.invariant.taken was.0 was.1),
     )
@@ -38,7 +40,8 @@ pub loop-left-preserved-in-Some : goal.loop-left-preserved-in-Some
 loop-left-preserved-in-Some c = record {
   within = let w = c.loop-left.invariant.within in omega (arith, w);
   taken = λ forms stands. c.remove.ensures (with_puts (take (c.loop-left.left - 1) c.args.cells.now) forms)
-      (put_back c.loop-left.index c.args.cells.now c.loop-left.left c.index-cells-left.result (Some c.in-Some.formula.now)
+      (put_back c.loop-left.index c.args.cells.now c.loop-left.left c.index-cells-left.result
+      (Some c.in-Some.formula.now)
       forms c.loop-left-test.true c.loop-left.invariant.within c.index-cells-left.is c.in-Some.ensures
       (c.loop-left.invariant.taken forms stands));
 }

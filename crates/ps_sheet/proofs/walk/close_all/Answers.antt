@@ -19,6 +19,7 @@ loop-cell-preserved c =
     subst (λ xs. ClosesAll xs (shown_at c.args.shown.now) (shown_at c.put.new.self)) (sym longer)
     (closes_more (take i cells) x (shown_at c.args.shown.now) (shown_at c.loop-cell.shown) (shown_at c.put.new.self)
     c.loop-cell.invariant
-    (ap (λ (w : Assignment). w x) c.put.ensures.shown ∙ with_value-here (shown_at c.loop-cell.shown) x (Err Fault.Cycle))
+    (ap (λ (w : Assignment). w x) c.put.ensures.shown ∙ with_value-here (shown_at c.loop-cell.shown) x
+    (Err Fault.Cycle))
     (λ q ne. ap (λ (w : Assignment). w q) c.put.ensures.shown
     ∙ with_value-there (shown_at c.loop-cell.shown) x q (Err Fault.Cycle) ne))

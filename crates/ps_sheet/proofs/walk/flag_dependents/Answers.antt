@@ -17,5 +17,6 @@ returns c =
     c.loop-dependent.yielded _ c.loop-dependent.yielded_by _ _ c.in-None.is c.next.ensures.steps in
     record {
       flagged = λ q. c.loop-dependent.invariant q
-          ∙ ap (λ xs. flag_at c.args.flags.now q || list_any (eqb q) xs) (sym (map-id c.loop-dependent.yielded) ∙ end.0);
+          ∙ ap (λ xs. flag_at c.args.flags.now q || list_any (eqb q) xs)
+          (sym (map-id c.loop-dependent.yielded) ∙ end.0);
     }

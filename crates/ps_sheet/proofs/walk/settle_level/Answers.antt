@@ -22,10 +22,12 @@ loop-cell-preserved g c =
     let f2 = flag_at c.loop-cell.flags in
     elim c.if-settle.branch [
       | then-settle w ↦
-          let part = part_evaluated t list cells i x u u2 (shown_at c.settle.new.shown) f f2 (flag_at c.settle.new.flags)
+          let part = part_evaluated t list cells i x u u2 (shown_at c.settle.new.shown) f f2
+          (flag_at c.settle.new.flags)
           c.loop-cell.evaluated c.loop-cell.invariant.steps c.loop-cell-test.true
           (subst (λ q. f2 q ≡ true) c.cell-item.is (sym w.if-settle.ensures.flagged))
-          (subst (λ q. Shows q (value_of (t q) u2) (list q) u2 (shown_at c.settle.new.shown) f2 (flag_at c.settle.new.flags))
+          (subst (λ q. Shows q (value_of (t q) u2) (list q) u2 (shown_at c.settle.new.shown) f2
+          (flag_at c.settle.new.flags))
           c.cell-item.is w.if-settle.ensures.shows) in
           let is = w.evaluated-is in
           let tick = w.if-settle.ensures.tick in

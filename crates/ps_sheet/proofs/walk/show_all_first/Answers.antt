@@ -27,7 +27,8 @@ loop-cell-preserved c =
     (subst (λ (xs : List (ℕ × Kept)). IsDistinct eqb (map (λ q. q.0) xs)) (sym whole) c.requires.once)) in
     let value : value_kept c.in-Some.kept ≡ first_value (t c.in-Some.cell) =
     All-middle (λ (q : ℕ × Kept). value_kept q.1 ≡ first_value (t q.0)) ys rest e
-    (subst (λ (xs : List (ℕ × Kept)). All (λ q. value_kept q.1 ≡ first_value (t q.0)) xs) (sym whole) c.requires.values) in
+    (subst (λ (xs : List (ℕ × Kept)). All (λ q. value_kept q.1 ≡ first_value (t q.0)) xs) (sym whole)
+    c.requires.values) in
     record {
       begun = subst (λ (xs : List ℕ). BeginsAll t (listed c.args.index.now) xs (shown_at c.args.shown.now)
           (shown_at c.show_first.new.shown) (flag_at c.args.flags.now) (flag_at c.show_first.new.flags))

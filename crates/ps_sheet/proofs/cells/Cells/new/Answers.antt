@@ -15,7 +15,8 @@ returns-clause-whole c =
     record {
       in_grid = subst IsInGrid (sym empty) in_grid_empty;
       settled = subst (λ (s : State). IsSettled s (shown_at c.in_ok-new-3.field-0)) (sym empty)
-          (settled_empty (shown_at c.in_ok-new-3.field-0) (λ q. ap (λ (v : Assignment). v q) c.in_ok-new-3.ensures.empty));
+          (settled_empty (shown_at c.in_ok-new-3.field-0)
+          (λ q. ap (λ (v : Assignment). v q) c.in_ok-new-3.ensures.empty));
       stands = subst (λ (s : State). Stands c.in_ok-new-2.field-0 (forms_of s)) (sym empty)
           (subst (λ (f : Puts). Stands c.in_ok-new-2.field-0 f) (sym forms_empty) c.in_ok-new-2.ensures.empty);
       tidy = record {

@@ -1,4 +1,5 @@
-use Rattle.std.proofs.Common.{◌≡◌, ◌⊎◌, ◌≤◌, ◌+◌, ℕ, Bool, List, [], true, map, length, refl, sym, ap, ◌∙◌, subst, arith}
+use Rattle.std.proofs.Common.{◌≡◌, ◌⊎◌, ◌≤◌, ◌+◌, ℕ, Bool, List, [], true, map, length, refl, sym, ap, ◌∙◌, subst}
+use Rattle.std.proofs.Common.{arith}
 use Rattle.std.specs.Vec.{with_items}
 use Rattle.std.proofs.lemmas.List.{with_items_is}
 use Rattle.ps_grid.specs.Chains.{In, InRegion, IsDepth}
@@ -12,7 +13,8 @@ use Rattle.ps_sheet.specs.Inside.Steps.{flag_at, StepsLevels}
 use Rattle.ps_sheet.specs.Inside.Walk.{formula_at, Begun, ListsCyclic, IsCount, InFrame}
 use Rattle.ps_sheet.proofs.FirstValues.{begun_start}
 use Rattle.ps_sheet.proofs.FoundLevels.{walked_flags, walked_settled, walked_counted, cyclic_counted}
-use Rattle.ps_sheet.proofs.Recalculations.{extra_bounded, outside_yes, outside_no, found_now, may_walk, levels_found, walked_now, cyclic_now, cyclic_room}
+use Rattle.ps_sheet.proofs.Recalculations.{extra_bounded, outside_yes, outside_no, found_now, may_walk, levels_found}
+use Rattle.ps_sheet.proofs.Recalculations.{walked_now, cyclic_now, cyclic_room}
 use Rattle.ps_sheet.proofs.Recalculations.{deepest_now, reached_now}
 use Rattle.ps_sheet.proofs.cells.Cells.recalculate_region.Given.{Over}
 use Rattle.ps_sheet.proofs.cells.Cells.recalculate_region.Goals as goal
@@ -37,7 +39,8 @@ mark-requires-clause-outside_no g c = λ q out cyc.
 
 -- what the marking found, over all references
 found : (g : Over) (c : After-settle_frame-arg-5-1 g)
-    → IsFound (refers_to (state_at c.args.self.now.grid)) (formula_at (state_at c.args.self.now.grid)) c.args.touched.now
+    → IsFound (refers_to (state_at c.args.self.now.grid)) (formula_at (state_at c.args.self.now.grid))
+    c.args.touched.now
     c.mark.new.self
 found g c =
     found_now c.requires.before (state_at c.args.self.now.grid) (shown_at c.args.self.now.shown) c.args.touched.now
@@ -73,7 +76,8 @@ begun_all g c =
     (flag_at c.show_all_first.new.flags)
     (λ q i. let z = (found g c).cyclic_sound q (subst (λ xs. In xs q) c.cyclic.ensures i) in (z.0, z.2))
     (begun_first g c) in
-    subst (λ (xs : List Bool). Begun t v touched touched c.mark.new.self.cyclic (shown_at c.close_all.new.shown) (flag_at xs))
+    subst (λ (xs : List Bool). Begun t v touched touched c.mark.new.self.cyclic (shown_at c.close_all.new.shown)
+    (flag_at xs))
     (sym (flags_first g c))
     (subst (λ (xs : List ℕ). Begun t v touched touched xs (shown_at c.close_all.new.shown)
     (flag_at c.show_all_first.new.flags)) c.cyclic.ensures
@@ -158,7 +162,8 @@ returns-clause-done g c =
     (level_count f + 1) (shown_at c.close_all.new.shown) (shown_at c.settle_frame-evaluated.new.shown) (flag_at xs)
     (flag_at c.settle_frame-evaluated.new.flags) c.settle_frame-evaluated.result) first
     c.settle_frame-evaluated.ensures.settled) in
-    let w2 = with_items (with_items c.args.self.now.flags c.show_all_first.new.flags) c.settle_frame-evaluated.new.flags in
+    let w2 = with_items (with_items c.args.self.now.flags c.show_all_first.new.flags)
+    c.settle_frame-evaluated.new.flags in
     let clean : (with_items w2 c.clear.new.flags).items ≡ c.clear.new.flags =
     with_items_is w2 c.clear.new.flags (c.clear.auto.flags ∙ c.deref_mut-3.ensures.len) in
     let levels = levels_found c.requires.before t v touched c.requires.change c.requires.inside f now in
@@ -171,7 +176,8 @@ returns-clause-done g c =
     record {
       grid = refl;
       index = refl;
-      settled = walked_settled c.requires.before t v touched c.requires.change (level_cells f) (level_count f) levels u3 flags3 n
+      settled = walked_settled c.requires.before t v touched c.requires.change (level_cells f) (level_count f) levels
+          u3 flags3 n
           w f.members now.region_sound now.region_complete;
       tidy = record {
         cyclic = subst (λ (xs : List ℕ). ListsCyclic t xs) (sym c.renew.ensures.items)
@@ -179,10 +185,12 @@ returns-clause-done g c =
             c.args.self.now.cyclic.items c.requires.tidy.cyclic);
         room = omega (arith, old_room, new_room);
         length = ap length clean ∙ c.clear.auto.flags ∙ ap length last ∙ c.settle_frame-evaluated.auto.flags
-            ∙ ap length first ∙ c.show_all_first.auto.flags ∙ ap length c.deref_mut.ensures.value ∙ c.requires.tidy.length;
+            ∙ ap length first ∙ c.show_all_first.auto.flags ∙ ap length c.deref_mut.ensures.value
+            ∙ c.requires.tidy.length;
         off = λ p. ap (λ (xs : List Bool). flag_at xs p) clean ∙ c.clear.ensures.clear p;
       };
-      works = walked_counted c.requires.before t v touched c.requires.change (level_cells f) (level_count f) levels u3 flags3 n
+      works = walked_counted c.requires.before t v touched c.requires.change (level_cells f) (level_count f) levels u3
+          flags3 n
           w f.members now.region_sound now.region_complete;
       closes = subst (λ k. IsCount (λ q. InRegion (refers_to t) touched q × (formula_at t q ≡ true) × Cyclic t q) k)
           (ap length (sym c.cyclic-2.ensures))
@@ -190,6 +198,7 @@ returns-clause-done g c =
       deepest = λ q frame.
           let k = deepest_now c.requires.before t v touched c.requires.change c.requires.inside f now q frame in
           (k.0, k.1, subst (λ m. k.0 ≤ m) top k.2);
-      reached = subst (λ m. (m ≡ 0) ⊎ ((q : ℕ) × InFrame t touched q × IsDepth (refers_to t) (InFrame t touched) q m)) top
+      reached = subst (λ m. (m ≡ 0) ⊎ ((q : ℕ) × InFrame t touched q × IsDepth (refers_to t) (InFrame t touched) q m))
+          top
           (reached_now c.requires.before t v touched c.requires.change c.requires.inside f now);
     }

@@ -42,7 +42,8 @@ recalculate-work-requires g c =
     c.deref.result.now c.in_ok-change.change.first.items w.in_grid w.settled
     (record { cyclic = w.tidy.cyclic; room = w.tidy.room; length = w.tidy.length; off = w.tidy.off })
     (c.in_ok-change.ensures.put (forms_of (state_at c.args.self.now.grid)) w.stands)
-    c.in_ok-change.ensures.raised (given_of (state_at c.args.self.now.grid) (state_at c.begin.new.grid) (state_at c.exchange.new.self)
+    c.in_ok-change.ensures.raised
+    (given_of (state_at c.args.self.now.grid) (state_at c.begin.new.grid) (state_at c.exchange.new.self)
     c.in_ok-change.change.raised.items c.deref_mut.result.now c.exchange.ensures.given c.begin.ensures.same
     c.deref_mut.ensures.value)
     (c.deref.ensures.value ∙ c.in_ok-change.ensures.touched)
@@ -56,7 +57,8 @@ take_formulas-requires g c =
         (old_formulas_of (state_at c.args.self.now.grid) (state_at c.begin.new.grid) c.in_ok-change.change.raised.items
             c.deref_mut.result.now c.deref-2.result.now c.begin.new.index c.recalculate-work.new.self.index
             (c.deref-2.ensures.value
-            ∙ (with_items_is c.in_ok-change.change.raised c.exchange.new.cells (c.exchange.auto.cells ∙ c.deref_mut.ensures.len)
+            ∙ (with_items_is c.in_ok-change.change.raised c.exchange.new.cells
+            (c.exchange.auto.cells ∙ c.deref_mut.ensures.len)
             ∙ c.exchange.ensures.taken))
             c.begin.ensures.same c.deref_mut.ensures.value c.recalculate-work.ensures.done.index
             c.in_ok-change.ensures.raised.ascending
@@ -70,21 +72,26 @@ returns-clause-whole g c =
     let same : state_at c.exchange.new.self ≡ state_at c.recalculate-work.new.self.grid =
     ap state_at (sym did.grid) in
     record {
-      in_grid = subst IsInGrid ((sym (given_of (state_at c.args.self.now.grid) (state_at c.begin.new.grid) (state_at c.exchange.new.self)
+      in_grid = subst IsInGrid
+          ((sym (given_of (state_at c.args.self.now.grid) (state_at c.begin.new.grid) (state_at c.exchange.new.self)
           c.in_ok-change.change.raised.items c.deref_mut.result.now c.exchange.ensures.given c.begin.ensures.same
           c.deref_mut.ensures.value)) ∙ same)
           (after_in_grid (state_at c.args.self.now.grid) (state_of c.args.delta.now) (shown_at c.args.self.now.shown)
           c.in_ok-change.change.raised.items c.requires.whole.in_grid c.requires.whole.settled
           c.in_ok-change.ensures.raised);
       settled = subst (λ (t : State). IsSettled t (shown_at c.recalculate-work.new.self.shown)) same did.settled;
-      stands = subst (λ (t : State). Stands c.take_formulas.new.index (forms_of t)) (sym (given_of (state_at c.args.self.now.grid) (state_at c.begin.new.grid) (state_at c.exchange.new.self)
+      stands = subst (λ (t : State). Stands c.take_formulas.new.index (forms_of t))
+          (sym (given_of (state_at c.args.self.now.grid) (state_at c.begin.new.grid) (state_at c.exchange.new.self)
           c.in_ok-change.change.raised.items c.deref_mut.result.now c.exchange.ensures.given c.begin.ensures.same
           c.deref_mut.ensures.value) ∙ same)
           (c.take_formulas.ensures.taken
-          (forms_of (overlaid (state_at c.args.self.now.grid) c.in_ok-change.change.raised.items)) (old_formulas_of (state_at c.args.self.now.grid) (state_at c.begin.new.grid) c.in_ok-change.change.raised.items
+          (forms_of (overlaid (state_at c.args.self.now.grid) c.in_ok-change.change.raised.items))
+          (old_formulas_of (state_at c.args.self.now.grid) (state_at c.begin.new.grid)
+          c.in_ok-change.change.raised.items
           c.deref_mut.result.now c.deref-2.result.now c.begin.new.index c.recalculate-work.new.self.index
           (c.deref-2.ensures.value
-          ∙ (with_items_is c.in_ok-change.change.raised c.exchange.new.cells (c.exchange.auto.cells ∙ c.deref_mut.ensures.len)
+          ∙ (with_items_is c.in_ok-change.change.raised c.exchange.new.cells
+          (c.exchange.auto.cells ∙ c.deref_mut.ensures.len)
           ∙ c.exchange.ensures.taken))
           c.begin.ensures.same c.deref_mut.ensures.value c.recalculate-work.ensures.done.index
           c.in_ok-change.ensures.raised.ascending
@@ -109,7 +116,8 @@ returns-clause-work g c =
       flags = c.args.self.now.flags;
     })
     c.recalculate-work.new.self c.deref.result.now c.recalculate-work.result.evaluated c.recalculate-work.result.cyclic
-    c.recalculate-work.result.levels c.in_ok-change.ensures.raised (given_of (state_at c.args.self.now.grid) (state_at c.begin.new.grid) (state_at c.exchange.new.self)
+    c.recalculate-work.result.levels c.in_ok-change.ensures.raised
+    (given_of (state_at c.args.self.now.grid) (state_at c.begin.new.grid) (state_at c.exchange.new.self)
     c.in_ok-change.change.raised.items c.deref_mut.result.now c.exchange.ensures.given c.begin.ensures.same
     c.deref_mut.ensures.value)
     (c.deref.ensures.value ∙ c.in_ok-change.ensures.touched)
