@@ -10,7 +10,7 @@ CRATES = """\
 # A line for each crate, lowest first: its name, then the libraries that it stands on.
 low:
 aside: low
-middle: itoa low
+middle tests_may=Threads: itoa low
 sheet: clap middle low
 """
 # What stands in for the tool says on both of its outputs what the tool says, and makes a program that tells its words.

@@ -99,6 +99,16 @@ class Workers(ProgramTest):
             with self.subTest(workers=workers):
                 self.assert_session(given, replies, "--workers", workers)
 
+    def test_a_wide_level_shows_the_same(self):
+        names = [f"{column}{row}" for row in range(2, 802) for column in "ABCDEFGHIJKLMNOPQRSTUVWXYZ"]
+        given = lines(*(f"set {name} =[.A1]+{number}" for number, name in enumerate(names)), "set A1 5", "rows A1:Z801")
+        empty = "," * 25
+        shown = [",".join(str(5 + row * 26 + column) for column in range(26)) for row in range(800)]
+        replies = lines(*(f"ok {version}" for version in range(1, 20802)), "rows 801", f"5{empty}", *shown)
+        for workers in ("1", "2", "16"):
+            with self.subTest(workers=workers):
+                self.assert_session(given, replies, "--workers", workers)
+
 
 class Blocks(ProgramTest):
     """More replies to one block of input than a pipe, and what waits in the program, can hold."""

@@ -17,9 +17,11 @@ use ps_grid::{Cell, Refusal};
 use ps_sheet::{Batch, Edit, Sheet};
 use std::alloc::Global;
 use std::sync::ledger::Ledger;
+use std::thread::Threads;
 
 /// Assigns the contents of each record, one record after another.
-pub(crate) fn apply<L: Ledger>(
+pub(crate) fn apply<R: Threads + Sync, L: Ledger>(
+    rt: &R,
     alloc: Global,
     batches: Vec<Vec<(Cell, Content)>>,
     sheet: &mut Sheet,
@@ -40,7 +42,7 @@ pub(crate) fn apply<L: Ledger>(
 {
     let mut applied = 0;
     for cells in batches {
-        match assign(alloc, cells, sheet, meter) {
+        match assign(rt, alloc, cells, sheet, meter) {
             Ok(()) => {}
             Err(refusal) => {
                 return Err(ImportFault {
@@ -56,7 +58,8 @@ pub(crate) fn apply<L: Ledger>(
 }
 
 /// Assigns the contents of one record by one edit, if it has any.
-fn assign<L: Ledger>(
+fn assign<R: Threads + Sync, L: Ledger>(
+    rt: &R,
     alloc: Global,
     cells: Vec<(Cell, Content)>,
     sheet: &mut Sheet,
@@ -74,7 +77,7 @@ fn assign<L: Ledger>(
     ensures unmetered { OnErr result (meter.new ≡ meter.old) }
 {
     match Batch::new(cells) {
-        Some(batch) => match sheet.edit(alloc, Edit::SetAll(batch), meter) {
+        Some(batch) => match sheet.edit(rt, alloc, Edit::SetAll(batch), meter) {
             Ok(_) => Ok(()),
             Err(refusal) => Err(refusal),
         },

@@ -21,6 +21,7 @@ use ps_grid::Refusal;
 use ps_sheet::Sheet;
 use std::alloc::Global;
 use std::sync::ledger::Ledger;
+use std::thread::Threads;
 
 /// What was taken in.
 #[derive(Clone, Copy, Debug, PartialEq, Eq)]
@@ -46,7 +47,8 @@ pub struct Imported {
 ///
 /// Cost: b + e, for b bytes of the source and the cost e of an edit for each record with a field that isn't empty;
 /// memory for b bytes and their contents.
-pub fn import<S: Source, L: Ledger>(
+pub fn import<R: Threads + Sync, S: Source, L: Ledger>(
+    rt: &R,
     alloc: Global,
     source: &mut S,
     sheet: &mut Sheet,
@@ -80,7 +82,7 @@ pub fn import<S: Source, L: Ledger>(
     };
     let Table { batches, fields } = table;
     let records = batches.len();
-    match apply(alloc, batches, sheet, meter) {
+    match apply(rt, alloc, batches, sheet, meter) {
         Ok(()) => Ok(Imported { records, fields }),
         Err(fault) => Err(fault),
     }

@@ -13,6 +13,7 @@ use std::alloc::Global;
 use std::marker::Brand;
 use std::sync::ledger::{Blank, Ledger};
 use std::test::Fail;
+use std::thread::Threads;
 
 /// So many line feeds.
 #[derive(Drop)]
@@ -67,7 +68,8 @@ struct ImportEnd {
 }
 
 /// Takes a table in, with a meter of its own.
-fn taken<S: Source, L: Ledger>(
+fn taken<R: Threads + Sync, S: Source, L: Ledger>(
+    rt: &R,
     blank: Blank,
     alloc: Global,
     source: &mut S,
@@ -76,7 +78,7 @@ fn taken<S: Source, L: Ledger>(
     requires { IsBlankOf blank L.name L.parts }
 {
     let mut meter = Meter::<L>::new(blank);
-    import(alloc, source, sheet, &mut meter)
+    import(rt, alloc, source, sheet, &mut meter)
 }
 
 /// The refusal of a fault, and how many records stand.
@@ -85,29 +87,34 @@ fn refused(fault: ImportFault) -> (Refusal, usize) {
 }
 
 /// Takes a table in, over a ledger of its own.
-fn take_from<S: Source>(
+fn take_from<R: Threads + Sync, S: Source>(
+    rt: &R,
     alloc: Global,
     source: &mut S,
     sheet: &mut Sheet,
 ) -> Result<Imported, (Refusal, usize)> {
-    match taken::<S, Brand>(Blank::new(1), alloc, source, sheet) {
+    match taken::<R, S, Brand>(rt, Blank::new(1), alloc, source, sheet) {
         Ok(imported) => Ok(imported),
         Err(fault) => Err(refused(fault)),
     }
 }
 
 /// How the import of a source's table into an empty sheet ends.
-fn end_from<S: Source>(alloc: Global, source: &mut S) -> Result<ImportEnd, Refusal> {
+fn end_from<R: Threads + Sync, S: Source>(
+    rt: &R,
+    alloc: Global,
+    source: &mut S,
+) -> Result<ImportEnd, Refusal> {
     let mut sheet = Sheet::open(alloc, 1, 1)?;
-    let import = take_from(alloc, source, &mut sheet);
+    let import = take_from(rt, alloc, source, &mut sheet);
     let version = sheet.version();
     Ok(ImportEnd { import, version })
 }
 
 /// How the import of a text into an empty sheet ends.
-fn end_of(alloc: Global, text: &[u8]) -> Result<ImportEnd, Refusal> {
+fn end_of<R: Threads + Sync>(rt: &R, alloc: Global, text: &[u8]) -> Result<ImportEnd, Refusal> {
     let mut source = MemorySource::new(text);
-    end_from(alloc, &mut source)
+    end_from(rt, alloc, &mut source)
 }
 
 /// A table of so many records, the widest with so many fields, by so many edits.
@@ -134,23 +141,40 @@ fn table_of(alloc: Global, sheet: &Sheet, last: &str) -> Result<Vec<u8>, Refusal
 }
 
 /// Takes a text in; then the sheet from A1 to a cell, as a table.
-fn shown_on(alloc: Global, sheet: &mut Sheet, text: &[u8], last: &str) -> Result<Vec<u8>, Refusal> {
+fn shown_on<R: Threads + Sync>(
+    rt: &R,
+    alloc: Global,
+    sheet: &mut Sheet,
+    text: &[u8],
+    last: &str,
+) -> Result<Vec<u8>, Refusal> {
     let mut source = MemorySource::new(text);
-    match take_from(alloc, &mut source, sheet) {
+    match take_from(rt, alloc, &mut source, sheet) {
         Ok(_) => table_of(alloc, sheet, last),
         Err((refusal, _)) => Err(refusal),
     }
 }
 
 /// The table that a text gives, as the sheet shows it from A1 to a cell.
-fn shown(alloc: Global, text: &[u8], last: &str) -> Result<Vec<u8>, Refusal> {
+fn shown<R: Threads + Sync>(
+    rt: &R,
+    alloc: Global,
+    text: &[u8],
+    last: &str,
+) -> Result<Vec<u8>, Refusal> {
     let mut sheet = Sheet::open(alloc, 1, 1)?;
-    shown_on(alloc, &mut sheet, text, last)
+    shown_on(rt, alloc, &mut sheet, text, last)
 }
 
 /// Whether the table that a text gives is shown so from A1 to a cell.
-fn shows(alloc: Global, text: &[u8], last: &str, want: &[u8]) -> Result<bool, Refusal> {
-    Ok(shown(alloc, text, last)?.as_slice() == want)
+fn shows<R: Threads + Sync>(
+    rt: &R,
+    alloc: Global,
+    text: &[u8],
+    last: &str,
+    want: &[u8],
+) -> Result<bool, Refusal> {
+    Ok(shown(rt, alloc, text, last)?.as_slice() == want)
 }
 
 /// A part so many times, and then an end.
@@ -164,18 +188,20 @@ fn repeated(alloc: Global, part: &[u8], count: usize, end: &[u8]) -> Result<Vec<
 }
 
 /// How the import of a text of `repeated` ends.
-fn end_of_repeated(
+fn end_of_repeated<R: Threads + Sync>(
+    rt: &R,
     alloc: Global,
     part: &[u8],
     count: usize,
     end: &[u8],
 ) -> Result<ImportEnd, Refusal> {
     let text = repeated(alloc, part, count, end)?;
-    end_of(alloc, &text)
+    end_of(rt, alloc, &text)
 }
 
 /// Whether a text of `repeated` is shown so at A1.
-fn repeated_shows(
+fn repeated_shows<R: Threads + Sync>(
+    rt: &R,
     alloc: Global,
     part: &[u8],
     count: usize,
@@ -183,14 +209,14 @@ fn repeated_shows(
     want: &[u8],
 ) -> Result<bool, Refusal> {
     let text = repeated(alloc, part, count, end)?;
-    shows(alloc, &text, "A1", want)
+    shows(rt, alloc, &text, "A1", want)
 }
 
 /// Fields are entries, and a value with a comma is quoted on the way out.
 #[test]
 fn fields_are_entries(rt: HostRuntime) -> Result<(), Fail> {
     let text = b"2,=[.A1]*3\n\"x,y\",@tally\n";
-    assert!(rt; shows(rt.alloc(), text, "B2", b"2,6\n\"x,y\",0\n")?);
+    assert!(rt; shows(&rt, rt.alloc(), text, "B2", b"2,6\n\"x,y\",0\n")?);
     Ok(())
 }
 
@@ -198,8 +224,8 @@ fn fields_are_entries(rt: HostRuntime) -> Result<(), Fail> {
 #[test]
 fn an_empty_field_leaves_its_cell(rt: HostRuntime) -> Result<(), Fail> {
     let text = b"1,,3\n,,\n=[.A1]+[.C1]\n";
-    assert!(rt; end_of(rt.alloc(), text)? == whole(3, 3, 2));
-    assert!(rt; shows(rt.alloc(), text, "C3", b"1,,3\n,,\n4,,\n")?);
+    assert!(rt; end_of(&rt, rt.alloc(), text)? == whole(3, 3, 2));
+    assert!(rt; shows(&rt, rt.alloc(), text, "C3", b"1,,3\n,,\n4,,\n")?);
     Ok(())
 }
 
@@ -224,7 +250,7 @@ fn tables_of_other_programs(rt: HostRuntime) -> Result<(), Fail> {
         (b"1\n\"\"\n2\n", "A3", b"1\n\"\"\n2\n"),
         (b"1,\"a, b", "B1", b"1,\"a, b\"\n"),
     ] {
-        assert!(rt; shows(rt.alloc(), text, last, want)?, "to {last}");
+        assert!(rt; shows(&rt, rt.alloc(), text, last, want)?, "to {last}");
     }
     Ok(())
 }
@@ -243,7 +269,7 @@ fn a_fault_anywhere_leaves_the_sheet(rt: HostRuntime) -> Result<(), Fail> {
         (b"7\n", 1_000, b"=bad\n", Refusal::Formula),
         (b"7\n", 1_025, b"", Refusal::Csv),
     ] {
-        let ended = end_of_repeated(rt.alloc(), part, count, end)?;
+        let ended = end_of_repeated(&rt, rt.alloc(), part, count, end)?;
         assert!(rt; ended == untouched(refusal), "{refusal:?}");
     }
     Ok(())
@@ -253,10 +279,10 @@ fn a_fault_anywhere_leaves_the_sheet(rt: HostRuntime) -> Result<(), Fail> {
 #[test]
 fn the_most_that_is_taken(rt: HostRuntime) -> Result<(), Fail> {
     let alloc = rt.alloc();
-    assert!(rt; repeated_shows(alloc, b"0", 511, b"7", b"7\n")?);
-    assert!(rt; repeated_shows(alloc, b",", 103, b"", b"\"\"\n")?);
-    assert!(rt; end_of_repeated(alloc, b",", 103, b"")? == whole(1, 104, 0));
-    assert!(rt; end_of_repeated(alloc, b"7\n", 1_024, b"")? == whole(1_024, 1, 1_024));
+    assert!(rt; repeated_shows(&rt, alloc, b"0", 511, b"7", b"7\n")?);
+    assert!(rt; repeated_shows(&rt, alloc, b",", 103, b"", b"\"\"\n")?);
+    assert!(rt; end_of_repeated(&rt, alloc, b",", 103, b"")? == whole(1, 104, 0));
+    assert!(rt; end_of_repeated(&rt, alloc, b"7\n", 1_024, b"")? == whole(1_024, 1, 1_024));
     Ok(())
 }
 
@@ -267,21 +293,25 @@ fn a_source_that_fails(rt: HostRuntime) -> Result<(), Fail> {
         source: MemorySource::new(b"1,2\n=bad,"),
         failed: false,
     };
-    assert!(rt; end_from(rt.alloc(), &mut fails)? == untouched(Refusal::Device));
+    assert!(rt; end_from(&rt, rt.alloc(), &mut fails)? == untouched(Refusal::Device));
     Ok(())
 }
 
 /// How the import of so many line feeds ends.
-fn end_of_line_feeds(alloc: Global, count: usize) -> Result<ImportEnd, Refusal> {
+fn end_of_line_feeds<R: Threads + Sync>(
+    rt: &R,
+    alloc: Global,
+    count: usize,
+) -> Result<ImportEnd, Refusal> {
     let mut source = LineFeeds { left: count };
-    end_from(alloc, &mut source)
+    end_from(rt, alloc, &mut source)
 }
 
 /// 68,157,440 line feeds are a table with no record; one more is `Csv`, and so is a source that never seems to end.
 #[test]
 fn the_longest_table(rt: HostRuntime) -> Result<(), Fail> {
-    assert!(rt; end_of_line_feeds(rt.alloc(), 68_157_440)? == whole(0, 0, 0));
-    assert!(rt; end_of_line_feeds(rt.alloc(), 68_157_441)? == untouched(Refusal::Csv));
-    assert!(rt; end_of_line_feeds(rt.alloc(), usize::MAX)? == untouched(Refusal::Csv));
+    assert!(rt; end_of_line_feeds(&rt, rt.alloc(), 68_157_440)? == whole(0, 0, 0));
+    assert!(rt; end_of_line_feeds(&rt, rt.alloc(), 68_157_441)? == untouched(Refusal::Csv));
+    assert!(rt; end_of_line_feeds(&rt, rt.alloc(), usize::MAX)? == untouched(Refusal::Csv));
     Ok(())
 }

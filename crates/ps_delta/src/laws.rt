@@ -1,6 +1,12 @@
 //! Laws of joins, of states and of histories: what holds whatever the deltas are.
 
+ghost use Rattle.std.specs.Thread.{IsSync};
 ghost use Rattle.ps_delta.specs.Laws.{CoveredChangesNothing, GroupsJoin, HistoryIsASet, StatesJoin};
+ghost use Rattle.ps_delta.specs.contracts.grid.Grid as grid;
+
+use crate::block::Block;
+use crate::cell_state::CellState;
+use crate::grid::Grid;
 
 /// States are joined in any order, in any groups and again with the same result, and the empty state adds nothing.
 ///
@@ -29,3 +35,19 @@ pub fn groups_join()
 pub fn covered_changes_nothing()
     ensures { CoveredChangesNothing }
 {}
+
+/// A type whose values several threads may look at together.
+fn shares<T: Sync>()
+    ensures { IsSync T.row }
+{}
+
+/// Several threads may look at one grid together.
+///
+/// Cost: none.
+pub fn grids_are_shared()
+    ensures { IsSync grid.the_row }
+{
+    shares::<CellState>();
+    shares::<Block>();
+    shares::<Grid>();
+}

@@ -32,7 +32,9 @@ mod touched;
 pub use cell_state::CellState;
 pub use delta::Delta;
 pub use grid::Grid;
-pub use laws::{covered_changes_nothing, groups_join, history_is_a_set, states_join};
+pub use laws::{
+    covered_changes_nothing, grids_are_shared, groups_join, history_is_a_set, states_join,
+};
 pub use touched::Touched;
 
 #[cfg(test)]

@@ -21,22 +21,30 @@ use ps_sheet::{Edit, Sheet};
 use std::alloc::Global;
 use std::sync::Arc;
 use std::sync::ledger::Ledger;
+use std::thread::Threads;
 
 impl<L: Ledger> Board<Meter<L>> for Sheet {
     ghost use Rattle.ps_session.specs.Answers.{Answers};
 
     ghost answers = { Answers };
 
-    fn answer(&mut self, alloc: Global, line: &[u8], lent: &mut Meter<L>) -> Reply {
+    fn answer<R: Threads + Sync>(
+        &mut self,
+        rt: &R,
+        alloc: Global,
+        line: &[u8],
+        lent: &mut Meter<L>,
+    ) -> Reply {
         match Command::read(alloc, line) {
-            Ok(command) => obey(alloc, command, self, lent),
+            Ok(command) => obey(rt, alloc, command, self, lent),
             Err(refusal) => Reply::Refused(refusal),
         }
     }
 }
 
 /// Does what a command asks for, or nothing, out of memory, where that takes some.
-fn obey<L: Ledger>(
+fn obey<R: Threads + Sync, L: Ledger>(
+    rt: &R,
     alloc: Global,
     command: Command,
     sheet: &mut Sheet,
@@ -48,23 +56,29 @@ fn obey<L: Ledger>(
     ensures replica { sheet.new.replica ≡ sheet.old.replica }
 {
     match command {
-        Command::Edit(edit) => carry_out(alloc, edit, sheet, meter),
+        Command::Edit(edit) => carry_out(rt, alloc, edit, sheet, meter),
         Command::Get(cell) => Reply::Shown(sheet.shown(cell)),
         Command::Rows(first, last) => show_table(alloc, Rect::new(first, last), sheet),
         Command::Pull { from, most } => hand_out(alloc, from, most.unwrap_or(1) as usize, sheet),
-        Command::Push(delta) => take_in(alloc, delta, sheet, meter),
+        Command::Push(delta) => take_in(rt, alloc, delta, sheet, meter),
     }
 }
 
 /// Carries out an edit: the reply has the new version, or the refusal.
-fn carry_out<L: Ledger>(alloc: Global, edit: Edit, sheet: &mut Sheet, meter: &mut Meter<L>) -> Reply
+fn carry_out<R: Threads + Sync, L: Ledger>(
+    rt: &R,
+    alloc: Global,
+    edit: Edit,
+    sheet: &mut Sheet,
+    meter: &mut Meter<L>,
+) -> Reply
     ensures edited { Edited (delta_of_edit sheet.old.replica (joined_history sheet.old.history) edit) sheet.old.history
         (reply_text result) sheet.new.history
         ⊎ (IsOk (delta_of_edit sheet.old.replica (joined_history sheet.old.history) edit)
         × (reply_text result ≡ refusal_text Refusal.Memory) × (sheet.new.history ≡ sheet.old.history)) }
     ensures replica { sheet.new.replica ≡ sheet.old.replica }
 {
-    match sheet.edit(alloc, edit, meter) {
+    match sheet.edit(rt, alloc, edit, meter) {
         Ok(report) => Reply::Done(report.version),
         Err(refusal) => Reply::Refused(refusal),
     }
@@ -85,7 +99,13 @@ fn show_table(alloc: Global, rect: Rect, sheet: &Sheet) -> Reply
 }
 
 /// Accepts a delta made elsewhere: the reply has the new version.
-fn take_in<L: Ledger>(alloc: Global, delta: Delta, sheet: &mut Sheet, meter: &mut Meter<L>) -> Reply
+fn take_in<R: Threads + Sync, L: Ledger>(
+    rt: &R,
+    alloc: Global,
+    delta: Delta,
+    sheet: &mut Sheet,
+    meter: &mut Meter<L>,
+) -> Reply
     ensures taken { (Takes delta sheet.old.history sheet.new.history
         × (reply_text result ≡ done_text (length sheet.new.history)))
         ⊎ ((reply_text result ≡ refusal_text Refusal.Memory) × (sheet.new.history ≡ sheet.old.history)) }
@@ -95,7 +115,7 @@ fn take_in<L: Ledger>(alloc: Global, delta: Delta, sheet: &mut Sheet, meter: &mu
         Ok(pushed) => pushed,
         Err(_) => return Reply::Refused(Refusal::Memory),
     };
-    match sheet.receive(alloc, pushed, meter) {
+    match sheet.receive(rt, alloc, pushed, meter) {
         Ok(taken) => Reply::Done(taken.version),
         Err(refusal) => Reply::Refused(refusal),
     }

@@ -13,9 +13,11 @@ use std::io::Read;
 use std::marker::Brand;
 use std::sync::ledger::{Blank, Ledger};
 use std::test::Fail;
+use std::thread::Threads;
 
 /// What a new sheet of replica 1 answers.
-fn answered<S: Source, K: Ledger, L: Ledger>(
+fn answered<R: Threads + Sync, S: Source, K: Ledger, L: Ledger>(
+    rt: &R,
     alloc: Global,
     source: &mut S,
     output: Blank,
@@ -27,7 +29,7 @@ fn answered<S: Source, K: Ledger, L: Ledger>(
     let mut sheet = Sheet::open(alloc, 1, 1)?;
     let mut meter = Meter::<L>::new(count);
     let mut sink = MemorySink::<K>::new(alloc, output);
-    run(alloc, source, &mut sink, &mut sheet, &mut meter).map_err(|_| Refusal::Device)?;
+    run(rt, alloc, source, &mut sink, &mut sheet, &mut meter).map_err(|_| Refusal::Device)?;
     let MemorySink { bytes, failed } = sink;
     drop(failed);
     Ok(bytes)
@@ -49,11 +51,22 @@ impl Read for Trickle<'_> {
 }
 
 /// .. where a byte comes at a time.
-fn answered_slowly<J: Ledger>(alloc: Global, input: Blank, text: &[u8]) -> Result<Vec<u8>, Refusal>
+fn answered_slowly<R: Threads + Sync, J: Ledger>(
+    rt: &R,
+    alloc: Global,
+    input: Blank,
+    text: &[u8],
+) -> Result<Vec<u8>, Refusal>
     requires { IsBlankOf input J.name J.parts }
 {
     let mut source = Reading::<Trickle, J>::new(Trickle(text), input);
-    answered::<Reading<Trickle, J>, Brand, Brand>(alloc, &mut source, Blank::new(1), Blank::new(1))
+    answered::<R, Reading<Trickle, J>, Brand, Brand>(
+        rt,
+        alloc,
+        &mut source,
+        Blank::new(1),
+        Blank::new(1),
+    )
 }
 
 /// Lines are carried out one after another and each is answered, in whatever pieces they come; an empty line isn't.
@@ -80,14 +93,15 @@ fn lines_are_answered(rt: HostRuntime) -> Result<(), Fail> {
         ),
     ] {
         let mut source = MemorySource::new(text);
-        let found = answered::<MemorySource, Brand, Brand>(
+        let found = answered::<_, MemorySource, Brand, Brand>(
+            &rt,
             alloc,
             &mut source,
             Blank::new(1),
             Blank::new(1),
         );
         assert!(rt; found.ok().ok_or("no fault")?.as_slice() == replies);
-        let found = answered_slowly::<Brand>(alloc, Blank::new(1), text);
+        let found = answered_slowly::<_, Brand>(&rt, alloc, Blank::new(1), text);
         assert!(rt; found.ok().ok_or("no fault")?.as_slice() == replies);
     }
     Ok(())

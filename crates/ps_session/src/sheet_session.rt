@@ -13,6 +13,7 @@ use ps_eval::Meter;
 use ps_sheet::Sheet;
 use std::alloc::Global;
 use std::sync::ledger::Ledger;
+use std::thread::Threads;
 
 /// Answers each line of a source on a sink by a sheet, to the end of the input, and returns how many lines had a reply;
 /// 2^64 - 1 stands for more.
@@ -23,7 +24,8 @@ use std::sync::ledger::Ledger;
 /// Where each delta of the history has a line, as in an empty one, it stays so, and no pull is refused as too long.
 ///
 /// Cost: that of the lines, and the room of one line.
-pub fn run<S: Source, K: Sink, L: Ledger>(
+pub fn run<R: Threads + Sync, S: Source, K: Sink, L: Ledger>(
+    rt: &R,
     alloc: Global,
     source: &mut S,
     sink: &mut K,
@@ -53,7 +55,7 @@ pub fn run<S: Source, K: Sink, L: Ledger>(
     ensures sink_failed { result ≡ Err RunFault.Sink → K.failures sink.old < K.failures sink.new }
     ensures source_failed { result ≡ Err RunFault.Source → S.failures source.old < S.failures source.new }
 {
-    let answered = talk(alloc, source, sink, sheet, meter);
+    let answered = talk(rt, alloc, source, sink, sheet, meter);
     // The call brings that the sheet is one still (`IsSheet`).
     let _ = sheet.version();
     answered

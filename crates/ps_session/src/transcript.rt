@@ -17,10 +17,13 @@ use crate::session::{Line, Session};
 use ps_device::{Failed, PIECE_BYTES, Sink, Source, hand_on};
 use ps_grid::Refusal;
 use std::alloc::Global;
+use std::thread::Threads;
 
 /// A session under way: the line that is being read, and how many lines had a reply.
 #[derive(Drop)]
-struct Exchange {
+struct Exchange<'a, R> {
+    /// What a board starts threads by.
+    rt: &'a R,
     /// What memory is taken from.
     alloc: Global,
     /// The line that is being read.
@@ -29,7 +32,7 @@ struct Exchange {
     answered: u64,
 }
 
-impl Exchange {
+impl<R: Threads + Sync> Exchange<'_, R> {
     /// Answers the line that has ended, which isn't too long; an empty one has no reply.
     fn answer<B: Board<M>, M, K: Sink>(
         &mut self,
@@ -50,7 +53,7 @@ impl Exchange {
         if line.is_empty() {
             return Ok(());
         }
-        let reply = board.answer(self.alloc, line, lent);
+        let reply = board.answer(self.rt, self.alloc, line, lent);
         match send(&reply, sink) {
             Ok(()) => {}
             Err(failed) => return Err(failed),
@@ -185,8 +188,8 @@ pub enum RunFault {
 }
 
 /// Reads the source to its end, and answers each line that ends there.
-fn read_on<S: Source, B: Board<M>, M, K: Sink>(
-    exchange: &mut Exchange,
+fn read_on<R: Threads + Sync, S: Source, B: Board<M>, M, K: Sink>(
+    exchange: &mut Exchange<R>,
     source: &mut S,
     board: &mut B,
     lent: &mut M,
@@ -246,7 +249,8 @@ fn read_on<S: Source, B: Board<M>, M, K: Sink>(
 ///
 /// Cost: O(n) in the n bytes of the input and the replies, what the board takes for each line, and the room of one
 /// line.
-pub fn talk<S: Source, B: Board<M>, M, K: Sink>(
+pub fn talk<R: Threads + Sync, S: Source, B: Board<M>, M, K: Sink>(
+    rt: &R,
     alloc: Global,
     source: &mut S,
     sink: &mut K,
@@ -278,6 +282,7 @@ pub fn talk<S: Source, B: Board<M>, M, K: Sink>(
         Err(_) => return Err(RunFault::Memory),
     };
     let mut exchange = Exchange {
+        rt,
         alloc,
         session,
         answered: 0,

@@ -14,6 +14,7 @@ pub mod FoundLevels
 pub mod FreshCells
 pub mod FreshEdits
 pub mod IdleChanges
+pub mod LevelSteps
 pub mod ListedCells
 pub mod ListedFormulas
 pub mod Puts

@@ -8,7 +8,6 @@ use Rattle.ps_eval.specs.Number.{Number}
 use Rattle.ps_eval.specs.Value.{ev, number_of, shown_as}
 use Rattle.ps_formula.specs.Tree.{Tree}
 use Rattle.ps_shown.specs.Shown.{with_value}
-use Rattle.ps_sheet.specs.Inside.Steps.{is_text}
 use Rattle.ps_sheet.specs.Inside.Walk.{Shows}
 use Rattle.std.specs.Prelude.{Ok, Err}
 
@@ -31,11 +30,3 @@ shows_put x y listed u u2 flags flags2 is spread = record {
   others = λ c ne. ap (λ (w : Assignment). w c) is ∙ with_value-there u x c y ne;
   spread = spread;
 }
-
-no_text : (n : Number) → is_text (shown_as n) ≡ false
-no_text (Ok n) = refl
-no_text (Err fault) = refl
-
--- the value of a formula is never a text
-pub ev-no_text : (t : Tree) (v : Assignment) → is_text (ev t v) ≡ false
-ev-no_text t v = no_text (number_of t v)

@@ -3,6 +3,7 @@ use Rattle.std.proofs.Common.{◌≡◌, ◌≢◌, ℕ, Bool, ◌+◌, ◌<◌,
 use Rattle.std.proofs.Common.{get_or, refl, sym, ◌∙◌, arith, ⊎_elim, subst}
 use Rattle.std.proofs.lemmas.List.{take_all}
 use Rattle.ps_grid.specs.Chains.{In}
+use Rattle.ps_grid.specs.declared.size.TheConstants.{CELLS}
 use Rattle.ps_value.specs.declared.value.Value.{Value}
 use Rattle.ps_value.specs.declared.value.Value.TheVariants.{Err}
 use Rattle.ps_value.specs.declared.value.Fault.{Fault}
@@ -16,6 +17,7 @@ use Rattle.ps_sheet.specs.Inside.Waiting.{first_by, first_value, is_formula}
 use Rattle.ps_sheet.specs.Inside.Walk.{formula_at, Shows, Begun, Walked, IsPassed}
 use Rattle.ps_sheet.specs.Inside.Steps.{IsFirst, BeginsAll, ClosesAll, Road, StepsLevel, MayWalk, StepsLevels}
 use Rattle.ps_sheet.proofs.SettledValues.{true_not_false, formula_below}
+use Rattle.ps_sheet.proofs.CellCounts.{distinct_below_cells}
 use Rattle.ps_sheet.proofs.ListedCells.{In-pushed, In-end, In-place}
 use Rattle.ps_sheet.proofs.FirstValues.{begun_plain, begun_formula, begun_cycle}
 use Rattle.ps_sheet.proofs.WalkLevels.{levels_start, levels_next, levels_evaluate, levels_quiet}
@@ -147,3 +149,10 @@ pub level_formula : (t : State) (listed level : ℕ → List ℕ) (top : ℕ) (u
     → MayWalk t listed level top u flags → (k : ℕ) → 0 < k → k ≤ top
     → (c : ℕ) → In (level k) c → formula_at t c ≡ true
 level_formula t listed level top u flags may k some within c i = (may.2.levels.sound k c some within i).1
+
+-- a level has no more cells than the grid
+pub level_few : (t : State) (listed level : ℕ → List ℕ) (top : ℕ) (u : Assignment) (flags : ℕ → Bool)
+    → MayWalk t listed level top u flags → (k : ℕ) → 0 < k → k ≤ top → length (level k) ≤ CELLS
+level_few t listed level top u flags may k some within =
+    distinct_below_cells (level k) (may.2.levels.once k some within)
+    (λ c i. formula_below t may.2.change.after c (level_formula t listed level top u flags may k some within c i))

@@ -1,10 +1,10 @@
 //! What the cells of a sheet hold and show, and what is kept beside it so that a change costs what its region costs.
 
-ghost use Rattle.std.specs.Prelude.{◌≡◌, ◌+◌, ◌≤◌, ◌++◌, [], ℕ, true, false, filter, length, nat_eq, not};
-ghost use Rattle.std.specs.Prelude.{IfOk, IfErr, OnOk, OnErr};
-ghost use Rattle.std.specs.Prelude.{vec_capacity};
+ghost use Rattle.std.specs.Prelude.{◌≡◌, ◌+◌, ◌<◌, ◌≤◌, ◌++◌, [], ℕ, true, false, filter, length, nat_eq, not};
+ghost use Rattle.std.specs.Prelude.{vec_capacity, IfOk, IfErr, OnOk, OnErr};
 ghost use Rattle.std.specs.List.{list_all, list_any};
 ghost use Rattle.ps_formula.specs.References.{mentions};
+ghost use Rattle.ps_grid.specs.declared.parties.TheConstants.{WORKERS};
 ghost use Rattle.ps_shown.specs.Shown.{shown_at};
 ghost use Rattle.ps_delta.specs.State.{empty_state, joined_state, state_at};
 ghost use Rattle.ps_delta.specs.Deltas.{state_of};
@@ -17,6 +17,7 @@ ghost use Rattle.ps_region.specs.Listed.{listed};
 
 use crate::change::{Change, begin, take_formulas};
 use crate::contents::{formula_of, holds_formula};
+use crate::level::Level;
 use crate::walk::{clear, close_all, settle_frame, show_all_first};
 use ps_delta::{Delta, Grid};
 use ps_eval::Meter;
@@ -27,6 +28,7 @@ use ps_region::{After, Region};
 use ps_shown::{Kept, Shown};
 use std::alloc::Global;
 use std::sync::ledger::Ledger;
+use std::thread::Threads;
 
 /// What follows from the history of a sheet.
 #[derive(Drop)]
@@ -43,6 +45,10 @@ pub(crate) struct Cells {
     cyclic: Vec<Cell>,
     /// which cells are due, while a change is made
     flags: Vec<bool>,
+    /// the due cells of one level
+    level: Level,
+    /// how many workers evaluate a level
+    workers: usize,
 }
 
 /// What a recalculation did.
@@ -108,13 +114,15 @@ impl Cells {
     /// Cells that hold and show nothing.
     ///
     /// Refused only when out of memory.
-    pub(crate) fn new(alloc: Global) -> Result<Cells, Refusal>
+    pub(crate) fn new(alloc: Global, workers: usize) -> Result<Cells, Refusal>
+        requires workers { (0 < workers) × (workers ≤ WORKERS) }
         ensures whole { IfOk result IsWhole }
         ensures empty { IfOk result (λ x. state_at x.grid ≡ empty_state) }
         ensures memory { IfErr result (λ e. e ≡ Refusal.Memory) }
     {
         let flags = no_flags(alloc, CELLS)?;
         let cyclic = Vec::with_capacity(alloc, CELLS)?;
+        let level = Level::new(alloc)?;
         Ok(Cells {
             grid: Grid::new(alloc)?,
             index: Index::new(alloc)?,
@@ -122,14 +130,17 @@ impl Cells {
             region: Region::new(alloc)?,
             cyclic,
             flags,
+            level,
+            workers,
         })
     }
 
     /// Joins a delta to what the cells hold, and settles again what they show.
     ///
     /// Refused only when out of memory, and then the cells hold and show what they did.
-    pub(crate) fn take_in<L: Ledger>(
+    pub(crate) fn take_in<R: Threads + Sync, L: Ledger>(
         &mut self,
+        rt: &R,
         alloc: Global,
         delta: &Delta,
         meter: &mut Meter<L>,
@@ -153,26 +164,27 @@ impl Cells {
             first,
         } = change;
         self.grid.exchange(&mut raised);
-        let work = self.recalculate(&touched, first, meter);
+        let work = self.recalculate(rt, &touched, first, meter);
         take_formulas(&mut self.index, &raised);
         Ok(work)
     }
 
     /// Settles what the cells show, after the touched cells got what they hold.
-    fn recalculate<L: Ledger>(
+    fn recalculate<R: Threads + Sync, L: Ledger>(
         &mut self,
+        rt: &R,
         touched: &[Cell],
         first: Vec<(Cell, Kept)>,
         meter: &mut Meter<L>,
     ) -> Work
-        requires { MayRecalculate self.old touched.now first.items }
+        requires may { MayRecalculate self.old touched.now first.items }
         ensures done { Recalculates self.old self.new touched.now result.evaluated result.cyclic result.levels }
         ensures metered { meter.new ≡ meter.old + result.evaluated }
     {
         if self.cyclic.is_empty() && are_alone(&self.grid, &self.index, touched) {
             self.show_alone(touched, first)
         } else {
-            self.recalculate_region(touched, first, meter)
+            self.recalculate_region(rt, touched, first, meter)
         }
     }
 
@@ -202,8 +214,9 @@ impl Cells {
     }
 
     /// Settles what the cells show, by the region of the change.
-    fn recalculate_region<L: Ledger>(
+    fn recalculate_region<R: Threads + Sync, L: Ledger>(
         &mut self,
+        rt: &R,
         touched: &[Cell],
         first: Vec<(Cell, Kept)>,
         meter: &mut Meter<L>,
@@ -224,9 +237,12 @@ impl Cells {
         );
         close_all(self.region.cyclic(), &mut self.shown);
         let evaluated = settle_frame(
+            rt,
+            self.workers,
             &self.grid,
             &self.index,
             &self.region,
+            &mut self.level,
             &mut self.shown,
             &mut self.flags,
             meter,

@@ -5,7 +5,10 @@
 //! else the value of what the cell holds.
 //!
 //! It is the only crate that makes deltas of edits and that decides which formulas are evaluated. It knows no bytes, no
-//! lines, no other sheet and no threads, and it sends nothing.
+//! lines and no other sheet, and it sends nothing. The formulas of a level, none of which refers to another one, are
+//! divided among workers: one for each 4,096 of them, and as many as the sheet was opened with at most. What it shows,
+//! refuses and reports is the same for every number of them. A call that changes a sheet is lent the handle that starts
+//! threads, and all that it started have ended when it returns.
 //!
 //! The contract to use is that of [`Sheet::edit`] and [`Sheet::receive`]. An edit appends exactly the delta that
 //! `delta_of_edit` gives over the joined history, or returns the first refusal that holds. A received delta is
@@ -23,8 +26,9 @@
 //! delta touches A1 and reaches B1: one evaluation, one level, no cyclic cell.
 //!
 //! Cost: a sheet keeps its deltas, and for each cell of the grid what it shows and some numbers for recalculating. A
-//! change costs its delta and its region: the cells that it reaches, the references to them, and the evaluations; and
-//! it looks once at each cell that shows `#CYCLE!`. A look at a cell costs a constant.
+//! change costs its delta and its region: the cells that it reaches, the references to them, and the evaluations, which
+//! the workers of a wide level share; and it looks once at each cell that shows `#CYCLE!`. A look at a cell costs a
+//! constant.
 #![tactic(auto)]
 
 mod cells;
@@ -32,6 +36,7 @@ mod change;
 mod contents;
 mod edit;
 mod laws;
+mod level;
 mod made;
 mod sheet;
 mod walk;

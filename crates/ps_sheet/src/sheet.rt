@@ -23,6 +23,7 @@ use std::alloc::Global;
 use std::marker::Model;
 use std::sync::Arc;
 use std::sync::ledger::Ledger;
+use std::thread::Threads;
 
 /// What an accepted change did.
 #[derive(Clone, Copy, Debug, PartialEq, Eq)]
@@ -83,7 +84,8 @@ impl Sheet {
     ghost use Rattle.ps_sheet.specs.Edits.{delta_of_edit};
     ghost use Rattle.ps_sheet.specs.Sheet.{IsSheet, Takes};
 
-    /// The empty sheet of a replica, 1 to 32. The workers, 1 to `WORKERS`, are not used yet.
+    /// The empty sheet of a replica, 1 to 32, among whose workers, 1 to `WORKERS`, the formulas of a wide level are
+    /// divided.
     ///
     /// Refused where the replica is out of range, and where memory runs out.
     ///
@@ -95,11 +97,10 @@ impl Sheet {
         ensures replica { (result ≡ Err Refusal.Replica) ↔ ((replica < 1) ⊎ (REPLICAS < replica)) }
         ensures other { IfErr result (λ e. (e ≡ Refusal.Replica) ⊎ (e ≡ Refusal.Memory)) }
     {
-        let _ = workers;
         if replica < 1 || replica > REPLICAS {
             return Err(Refusal::Replica);
         }
-        let cells = Cells::new(alloc)?;
+        let cells = Cells::new(alloc, workers)?;
         Ok(Sheet {
             replica,
             history: Vec::new(alloc),
@@ -114,9 +115,10 @@ impl Sheet {
     /// time. Where none of them holds, only out of memory. Then nothing is changed.
     ///
     /// Cost: that of the delta and its join, and of the region: its cells, their references, and the evaluations that
-    /// the report counts.
-    pub fn edit<L: Ledger>(
+    /// the report counts, which the workers of a wide level share.
+    pub fn edit<R: Threads + Sync, L: Ledger>(
         &mut self,
+        rt: &R,
         alloc: Global,
         edit: Edit,
         meter: &mut Meter<L>,
@@ -142,7 +144,7 @@ impl Sheet {
     {
         let delta = delta_of(alloc, &self.cells.grid, self.replica, edit)?;
         let made = Arc::new(alloc, delta)?;
-        self.append(alloc, made, meter)
+        self.append(rt, alloc, made, meter)
     }
 
     /// Accepts a delta made elsewhere: appends it to the history, unless it is below the state already.
@@ -150,8 +152,9 @@ impl Sheet {
     /// Refused only where it would be appended, out of memory, and then nothing is changed.
     ///
     /// Cost: that of joining the delta, and where it is appended, of the region as for an edit.
-    pub fn receive<L: Ledger>(
+    pub fn receive<R: Threads + Sync, L: Ledger>(
         &mut self,
+        rt: &R,
         alloc: Global,
         delta: Arc<Delta>,
         meter: &mut Meter<L>,
@@ -176,12 +179,13 @@ impl Sheet {
         if self.cells.grid.covers(&delta) {
             return Ok(self.report());
         }
-        self.append(alloc, delta, meter)
+        self.append(rt, alloc, delta, meter)
     }
 
     /// Appends a delta that isn't below the state.
-    fn append<L: Ledger>(
+    fn append<R: Threads + Sync, L: Ledger>(
         &mut self,
+        rt: &R,
         alloc: Global,
         delta: Arc<Delta>,
         meter: &mut Meter<L>,
@@ -202,7 +206,7 @@ impl Sheet {
         ensures unmetered { OnErr result (meter.new ≡ meter.old) }
     {
         self.history.reserve(1)?;
-        let work = self.cells.take_in(alloc, &delta, meter)?;
+        let work = self.cells.take_in(rt, alloc, &delta, meter)?;
         put(&mut self.history, delta);
         Ok(Report {
             version: self.history.len() as u64,

@@ -5,7 +5,8 @@
 //! as it happens. Whatever the events are, each sheet shows the settled values of the join of the deltas that its
 //! replica took, and replicas that took the same deltas show the same.
 //!
-//! It is no network: it sends no bytes, loses nothing and starts no thread. It knows a sheet by its contract alone.
+//! It is no network: it sends no bytes, loses nothing and starts no thread but those of its sheets. It knows a sheet by
+//! its contract alone.
 //!
 //! The contract to use is that of [`play`], the headline for whole runs. That each sheet joins to what its replica
 //! took, `IsWorld`, is a fact of every `World`, and [`World::sheet`] and [`World::taken`] bring it.

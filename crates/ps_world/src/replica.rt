@@ -18,6 +18,7 @@ use std::collections::BTreeSet;
 use std::marker::Model;
 use std::sync::Arc;
 use std::sync::ledger::Ledger;
+use std::thread::Threads;
 
 /// The sheet of one replica, and the numbers of the deltas that it took.
 ///
@@ -60,8 +61,9 @@ impl Replica {
 
     /// Makes an edit here and takes its delta with this number. Returns the delta; none where the edit is refused, and
     /// then nothing is changed. Refused only when out of memory.
-    pub(crate) fn make<L: Ledger>(
+    pub(crate) fn make<R: Threads + Sync, L: Ledger>(
         &mut self,
+        rt: &R,
         alloc: Global,
         number: usize,
         edit: Edit,
@@ -80,7 +82,7 @@ impl Replica {
         ensures sheet { IsSheet self.new.sheet }
         ensures memory { IfErr result (λ e. e ≡ Refusal.Memory) }
     {
-        match self.sheet.edit(alloc, edit, meter) {
+        match self.sheet.edit(rt, alloc, edit, meter) {
             Ok(_) => {}
             Err(Refusal::Memory) => return Err(Refusal::Memory),
             Err(_) => return Ok(None),
@@ -90,8 +92,9 @@ impl Replica {
     }
 
     /// Receives a delta and takes it with its number. Refused only when out of memory.
-    pub(crate) fn take<L: Ledger>(
+    pub(crate) fn take<R: Threads + Sync, L: Ledger>(
         &mut self,
+        rt: &R,
         alloc: Global,
         number: usize,
         delta: Arc<Delta>,
@@ -105,7 +108,7 @@ impl Replica {
         ensures memory { IfErr result (λ e. e ≡ Refusal.Memory) }
     {
         self.taken.insert(number)?;
-        self.sheet.receive(alloc, delta, meter)?;
+        self.sheet.receive(rt, alloc, delta, meter)?;
         Ok(())
     }
 

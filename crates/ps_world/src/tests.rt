@@ -16,6 +16,7 @@ use std::marker::Brand;
 use std::process::Abort;
 use std::sync::Arc;
 use std::sync::ledger::{Blank, Ledger};
+use std::thread::Threads;
 
 /// One event, all of them at A1.
 #[derive(Clone, Copy)]
@@ -64,7 +65,8 @@ fn event_of(alloc: Global, step: Step) -> Result<Event, Refusal> {
 }
 
 /// Plays the events with a meter of its own.
-fn metered<L: Ledger>(
+fn metered<R: Threads + Sync, L: Ledger>(
+    rt: &R,
     blank: Blank,
     alloc: Global,
     replicas: u8,
@@ -73,19 +75,29 @@ fn metered<L: Ledger>(
     requires { IsBlankOf blank L.name L.parts }
 {
     let mut meter = Meter::<L>::new(blank);
-    play(alloc, replicas, events, &mut meter)
+    play(rt, alloc, replicas, events, &mut meter)
 }
 
-fn run(alloc: Global, replicas: u8, events: Vec<Event>) -> Result<World, Refusal> {
-    metered::<Brand>(Blank::new(1), alloc, replicas, events)
+fn run<R: Threads + Sync>(
+    rt: &R,
+    alloc: Global,
+    replicas: u8,
+    events: Vec<Event>,
+) -> Result<World, Refusal> {
+    metered::<R, Brand>(rt, Blank::new(1), alloc, replicas, events)
 }
 
-fn run_steps(alloc: Global, replicas: u8, steps: &[Step]) -> Result<World, Refusal> {
+fn run_steps<R: Threads + Sync>(
+    rt: &R,
+    alloc: Global,
+    replicas: u8,
+    steps: &[Step],
+) -> Result<World, Refusal> {
     let mut events = Vec::new(alloc);
     for step in steps {
         events.push(event_of(alloc, *step)?)?;
     }
-    run(alloc, replicas, events)
+    run(rt, alloc, replicas, events)
 }
 
 /// What a replica took, its version and what it shows at A1.
@@ -120,7 +132,7 @@ fn both_show_the_greater_replica(rt: HostRuntime) -> Result<(), Refusal> {
         Step::Deliver(3, 1),
         Step::Deliver(1, 9),
     ];
-    let world = run_steps(rt.alloc(), 2, &steps)?;
+    let world = run_steps(&rt, rt.alloc(), 2, &steps)?;
     let label = Label::new(b"y").ok_or(Refusal::Text)?;
     check(&rt, &world, 1, &[1, 2], 2, Value::Text(label))?;
     check(&rt, &world, 2, &[1, 2], 1, Value::Text(label))
@@ -140,7 +152,7 @@ fn each_counts_what_it_took(rt: HostRuntime) -> Result<(), Refusal> {
         Step::Deliver(1, 3),
         Step::Deliver(2, 2),
     ];
-    let world = run_steps(rt.alloc(), 3, &steps)?;
+    let world = run_steps(&rt, rt.alloc(), 3, &steps)?;
     check(&rt, &world, 1, &[1, 2, 3, 4], 4, Value::Num(4))?;
     check(&rt, &world, 2, &[1, 2, 3], 3, Value::Num(3))?;
     check(&rt, &world, 3, &[1, 4], 2, Value::Num(1))
@@ -157,7 +169,7 @@ fn equal_stamps_show_the_greater_content(rt: HostRuntime) -> Result<(), Refusal>
         Step::Deliver(2, 2),
         Step::Deliver(2, 1),
     ];
-    let world = run_steps(rt.alloc(), 2, &steps)?;
+    let world = run_steps(&rt, rt.alloc(), 2, &steps)?;
     check(&rt, &world, 1, &[1, 2], 2, Value::Num(4))?;
     check(&rt, &world, 2, &[1, 2], 1, Value::Num(4))
 }
@@ -223,7 +235,7 @@ fn check_equal(rt: &impl Abort, world: &World, replica: u8, other: u8) -> Result
 /// Four replicas edit the same cells; what each took in the end, in its own order and twice, shows the same everywhere.
 #[test]
 fn sheets_agree_in_the_end(rt: HostRuntime) -> Result<(), Refusal> {
-    let world = run(rt.alloc(), 4, long_script(rt.alloc())?)?;
+    let world = run(&rt, rt.alloc(), 4, long_script(rt.alloc())?)?;
     for replica in 2..5 {
         check_equal(&rt, &world, 1, replica)?;
     }

@@ -18,6 +18,7 @@ use std::collections::BTreeSet;
 use std::marker::Model;
 use std::sync::Arc;
 use std::sync::ledger::Ledger;
+use std::thread::Threads;
 
 /// Replicas of one sheet, and the deltas that they made or were sent by untrusted peers.
 ///
@@ -70,8 +71,9 @@ impl World {
     }
 
     /// The world after an event. Refused only out of memory.
-    fn after<L: Ledger>(
+    fn after<R: Threads + Sync, L: Ledger>(
         self,
+        rt: &R,
         alloc: Global,
         event: Event,
         meter: &mut Meter<L>,
@@ -80,15 +82,16 @@ impl World {
         ensures memory { IfErr result (λ e. e ≡ Refusal.Memory) }
     {
         match event {
-            Event::Edit(replica, edit) => self.edit(alloc, replica, edit, meter),
+            Event::Edit(replica, edit) => self.edit(rt, alloc, replica, edit, meter),
             Event::Foreign(delta) => self.add(delta),
-            Event::Deliver(replica, number) => self.deliver(alloc, replica, number, meter),
+            Event::Deliver(replica, number) => self.deliver(rt, alloc, replica, number, meter),
         }
     }
 
     /// Makes an edit at a replica.
-    fn edit<L: Ledger>(
+    fn edit<R: Threads + Sync, L: Ledger>(
         self,
+        rt: &R,
         alloc: Global,
         replica: u8,
         edit: Edit,
@@ -106,7 +109,7 @@ impl World {
         } = self;
         let number = deltas.len() + 1;
         let maker = &mut replicas[place];
-        match maker.make(alloc, number, edit, meter)? {
+        match maker.make(rt, alloc, number, edit, meter)? {
             None => Ok(World { deltas, replicas }),
             Some(made) => {
                 deltas.push(made)?;
@@ -129,8 +132,9 @@ impl World {
     }
 
     /// Delivers a delta to a replica.
-    fn deliver<L: Ledger>(
+    fn deliver<R: Threads + Sync, L: Ledger>(
         self,
+        rt: &R,
         alloc: Global,
         replica: u8,
         number: usize,
@@ -151,7 +155,7 @@ impl World {
         } = self;
         let delta = deltas[sent].clone()?;
         let taker = &mut replicas[place];
-        taker.take(alloc, number, delta, meter)?;
+        taker.take(rt, alloc, number, delta, meter)?;
         Ok(World { deltas, replicas })
     }
 
@@ -216,7 +220,8 @@ fn numbered(replicas: &[Replica], replica: u8) -> Option<&Replica>
 /// Refused where the number of replicas is out of range, and where memory runs out.
 ///
 /// Cost: opening n sheets, then that of each edit and of each delivery.
-pub fn play<L: Ledger>(
+pub fn play<R: Threads + Sync, L: Ledger>(
+    rt: &R,
     alloc: Global,
     replicas: u8,
     events: Vec<Event>,
@@ -232,7 +237,7 @@ pub fn play<L: Ledger>(
 {
     let mut world = World::open(alloc, replicas)?;
     for event in events {
-        world = world.after(alloc, event, meter)?;
+        world = world.after(rt, alloc, event, meter)?;
     }
     // Brings the fact `IsWorld`: a type's invariant is known where one of its fields is looked at.
     let _ = &world.deltas;

@@ -38,12 +38,13 @@ use std::io;
 use std::marker::Brand;
 use std::process::ExitCode;
 use std::sync::ledger::{Blank, Ledger};
+use std::thread::Threads;
 pub use table::table_on;
 pub use words::read_words;
 
 /// Runs the command that the words name, and reports what ends it early.
 fn main(rt: HostRuntime) -> ExitCode {
-    match start(&rt) {
+    match start(&rt, &rt) {
         Ok(code) => code,
         Err(fault) => {
             let _ = eprintln!(rt; "{fault}");
@@ -53,14 +54,14 @@ fn main(rt: HostRuntime) -> ExitCode {
 }
 
 /// Reads the words and runs their command.
-fn start(rt: &HostRuntime) -> Result<ExitCode, ProgramFault> {
+fn start<R: Threads + Sync>(rt: &HostRuntime, threads: &R) -> Result<ExitCode, ProgramFault> {
     let given = match std::env::args(rt) {
         Ok(given) => given,
         Err(error) => return unread_words(rt, &error),
     };
     let words: Vec<String> = given.collect(rt.alloc())?;
     match read_words(rt.alloc(), words.as_slice()) {
-        Ok(options) => run_command(rt, options),
+        Ok(options) => run_command(rt, threads, options),
         Err(error) => tell(rt, &error),
     }
 }
@@ -91,8 +92,19 @@ fn tell(rt: &HostRuntime, error: &Error) -> Result<ExitCode, ProgramFault> {
 }
 
 /// Runs a command on standard input and output.
-fn run_command(rt: &HostRuntime, options: Options) -> Result<ExitCode, ProgramFault> {
-    on_standard::<Brand, Brand, Brand>(rt, Blank::new(1), Blank::new(1), Blank::new(1), options)?;
+fn run_command<R: Threads + Sync>(
+    rt: &HostRuntime,
+    threads: &R,
+    options: Options,
+) -> Result<ExitCode, ProgramFault> {
+    on_standard::<R, Brand, Brand, Brand>(
+        rt,
+        threads,
+        Blank::new(1),
+        Blank::new(1),
+        Blank::new(1),
+        options,
+    )?;
     Ok(ExitCode::SUCCESS)
 }
 
@@ -100,8 +112,9 @@ fn run_command(rt: &HostRuntime, options: Options) -> Result<ExitCode, ProgramFa
 ///
 /// The replies of `run` wait in memory and are written before the next read, so a batch of lines costs one write a
 /// piece of the input, and a peer that waits for a reply has it. A table waits nowhere.
-fn on_standard<I: Ledger, O: Ledger, M: Ledger>(
+fn on_standard<R: Threads + Sync, I: Ledger, O: Ledger, M: Ledger>(
     rt: &HostRuntime,
+    threads: &R,
     input: Blank,
     output: Blank,
     count: Blank,
@@ -116,11 +129,19 @@ fn on_standard<I: Ledger, O: Ledger, M: Ledger>(
     match options {
         Options::Run(options) => {
             let mut sink = ConsoleOutput::<_, O>::new(rt.alloc(), rt.stdout(), output)?;
-            answer_lines(rt.alloc(), &mut source, &mut sink, &mut meter, options)
+            answer_lines(
+                threads,
+                rt.alloc(),
+                &mut source,
+                &mut sink,
+                &mut meter,
+                options,
+            )
         }
         Options::Table(options) => {
             let mut sink = Writing::<_, O>::new(rt.stdout(), output);
             table_on(
+                threads,
                 rt.alloc(),
                 &mut source,
                 &mut sink,

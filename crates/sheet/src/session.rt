@@ -17,6 +17,7 @@ use ps_sheet::Sheet;
 use std::alloc::Global;
 use std::mem;
 use std::sync::ledger::Ledger;
+use std::thread::Threads;
 
 /// The sheet that a session begins with: an empty one, of the replica that was asked for.
 ///
@@ -38,7 +39,8 @@ pub fn open_sheet(alloc: Global, options: RunOptions) -> Result<Sheet, Refusal>
 /// failed are handed on still.
 ///
 /// Cost: that of opening a sheet, and of [`run`]. The memory of the sheet isn't given back, for the program ends next.
-pub fn answer_lines<S: Source, K: Sink, L: Ledger>(
+pub fn answer_lines<R: Threads + Sync, S: Source, K: Sink, L: Ledger>(
+    rt: &R,
     alloc: Global,
     source: &mut S,
     sink: &mut K,
@@ -67,7 +69,7 @@ pub fn answer_lines<S: Source, K: Sink, L: Ledger>(
         Ok(sheet) => sheet,
         Err(refusal) => return Err(ProgramFault::Refused(refusal)),
     };
-    let done = run(alloc, source, sink, &mut sheet, meter);
+    let done = run(rt, alloc, source, sink, &mut sheet, meter);
     // The program ends after this, and the system takes back at once what would be freed piece by piece.
     mem::forget(sheet);
     match done {

@@ -15,6 +15,7 @@ use ps_grid::{Cell, Rect, Refusal};
 use ps_sheet::Sheet;
 use std::alloc::Global;
 use std::sync::ledger::Ledger;
+use std::thread::Threads;
 
 /// Takes a table of entries into an empty sheet of replica 1, and writes the shown values from A1 to the last record
 /// and the most fields that a record has; nothing where there is no record. At the end all that was written is handed
@@ -26,7 +27,8 @@ use std::sync::ledger::Ledger;
 /// nothing was written, where the sink failed a beginning of the due text.
 ///
 /// Cost: that of an import and an export.
-pub fn table_on<S: Source, K: Sink, L: Ledger>(
+pub fn table_on<R: Threads + Sync, S: Source, K: Sink, L: Ledger>(
+    rt: &R,
     alloc: Global,
     source: &mut S,
     sink: &mut K,
@@ -52,7 +54,7 @@ pub fn table_on<S: Source, K: Sink, L: Ledger>(
         Ok(sheet) => sheet,
         Err(refusal) => return Err(ProgramFault::Refused(refusal)),
     };
-    let imported = match import(alloc, source, &mut sheet, meter) {
+    let imported = match import(rt, alloc, source, &mut sheet, meter) {
         Ok(imported) => imported,
         Err(fault) => return Err(fault_of_import(fault)),
     };

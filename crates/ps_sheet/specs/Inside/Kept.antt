@@ -4,6 +4,7 @@ use Rattle.std.specs.Arc.{arc_value}
 use Rattle.std.specs.List.{All, IsDistinct}
 use Rattle.ps_grid.specs.Chains.{In, InRegion, IsDepth}
 use Rattle.ps_grid.specs.declared.size.TheConstants.{CELLS}
+use Rattle.ps_grid.specs.declared.parties.TheConstants.{WORKERS}
 use Rattle.ps_index.specs.Stands.{Stands}
 use Rattle.ps_region.specs.Listed.{listed}
 use Rattle.ps_shown.specs.declared.kept.Kept.{Kept}
@@ -15,17 +16,19 @@ use Rattle.ps_sheet.specs.Settled.{refers_to, Cyclic, IsSettled}
 use Rattle.ps_sheet.specs.Sheet.{SheetView, IsSheet}
 use Rattle.ps_sheet.specs.Inside.Formulas.{forms_of}
 use Rattle.ps_sheet.specs.Inside.Waiting.{first_value}
-use Rattle.ps_sheet.specs.Inside.Steps.{AreListed, flag_at}
+use Rattle.ps_sheet.specs.Inside.Steps.{AreListed, flag_at, HasRoom}
 use Rattle.ps_sheet.specs.Inside.Walk.{IsChange, IsCount, IsWork, InFrame, ListsCyclic, formula_at}
 use Rattle.ps_sheet.specs.declared.cells.Cells.{Cells}
 use Rattle.ps_sheet.specs.declared.sheet.Sheet.TheInside.{Inside}
 
--- the cyclic cells are listed, with room for all cells of the grid, and no cell is flagged
+-- the cyclic cells are listed, with room for all cells of the grid, no cell is flagged, and there are workers
 pub record IsTidy (s : State) (x : Cells) : Type 0 where
   pub cyclic : ListsCyclic s x.cyclic.items
   pub room : CELLS ≤ vec_capacity x.cyclic
   pub length : length x.flags.items ≡ CELLS
   pub off : (c : ℕ) → flag_at x.flags.items c ≡ false
+  pub level : HasRoom CELLS x.level
+  pub workers : (0 < x.workers) × (x.workers ≤ WORKERS)
 
 -- BETWEEN TWO CHANGES: what is shown is settled, and the index stands for the formulas
 pub record IsWhole (x : Cells) : Type 0 where

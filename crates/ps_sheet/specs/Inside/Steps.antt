@@ -1,12 +1,14 @@
 -- What the steps of a recalculation need to know, and what they do to the shown values and the flags.
-use Rattle.std.specs.Prelude.{◌≡◌, ◌≢◌, ◌+◌, ◌<◌, ◌≤◌, ℕ, Bool, true, false, ◌⊎◌, List, [], slice_index_or}
+use Rattle.std.specs.Prelude.{◌≡◌, ◌≢◌, ◌+◌, ◌<◌, ◌≤◌, ℕ, Bool, true, false, ◌⊎◌, List, [], length, map, nat_eq}
+use Rattle.std.specs.Prelude.{slice_index_or, vec_capacity}
+use Rattle.std.specs.List.{IsDistinct}
 use Rattle.ps_grid.specs.Chains.{References, In, InRegion}
 use Rattle.ps_grid.specs.declared.size.TheConstants.{CELLS}
 use Rattle.ps_value.specs.declared.value.Value.{Value}
-use Rattle.ps_value.specs.declared.value.Value.TheVariants.{Empty, Num, Text, Choice, Err}
 use Rattle.ps_eval.specs.Items.{Assignment}
 use Rattle.ps_delta.specs.State.{State}
-use Rattle.ps_sheet.specs.Settled.{refers_to, Cyclic}
+use Rattle.ps_sheet.specs.Settled.{refers_to, value_of, Cyclic}
+use Rattle.ps_sheet.specs.declared.level.Level.{Level}
 use Rattle.ps_sheet.specs.Inside.Walk.{formula_at, IsChange, Lists, Shows, Begun, Walked, AreLevels, IsPassed}
 
 -- whether a cell is flagged
@@ -45,6 +47,16 @@ pub record Road (t : State) (listed : ℕ → List ℕ) (v : Assignment) (touche
   pub lists : AreListed (refers_to t) touched listed
   pub levels : AreLevels t touched level top
 
+-- THE DUE CELLS of a level get the values that they have where the cells show u
+abbrev pub ShowsAll : (ℕ → List ℕ) → List ℕ → List Value → Assignment → Assignment → (ℕ → Bool) → (ℕ → Bool) → Type 0
+ShowsAll listed cells values u u2 flags flags2 =
+    (t : State) (v : Assignment) (touched : List ℕ) (level : ℕ → List ℕ) (top k m : ℕ) → Road t listed v touched level top
+    → 0 < k → k ≤ top → IsDistinct nat_eq cells → ((c : ℕ) → In cells c → In (level k) c × (flags c ≡ true))
+    → values ≡ map (λ c. value_of (t c) u) cells
+    → Walked t v touched (IsPassed level k []) u flags m
+    → Walked t v touched (IsPassed level k cells) u2 flags2 (m + length cells)
+    × ((c : ℕ) → ¬ In (level k) c → u2 c ≡ u c) × ((c : ℕ) → In (level k) c → flags2 c ≡ flags c)
+
 -- ONE LEVEL: n of its cells were evaluated
 abbrev pub StepsLevel : State → (ℕ → List ℕ) → List ℕ → Assignment → Assignment → (ℕ → Bool) → (ℕ → Bool) → ℕ → Type 0
 StepsLevel t listed cells u u2 flags flags2 n =
@@ -67,10 +79,10 @@ StepsLevels t listed level top n u u2 flags flags2 count =
     → Walked t v touched (λ c. ⊥) u flags 0
     → Walked t v touched (IsPassed level n []) u2 flags2 count
 
--- a text, which takes memory to keep
-abbrev pub is_text : Value → Bool
-is_text Empty = false
-is_text (Num n) = false
-is_text (Text text) = true
-is_text (Choice options) = false
-is_text (Err fault) = false
+-- the value of each cell where the cells show u
+abbrev pub values_at : State → Assignment → List ℕ → List Value
+values_at t u cells = map (λ c. value_of (t c) u) cells
+
+-- a level has room for so many cells
+abbrev pub HasRoom : ℕ → Level → Type 0
+HasRoom n x = (n ≤ vec_capacity x.due) × (n ≤ vec_capacity x.values)

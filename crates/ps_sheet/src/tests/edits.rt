@@ -4,12 +4,14 @@ use crate::tests::script::Asked::{Add, Choose, Set, Sub, Unchoose};
 use crate::tests::script::Part::{self, Assigned, Counted, Paired};
 use crate::tests::script::Step::{Ask, Get, GetAll, Show, Type};
 use crate::tests::script::{apply, cell, go_on, play, version_of};
-use crate::{Edit, Sheet};
+use crate::{Batch, Edit, Sheet};
 use ps_content::Content;
 use ps_eval::Look;
-use ps_grid::Refusal;
+use ps_grid::{Cell, Refusal};
 use ps_lattice::{COUNT_LIMIT, LAST_TIME};
 use ps_value::Value;
+use std::alloc::Global;
+use std::process::Abort;
 
 /// A counter counts what two replicas did, once each; what is below the state isn't appended.
 #[test]
@@ -93,12 +95,46 @@ fn a_refused_growth_changes_nothing(rt: HostRuntime) -> Result<(), Refusal> {
     let mut sheet = Sheet::open(alloc, 3, 1)?;
     go_on(&rt, alloc, &mut sheet, &[Ask("A1", Set("5"), Ok(1))])?;
     let seven = Edit::Set(cell(&rt, "A1"), Content::Number(7));
-    let answer = version_of(apply(alloc, &mut sheet, seven));
+    let answer = version_of(apply(&rt, alloc, &mut sheet, seven));
     let (version, shown) = if answer.is_ok() { (2, 7) } else { (1, 5) };
     assert!(rt; answer == Ok(2) || answer == Err(Refusal::Memory));
     assert_eq!(rt; sheet.version(), version);
     assert_eq!(rt; sheet.history().len() as u64, version);
     assert!(rt; sheet.at(cell(&rt, "A1")) == Value::Num(shown));
     assert_eq!(rt; sheet.replica(), 3);
+    Ok(())
+}
+
+/// A replica is 1 to 32.
+#[test]
+fn a_sheet_has_a_replica_of_1_to_32(rt: HostRuntime) {
+    let alloc = rt.alloc();
+    for replica in [0, 33, 255] {
+        assert!(rt; matches!(Sheet::open(alloc, replica, 1), Err(Refusal::Replica)));
+    }
+    for replica in [1, 32] {
+        assert!(rt; !matches!(Sheet::open(alloc, replica, 1), Err(Refusal::Replica)));
+    }
+}
+
+/// Cells with the number 1 each.
+fn ones(rt: &impl Abort, alloc: Global, names: &[&str]) -> Result<Vec<(Cell, Content)>, Refusal> {
+    let mut cells = Vec::new(alloc);
+    for name in names {
+        cells.push((cell(rt, name), Content::Number(1)))?;
+    }
+    Ok(cells)
+}
+
+/// No cell, a cell twice and cells out of order are no batch.
+#[test]
+fn a_batch_is_ascending_and_distinct(rt: HostRuntime) -> Result<(), Refusal> {
+    let alloc = rt.alloc();
+    for names in [&[][..], &["A1", "A1"], &["A2", "B1"], &["A1", "C1", "B1"]] {
+        assert!(rt; Batch::new(ones(&rt, alloc, names)?).is_none());
+    }
+    for names in [&["A1"][..], &["A1", "B1"], &["A1", "C1", "A2"]] {
+        assert!(rt; Batch::new(ones(&rt, alloc, names)?).is_some());
+    }
     Ok(())
 }

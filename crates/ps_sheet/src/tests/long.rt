@@ -10,8 +10,10 @@ use crate::{Batch, Edit, Sheet};
 use ps_content::{Content, read_entry};
 use ps_grid::{COLUMNS, Cell, NAME_BYTES, Refusal};
 use ps_value::Value;
+use ps_workers::workers_worth;
 use std::alloc::Global;
 use std::process::Abort;
+use std::thread::Threads;
 
 /// The cell at a place in the order of the grid, row by row.
 fn at(rt: &impl Abort, place: usize) -> Cell {
@@ -30,21 +32,26 @@ fn one_more(alloc: Global, cell: Cell) -> Result<Content, Refusal> {
 }
 
 /// The cell at a place gets a content, with this report.
-fn put(
-    rt: &impl Abort,
+fn put<R: Abort + Threads + Sync>(
+    rt: &R,
     alloc: Global,
     sheet: &mut Sheet,
     place: usize,
     content: Content,
     figures: Figures,
 ) -> Result<(), Refusal> {
-    let report = apply(alloc, sheet, Edit::Set(at(rt, place), content))?;
+    let report = apply(rt, alloc, sheet, Edit::Set(at(rt, place), content))?;
     assert_eq!(rt; figures_of(report), figures, "{place}");
     Ok(())
 }
 
 /// So many cells in order, the first of which is 0 and each other one more than the cell before it.
-fn chain(rt: &impl Abort, alloc: Global, sheet: &mut Sheet, cells: usize) -> Result<(), Refusal>
+fn chain<R: Abort + Threads + Sync>(
+    rt: &R,
+    alloc: Global,
+    sheet: &mut Sheet,
+    cells: usize,
+) -> Result<(), Refusal>
     requires { cells ≤ CELLS }
 {
     put(rt, alloc, sheet, 0, Content::Number(0), [1, 0, 0, 0])?;
@@ -80,7 +87,11 @@ fn show_alike(rt: &impl Abort, sheet: &Sheet, from: usize, to: usize, value: Val
 }
 
 /// A chain is changed at its first cell, closed on its last one, and opened again.
-fn close_and_open(rt: &impl Abort, alloc: Global, sheet: &mut Sheet) -> Result<(), Refusal> {
+fn close_and_open<R: Abort + Threads + Sync>(
+    rt: &R,
+    alloc: Global,
+    sheet: &mut Sheet,
+) -> Result<(), Refusal> {
     chain(rt, alloc, sheet, 6_656)?;
     let changed = [
         Enter("A1", "5", [6_657, 6_655, 0, 6_655]),
@@ -104,7 +115,11 @@ fn a_chain_of_6656_cells_closes_and_opens(rt: HostRuntime) -> Result<(), Refusal
 }
 
 /// A chain is closed on its last cell, and opened in its middle.
-fn open_in_the_middle(rt: &impl Abort, alloc: Global, sheet: &mut Sheet) -> Result<(), Refusal> {
+fn open_in_the_middle<R: Abort + Threads + Sync>(
+    rt: &R,
+    alloc: Global,
+    sheet: &mut Sheet,
+) -> Result<(), Refusal> {
     chain(rt, alloc, sheet, 1_000)?;
     let closed = [Enter("A1", "=[.BL10]+1", [1_001, 0, 1_000, 0])];
     go_on(rt, alloc, sheet, &closed)?;
@@ -124,7 +139,12 @@ fn a_cycle_of_1000_cells_opens_in_its_middle(rt: HostRuntime) -> Result<(), Refu
 }
 
 /// The first cells in order from `A2` on, each one more than `A1`.
-fn fan(rt: &impl Abort, alloc: Global, sheet: &mut Sheet, cells: usize) -> Result<(), Refusal>
+fn fan<R: Abort + Threads + Sync>(
+    rt: &R,
+    alloc: Global,
+    sheet: &mut Sheet,
+    cells: usize,
+) -> Result<(), Refusal>
     requires { cells ≤ CELLS }
 {
     for before in 0..cells {
@@ -142,7 +162,11 @@ fn fan(rt: &impl Abort, alloc: Global, sheet: &mut Sheet, cells: usize) -> Resul
 }
 
 /// A cell to which 6,000 others refer is changed, and then one to which none refers.
-fn reach_all(rt: &impl Abort, alloc: Global, sheet: &mut Sheet) -> Result<(), Refusal> {
+fn reach_all<R: Abort + Threads + Sync>(
+    rt: &R,
+    alloc: Global,
+    sheet: &mut Sheet,
+) -> Result<(), Refusal> {
     fan(rt, alloc, sheet, 6_000)?;
     let changed = [
         Enter("A1", "5", [6_001, 6_000, 0, 1]),
@@ -153,11 +177,56 @@ fn reach_all(rt: &impl Abort, alloc: Global, sheet: &mut Sheet) -> Result<(), Re
     Ok(())
 }
 
-/// Six thousand formulas that refer to one cell are evaluated when it changes, and not when another one does.
+/// Six thousand formulas that refer to one cell are evaluated when it changes, and not when another one does, with the
+/// same values and the same report for each number of workers.
 #[test]
 fn a_change_reaches_6000_cells_at_once(rt: HostRuntime) -> Result<(), Refusal> {
-    let mut sheet = Sheet::open(rt.alloc(), 1, 1)?;
-    reach_all(&rt, rt.alloc(), &mut sheet)
+    for workers in [1, 2, 16] {
+        let mut sheet = Sheet::open(rt.alloc(), 1, workers)?;
+        reach_all(&rt, rt.alloc(), &mut sheet)?;
+    }
+    Ok(())
+}
+
+/// So many cells are worth sixteen workers: 640 rows.
+const WIDE: usize = 640 * COLUMNS;
+
+/// The first cells in order from `A2` on, each one more than `A1`, as one batch.
+fn wide(rt: &impl Abort, alloc: Global) -> Result<Batch, Refusal> {
+    let mut cells = Vec::new(alloc);
+    for before in 0..WIDE {
+        cells.push((at(rt, COLUMNS + before), one_more(alloc, at(rt, 0))?))?;
+    }
+    Ok(Batch::new(cells).expect(rt, "a batch"))
+}
+
+/// A cell to which so many others refer that their level is divided among workers is changed, and then one to which
+/// none refers.
+fn reach_wide<R: Abort + Threads + Sync>(
+    rt: &R,
+    alloc: Global,
+    sheet: &mut Sheet,
+) -> Result<(), Refusal> {
+    put_all(rt, alloc, sheet, wide(rt, alloc)?, [1, WIDE as u64, 0, 1])?;
+    show_alike(rt, sheet, COLUMNS, COLUMNS + WIDE, Value::Num(1));
+    let changed = [
+        Enter("A1", "5", [2, WIDE as u64, 0, 1]),
+        Enter("B1", "9", [3, 0, 0, 0]),
+    ];
+    go_on(rt, alloc, sheet, &changed)?;
+    show_alike(rt, sheet, COLUMNS, COLUMNS + WIDE, Value::Num(6));
+    Ok(())
+}
+
+/// A level of 66,560 formulas is divided among 1, 2 and 16 workers, with the same values and the same report.
+#[test]
+fn a_level_is_divided_among_workers(rt: HostRuntime) -> Result<(), Refusal> {
+    for workers in [1, 2, 16] {
+        assert_eq!(rt; workers_worth(WIDE, workers), workers);
+        let mut sheet = Sheet::open(rt.alloc(), 1, workers)?;
+        reach_wide(&rt, rt.alloc(), &mut sheet)?;
+    }
+    Ok(())
 }
 
 /// How many columns one half of a row has.
@@ -219,22 +288,22 @@ fn second_row(rt: &impl Abort, alloc: Global) -> Result<Batch, Refusal> {
 }
 
 /// A batch of cells, with this report.
-fn put_all(
-    rt: &impl Abort,
+fn put_all<R: Abort + Threads + Sync>(
+    rt: &R,
     alloc: Global,
     sheet: &mut Sheet,
     batch: Batch,
     figures: Figures,
 ) -> Result<(), Refusal> {
-    let report = apply(alloc, sheet, Edit::SetAll(batch))?;
+    let report = apply(rt, alloc, sheet, Edit::SetAll(batch))?;
     assert_eq!(rt; figures_of(report), figures);
     Ok(())
 }
 
 /// The left half of the first row is closed, or else the right one, with this report. Of the first two rows, the half
 /// that is closed then shows cycles, and the other one numbers in sequence.
-fn turn(
-    rt: &impl Abort,
+fn turn<R: Abort + Threads + Sync>(
+    rt: &R,
     alloc: Global,
     sheet: &mut Sheet,
     is_left_closed: bool,
@@ -256,7 +325,11 @@ fn turn(
 }
 
 /// The first row is entered after the second one, and then turned twice.
-fn turn_twice(rt: &impl Abort, alloc: Global, sheet: &mut Sheet) -> Result<(), Refusal> {
+fn turn_twice<R: Abort + Threads + Sync>(
+    rt: &R,
+    alloc: Global,
+    sheet: &mut Sheet,
+) -> Result<(), Refusal> {
     put_all(rt, alloc, sheet, second_row(rt, alloc)?, [1, 104, 0, 1])?;
     turn(rt, alloc, sheet, true, [2, 103, 104, 52])?;
     turn(rt, alloc, sheet, false, [3, 103, 104, 52])?;

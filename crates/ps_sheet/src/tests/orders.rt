@@ -10,6 +10,7 @@ use ps_grid::Refusal;
 use ps_value::Value;
 use std::alloc::Global;
 use std::process::Abort;
+use std::thread::Threads;
 
 /// Of two assignments at one time the greater replica's is shown at both sheets; the other one is below the state.
 #[test]
@@ -56,8 +57,8 @@ static SIX: [&[(&str, Part)]; 6] = [
 ];
 
 /// Takes the six deltas in the n-th of the 720 orders, and the first of them again.
-fn take_in_order(
-    rt: &impl Abort,
+fn take_in_order<R: Abort + Threads + Sync>(
+    rt: &R,
     alloc: Global,
     sheet: &mut Sheet,
     n: usize,
@@ -71,7 +72,7 @@ fn take_in_order(
     order[6] = order[0];
     for k in order {
         let parts = SIX.get(k).expect(rt, "one of six");
-        take(alloc, sheet, delta_of(rt, alloc, parts)?)?;
+        take(rt, alloc, sheet, delta_of(rt, alloc, parts)?)?;
     }
     Ok(())
 }

@@ -11,6 +11,7 @@ use ps_grid::Refusal;
 use ps_value::{Fault, Value};
 use std::alloc::Global;
 use std::process::Abort;
+use std::thread::Threads;
 
 /// The rows and the columns of the block.
 const SIDE: usize = 6;
@@ -220,8 +221,8 @@ impl Random {
 }
 
 /// Gives one to six cells new entries, by one edit.
-fn change(
-    rt: &impl Abort,
+fn change<R: Abort + Threads + Sync>(
+    rt: &R,
     alloc: Global,
     sheet: &mut Sheet,
     entries: &mut [Entry; PLACES],
@@ -235,7 +236,7 @@ fn change(
         cells.push((cell(rt, name(place)), content_of(alloc, entries[place])?))?;
     }
     let batch = Batch::new(cells).expect(rt, "a batch");
-    apply(alloc, sheet, Edit::SetAll(batch))?;
+    apply(rt, alloc, sheet, Edit::SetAll(batch))?;
     Ok(())
 }
 
@@ -252,7 +253,11 @@ fn compare(rt: &impl Abort, sheet: &Sheet, entries: &[Entry; PLACES]) {
 }
 
 /// Two hundred changes, after each of which the sheet is compared.
-fn change_often(rt: &impl Abort, alloc: Global, sheet: &mut Sheet) -> Result<(), Refusal> {
+fn change_often<R: Abort + Threads + Sync>(
+    rt: &R,
+    alloc: Global,
+    sheet: &mut Sheet,
+) -> Result<(), Refusal> {
     let mut entries = [Blank; PLACES];
     let mut random = Random { state: 1 };
     for _ in 0..200 {

@@ -18,6 +18,7 @@ use std::marker::Brand;
 use std::process::Abort;
 use std::sync::Arc;
 use std::sync::ledger::{Blank, Ledger};
+use std::thread::Threads;
 
 pub(crate) const CYCLE: Value = Value::Err(Fault::Cycle);
 
@@ -72,7 +73,8 @@ pub(crate) fn cell(rt: &impl Abort, name: &str) -> Cell {
 }
 
 /// The edit with a meter of its own.
-fn edited<L: Ledger>(
+fn edited<L: Ledger, R: Threads + Sync>(
+    rt: &R,
     blank: Blank,
     alloc: Global,
     sheet: &mut Sheet,
@@ -81,11 +83,12 @@ fn edited<L: Ledger>(
     requires { IsBlankOf blank L.name L.parts }
 {
     let mut meter = Meter::<L>::new(blank);
-    sheet.edit(alloc, edit, &mut meter)
+    sheet.edit(rt, alloc, edit, &mut meter)
 }
 
 /// The delta received with a meter of its own.
-fn received<L: Ledger>(
+fn received<L: Ledger, R: Threads + Sync>(
+    rt: &R,
     blank: Blank,
     alloc: Global,
     sheet: &mut Sheet,
@@ -94,15 +97,25 @@ fn received<L: Ledger>(
     requires { IsBlankOf blank L.name L.parts }
 {
     let mut meter = Meter::<L>::new(blank);
-    sheet.receive(alloc, delta, &mut meter)
+    sheet.receive(rt, alloc, delta, &mut meter)
 }
 
-pub(crate) fn apply(alloc: Global, sheet: &mut Sheet, edit: Edit) -> Result<Report, Refusal> {
-    edited::<Brand>(Blank::new(1), alloc, sheet, edit)
+pub(crate) fn apply<R: Threads + Sync>(
+    rt: &R,
+    alloc: Global,
+    sheet: &mut Sheet,
+    edit: Edit,
+) -> Result<Report, Refusal> {
+    edited::<Brand, R>(rt, Blank::new(1), alloc, sheet, edit)
 }
 
-pub(crate) fn take(alloc: Global, sheet: &mut Sheet, delta: Arc<Delta>) -> Result<Report, Refusal> {
-    received::<Brand>(Blank::new(1), alloc, sheet, delta)
+pub(crate) fn take<R: Threads + Sync>(
+    rt: &R,
+    alloc: Global,
+    sheet: &mut Sheet,
+    delta: Arc<Delta>,
+) -> Result<Report, Refusal> {
+    received::<Brand, R>(rt, Blank::new(1), alloc, sheet, delta)
 }
 
 /// The version that a change ends with.
@@ -214,8 +227,8 @@ fn text(rt: &impl Abort, text: &str) -> Value {
     Value::Text(Label::new(text.as_bytes()).expect(rt, "a text"))
 }
 
-fn take_step(
-    rt: &impl Abort,
+fn take_step<R: Abort + Threads + Sync>(
+    rt: &R,
     alloc: Global,
     sheet: &mut Sheet,
     step: &Step,
@@ -223,31 +236,39 @@ fn take_step(
     match step {
         Ask(name, asked, answer) => {
             let edit = edit_of(alloc, cell(rt, name), asked)?;
-            assert_eq!(rt; version_of(apply(alloc, sheet, edit)), *answer, "{name}");
+            assert_eq!(rt;
+                version_of(apply(rt, alloc, sheet, edit)),
+                *answer,
+                "{name}"
+            );
         }
         Enter(name, entry, figures) => {
             let edit = edit_of(alloc, cell(rt, name), &Set(entry))?;
-            let report = apply(alloc, sheet, edit)?;
+            let report = apply(rt, alloc, sheet, edit)?;
             assert_eq!(rt; figures_of(report), *figures, "{name}");
         }
         Type(entries, answer) => {
             let batch = batch_of(rt, alloc, entries)?;
             assert_eq!(rt;
-                version_of(apply(alloc, sheet, Edit::SetAll(batch))),
+                version_of(apply(rt, alloc, sheet, Edit::SetAll(batch))),
                 *answer
             );
         }
         Get(name, part, answer) => {
             let delta = delta_of(rt, alloc, &[(*name, *part)])?;
-            assert_eq!(rt; version_of(take(alloc, sheet, delta)), *answer, "{name}");
+            assert_eq!(rt;
+                version_of(take(rt, alloc, sheet, delta)),
+                *answer,
+                "{name}"
+            );
         }
         GetAll(parts, answer) => {
             let delta = delta_of(rt, alloc, parts)?;
-            assert_eq!(rt; version_of(take(alloc, sheet, delta)), *answer);
+            assert_eq!(rt; version_of(take(rt, alloc, sheet, delta)), *answer);
         }
         Receive(parts, figures) => {
             let delta = delta_of(rt, alloc, parts)?;
-            let report = take(alloc, sheet, delta)?;
+            let report = take(rt, alloc, sheet, delta)?;
             assert_eq!(rt; figures_of(report), *figures);
         }
         Show(name, value) => {
@@ -261,8 +282,8 @@ fn take_step(
 }
 
 /// The steps, one after another.
-pub(crate) fn go_on(
-    rt: &impl Abort,
+pub(crate) fn go_on<R: Abort + Threads + Sync>(
+    rt: &R,
     alloc: Global,
     sheet: &mut Sheet,
     steps: &[Step],
@@ -274,8 +295,8 @@ pub(crate) fn go_on(
 }
 
 /// The steps, one after another, at the empty sheet of a replica.
-pub(crate) fn play(
-    rt: &impl Abort,
+pub(crate) fn play<R: Abort + Threads + Sync>(
+    rt: &R,
     alloc: Global,
     replica: u8,
     steps: &[Step],

@@ -27,7 +27,7 @@ fn cells_past_the_edges_are_refused(rt: HostRuntime) -> Result<(), Fail> {
         err 5 not-tally\n\
         err 7 amount\n\
         err 16 command\n";
-    assert!(rt; has_replies(rt.alloc(), script, expected)?);
+    assert!(rt; has_replies(&rt, rt.alloc(), script, expected)?);
     Ok(())
 }
 
@@ -50,7 +50,7 @@ fn entries_that_are_refused(rt: HostRuntime) -> Result<(), Fail> {
         val 5\n\
         ok 2\n\
         val 0\n";
-    assert!(rt; has_replies(rt.alloc(), script, expected)?);
+    assert!(rt; has_replies(&rt, rt.alloc(), script, expected)?);
     Ok(())
 }
 
@@ -77,7 +77,7 @@ fn a_counter(rt: HostRuntime) -> Result<(), Fail> {
         val -2\n\
         err 8 option\n\
         err 6 not-choice\n";
-    assert!(rt; has_replies(rt.alloc(), script, expected)?);
+    assert!(rt; has_replies(&rt, rt.alloc(), script, expected)?);
     Ok(())
 }
 
@@ -98,7 +98,7 @@ fn a_full_counter(rt: HostRuntime) -> Result<(), Fail> {
         ok 2\n\
         val {one_less}\n"
     )?;
-    assert!(rt; has_replies(alloc, script.as_bytes(), expected.as_bytes())?);
+    assert!(rt; has_replies(&rt, alloc, script.as_bytes(), expected.as_bytes())?);
     Ok(())
 }
 
@@ -122,7 +122,7 @@ fn an_option_is_taken_out_and_comes_back(rt: HostRuntime) -> Result<(), Fail> {
         val {7}\n\
         err 12 not-chosen\n\
         delta 3 [[\"A1\",null,[],[[7,1,1,1]]]]\n";
-    assert!(rt; has_replies(rt.alloc(), script, expected)?);
+    assert!(rt; has_replies(&rt, rt.alloc(), script, expected)?);
     Ok(())
 }
 
@@ -139,7 +139,7 @@ fn a_full_set(rt: HostRuntime) -> Result<(), Fail> {
         ok 2\n\
         val {}\n\
         delta 2 [[\"A1\",null,[],[[5,1,256,1]]]]\n";
-    assert!(rt; has_replies(rt.alloc(), script, expected)?);
+    assert!(rt; has_replies(&rt, rt.alloc(), script, expected)?);
     Ok(())
 }
 
@@ -169,6 +169,6 @@ fn a_formula_counts_the_options_of_a_set(rt: HostRuntime) -> Result<(), Fail> {
         err 1 cell\n\
         err 1 cell\n\
         err 16 command\n";
-    assert!(rt; has_replies(rt.alloc(), script, expected)?);
+    assert!(rt; has_replies(&rt, rt.alloc(), script, expected)?);
     Ok(())
 }

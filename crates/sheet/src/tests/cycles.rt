@@ -24,7 +24,7 @@ fn a_number_ends_a_cycle(rt: HostRuntime) -> Result<(), Fail> {
         ok 4\n\
         val 4\n\
         val 5\n";
-    assert!(rt; has_replies(rt.alloc(), script, expected)?);
+    assert!(rt; has_replies(&rt, rt.alloc(), script, expected)?);
     Ok(())
 }
 
@@ -35,7 +35,7 @@ fn a_range_over_its_own_cell_is_a_cycle(rt: HostRuntime) -> Result<(), Fail> {
         get A2\n";
     let expected = b"ok 1\n\
         val #CYCLE!\n";
-    assert!(rt; has_replies(rt.alloc(), script, expected)?);
+    assert!(rt; has_replies(&rt, rt.alloc(), script, expected)?);
     Ok(())
 }
 
@@ -54,7 +54,7 @@ fn an_untaken_branch_is_referred_to(rt: HostRuntime) -> Result<(), Fail> {
         val #CYCLE!\n\
         ok 3\n\
         val 7\n";
-    assert!(rt; has_replies(rt.alloc(), script, expected)?);
+    assert!(rt; has_replies(&rt, rt.alloc(), script, expected)?);
     Ok(())
 }
 
@@ -108,6 +108,6 @@ fn one_delta_ends_a_cycle_and_closes_another(rt: HostRuntime) -> Result<(), Fail
         val #CYCLE!\n\
         val 7\n\
         val 8\n";
-    assert!(rt; has_replies(rt.alloc(), script, expected)?);
+    assert!(rt; has_replies(&rt, rt.alloc(), script, expected)?);
     Ok(())
 }

@@ -13,7 +13,7 @@ fn equal_stamps_show_the_greater_content(rt: HostRuntime) -> Result<(), Fail> {
     let expected = b"ok 1\n\
         ok 2\n\
         val 4\n";
-    assert!(rt; has_replies(rt.alloc(), script, expected)?);
+    assert!(rt; has_replies(&rt, rt.alloc(), script, expected)?);
     Ok(())
 }
 
@@ -26,7 +26,7 @@ fn equal_stamps_in_the_other_order(rt: HostRuntime) -> Result<(), Fail> {
     let expected = b"ok 1\n\
         ok 1\n\
         val 4\n";
-    assert!(rt; has_replies(rt.alloc(), script, expected)?);
+    assert!(rt; has_replies(&rt, rt.alloc(), script, expected)?);
     Ok(())
 }
 
@@ -45,7 +45,7 @@ fn no_edit_follows_the_last_time(rt: HostRuntime) -> Result<(), Fail> {
         err 13 clock-full\n\
         val 1\n\
         err 14 delta\n";
-    assert!(rt; has_replies(alloc, script.as_bytes(), expected)?);
+    assert!(rt; has_replies(&rt, alloc, script.as_bytes(), expected)?);
     Ok(())
 }
 
@@ -58,7 +58,7 @@ fn escapes(rt: HostRuntime) -> Result<(), Fail> {
     let expected = b"ok 1\n\
         val 5\n\
         delta 1 [[\"A1\",[1,2,\"5\"],[],[]]]\n";
-    assert!(rt; has_replies(rt.alloc(), script, expected)?);
+    assert!(rt; has_replies(&rt, rt.alloc(), script, expected)?);
     Ok(())
 }
 
@@ -97,7 +97,7 @@ fn lines_that_are_no_delta(rt: HostRuntime) -> Result<(), Fail> {
         err 16 command\n\
         err 14 delta\n\
         end 0\n";
-    assert!(rt; has_replies(rt.alloc(), script, expected)?);
+    assert!(rt; has_replies(&rt, rt.alloc(), script, expected)?);
     Ok(())
 }
 
@@ -126,7 +126,7 @@ fn grouped_pulls(rt: HostRuntime) -> Result<(), Fail> {
         delta 4 [[\"A1\",[1,1,\"@choice\"],[],[[7,1,1,1],[7,2,1,0]]]]\n\
         end 4\n\
         err 17 version\n";
-    assert!(rt; has_replies(rt.alloc(), script, expected)?);
+    assert!(rt; has_replies(&rt, rt.alloc(), script, expected)?);
     Ok(())
 }
 
@@ -161,6 +161,6 @@ fn pulls_that_are_refused(rt: HostRuntime) -> Result<(), Fail> {
         delta 1 [[\"A1\",[1,1,\"1\"],[],[]]]\n\
         end 1\n\
         err 17 version\n";
-    assert!(rt; has_replies(rt.alloc(), script, expected)?);
+    assert!(rt; has_replies(&rt, rt.alloc(), script, expected)?);
     Ok(())
 }

@@ -14,6 +14,7 @@ use std::io::{ErrorKind, Read, Write};
 use std::marker::Brand;
 use std::sync::ledger::{Blank, Ledger};
 use std::test::Fail;
+use std::thread::Threads;
 
 /// A reader that gives its bytes, and then fails or ends.
 #[derive(Drop)]
@@ -69,7 +70,8 @@ struct SessionEnd {
     version: u64,
 }
 
-fn ended<I: Ledger, O: Ledger, M: Ledger>(
+fn ended<R: Threads + Sync, I: Ledger, O: Ledger, M: Ledger>(
+    rt: &R,
     alloc: Global,
     given: Given,
     keeper: Keeper,
@@ -85,7 +87,7 @@ fn ended<I: Ledger, O: Ledger, M: Ledger>(
     let mut sink = Writing::<Keeper, O>::new(keeper, output);
     let mut meter = Meter::<M>::new(count);
     let mut sheet = Sheet::open(alloc, 1, 1)?;
-    let ran = run(alloc, &mut source, &mut sink, &mut sheet, &mut meter);
+    let ran = run(rt, alloc, &mut source, &mut sink, &mut sheet, &mut meter);
     Ok(SessionEnd {
         ran,
         version: sheet.version(),
@@ -93,8 +95,14 @@ fn ended<I: Ledger, O: Ledger, M: Ledger>(
 }
 
 /// The session of a reader, whose replies a cell keeps.
-fn session(alloc: Global, given: Given, keeper: Keeper) -> Result<SessionEnd, Refusal> {
-    ended::<Brand, Brand, Brand>(
+fn session<R: Threads + Sync>(
+    rt: &R,
+    alloc: Global,
+    given: Given,
+    keeper: Keeper,
+) -> Result<SessionEnd, Refusal> {
+    ended::<R, Brand, Brand, Brand>(
+        rt,
         alloc,
         given,
         keeper,
@@ -107,7 +115,7 @@ fn session(alloc: Global, given: Given, keeper: Keeper) -> Result<SessionEnd, Re
 /// The sessions of three edits on writers that fail at their first, second .. call: each ends with the sink's failure,
 /// what was written is a beginning of the replies, and the sheet is that of the lines up to the one whose reply was
 /// cut.
-fn ends_at_each_call(alloc: Global) -> Result<bool, Refusal> {
+fn ends_at_each_call<R: Threads + Sync>(rt: &R, alloc: Global) -> Result<bool, Refusal> {
     let due = b"ok 1\nok 2\nok 3\n";
     for calls in 0..9 {
         let kept = RefCell::new(Vec::new(alloc));
@@ -116,7 +124,7 @@ fn ends_at_each_call(alloc: Global) -> Result<bool, Refusal> {
             fails: false,
         };
         let keeper = Keeper { kept: &kept, calls };
-        let found = session(alloc, given, keeper)?;
+        let found = session(rt, alloc, given, keeper)?;
         let bytes = kept.into_inner();
         let lines = bytes.iter().filter(|byte| **byte == b'\n').count() as u64;
         let is_right = due.starts_with(bytes.as_slice())
@@ -132,7 +140,7 @@ fn ends_at_each_call(alloc: Global) -> Result<bool, Refusal> {
 /// A sink that fails at its k-th call, for each k.
 #[test]
 fn a_failing_sink(rt: HostRuntime) -> Result<(), Fail> {
-    assert!(rt; ends_at_each_call(rt.alloc())?);
+    assert!(rt; ends_at_each_call(&rt, rt.alloc())?);
     Ok(())
 }
 
@@ -148,7 +156,7 @@ fn a_failing_source(rt: HostRuntime) -> Result<(), Fail> {
         kept: &kept,
         calls: 100,
     };
-    let found = session(rt.alloc(), given, keeper)?;
+    let found = session(&rt, rt.alloc(), given, keeper)?;
     assert!(rt; found.ran == Err(RunFault::Source) && found.version == 1);
     assert!(rt; kept.into_inner().as_slice() == b"ok 1\n".as_slice());
     Ok(())

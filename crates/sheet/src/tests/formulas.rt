@@ -12,7 +12,7 @@ fn a_formula_shows_its_value(rt: HostRuntime) -> Result<(), Fail> {
     let expected = b"ok 1\n\
         ok 2\n\
         val 10\n";
-    assert!(rt; has_replies(rt.alloc(), script, expected)?);
+    assert!(rt; has_replies(&rt, rt.alloc(), script, expected)?);
     Ok(())
 }
 
@@ -33,7 +33,7 @@ fn a_formula_is_kept_as_its_canonical_text(rt: HostRuntime) -> Result<(), Fail> 
         val 1\n\
         ok 3\n\
         val 0\n";
-    assert!(rt; has_replies(rt.alloc(), script, expected)?);
+    assert!(rt; has_replies(&rt, rt.alloc(), script, expected)?);
     Ok(())
 }
 
@@ -74,7 +74,7 @@ fn the_whole_formula_language(rt: HostRuntime) -> Result<(), Fail> {
         val 0\n\
         ok 9\n\
         val #VALUE!\n";
-    assert!(rt; has_replies(rt.alloc(), script, expected)?);
+    assert!(rt; has_replies(&rt, rt.alloc(), script, expected)?);
     Ok(())
 }
 
@@ -111,7 +111,7 @@ fn logic(rt: HostRuntime) -> Result<(), Fail> {
         err 3 formula\n\
         err 3 formula\n\
         err 3 formula\n";
-    assert!(rt; has_replies(rt.alloc(), script, expected)?);
+    assert!(rt; has_replies(&rt, rt.alloc(), script, expected)?);
     Ok(())
 }
 
@@ -128,7 +128,7 @@ fn the_whole_grid(rt: HostRuntime) -> Result<(), Fail> {
         err 1 cell\n\
         ok 2\n\
         val 1\n";
-    assert!(rt; has_replies(rt.alloc(), script, expected)?);
+    assert!(rt; has_replies(&rt, rt.alloc(), script, expected)?);
     Ok(())
 }
 
@@ -151,7 +151,7 @@ fn numbers_end_at_64_bits(rt: HostRuntime) -> Result<(), Fail> {
         ok 3\n\
         ok 4\n\
         val #VALUE!\n";
-    assert!(rt; has_replies(rt.alloc(), script, expected)?);
+    assert!(rt; has_replies(&rt, rt.alloc(), script, expected)?);
     Ok(())
 }
 
@@ -186,7 +186,7 @@ fn divisions_of_each_sign(rt: HostRuntime) -> Result<(), Fail> {
         val #DIV/0!\n\
         ok 7\n\
         val #DIV/0!\n";
-    assert!(rt; has_replies(rt.alloc(), script, expected)?);
+    assert!(rt; has_replies(&rt, rt.alloc(), script, expected)?);
     Ok(())
 }
 
@@ -219,6 +219,6 @@ fn items_pass_over_texts(rt: HostRuntime) -> Result<(), Fail> {
         val 0\n\
         ok 8\n\
         val 4\n";
-    assert!(rt; has_replies(rt.alloc(), script, expected)?);
+    assert!(rt; has_replies(&rt, rt.alloc(), script, expected)?);
     Ok(())
 }

@@ -5,9 +5,15 @@ use ps_grid::Refusal;
 use ps_session::LINE_LIMIT;
 use std::alloc::Global;
 use std::test::Fail;
+use std::thread::Threads;
 
 /// The replies to a beginning and so many letters after it as one line, and to a `get` on the next.
-fn replies_to_long(alloc: Global, beginning: &[u8], letters: usize) -> Result<Vec<u8>, Refusal> {
+fn replies_to_long<R: Threads + Sync>(
+    rt: &R,
+    alloc: Global,
+    beginning: &[u8],
+    letters: usize,
+) -> Result<Vec<u8>, Refusal> {
     let mut script = Vec::from_slice(alloc, beginning)?;
     for _ in 0..letters {
         script.push(b'x')?;
@@ -18,15 +24,15 @@ fn replies_to_long(alloc: Global, beginning: &[u8], letters: usize) -> Result<Ve
         second: b"",
         most: usize::MAX,
     };
-    replies(alloc, 1, parts)
+    replies(rt, alloc, 1, parts)
 }
 
 /// A line of 262,208 bytes is read; nothing of one byte more is carried out, and the next line is answered.
 #[test]
 fn lines_at_the_limit(rt: HostRuntime) -> Result<(), Fail> {
-    let longest = replies_to_long(rt.alloc(), b"", LINE_LIMIT)?;
+    let longest = replies_to_long(&rt, rt.alloc(), b"", LINE_LIMIT)?;
     assert!(rt; longest.as_slice() == b"err 16 command\nval \n".as_slice());
-    let too_long = replies_to_long(rt.alloc(), b"set A1 ", LINE_LIMIT - 6)?;
+    let too_long = replies_to_long(&rt, rt.alloc(), b"set A1 ", LINE_LIMIT - 6)?;
     assert!(rt; too_long.as_slice() == b"err 15 line\nval \n".as_slice());
     Ok(())
 }
@@ -34,9 +40,9 @@ fn lines_at_the_limit(rt: HostRuntime) -> Result<(), Fail> {
 /// A text has up to 64 bytes, an entry up to 512.
 #[test]
 fn entries_at_the_limit(rt: HostRuntime) -> Result<(), Fail> {
-    let text = replies_to_long(rt.alloc(), b"set A1 ", 65)?;
+    let text = replies_to_long(&rt, rt.alloc(), b"set A1 ", 65)?;
     assert!(rt; text.as_slice() == b"err 2 text\nval \n".as_slice());
-    let entry = replies_to_long(rt.alloc(), b"set A1 ", 513)?;
+    let entry = replies_to_long(&rt, rt.alloc(), b"set A1 ", 513)?;
     assert!(rt; entry.as_slice() == b"err 4 too-long\nval \n".as_slice());
     Ok(())
 }
@@ -53,7 +59,7 @@ fn sequences_are_used_up(rt: HostRuntime) -> Result<(), Fail> {
         second: b"",
         most: usize::MAX,
     };
-    let found = replies(rt.alloc(), 1, parts)?;
+    let found = replies(&rt, rt.alloc(), 1, parts)?;
     assert!(rt;
         found
             .as_slice()

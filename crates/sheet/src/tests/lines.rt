@@ -8,7 +8,7 @@ use std::test::Fail;
 fn no_input_has_no_output(rt: HostRuntime) -> Result<(), Fail> {
     let script = b"";
     let expected = b"";
-    assert!(rt; has_replies(rt.alloc(), script, expected)?);
+    assert!(rt; has_replies(&rt, rt.alloc(), script, expected)?);
     Ok(())
 }
 
@@ -16,7 +16,7 @@ fn no_input_has_no_output(rt: HostRuntime) -> Result<(), Fail> {
 #[test]
 fn ends_of_lines(rt: HostRuntime) -> Result<(), Fail> {
     let script = b"set A1 5\r\n\n\r\nget A1\r\nget A1\r";
-    assert!(rt; has_replies(rt.alloc(), script, b"ok 1\nval 5\nval 5\n")?);
+    assert!(rt; has_replies(&rt, rt.alloc(), script, b"ok 1\nval 5\nval 5\n")?);
     Ok(())
 }
 
@@ -29,6 +29,6 @@ fn words_of_a_line(rt: HostRuntime) -> Result<(), Fail> {
     let expected =
         b"err 16 command\nerr 1 cell\nerr 16 command\nerr 16 command\nerr 16 command\nok 1\nok 2\nval 0\n\
         ok 3\nval \nerr 16 command\nerr 16 command\nerr 2 text\nerr 16 command\n";
-    assert!(rt; has_replies(rt.alloc(), script, expected)?);
+    assert!(rt; has_replies(&rt, rt.alloc(), script, expected)?);
     Ok(())
 }

@@ -24,7 +24,7 @@ fn page_first_apart(rt: HostRuntime) -> Result<(), Fail> {
         val 6\n\
         delta 4 [[\"A1\",[1,1,\"'apples\"],[],[]],[\"B1\",[1,1,\"@tally\"],[[1,3,0]],[]],\
         [\"C1\",[1,1,\"=[.B1]*2\"],[],[]]]\n";
-    assert!(rt; has_replies_at(rt.alloc(), 1, script, expected)?);
+    assert!(rt; has_replies_at(&rt, rt.alloc(), 1, script, expected)?);
     Ok(())
 }
 
@@ -43,7 +43,7 @@ fn page_second_apart(rt: HostRuntime) -> Result<(), Fail> {
         val pears\n\
         val 4\n\
         delta 3 [[\"A1\",[1,2,\"'pears\"],[],[]],[\"B1\",[1,2,\"@tally\"],[[2,4,0]],[]]]\n";
-    assert!(rt; has_replies_at(rt.alloc(), 2, script, expected)?);
+    assert!(rt; has_replies_at(&rt, rt.alloc(), 2, script, expected)?);
     Ok(())
 }
 
@@ -63,7 +63,7 @@ fn page_first_together(rt: HostRuntime) -> Result<(), Fail> {
         val pears\n\
         val 7\n\
         val 14\n";
-    assert!(rt; has_replies_at(rt.alloc(), 1, script, expected)?);
+    assert!(rt; has_replies_at(&rt, rt.alloc(), 1, script, expected)?);
     Ok(())
 }
 
@@ -81,7 +81,7 @@ fn page_second_together(rt: HostRuntime) -> Result<(), Fail> {
         val pears\n\
         val 7\n\
         val 14\n";
-    assert!(rt; has_replies_at(rt.alloc(), 2, script, expected)?);
+    assert!(rt; has_replies_at(&rt, rt.alloc(), 2, script, expected)?);
     Ok(())
 }
 
@@ -89,9 +89,9 @@ fn page_second_together(rt: HostRuntime) -> Result<(), Fail> {
 #[test]
 fn one_cell_assigned_at_one_time(rt: HostRuntime) -> Result<(), Fail> {
     let first = b"set A1 x\npush [[\"A1\",[1,2,\"'y\"],[],[]]]\nget A1\n";
-    assert!(rt; has_replies_at(rt.alloc(), 1, first, b"ok 1\nok 2\nval y\n")?);
+    assert!(rt; has_replies_at(&rt, rt.alloc(), 1, first, b"ok 1\nok 2\nval y\n")?);
     let second = b"set A1 y\npush [[\"A1\",[1,1,\"'x\"],[],[]]]\nget A1\n";
-    assert!(rt; has_replies_at(rt.alloc(), 2, second, b"ok 1\nok 1\nval y\n")?);
+    assert!(rt; has_replies_at(&rt, rt.alloc(), 2, second, b"ok 1\nok 1\nval y\n")?);
     Ok(())
 }
 
@@ -106,6 +106,6 @@ fn a_counter_of_two_replicas(rt: HostRuntime) -> Result<(), Fail> {
         get A1\n\
         pull 2\n";
     let expected = b"ok 1\nok 2\nok 3\nok 3\nok 3\nval 3\ndelta 3 [[\"A1\",null,[[2,0,2]],[]]]\n";
-    assert!(rt; has_replies_at(rt.alloc(), 2, script, expected)?);
+    assert!(rt; has_replies_at(&rt, rt.alloc(), 2, script, expected)?);
     Ok(())
 }

@@ -12,6 +12,7 @@ use std::io;
 use std::io::Read;
 use std::marker::Brand;
 use std::sync::ledger::{Blank, Ledger};
+use std::thread::Threads;
 
 /// A reader whose bytes come in two parts, and each part in pieces of at most so many bytes.
 #[derive(Drop)]
@@ -34,7 +35,8 @@ impl Read for Parts<'_> {
     }
 }
 
-fn written<I: Ledger, O: Ledger, M: Ledger>(
+fn written<R: Threads + Sync, I: Ledger, O: Ledger, M: Ledger>(
+    rt: &R,
     alloc: Global,
     replica: u8,
     parts: Parts,
@@ -50,7 +52,7 @@ fn written<I: Ledger, O: Ledger, M: Ledger>(
     let mut sink = MemorySink::<O>::new(alloc, output);
     let mut meter = Meter::<M>::new(count);
     let mut sheet = Sheet::open(alloc, replica, 1)?;
-    if run(alloc, &mut source, &mut sink, &mut sheet, &mut meter).is_err() {
+    if run(rt, alloc, &mut source, &mut sink, &mut sheet, &mut meter).is_err() {
         return Err(Refusal::Device);
     }
     let MemorySink { bytes, failed } = sink;
@@ -59,8 +61,14 @@ fn written<I: Ledger, O: Ledger, M: Ledger>(
 }
 
 /// What a session on the empty sheet of a replica writes, where its input comes in these parts.
-pub(super) fn replies(alloc: Global, replica: u8, parts: Parts) -> Result<Vec<u8>, Refusal> {
-    written::<Brand, Brand, Brand>(
+pub(super) fn replies<R: Threads + Sync>(
+    rt: &R,
+    alloc: Global,
+    replica: u8,
+    parts: Parts,
+) -> Result<Vec<u8>, Refusal> {
+    written::<R, Brand, Brand, Brand>(
+        rt,
         alloc,
         replica,
         parts,
@@ -71,7 +79,8 @@ pub(super) fn replies(alloc: Global, replica: u8, parts: Parts) -> Result<Vec<u8
 }
 
 /// Whether the script at the replica has these replies: whole, byte by byte, and in each cut into two pieces.
-pub(super) fn has_replies_at(
+pub(super) fn has_replies_at<R: Threads + Sync>(
+    rt: &R,
     alloc: Global,
     replica: u8,
     script: &[u8],
@@ -82,7 +91,7 @@ pub(super) fn has_replies_at(
         second: b"",
         most: 1,
     };
-    if replies(alloc, replica, bytewise)?.as_slice() != expected {
+    if replies(rt, alloc, replica, bytewise)?.as_slice() != expected {
         return Ok(false);
     }
     for cut in 0..=script.len() {
@@ -91,7 +100,7 @@ pub(super) fn has_replies_at(
             second: &script[cut..],
             most: usize::MAX,
         };
-        if replies(alloc, replica, parts)?.as_slice() != expected {
+        if replies(rt, alloc, replica, parts)?.as_slice() != expected {
             return Ok(false);
         }
     }
@@ -99,6 +108,11 @@ pub(super) fn has_replies_at(
 }
 
 /// Whether the script at replica 1 has these replies, in whatever pieces it comes.
-pub(super) fn has_replies(alloc: Global, script: &[u8], expected: &[u8]) -> Result<bool, Refusal> {
-    has_replies_at(alloc, 1, script, expected)
+pub(super) fn has_replies<R: Threads + Sync>(
+    rt: &R,
+    alloc: Global,
+    script: &[u8],
+    expected: &[u8],
+) -> Result<bool, Refusal> {
+    has_replies_at(rt, alloc, 1, script, expected)
 }

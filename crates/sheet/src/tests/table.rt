@@ -10,8 +10,10 @@ use std::alloc::Global;
 use std::marker::Brand;
 use std::sync::ledger::{Blank, Ledger};
 use std::test::Fail;
+use std::thread::Threads;
 
-fn filled<O: Ledger, M: Ledger>(
+fn filled<R: Threads + Sync, O: Ledger, M: Ledger>(
+    rt: &R,
     alloc: Global,
     table: &[u8],
     output: Blank,
@@ -23,7 +25,7 @@ fn filled<O: Ledger, M: Ledger>(
     let mut source = MemorySource::new(table);
     let mut sink = MemorySink::<O>::new(alloc, output);
     let mut meter = Meter::<M>::new(count);
-    let done = table_on(alloc, &mut source, &mut sink, &mut meter, 1);
+    let done = table_on(rt, alloc, &mut source, &mut sink, &mut meter, 1);
     let MemorySink { bytes, failed } = sink;
     drop(failed);
     match done {
@@ -33,8 +35,12 @@ fn filled<O: Ledger, M: Ledger>(
 }
 
 /// What the command `table` writes for this table.
-fn written(alloc: Global, table: &[u8]) -> Result<Vec<u8>, ProgramFault> {
-    filled::<Brand, Brand>(alloc, table, Blank::new(1), Blank::new(1))
+fn written<R: Threads + Sync>(
+    rt: &R,
+    alloc: Global,
+    table: &[u8],
+) -> Result<Vec<u8>, ProgramFault> {
+    filled::<R, Brand, Brand>(rt, alloc, table, Blank::new(1), Blank::new(1))
 }
 
 /// A formula and a text with a comma, a record of empty fields, and no record at all.
@@ -48,7 +54,7 @@ fn a_table_shows_its_settled_values(rt: HostRuntime) -> Result<(), Fail> {
         (b"1,,3\n,,\n=[.A1]+[.C1]\n", b"1,,3\n,,\n4,,\n"),
         (b"", b""),
     ] {
-        match written(rt.alloc(), table) {
+        match written(&rt, rt.alloc(), table) {
             Ok(found) => assert!(rt; found.as_slice() == text),
             Err(_) => assert!(rt; false),
         }
@@ -59,7 +65,7 @@ fn a_table_shows_its_settled_values(rt: HostRuntime) -> Result<(), Fail> {
 /// A formula outside the grammar in the second record: nothing is written.
 #[test]
 fn a_bad_field(rt: HostRuntime) -> Result<(), Fail> {
-    let found = written(rt.alloc(), b"1,2\n=bad,3\n");
+    let found = written(&rt, rt.alloc(), b"1,2\n=bad,3\n");
     assert!(rt; matches!(found, Err(ProgramFault::Refused(Refusal::Formula))));
     Ok(())
 }

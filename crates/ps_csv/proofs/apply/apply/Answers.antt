@@ -20,7 +20,7 @@ loop-cells-init g c = (
 )
 
 pub assign-requires-clause-ascending : goal.assign-requires-clause-ascending
-assign-requires-clause-ascending g c =
+assign-requires-clause-ascending g c κs within =
     next_ascends _ _ _ _ _ _ c.in-Some.cells.items
     (applying_next _ _ _ _ _ _ _ c.in-Some.cells c.in-Some.ensures.steps.0 c.loop-cells.invariant.2)
 

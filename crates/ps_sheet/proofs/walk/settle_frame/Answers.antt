@@ -1,4 +1,4 @@
-use Rattle.std.proofs.Common.{◌≡◌, ◌+◌, ◌<◌, ◌≤◌, [], sym, subst, arith}
+use Rattle.std.proofs.Common.{◌≡◌, ◌+◌, ◌<◌, ◌≤◌, [], length, sym, subst, arith}
 use Rattle.ps_grid.specs.Chains.{In}
 use Rattle.ps_grid.specs.declared.size.TheConstants.{CELLS}
 use Rattle.ps_delta.specs.State.{state_at}
@@ -9,7 +9,7 @@ use Rattle.ps_sheet.specs.Inside.Steps.{flag_at, StepsLevels}
 use Rattle.ps_sheet.specs.Inside.Walk.{IsDue, IsPassed}
 use Rattle.ps_sheet.proofs.SettledValues.{formula_below}
 use Rattle.ps_sheet.proofs.CellCounts.{count_below_cells}
-use Rattle.ps_sheet.proofs.WalkSteps.{frame_none, frame_more, level_formula}
+use Rattle.ps_sheet.proofs.WalkSteps.{frame_none, frame_more, level_few, level_formula}
 use Rattle.ps_sheet.proofs.walk.settle_frame.Given.{Over}
 use Rattle.ps_sheet.proofs.walk.settle_frame.Goals as goal
 use Rattle.ps_sheet.proofs.walk.settle_frame.Goals.{After-slice_known-in-loop-before-1}
@@ -19,10 +19,11 @@ loop-before-init g c = record {
   steps = frame_none (state_at c.args.grid.now) (listed c.args.index.now) (level_cells c.args.region.now)
       (level_count c.args.region.now) (shown_at c.args.shown.now) (flag_at c.args.flags.now);
   metered = omega arith;
+  room = c.requires.room;
 }
 
-pub settle_level-requires-clause-formulas : goal.settle_level-requires-clause-formulas
-settle_level-requires-clause-formulas g c = λ q i.
+pub settle-requires-clause-formulas : goal.settle-requires-clause-formulas
+settle-requires-clause-formulas g c κs within2 = λ q i.
     let lt = c.loop-before-test.true in
     let top = c.levels-before-end.ensures in
     let within : c.loop-before.before + 1 ≤ level_count c.args.region.now = omega (arith, lt, top) in
@@ -32,12 +33,29 @@ settle_level-requires-clause-formulas g c = λ q i.
     (c.loop-before.before + 1) some within q
     (subst (λ xs. In xs q) (c.level-cells.ensures.inside some within) i)
 
+pub settle-requires-clause-room : goal.settle-requires-clause-room
+settle-requires-clause-room g c κs within2 = c.loop-before.invariant.room
+
+pub settle-requires-clause-few : goal.settle-requires-clause-few
+settle-requires-clause-few g c κs within2 =
+    let lt = c.loop-before-test.true in
+    let top = c.levels-before-end.ensures in
+    let within : c.loop-before.before + 1 ≤ level_count c.args.region.now = omega (arith, lt, top) in
+    let some : 0 < c.loop-before.before + 1 = omega arith in
+    subst (λ xs. length xs ≤ CELLS) (sym (c.level-cells.ensures.inside some within))
+    (level_few (state_at c.args.grid.now) (listed c.args.index.now) (level_cells c.args.region.now)
+    (level_count c.args.region.now) (shown_at c.args.shown.now) (flag_at c.args.flags.now) c.requires.begun
+    (c.loop-before.before + 1) some within)
+
+pub returns-clause-room : goal.returns-clause-room
+returns-clause-room g c = c.loop-before.invariant.room
+
 -- one level more
 stepped : (g : Over) (c : After-slice_known-in-loop-before-1 g)
     → StepsLevels (state_at c.args.grid.now) (listed c.args.index.now) (level_cells c.args.region.now)
     (level_count c.args.region.now) (c.loop-before.before + 1 + 1) (shown_at c.args.shown.now)
-    (shown_at c.settle_level.new.shown) (flag_at c.args.flags.now) (flag_at c.settle_level.new.flags)
-    (c.loop-before.evaluated + c.settle_level.result)
+    (shown_at c.settle.new.shown) (flag_at c.args.flags.now) (flag_at c.settle.new.flags)
+    (c.loop-before.evaluated + c.settle.result)
 stepped g c =
     let lt = c.loop-before-test.true in
     let top = c.levels-before-end.ensures in
@@ -45,28 +63,28 @@ stepped g c =
     let some : 0 < c.loop-before.before + 1 = omega arith in
     frame_more (state_at c.args.grid.now) (listed c.args.index.now) (level_cells c.args.region.now)
     (level_count c.args.region.now) (c.loop-before.before + 1) c.level-cells.result.now (shown_at c.args.shown.now)
-    (shown_at c.loop-before.shown) (shown_at c.settle_level.new.shown) (flag_at c.args.flags.now)
-    (flag_at c.loop-before.flags) (flag_at c.settle_level.new.flags) c.loop-before.evaluated c.settle_level.result
-    c.loop-before.invariant.steps c.settle_level.ensures.settled some within
+    (shown_at c.loop-before.shown) (shown_at c.settle.new.shown) (flag_at c.args.flags.now)
+    (flag_at c.loop-before.flags) (flag_at c.settle.new.flags) c.loop-before.evaluated c.settle.result
+    c.loop-before.invariant.steps c.settle.ensures.settled some within
     (sym (c.level-cells.ensures.inside some within))
 
 pub overflow_add-evaluated : goal.overflow_add-evaluated
 overflow_add-evaluated g c =
     let may = c.requires.begun in
     let w = stepped g c may.0 may.1 may.2 may.3 in
-    let few : c.loop-before.evaluated + c.settle_level.result ≤ CELLS =
+    let few : c.loop-before.evaluated + c.settle.result ≤ CELLS =
     count_below_cells
     (λ q. IsPassed (level_cells c.args.region.now) (c.loop-before.before + 1 + 1) [] q
-    × IsDue (state_at c.args.grid.now) may.1 may.0 (shown_at c.settle_level.new.shown) q)
-    (c.loop-before.evaluated + c.settle_level.result)
+    × IsDue (state_at c.args.grid.now) may.1 may.0 (shown_at c.settle.new.shown) q)
+    (c.loop-before.evaluated + c.settle.result)
     (λ q p. formula_below (state_at c.args.grid.now) may.2.change.after q (w.framed q p.0).1) w.counted in
     omega (arith, few)
 
 pub loop-before-preserved : goal.loop-before-preserved
 loop-before-preserved g c =
     let metered = c.loop-before.invariant.metered in
-    let more = c.settle_level.ensures.metered in
-    record { steps = stepped g c; metered = omega (arith, metered, more) }
+    let more = c.settle.ensures.metered in
+    record { steps = stepped g c; metered = omega (arith, metered, more); room = c.settle.ensures.room }
 
 pub returns-clause-settled : goal.returns-clause-settled
 returns-clause-settled g c =

@@ -25,5 +25,7 @@ returns-clause-whole c =
         room = let cap = c.in_ok-cyclic.ensures.capacity in omega (arith, cap);
         length = c.in_ok-flags.ensures.length;
         off = c.in_ok-flags.ensures.off;
+        level = c.in_ok-level.ensures.room;
+        workers = c.requires.workers;
       };
     }

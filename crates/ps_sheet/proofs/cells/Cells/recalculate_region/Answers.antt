@@ -18,7 +18,7 @@ use Rattle.ps_sheet.proofs.Recalculations.{walked_now, cyclic_now, cyclic_room}
 use Rattle.ps_sheet.proofs.Recalculations.{deepest_now, reached_now}
 use Rattle.ps_sheet.proofs.cells.Cells.recalculate_region.Given.{Over}
 use Rattle.ps_sheet.proofs.cells.Cells.recalculate_region.Goals as goal
-use Rattle.ps_sheet.proofs.cells.Cells.recalculate_region.Goals.{After-settle_frame-arg-5-1}
+use Rattle.ps_sheet.proofs.cells.Cells.recalculate_region.Goals.{After-settle_frame-arg-6-1}
 
 pub mark-requires-clause-extra : goal.mark-requires-clause-extra
 mark-requires-clause-extra g c =
@@ -38,7 +38,7 @@ mark-requires-clause-outside_no g c = λ q out cyc.
     c.requires.change c.requires.inside c.args.self.now.cyclic.items c.requires.tidy.cyclic q out cyc)
 
 -- what the marking found, over all references
-found : (g : Over) (c : After-settle_frame-arg-5-1 g)
+found : (g : Over) (c : After-settle_frame-arg-6-1 g)
     → IsFound (refers_to (state_at c.args.self.now.grid)) (formula_at (state_at c.args.self.now.grid))
     c.args.touched.now
     c.mark.new.self
@@ -47,13 +47,13 @@ found g c =
     c.requires.change c.requires.inside c.mark.new.self c.mark.ensures.found
 
 -- the flags after the touched cells were dealt with
-flags_first : (g : Over) (c : After-settle_frame-arg-5-1 g) → c.deref_mut-2.result.now ≡ c.show_all_first.new.flags
+flags_first : (g : Over) (c : After-settle_frame-arg-6-1 g) → c.deref_mut-2.result.now ≡ c.show_all_first.new.flags
 flags_first g c =
     c.deref_mut-2.ensures.value
     ∙ with_items_is c.args.self.now.flags c.show_all_first.new.flags
     (c.show_all_first.auto.flags ∙ c.deref_mut.ensures.len)
 
-begun_first : (g : Over) (c : After-settle_frame-arg-5-1 g)
+begun_first : (g : Over) (c : After-settle_frame-arg-6-1 g)
     → Begun (state_at c.args.self.now.grid) (shown_at c.args.self.now.shown) c.args.touched.now
     (map (λ (e : ℕ × Kept). e.0) c.args.first.items) [] (shown_at c.show_all_first.new.shown)
     (flag_at c.show_all_first.new.flags)
@@ -64,7 +64,7 @@ begun_first g c =
     (shown_at c.args.self.now.shown) (flag_at c.deref_mut.result.now) (λ q. refl)
     (λ q. ap (λ (xs : List Bool). flag_at xs q) c.deref_mut.ensures.value ∙ c.requires.tidy.off q))
 
-begun_all : (g : Over) (c : After-settle_frame-arg-5-1 g)
+begun_all : (g : Over) (c : After-settle_frame-arg-6-1 g)
     → Begun (state_at c.args.self.now.grid) (shown_at c.args.self.now.shown) c.args.touched.now
     c.args.touched.now c.mark.new.self.cyclic (shown_at c.close_all.new.shown)
     (flag_at c.deref_mut-2.result.now)
@@ -86,7 +86,7 @@ begun_all g c =
 
 pub settle_frame-evaluated-requires-clause-begun :
     goal.settle_frame-evaluated-requires-clause-begun
-settle_frame-evaluated-requires-clause-begun g c =
+settle_frame-evaluated-requires-clause-begun g c κs within =
     may_walk c.requires.before (state_at c.args.self.now.grid) (shown_at c.args.self.now.shown) c.args.touched.now
     c.requires.change c.requires.inside c.mark.new.self (found g c) (listed c.args.self.now.index) c.requires.lists
     (shown_at c.close_all.new.shown) (flag_at c.deref_mut-2.result.now) (begun_all g c)
@@ -188,6 +188,8 @@ returns-clause-done g c =
             ∙ ap length first ∙ c.show_all_first.auto.flags ∙ ap length c.deref_mut.ensures.value
             ∙ c.requires.tidy.length;
         off = λ p. ap (λ (xs : List Bool). flag_at xs p) clean ∙ c.clear.ensures.clear p;
+        level = c.settle_frame-evaluated.ensures.room;
+        workers = c.requires.tidy.workers;
       };
       works = walked_counted c.requires.before t v touched c.requires.change (level_cells f) (level_count f) levels u3
           flags3 n

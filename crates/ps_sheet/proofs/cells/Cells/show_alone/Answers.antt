@@ -58,6 +58,8 @@ returns-clause-done c =
         length = ap length clean ∙ c.clear.auto.flags ∙ ap length first ∙ c.show_all_first.auto.flags
             ∙ ap length c.deref_mut.ensures.value ∙ may.tidy.length;
         off = λ p. ap (λ (xs : List Bool). flag_at xs p) clean ∙ c.clear.ensures.clear p;
+        level = may.tidy.level;
+        workers = may.tidy.workers;
       };
       works = counted_alone may.before t v touched may.change may.inside may.once list may.lists c.requires.alone cells
           may.cells u none flags off c.show_all_first.ensures.begun;

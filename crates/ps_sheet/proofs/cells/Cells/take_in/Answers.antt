@@ -24,11 +24,13 @@ returns-in_err-change-clause-whole g c =
         room = w.tidy.room;
         length = w.tidy.length;
         off = w.tidy.off;
+        level = w.tidy.level;
+        workers = w.tidy.workers;
       };
     }
 
-pub recalculate-work-requires : goal.recalculate-work-requires
-recalculate-work-requires g c =
+pub recalculate-work-requires-clause-may : goal.recalculate-work-requires-clause-may
+recalculate-work-requires-clause-may g c κs within =
     let w = c.requires.whole in
     may_recalculate (state_at c.args.self.now.grid) (state_of c.args.delta.now) c.in_ok-change.change.raised.items
     (record {
@@ -38,9 +40,18 @@ recalculate-work-requires g c =
       region = c.args.self.now.region;
       cyclic = c.args.self.now.cyclic;
       flags = c.args.self.now.flags;
+      level = c.args.self.now.level;
+      workers = c.args.self.now.workers;
     })
     c.deref.result.now c.in_ok-change.change.first.items w.in_grid w.settled
-    (record { cyclic = w.tidy.cyclic; room = w.tidy.room; length = w.tidy.length; off = w.tidy.off })
+    (record {
+      cyclic = w.tidy.cyclic;
+      room = w.tidy.room;
+      length = w.tidy.length;
+      off = w.tidy.off;
+      level = w.tidy.level;
+      workers = w.tidy.workers;
+    })
     (c.in_ok-change.ensures.put (forms_of (state_at c.args.self.now.grid)) w.stands)
     c.in_ok-change.ensures.raised
     (given_of (state_at c.args.self.now.grid) (state_at c.begin.new.grid) (state_at c.exchange.new.self)
@@ -101,6 +112,8 @@ returns-clause-whole g c =
         room = did.tidy.room;
         length = did.tidy.length;
         off = did.tidy.off;
+        level = did.tidy.level;
+        workers = did.tidy.workers;
       };
     }
 
@@ -114,6 +127,8 @@ returns-clause-work g c =
       region = c.args.self.now.region;
       cyclic = c.args.self.now.cyclic;
       flags = c.args.self.now.flags;
+      level = c.args.self.now.level;
+      workers = c.args.self.now.workers;
     })
     c.recalculate-work.new.self c.deref.result.now c.recalculate-work.result.evaluated c.recalculate-work.result.cyclic
     c.recalculate-work.result.levels c.in_ok-change.ensures.raised

@@ -12,8 +12,8 @@ use Rattle.ps_sheet.proofs.sheet.Sheet.append.Given.{Over}
 use Rattle.ps_sheet.proofs.sheet.Sheet.append.Goals as goal
 use Rattle.ps_sheet.proofs.sheet.Sheet.append.Goals.{After-len}
 
-pub take_in-requires : goal.take_in-requires
-take_in-requires g c = record { whole = c.self.invariant.whole }
+pub take_in-requires-clause-whole : goal.take_in-requires-clause-whole
+take_in-requires-clause-whole g c κs within = c.self.invariant.whole
 
 -- the history after the delta was put
 pushed : (g : Over) (c : After-len g)

@@ -1,4 +1,4 @@
 use Rattle.ps_sheet.proofs.tests.script.apply.Given as goal
 
 abbrev pub ghosts-edited : goal.ghosts-edited
-ghosts-edited a = record { name = a.blank.name; parts = a.blank.parts }
+ghosts-edited g a = record { name = a.blank.name; parts = a.blank.parts }

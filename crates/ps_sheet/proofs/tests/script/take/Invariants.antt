@@ -1,4 +1,4 @@
 use Rattle.ps_sheet.proofs.tests.script.take.Given as goal
 
 abbrev pub ghosts-received : goal.ghosts-received
-ghosts-received a = record { name = a.blank.name; parts = a.blank.parts }
+ghosts-received g a = record { name = a.blank.name; parts = a.blank.parts }
