@@ -2,11 +2,14 @@
 use Rattle.std.proofs.Common.{◌≡◌, ℕ, Bool, true, false, ◌&&◌, List, map, IsTrue, refl, sym, ◌∙◌}
 use Rattle.std.specs.declared.cmp.Ordering.{Ordering}
 use Rattle.std.specs.List.{list_all}
+use Rattle.std.specs.Ordering.{nat_cmp}
 use Rattle.std.proofs.lemmas.Bool.{and_parts}
 use Rattle.std.specs.FinMap as maps
 use Rattle.serde_json.specs.Data.{Data}
 use Rattle.ps_lattice.specs.declared.tally.Count.{Count}
 use Rattle.ps_lattice.specs.declared.choice.Pair.{Pair}
+use Rattle.ps_lattice.specs.Tally.{is_count, is_tally}
+use Rattle.ps_lattice.specs.Choice.{is_choice, is_pair, pair_cmp}
 use Rattle.ps_lattice.proofs.Views.{entries_of}
 use Rattle.ps_wire.specs.Value.{array_of, count_value, pair_value, gone_number}
 use Rattle.ps_wire.proofs.ArrayLemmas.{array_of-injective, map-injective}
@@ -62,14 +65,20 @@ module _ {K X : Type 0} (R : K → K → Ordering) (good : K × X → Bool) (ite
       let same = entries_of R all (and_parts (maps.is_sorted R all) (list_all good all) well).0 in
       (rw (← same) read, rw (← same) well)
 
-  -- .. and for none where they stand for bad ones, ..
-  pub map_none : ((xs ys : List (K × X)) → map item xs ≡ map item ys → xs ≡ ys)
+  -- .. and for none where they stand for bad ones
+  map_none : ((xs ys : List (K × X)) → map item xs ≡ map item ys → xs ≡ ys)
       → (all : List (K × X)) → value ≡ array_of (map item all) → (IsGood all → ⊥) → NoMap
   map_none same_items all read bad m well e =
       let same = same_items all (maps.entries m)
       (array_of-injective (map item all) (map item (maps.entries m)) (sym read ∙ e)) in
       bad (rw same well)
 
-  -- .. or for no entries at all
-  pub map_refused : ((all : List (K × X)) → IsTrue (list_all good all) → value ≡ array_of (map item all) → ⊥) → NoMap
-  map_refused none m well = none (maps.entries m) (and_parts (maps.is_sorted R (maps.entries m)) _ well).1
+-- entries that make no counter
+pub no_counts : (value : Data) (all : List (ℕ × Count)) → value ≡ array_of (map count_value all)
+    → (IsTrue (is_tally all) → ⊥) → NoMap nat_cmp is_count count_value value
+no_counts value = map_none nat_cmp is_count count_value value counts-injective
+
+-- pairs that make no set
+pub no_pairs : (value : Data) (all : List (Pair × Bool)) → value ≡ array_of (map pair_value all)
+    → (IsTrue (is_choice all) → ⊥) → NoMap pair_cmp is_pair pair_value value
+no_pairs value = map_none pair_cmp is_pair pair_value value pairs-injective

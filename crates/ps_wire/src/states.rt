@@ -51,6 +51,7 @@ pub(crate) fn read_register(alloc: Global, value: &Value) -> Result<Register<Con
 }
 
 /// A counter: an array of replicas with their counts.
+#[tactic(auto, using(crate::proofs::PartLemmas::map_found, crate::proofs::PartLemmas::no_counts))]
 pub(crate) fn read_tally(alloc: Global, value: &Value) -> Result<Tally, Refusal>
     ensures found { IfOk result (λ t. (view value.now ≡ array_of (each count_value (map.entries t)))
         × IsTrue (is_tally (map.entries t))) }
@@ -62,6 +63,7 @@ pub(crate) fn read_tally(alloc: Global, value: &Value) -> Result<Tally, Refusal>
 }
 
 /// A set: an array of pairs.
+#[tactic(auto, using(crate::proofs::PartLemmas::map_found, crate::proofs::PartLemmas::no_pairs))]
 pub(crate) fn read_choice(alloc: Global, value: &Value) -> Result<Choice, Refusal>
     ensures found { IfOk result (λ c. (view value.now ≡ array_of (each pair_value (map.entries c)))
         × IsTrue (is_choice (map.entries c))) }
