@@ -11,6 +11,9 @@ use Rattle.json.specs.Print.{escape, escape_byte}
 use Rattle.serde_json.specs.Data.{Data, Items, item, string}
 use Rattle.serde_json.specs.View.{items_of}
 use Rattle.serde_json.specs.Written.{items_text, compact_text}
+use Rattle.ps_value.specs.declared.TheConstants.{LABEL_BYTES}
+use Rattle.ps_value.specs.Label.{IsLabel}
+use Rattle.ps_value.proofs.LabelLemmas.{IsLabel-short}
 use Rattle.ps_wire.specs.Length.{size}
 use Rattle.ps_wire.specs.Value.{array_of, gone_number, whole}
 use Rattle.ps_wire.proofs.EscapeLemmas.{length-escape-append}
@@ -129,6 +132,9 @@ gone_digit true = one_digit 1 (omega arith)
 gone_digit false = one_digit 0 (omega arith)
 
 -- ---- contents
+
+pub label_is_short : (bytes label : List ℕ) → IsLabel label → bytes ≡ label → length bytes ≤ LABEL_BYTES
+label_is_short bytes label well is = omega (arith, IsLabel-short label well, ap length is)
 
 pub size_of_label : (label : List ℕ) → size (string (codes "'" ++ label)) ≡ 1 + size (string label)
 unfolding escape_byte

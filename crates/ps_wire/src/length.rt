@@ -143,6 +143,7 @@ fn register_size(register: &Register<Content>) -> usize
 }
 
 /// How long the value of a content is.
+#[tactic(auto, using(crate::proofs::SizeLemmas::label_is_short))]
 fn content_size(content: &Content) -> usize
     ensures value { result ≡ size (string (canonical_text content.now)) }
     ensures few { result ≤ 2 + 6 * LONGEST_TEXT }

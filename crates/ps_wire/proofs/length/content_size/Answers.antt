@@ -1,32 +1,9 @@
-use Rattle.std.proofs.Common.{arith, ap, sym, length, ◌∙◌}
+use Rattle.std.proofs.Common.{arith, ap, sym, ◌∙◌}
 use Rattle.serde_json.specs.Data.{string}
-use Rattle.ps_value.proofs.LabelLemmas.{IsLabel-short}
 use Rattle.ps_content.specs.Content.{canonical_text}
 use Rattle.ps_wire.specs.Length.{size}
 use Rattle.ps_wire.proofs.SizeLemmas.{size_of_choice, size_of_label, size_of_tally}
 use Rattle.ps_wire.proofs.length.content_size.Goals as goal
-
-pub string_size-requires-in-Text : goal.string_size-requires-in-Text
-string_size-requires-in-Text c =
-    omega (arith, IsLabel-short _ c.bytes.ensures.label, ap length c.bytes.ensures.bytes)
-
-pub overflow_add-result : goal.overflow_add-result
-overflow_add-result c =
-    omega (
-      arith,
-      c.string_size-in-Text.ensures.few,
-      IsLabel-short _ c.bytes.ensures.label,
-      ap length c.bytes.ensures.bytes,
-    )
-
-pub returns-in-Text-clause-few : goal.returns-in-Text-clause-few
-returns-in-Text-clause-few c =
-    omega (
-      arith,
-      c.string_size-in-Text.ensures.few,
-      IsLabel-short _ c.bytes.ensures.label,
-      ap length c.bytes.ensures.bytes,
-    )
 
 pub returns-in-Text-clause-value : goal.returns-in-Text-clause-value
 returns-in-Text-clause-value c =
