@@ -15,10 +15,10 @@ use borrow.Author.Tests.{leb-true, le-leb}
 use Rattle.std.proofs.Common.{lit≤}
 use Rattle.ps_lattice.specs.declared.tally.Count.{Count}
 use Rattle.ps_grid.specs.declared.parties.TheConstants.{REPLICAS}
-use Rattle.ps_lattice.specs.declared.limits.TheConstants.{AMOUNT_LIMIT, COUNT_LIMIT}
+use Rattle.ps_lattice.specs.declared.limits.TheConstants.{COUNT_LIMIT}
 use Rattle.ps_lattice.specs.Maps.{raised}
 use Rattle.ps_lattice.specs.Tally.{Counts, added, subtracted, greater_counts, joined_tallies, with_counts, counts_of}
-use Rattle.ps_lattice.specs.Tally.{is_amount, is_count, is_tally}
+use Rattle.ps_lattice.specs.Tally.{is_count, is_tally}
 use Rattle.ps_lattice.proofs.Rising.{and_left, and_right, and_both, sorted_head, sorted_rest}
 use Rattle.ps_lattice.proofs.Views.{joined-one, get_set}
 
@@ -42,18 +42,20 @@ raised_subtracted (Some c) k =
     λ i. record { added = first i; subtracted = second i }
 
 -- what is added raises the replica's P alone
-pub joined-added : (t : Counts) (r k : ℕ)
-    → joined_tallies t (counts_of r (added t r + k) 0) ≡ with_counts t r (added t r + k) (subtracted t r)
-joined-added t r k =
-    joined-one nat_cmp nat_cmp_total nat_cmp-IsAntisymmetric greater_counts t r
+pub add_raises : (t : Counts) (r k : ℕ) (d : Counts) → d ≡ counts_of r (added t r + k) 0
+    → joined_tallies t d ≡ with_counts t r (added t r + k) (subtracted t r)
+add_raises t r k d is =
+    ap (joined_tallies t) is
+    ∙ joined-one nat_cmp nat_cmp_total nat_cmp-IsAntisymmetric greater_counts t r
     (record { added = added t r + k; subtracted = 0 })
     ∙ ap (map.insert t r) (raised_added (map.get t r) k)
 
 -- what is subtracted raises its N alone
-pub joined-subtracted : (t : Counts) (r k : ℕ)
-    → joined_tallies t (counts_of r 0 (subtracted t r + k)) ≡ with_counts t r (added t r) (subtracted t r + k)
-joined-subtracted t r k =
-    joined-one nat_cmp nat_cmp_total nat_cmp-IsAntisymmetric greater_counts t r
+pub sub_raises : (t : Counts) (r k : ℕ) (d : Counts) → d ≡ counts_of r 0 (subtracted t r + k)
+    → joined_tallies t d ≡ with_counts t r (added t r) (subtracted t r + k)
+sub_raises t r k d is =
+    ap (joined_tallies t) is
+    ∙ joined-one nat_cmp nat_cmp_total nat_cmp-IsAntisymmetric greater_counts t r
     (record { added = 0; subtracted = subtracted t r + k })
     ∙ ap (map.insert t r) (raised_subtracted (map.get t r) k)
 
@@ -68,18 +70,20 @@ subtracted-with_counts t r p n =
     (get_set nat_cmp nat_cmp_total nat_cmp-IsAntisymmetric t r (record { added = p; subtracted = n }))
 
 -- so a delta of an amount above 0 changes the counter
-pub added_is_fresh : (t : Counts) (r k : ℕ) → 1 ≤ k → ¬ (joined_tallies t (counts_of r (added t r + k) 0) ≡ t)
-added_is_fresh t r k some same =
+pub add_is_fresh : (t : Counts) (r k : ℕ) (d : Counts) → d ≡ counts_of r (added t r + k) 0 → 1 ≤ k
+    → ¬ (joined_tallies t d ≡ t)
+add_is_fresh t r k d is some same =
     let e : added t r + k ≡ added t r =
     sym (added-with_counts t r (added t r + k) (subtracted t r))
-    ∙ ap (λ u. added u r) (sym (joined-added t r k) ∙ same) in
+    ∙ ap (λ u. added u r) (sym (add_raises t r k d is) ∙ same) in
     omega arith
 
-pub subtracted_is_fresh : (t : Counts) (r k : ℕ) → 1 ≤ k → ¬ (joined_tallies t (counts_of r 0 (subtracted t r + k)) ≡ t)
-subtracted_is_fresh t r k some same =
+pub sub_is_fresh : (t : Counts) (r k : ℕ) (d : Counts) → d ≡ counts_of r 0 (subtracted t r + k) → 1 ≤ k
+    → ¬ (joined_tallies t d ≡ t)
+sub_is_fresh t r k d is some same =
     let e : subtracted t r + k ≡ subtracted t r =
     sym (subtracted-with_counts t r (added t r) (subtracted t r + k))
-    ∙ ap (λ u. subtracted u r) (sym (joined-subtracted t r k) ∙ same) in
+    ∙ ap (λ u. subtracted u r) (sym (sub_raises t r k d is) ∙ same) in
     omega arith
 
 -- the ranges of an entry
@@ -211,7 +215,3 @@ is_count-joined a b ha hb =
     (max_fits a.1.added b.1.added fa.added fb.added))
     (max_fits a.1.subtracted b.1.subtracted fa.subtracted fb.subtracted))
     (either_max a.1.added a.1.subtracted b.1.added b.1.subtracted fa.some)
-
--- an amount is some
-pub some_amount : (n : ℕ) → is_amount n ≡ true → 1 ≤ n
-some_amount n h = leb-true 1 n (and_left (nat_le 1 n) (nat_le n AMOUNT_LIMIT) h)

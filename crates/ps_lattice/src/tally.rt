@@ -153,6 +153,7 @@ impl Tally {
     /// `COUNT_LIMIT` in all.
     ///
     /// Cost: logarithmic in the replicas that changed the counter.
+    #[tactic(auto, using(crate::proofs::TallyLemmas::add_raises, crate::proofs::TallyLemmas::add_is_fresh))]
     pub fn add(&self, alloc: Global, replica: u8, amount: u64) -> Result<Tally, Refusal>
         requires { (1 ≤ replica) × (replica ≤ REPLICAS) }
         ensures ok { IfOk result (λ d. d ≡ counts_of replica (added self.now replica + amount) 0) }
@@ -164,15 +165,8 @@ impl Tally {
             ↔ (IsTrue (is_amount amount) × (COUNT_LIMIT < added self.now replica + amount)) }
         ensures only { IfErr result (λ e. Contains (Refusal.Amount ∷ Refusal.TallyFull ∷ Refusal.Memory ∷ []) e) }
     {
-        if !is_amount(amount) {
-            return Err(Refusal::Amount);
-        }
-        let before = self.count_of(replica);
-        if before.added + amount > COUNT_LIMIT {
-            return Err(Refusal::TallyFull);
-        }
         let count = Count {
-            added: before.added + amount,
+            added: raised_by(self.count_of(replica).added, amount)?,
             subtracted: 0,
         };
         Tally::of_one(alloc, replica, count)
@@ -184,6 +178,7 @@ impl Tally {
     /// `COUNT_LIMIT` in all.
     ///
     /// Cost: logarithmic in the replicas that changed the counter.
+    #[tactic(auto, using(crate::proofs::TallyLemmas::sub_raises, crate::proofs::TallyLemmas::sub_is_fresh))]
     pub fn sub(&self, alloc: Global, replica: u8, amount: u64) -> Result<Tally, Refusal>
         requires { (1 ≤ replica) × (replica ≤ REPLICAS) }
         ensures ok { IfOk result (λ d. d ≡ counts_of replica 0 (subtracted self.now replica + amount)) }
@@ -195,16 +190,9 @@ impl Tally {
             ↔ (IsTrue (is_amount amount) × (COUNT_LIMIT < subtracted self.now replica + amount)) }
         ensures only { IfErr result (λ e. Contains (Refusal.Amount ∷ Refusal.TallyFull ∷ Refusal.Memory ∷ []) e) }
     {
-        if !is_amount(amount) {
-            return Err(Refusal::Amount);
-        }
-        let before = self.count_of(replica);
-        if before.subtracted + amount > COUNT_LIMIT {
-            return Err(Refusal::TallyFull);
-        }
         let count = Count {
             added: 0,
-            subtracted: before.subtracted + amount,
+            subtracted: raised_by(self.count_of(replica).subtracted, amount)?,
         };
         Tally::of_one(alloc, replica, count)
     }
@@ -232,6 +220,25 @@ impl Tally {
         let counts = SharedList::of_one(alloc, (replica, count))?;
         Ok(Tally { counts })
     }
+}
+
+/// What a replica added or subtracted in all, raised by an amount; refused as `add` and `sub` are.
+fn raised_by(before: u64, amount: u64) -> Result<u64, Refusal>
+    requires { before ≤ COUNT_LIMIT }
+    ensures ok { IfOk result (λ n. (n ≡ before + amount) × (n ≤ COUNT_LIMIT) × (1 ≤ amount)) }
+    ensures amount { IsErrOf result Refusal.Amount ↔ IsTrue (not (is_amount amount)) }
+    ensures full { IsErrOf result Refusal.TallyFull
+        ↔ (IsTrue (is_amount amount) × (COUNT_LIMIT < before + amount)) }
+    ensures only { IfErr result (λ e. Contains (Refusal.Amount ∷ Refusal.TallyFull ∷ []) e) }
+{
+    if !is_amount(amount) {
+        return Err(Refusal::Amount);
+    }
+    let after = before + amount;
+    if after > COUNT_LIMIT {
+        return Err(Refusal::TallyFull);
+    }
+    Ok(after)
 }
 
 /// The sums of what was added and of what was subtracted.

@@ -27,7 +27,7 @@ use Rattle.ps_lattice.specs.ChoiceLaws.{pairs_apart, pairs_total}
 use Rattle.ps_lattice.proofs.ChoiceLemmas.{all_kept, chosen_is_fresh, kept, last_fits, seen_withdrawn, sorted_kept}
 use Rattle.ps_lattice.proofs.ChoiceLemmas.{withdrawn_is_fresh}
 use Rattle.ps_lattice.proofs.Rising.{and_both, and_left}
-use Rattle.ps_lattice.proofs.TallyLemmas.{added_is_fresh, subtracted_is_fresh}
+use Rattle.ps_lattice.proofs.TallyLemmas.{add_is_fresh, sub_is_fresh}
 use Rattle.ps_lattice.proofs.Views.{entries_of, entries_rise, seen_empty, seen_one}
 use Rattle.ps_content.specs.Content.{IsContent}
 use Rattle.ps_content.specs.declared.content.Content.{Content}
@@ -312,7 +312,7 @@ made_lawful r s (edits.Add c n) d low high inside good is =
     let counts = counts_of r (added t r + n) 0 in
     one_lawful c (counted counts) d p.made good
     (counted_state r (added t r + n) 0 (added_count r (added t r) n low high some p.third))
-    (tally_not_empty (counted counts) (some_tally (s c) counts (added_is_fresh t r n some)))
+    (tally_not_empty (counted counts) (some_tally (s c) counts (add_is_fresh t r n _ refl some)))
 made_lawful r s (edits.Sub c n) d low high inside good is =
     let p = sub_passes r s c n d is in
     let some = some_amount n p.first in
@@ -320,7 +320,7 @@ made_lawful r s (edits.Sub c n) d low high inside good is =
     let counts = counts_of r 0 (subtracted t r + n) in
     one_lawful c (counted counts) d p.made good
     (counted_state r 0 (subtracted t r + n) (subtracted_count r (subtracted t r) n low high some p.third))
-    (tally_not_empty (counted counts) (some_tally (s c) counts (subtracted_is_fresh t r n some)))
+    (tally_not_empty (counted counts) (some_tally (s c) counts (sub_is_fresh t r n _ refl some)))
 made_lawful r s (edits.Choose c n) d low high inside good is =
     let p = choose_passes r s c n d is in
     let last = last_sequence (s c).choice r in

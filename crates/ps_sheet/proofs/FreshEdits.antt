@@ -9,7 +9,7 @@ use Rattle.ps_grid.specs.declared.refusal.Refusal.TheVariants.{NotTally, NotChoi
 use Rattle.ps_grid.specs.declared.refusal.Refusal.TheVariants.{ChoiceFull, NotChosen, ClockFull}
 use Rattle.ps_lattice.specs.Tally.{is_amount}
 use Rattle.ps_lattice.specs.Choice.{is_chosen}
-use Rattle.ps_lattice.proofs.TallyLemmas.{added_is_fresh, subtracted_is_fresh}
+use Rattle.ps_lattice.proofs.TallyLemmas.{add_is_fresh, sub_is_fresh}
 use Rattle.ps_lattice.proofs.ChoiceLemmas.{chosen_is_fresh, withdrawn_is_fresh}
 use Rattle.ps_content.specs.declared.content.Content.{Content}
 use Rattle.ps_delta.specs.declared.cell_state.CellState.{CellState}
@@ -61,13 +61,13 @@ edits_are_fresh r s (Add c amount) d delta h =
     let tally = passed _ NotTally _ d in_range.1 in
     let made = passed _ TallyFull _ d tally.1 in
     one_fresh s c _ d made.1
-    (new_tally (s c) _ (added_is_fresh (s c).tally r amount (amount_some amount in_range.0)))
+    (new_tally (s c) _ (add_is_fresh (s c).tally r amount _ refl (amount_some amount in_range.0)))
 edits_are_fresh r s (Sub c amount) d delta h =
     let in_range = passed _ Amount _ d h in
     let tally = passed _ NotTally _ d in_range.1 in
     let made = passed _ TallyFull _ d tally.1 in
     one_fresh s c _ d made.1
-    (new_tally (s c) _ (subtracted_is_fresh (s c).tally r amount (amount_some amount in_range.0)))
+    (new_tally (s c) _ (sub_is_fresh (s c).tally r amount _ refl (amount_some amount in_range.0)))
 edits_are_fresh r s (Choose c option) d delta h =
     let in_range = passed _ OptionRange _ d h in
     let choice = passed _ NotChoice _ d in_range.1 in
