@@ -41,50 +41,52 @@ raised_subtracted (Some c) k =
     let second : max c.subtracted (c.subtracted + k) ≡ c.subtracted + k = omega arith in
     λ i. record { added = first i; subtracted = second i }
 
+-- so a delta of one replica's counts sets both
+raised_by_one : (t d : Counts) (r : ℕ) (one both : Count) → d ≡ map.insert map.empty r one
+    → raised greater_counts (map.get t r) one ≡ both → joined_tallies t d ≡ map.insert t r both
+raised_by_one t d r one both is raises =
+    ap (joined_tallies t) is
+    ∙ joined-one nat_cmp nat_cmp_total nat_cmp-IsAntisymmetric greater_counts t r one
+    ∙ ap (map.insert t r) raises
+
 -- what is added raises the replica's P alone
 pub add_raises : (t : Counts) (r k : ℕ) (d : Counts) → d ≡ counts_of r (added t r + k) 0
     → joined_tallies t d ≡ with_counts t r (added t r + k) (subtracted t r)
-add_raises t r k d is =
-    ap (joined_tallies t) is
-    ∙ joined-one nat_cmp nat_cmp_total nat_cmp-IsAntisymmetric greater_counts t r
-    (record { added = added t r + k; subtracted = 0 })
-    ∙ ap (map.insert t r) (raised_added (map.get t r) k)
+add_raises t r k d is = raised_by_one t d r _ _ is (raised_added (map.get t r) k)
 
 -- what is subtracted raises its N alone
 pub sub_raises : (t : Counts) (r k : ℕ) (d : Counts) → d ≡ counts_of r 0 (subtracted t r + k)
     → joined_tallies t d ≡ with_counts t r (added t r) (subtracted t r + k)
-sub_raises t r k d is =
-    ap (joined_tallies t) is
-    ∙ joined-one nat_cmp nat_cmp_total nat_cmp-IsAntisymmetric greater_counts t r
-    (record { added = 0; subtracted = subtracted t r + k })
-    ∙ ap (map.insert t r) (raised_subtracted (map.get t r) k)
+sub_raises t r k d is = raised_by_one t d r _ _ is (raised_subtracted (map.get t r) k)
 
-pub added-with_counts : (t : Counts) (r p n : ℕ) → added (with_counts t r p n) r ≡ p
-added-with_counts t r p n =
-    ap (λ o. option_map_or (λ (c : Count). c.added) o 0) (get_set nat_cmp nat_cmp_total nat_cmp-IsAntisymmetric t r
-    (record { added = p; subtracted = n }))
+-- one of a replica's two counts
+module _ (part : Count → ℕ) where
+  abbrev part_of : Counts → ℕ → ℕ
+  part_of t r = option_map_or part (map.get t r) 0
 
-pub subtracted-with_counts : (t : Counts) (r p n : ℕ) → subtracted (with_counts t r p n) r ≡ n
-subtracted-with_counts t r p n =
-    ap (λ o. option_map_or (λ (c : Count). c.subtracted) o 0)
-    (get_set nat_cmp nat_cmp_total nat_cmp-IsAntisymmetric t r (record { added = p; subtracted = n }))
+  -- a counter in which it is greater is another one
+  changes : (t d : Counts) (r k : ℕ) (both : Count) → joined_tallies t d ≡ map.insert t r both
+      → part both ≡ part_of t r + k → 1 ≤ k → ¬ (joined_tallies t d ≡ t)
+  changes t d r k both is more some same =
+      let set = get_set nat_cmp nat_cmp_total nat_cmp-IsAntisymmetric t r both in
+      let e : part both ≡ part_of t r =
+      sym (ap (λ o. option_map_or part o 0) set) ∙ ap (λ u. part_of u r) (sym is ∙ same) in
+      omega arith
+
+  -- and 0 where the counts are missing
+  pub part-unwrap_or : part (record { added = 0; subtracted = 0 }) ≡ 0 → (o : Option Count)
+      → part (unwrap_or o (record { added = 0; subtracted = 0 })) ≡ option_map_or part o 0
+  part-unwrap_or zero None = zero
+  part-unwrap_or zero (Some c) = refl
 
 -- so a delta of an amount above 0 changes the counter
 pub add_is_fresh : (t : Counts) (r k : ℕ) (d : Counts) → d ≡ counts_of r (added t r + k) 0 → 1 ≤ k
     → ¬ (joined_tallies t d ≡ t)
-add_is_fresh t r k d is some same =
-    let e : added t r + k ≡ added t r =
-    sym (added-with_counts t r (added t r + k) (subtracted t r))
-    ∙ ap (λ u. added u r) (sym (add_raises t r k d is) ∙ same) in
-    omega arith
+add_is_fresh t r k d is = changes (λ c. c.added) t d r k _ (add_raises t r k d is) refl
 
 pub sub_is_fresh : (t : Counts) (r k : ℕ) (d : Counts) → d ≡ counts_of r 0 (subtracted t r + k) → 1 ≤ k
     → ¬ (joined_tallies t d ≡ t)
-sub_is_fresh t r k d is some same =
-    let e : subtracted t r + k ≡ subtracted t r =
-    sym (subtracted-with_counts t r (added t r) (subtracted t r + k))
-    ∙ ap (λ u. subtracted u r) (sym (sub_raises t r k d is) ∙ same) in
-    omega arith
+sub_is_fresh t r k d is = changes (λ c. c.subtracted) t d r k _ (sub_raises t r k d is) refl
 
 -- the ranges of an entry
 pub record CountFits (e : ℕ × Count) : Type 0 where
@@ -124,17 +126,6 @@ found_fits q (e ∷ es) h =
       | true ↦ (fits.added, fits.subtracted)
       | false ↦ found_fits q es (and_right (is_count e) (list_all is_count es) h)
     ]
-
--- counts that may be missing
-pub added-unwrap_or : (o : Option Count) → (unwrap_or o (record { added = 0; subtracted = 0 })).added
-    ≡ option_map_or (λ c. c.added) o 0
-added-unwrap_or None = refl
-added-unwrap_or (Some c) = refl
-
-pub subtracted-unwrap_or : (o : Option Count) → (unwrap_or o (record { added = 0; subtracted = 0 })).subtracted
-    ≡ option_map_or (λ c. c.subtracted) o 0
-subtracted-unwrap_or None = refl
-subtracted-unwrap_or (Some c) = refl
 
 less_is : (x y : ℕ) → is_lt (nat_cmp x y) ≡ true → x < y
 less_is x y h = grind (arith, nat_tests)

@@ -16,33 +16,22 @@ use Rattle.ps_lattice.specs.Choice.{pair_cmp, pair_of}
 use Rattle.ps_lattice.specs.ChoiceLaws.{pairs_total, pairs_apart}
 use Rattle.ps_lattice.specs.JoinWords.{TalliesJoinByMaximum, ChoicesJoinByUnion, EmptyIsLeast}
 
-max_zero : (n : ℕ) → n ≡ max n 0
-max_zero n = omega arith
-
-zero_max : (n : ℕ) → n ≡ max 0 n
-zero_max n = omega arith
-
-added_both : (a b : Option Count)
-    → option_map_or (λ c. c.added) (both_of greater_counts a b) 0
-    ≡ max (option_map_or (λ c. c.added) a 0) (option_map_or (λ c. c.added) b 0)
-added_both None b = zero_max (option_map_or (λ c. c.added) b 0)
-added_both (Some x) None = max_zero x.added
-added_both (Some x) (Some y) = refl
-
-subtracted_both : (a b : Option Count)
-    → option_map_or (λ c. c.subtracted) (both_of greater_counts a b) 0
-    ≡ max (option_map_or (λ c. c.subtracted) a 0) (option_map_or (λ c. c.subtracted) b 0)
-subtracted_both None b = zero_max (option_map_or (λ c. c.subtracted) b 0)
-subtracted_both (Some x) None = max_zero x.subtracted
-subtracted_both (Some x) (Some y) = refl
+-- the greater of one of the two counts
+part_both : (part : Count → ℕ) → ((x y : Count) → part (greater_counts x y) ≡ max (part x) (part y))
+    → (a b : Option Count)
+    → option_map_or part (both_of greater_counts a b) 0 ≡ max (option_map_or part a 0) (option_map_or part b 0)
+part_both part greater None b = omega arith
+part_both part greater (Some x) None = omega arith
+part_both part greater (Some x) (Some y) = greater x y
 
 pub by_maximum : TalliesJoinByMaximum
 by_maximum s t r =
     let at = get-joined_maps nat_cmp greater_counts nat_cmp_total s t r in
     record {
-      added = ap (λ o. option_map_or (λ (c : Count). c.added) o 0) at ∙ added_both (map.get s r) (map.get t r);
+      added = ap (λ o. option_map_or (λ (c : Count). c.added) o 0) at
+          ∙ part_both (λ c. c.added) (λ x y. refl) (map.get s r) (map.get t r);
       subtracted = ap (λ o. option_map_or (λ (c : Count). c.subtracted) o 0) at
-          ∙ subtracted_both (map.get s r) (map.get t r);
+          ∙ part_both (λ c. c.subtracted) (λ x y. refl) (map.get s r) (map.get t r);
     }
 
 or_false : (a : Bool) → a ≡ (a || false)

@@ -1,4 +1,4 @@
-use Rattle.std.proofs.Common.{◌≡◌, ◌≤◌, sym, ap, ◌∙◌, subst, unwrap_or}
+use Rattle.std.proofs.Common.{◌≡◌, ◌≤◌, refl, sym, ap, ◌∙◌, subst, unwrap_or}
 use Rattle.std.specs.Option.{option_map_or}
 use Rattle.std.specs.Ordering.{nat_cmp}
 use Rattle.std.specs.Cmp.{nat_cmp_total}
@@ -11,7 +11,7 @@ use Rattle.ps_lattice.specs.Tally.{is_count}
 use Rattle.ps_lattice.specs.Inside.Shared.{items_of}
 use Rattle.ps_lattice.proofs.Rising.{and_left, and_right}
 use Rattle.ps_lattice.proofs.Views.{get_by_list}
-use Rattle.ps_lattice.proofs.TallyLemmas.{added-unwrap_or, subtracted-unwrap_or, found_fits}
+use Rattle.ps_lattice.proofs.TallyLemmas.{part-unwrap_or, found_fits}
 use Rattle.ps_lattice.proofs.tally.Tally.count_of.Goals as goal
 
 -- what the search found, or nothing
@@ -29,9 +29,9 @@ returns c =
     ∙ ap (λ l. map.find nat_cmp r l) c.items.ensures) in
     let fits = found_fits r es all in
     record {
-      added = ap (λ (k : Count). k.added) is ∙ added-unwrap_or (map.find nat_cmp r es)
+      added = ap (λ (k : Count). k.added) is ∙ part-unwrap_or (λ k. k.added) refl (map.find nat_cmp r es)
           ∙ ap (λ o. option_map_or (λ (k : Count). k.added) o 0) got;
-      subtracted = ap (λ (k : Count). k.subtracted) is ∙ subtracted-unwrap_or (map.find nat_cmp r es)
+      subtracted = ap (λ (k : Count). k.subtracted) is ∙ part-unwrap_or (λ k. k.subtracted) refl (map.find nat_cmp r es)
           ∙ ap (λ o. option_map_or (λ (k : Count). k.subtracted) o 0) got;
       added_fits = subst (λ (k : Count). k.added ≤ COUNT_LIMIT) (sym is) fits.0;
       subtracted_fits = subst (λ (k : Count). k.subtracted ≤ COUNT_LIMIT) (sym is) fits.1;
