@@ -56,13 +56,8 @@ array_least : {X : Type 0} (f : X → Data) (least : X → ℕ) → ((x : X) →
     → 1 + sum_by least xs ≤ size (array_of (map f xs))
 array_least f least each [] = omega arith
 array_least f least each (x ∷ xs) =
-    omega (
-      arith,
-      each x,
-      items_least f least each xs,
-      sum_by-cons least x xs,
-      item_first (f x) (items_of (map f xs)),
-    )
+    let rest = items_of (map f xs) in
+    omega (arith, items_least f least each (x ∷ xs), item_later (f x) rest, item_first (f x) rest)
 
 same_sum : {X : Type 0} (m : ℕ) (xs : List X) → sum_by (λ _. m) xs ≡ m * length xs
 same_sum m [] = omega arith
