@@ -70,6 +70,7 @@ pub fn decode(alloc: Global, bytes: &[u8]) -> Result<Delta, Refusal>
 }
 
 /// The delta that the value stands for.
+#[tactic(auto, using(crate::proofs::LineLemmas::stands_for))]
 fn read_delta(alloc: Global, value: &Value) -> Result<Delta, Refusal>
     ensures found { IfOk result (λ d. StandsFor (view value.now) d) }
     ensures refused { IfErr result (λ r. RefusedAs r ((d : Entries) → StandsFor (view value.now) d → ⊥)) }

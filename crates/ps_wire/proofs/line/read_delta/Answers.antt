@@ -1,5 +1,5 @@
 use Rattle.std.proofs.Common.{rules}
-use Rattle.ps_wire.proofs.LineLemmas.{no_array, no_cells, no_delta, stands_for}
+use Rattle.ps_wire.proofs.LineLemmas.{no_array, no_cells, no_delta}
 use Rattle.ps_wire.proofs.ArrayLemmas.{refused_so}
 use Rattle.ps_wire.proofs.line.read_delta.Goals as goal
 
@@ -14,13 +14,6 @@ returns-in_err-cells-clause-refused c =
     (no_cells _ _ c.in_ok-items.ensures.found)
     c.in_err-cells.ensures.refused in
     search (rules, none)
-
-pub returns-clause-found : goal.returns-clause-found
-returns-clause-found c =
-    let found = stands_for _ _ c.in_ok-items.ensures.found
-    c.in_ok-cells.cells.items c.in_ok-cells.ensures.found c.in_ok-cells.ensures.in_grid
-    c.in_ok-cells.ensures.states in
-    search (rules, found)
 
 pub returns-clause-refused : goal.returns-clause-refused
 returns-clause-refused c =
