@@ -27,6 +27,10 @@ state_at-past blocks c size h =
     state_at-is blocks c
     ∙ ap (λ b. get_or b (c % BLOCK) empty_cell) (get_or_past blocks (c / BLOCK) [] (omega (arith, size, h)))
 
+-- the block of a cell is one of the blocks
+pub block_within : (blocks : Blocks) (c : ℕ) → length blocks ≡ BLOCKS → c < CELLS → c / BLOCK < length blocks
+block_within blocks c size in_grid = omega (arith, size, in_grid)
+
 -- the block and the place tell the cell
 same_cell : (c d : ℕ) → c / BLOCK ≡ d / BLOCK → c % BLOCK ≡ d % BLOCK → c ≡ d
 same_cell c d block place = omega (arith, block, place, div-add-mod' c BLOCK, div-add-mod' d BLOCK)
