@@ -52,8 +52,11 @@ mutual
 abbrev rects_at_all : List Token → List Area
 rects_at_all ts = flat_map rects_at ts
 
-both : (ts us : List Token) → rects_at_all (ts ++ us) ≡ rects_at_all ts ++ rects_at_all us
-both ts us = flat_map-append rects_at ts us
+-- the rectangles of tokens and of what stands after them
+both : (ts us : List Token) (v w : List Area) → rects_at_all ts ≡ v → rects_at_all us ≡ w
+    → rects_at_all (ts ++ us) ≡ v ++ w
+both ts us v w first rest =
+    flat_map-append rects_at ts us ∙ ap (λ x. x ++ rects_at_all us) first ∙ ap (λ x. v ++ x) rest
 
 mutual
   pub rects_of-tokens_of : (t : Tree) → flat_map rects_at (tokens_of t) ≡ rects_of t
@@ -61,25 +64,20 @@ mutual
   rects_of-tokens_of (reference c) = refl
   rects_of-tokens_of (signed s a) = rects_of-tokens_of a
   rects_of-tokens_of (joined a o b) =
-      both (tokens_of a) (Symbol o ∷ tokens_of b) ∙ ap (λ v. v ++ rects_at_all (tokens_of b)) (rects_of-tokens_of a)
-      ∙ ap (λ v. rects_of a ++ v) (rects_of-tokens_of b)
+      both (tokens_of a) (Symbol o ∷ tokens_of b) _ _ (rects_of-tokens_of a) (rects_of-tokens_of b)
   rects_of-tokens_of (group a) =
-      both (tokens_of a) (Close ∷ []) ∙ append-nil (rects_at_all (tokens_of a)) ∙ rects_of-tokens_of a
+      both (tokens_of a) (Close ∷ []) _ [] (rects_of-tokens_of a) refl ∙ append-nil (rects_of a)
   rects_of-tokens_of (call f is) = rects_among-tokens is
 
   rects_among-tokens : (is : Items) → rects_at_all (tokens_of_items is) ≡ rects_among is
   rects_among-tokens no_items = refl
   rects_among-tokens (item_and i is) =
-      both (tokens_of_item i) (tokens_after_item is)
-      ∙ ap (λ v. v ++ rects_at_all (tokens_after_item is)) (rects_in-tokens i)
-      ∙ ap (λ v. rects_in i ++ v) (rects_after_item-tokens is)
+      both (tokens_of_item i) (tokens_after_item is) _ _ (rects_in-tokens i) (rects_after_item-tokens is)
 
   rects_after_item-tokens : (is : Items) → rects_at_all (tokens_after_item is) ≡ rects_among is
   rects_after_item-tokens no_items = refl
   rects_after_item-tokens (item_and i is) =
-      both (tokens_of_item i) (tokens_after_item is)
-      ∙ ap (λ v. v ++ rects_at_all (tokens_after_item is)) (rects_in-tokens i)
-      ∙ ap (λ v. rects_in i ++ v) (rects_after_item-tokens is)
+      both (tokens_of_item i) (tokens_after_item is) _ _ (rects_in-tokens i) (rects_after_item-tokens is)
 
   rects_in-tokens : (i : Item) → rects_at_all (tokens_of_item i) ≡ rects_in i
   rects_in-tokens (expression a) = rects_of-tokens_of a
