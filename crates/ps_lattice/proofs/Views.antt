@@ -1,7 +1,8 @@
 -- What a list of entries is seen as.
-use Rattle.std.proofs.Common.{◌≡◌, length, Bool, true, false, cond, List, [], ◌∷◌, ◌==◌, Option, Some, None, refl}
+use Rattle.std.proofs.Common.{◌≡◌, length, Bool, true, false, ◌&&◌, cond, List, [], ◌∷◌, ◌==◌, Option, Some, None, refl}
 use Rattle.std.proofs.Common.{sym, ap, ◌∙◌, ◌↔◌, IsTrue}
 use Rattle.std.specs.declared.cmp.Ordering.{Ordering}
+use Rattle.std.specs.List.{list_all}
 use Rattle.std.specs.Ordering.{eq_by_cmp, is_eq}
 use Rattle.std.specs.Cmp.{IsTotalOrder, Equal-is, tied_itself}
 use borrow.Author.Tests.{eqb-true}
@@ -10,12 +11,18 @@ use Rattle.std.specs.FinMap.{IsAntisymmetric, same_map, same_entries_map, entrie
 use Rattle.std.specs.FinMap.{get-from_sorted, get-empty, get-insert, get_tied, len-entries, empty_of_len, len-empty}
 use Rattle.ps_lattice.specs.Maps.{both_of, raised, joined_maps}
 use Rattle.ps_lattice.specs.MapLaws.{get-joined_maps}
-use Rattle.ps_lattice.proofs.Rising.{to_T, from_T}
+use Rattle.ps_lattice.proofs.Rising.{and_left, to_T, from_T}
 
 module _ {K X : Type 0} (R : K → K → Ordering) where
   -- the entries of what a sorted list is seen as are the list
   pub entries_of : (es : List (K × X)) → map.is_sorted R es ≡ true → es ≡ map.entries (map.from_sorted {R = R} es)
   entries_of es h = sym (entries-from_sorted R es (to_T _ h))
+
+  -- the items of a list that is in order and in range are the entries of what it is seen as
+  pub items_are : (fits : K × X → Bool) (es items : List (K × X)) (m : map.FinMap R X)
+      → (map.is_sorted R es && list_all fits es) ≡ true → items ≡ es → map.from_sorted es ≡ m → items ≡ map.entries m
+  items_are fits es items m well is seen =
+      is ∙ entries_of es (and_left (map.is_sorted R es) (list_all fits es) well) ∙ ap map.entries seen
 
   -- a map is what its entries are seen as
   pub from_entries_of : (m : map.FinMap R X) → map.from_sorted {R = R} (map.entries m) ≡ m

@@ -155,6 +155,7 @@ impl Choice {
     /// The added pairs, ascending, each with whether it is removed.
     ///
     /// Cost: constant.
+    #[tactic(auto, using(crate::proofs::Views::items_are))]
     pub fn parts(&self) -> &[(Pair, bool)]
         ensures value { result.now ≡ map.entries self.now }
         ensures in_range { IsTrue (is_choice result.now) }
@@ -184,7 +185,7 @@ impl Choice {
     pub fn options(&self) -> u64
         ensures { (k : ℕ) → k < OPTIONS → (IsBitSet result k ↔ IsTrue (is_chosen self.now k)) }
     {
-        options_of(self.pairs.items())
+        options_of(self.parts())
     }
 
     /// The delta of choosing the option at the replica: one pair, whose sequence is one above the last of the
@@ -243,7 +244,7 @@ impl Choice {
         if !self.is_chosen(option) {
             return Err(Refusal::NotChosen);
         }
-        let withdrawn = withdrawn_of(alloc, self.pairs.items(), option)?;
+        let withdrawn = withdrawn_of(alloc, self.parts(), option)?;
         let pairs = SharedList::new(alloc, withdrawn)?;
         Ok(Choice { pairs })
     }
@@ -252,7 +253,7 @@ impl Choice {
     fn is_chosen(&self, option: u64) -> bool
         ensures { result ≡ is_chosen self.now option }
     {
-        any_live(self.pairs.items(), option)
+        any_live(self.parts(), option)
     }
 
     /// The greatest sequence of the replica, 0 without any.
@@ -260,7 +261,7 @@ impl Choice {
         ensures value { result ≡ last_sequence self.now replica }
         ensures in_range { result ≤ SEQUENCES }
     {
-        last_of(self.pairs.items(), replica)
+        last_of(self.parts(), replica)
     }
 }
 

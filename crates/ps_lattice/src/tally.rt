@@ -114,6 +114,7 @@ impl Tally {
     /// The replicas that changed the counter, ascending, each with its counts.
     ///
     /// Cost: constant.
+    #[tactic(auto, using(crate::proofs::Views::items_are))]
     pub fn parts(&self) -> &[(u8, Count)]
         ensures value { result.now ≡ map.entries self.now }
         ensures in_range { IsTrue (is_tally result.now) }
@@ -143,7 +144,7 @@ impl Tally {
     pub fn value(&self) -> i64
         ensures { result ≡ value_of self.now }
     {
-        let (added, subtracted) = totals(self.counts.items());
+        let (added, subtracted) = totals(self.parts());
         added as i64 - subtracted as i64
     }
 

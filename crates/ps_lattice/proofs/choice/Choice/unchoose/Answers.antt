@@ -3,9 +3,7 @@ use Rattle.ps_lattice.specs.Choice.{joined_choices, is_added, is_removed}
 use Rattle.ps_lattice.specs.Choice.{pair_cmp, is_pair}
 use Rattle.std.specs.FinMap as map
 use Rattle.std.specs.List.{list_all}
-use Rattle.ps_lattice.specs.Inside.Shared.{items_of}
 use Rattle.ps_lattice.proofs.Rising.{and_left, and_right, and_both}
-use Rattle.ps_lattice.proofs.Views.{entries_of}
 use Rattle.ps_lattice.proofs.ChoiceLemmas.{kept, sorted_kept, all_kept, seen_withdrawn, added-joined, removed-joined}
 use Rattle.ps_lattice.proofs.ChoiceLemmas.{withdrawn_is_fresh}
 use Rattle.ps_lattice.proofs.choice.Choice.unchoose.Goals as goal
@@ -13,22 +11,20 @@ use Rattle.ps_lattice.proofs.choice.Choice.unchoose.Goals as goal
 -- the delta's pairs ascend and are in range
 pub invariant_of-result : goal.invariant_of-result
 invariant_of-result c =
-    let es = items_of c.self.inside.pairs in
+    let es = c.parts.result.now in
     let o = c.args.option in
-    let is = c.in_ok-pairs.ensures.ok ∙ c.in_ok-withdrawn.ensures ∙ ap (kept o) c.items.ensures in
-    ap (λ l. map.is_sorted pair_cmp l && list_all is_pair l) is
+    let well = c.parts.ensures.in_range in
+    ap (λ l. map.is_sorted pair_cmp l && list_all is_pair l) (c.in_ok-pairs.ensures.ok ∙ c.in_ok-withdrawn.ensures)
     ∙ and_both (map.is_sorted pair_cmp (kept o es)) (list_all is_pair (kept o es))
-    (sorted_kept o es (and_left (map.is_sorted pair_cmp es) (list_all is_pair es) c.self.invariant))
-    (all_kept o es (and_right (map.is_sorted pair_cmp es) (list_all is_pair es) c.self.invariant))
+    (sorted_kept o es (and_left (map.is_sorted pair_cmp es) (list_all is_pair es) well))
+    (all_kept o es (and_right (map.is_sorted pair_cmp es) (list_all is_pair es) well))
 
 pub returns-clause-ok : goal.returns-clause-ok
 returns-clause-ok c =
-    let es = items_of c.self.inside.pairs in
-    let o = c.args.option in
-    let sorted = and_left (map.is_sorted pair_cmp es) (list_all is_pair es) c.self.invariant in
-    ap (λ l. map.from_sorted {R = pair_cmp} l)
-    (c.in_ok-pairs.ensures.ok ∙ c.in_ok-withdrawn.ensures ∙ ap (kept o) c.items.ensures)
-    ∙ seen_withdrawn c.args.self.now o es sorted (entries_of pair_cmp es sorted ∙ ap map.entries c.self.view_is)
+    let es = c.parts.result.now in
+    let sorted = and_left (map.is_sorted pair_cmp es) (list_all is_pair es) c.parts.ensures.in_range in
+    ap (λ l. map.from_sorted {R = pair_cmp} l) (c.in_ok-pairs.ensures.ok ∙ c.in_ok-withdrawn.ensures)
+    ∙ seen_withdrawn c.args.self.now c.args.option es sorted c.parts.ensures.value
 
 pub returns-clause-added : goal.returns-clause-added
 returns-clause-added c p r s =
