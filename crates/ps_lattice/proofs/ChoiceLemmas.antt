@@ -15,9 +15,10 @@ use Rattle.ps_lattice.specs.declared.limits.TheConstants.{OPTIONS, SEQUENCES}
 use Rattle.ps_lattice.specs.Limits.{is_replica}
 use Rattle.ps_lattice.specs.Maps.{both_of, raised}
 use Rattle.ps_lattice.specs.MapLaws.{get-joined_maps}
-use Rattle.ps_lattice.specs.Choice.{Pairs, pair_cmp, pair_of, is_added, is_removed, is_live, is_chosen}
+use Rattle.ps_lattice.specs.Choice.{Pairs, pair_cmp, pair_of, is_added, is_removed, is_live, is_chosen, is_choice}
 use Rattle.ps_lattice.specs.Choice.{joined_choices, greatest, last_of, last_sequence, with_pair, withdrawn, is_pair}
 use Rattle.ps_lattice.specs.ChoiceLaws.{pairs_total, pairs_apart}
+use Rattle.ps_lattice.proofs.Joining.{in_range_joined}
 use Rattle.ps_lattice.proofs.Rising.{to_T, and_left, and_right, and_both, sorted_head, sorted_rest, find_tied_below}
 use Rattle.ps_lattice.proofs.Views.{joined-one, get_set, entries_rise}
 
@@ -294,3 +295,9 @@ withdrawn_is_fresh c o chosen same =
 -- what is joined keeps a pair's ranges
 pub is_pair-joined : (a b : Pair × Bool) → is_pair a ≡ true → is_pair b ≡ true → is_pair (a.0, a.1 || b.1) ≡ true
 is_pair-joined a b ha hb = ha
+
+-- a merged list is one of pairs
+pub joined_in_range : (xs ys zs : List (Pair × Bool))
+    → zs ≡ map.entries (joined_choices (map.from_sorted xs) (map.from_sorted ys))
+    → is_choice xs ≡ true → is_choice ys ≡ true → is_choice zs ≡ true
+joined_in_range xs ys zs is = in_range_joined pair_cmp ◌||◌ xs ys zs is pairs_total pairs_apart is_pair is_pair-joined

@@ -19,6 +19,7 @@ use Rattle.ps_lattice.specs.declared.limits.TheConstants.{COUNT_LIMIT}
 use Rattle.ps_lattice.specs.Maps.{raised}
 use Rattle.ps_lattice.specs.Tally.{Counts, added, subtracted, greater_counts, joined_tallies, with_counts, counts_of}
 use Rattle.ps_lattice.specs.Tally.{is_count, is_tally}
+use Rattle.ps_lattice.proofs.Joining.{in_range_joined}
 use Rattle.ps_lattice.proofs.Rising.{and_left, and_right, and_both, sorted_head, sorted_rest}
 use Rattle.ps_lattice.proofs.Views.{joined-one, get_set}
 
@@ -206,3 +207,10 @@ is_count-joined a b ha hb =
     (max_fits a.1.added b.1.added fa.added fb.added))
     (max_fits a.1.subtracted b.1.subtracted fa.subtracted fb.subtracted))
     (either_max a.1.added a.1.subtracted b.1.added b.1.subtracted fa.some)
+
+-- a merged list is one of counts
+pub joined_in_range : (xs ys zs : List (ℕ × Count))
+    → zs ≡ map.entries (joined_tallies (map.from_sorted xs) (map.from_sorted ys))
+    → is_tally xs ≡ true → is_tally ys ≡ true → is_tally zs ≡ true
+joined_in_range xs ys zs is =
+    in_range_joined nat_cmp greater_counts xs ys zs is nat_cmp_total nat_cmp-IsAntisymmetric is_count is_count-joined

@@ -366,6 +366,7 @@ impl Join for Choice {
 
     ghost idempotent = { choices_is_join.idempotent };
 
+    #[tactic(auto, using(crate::proofs::Joining::seen_joined, crate::proofs::ChoiceLemmas::joined_in_range))]
     fn join(&mut self, alloc: Global, other: &Self) -> Result<(), Refusal> {
         self.pairs = shared::joined(alloc, &self.pairs, &other.pairs)?;
         Ok(())

@@ -311,6 +311,7 @@ impl Join for Tally {
 
     ghost idempotent = { tallies_is_join.idempotent };
 
+    #[tactic(auto, using(crate::proofs::Joining::seen_joined, crate::proofs::TallyLemmas::joined_in_range))]
     fn join(&mut self, alloc: Global, other: &Self) -> Result<(), Refusal> {
         self.counts = shared::joined(alloc, &self.counts, &other.counts)?;
         Ok(())
