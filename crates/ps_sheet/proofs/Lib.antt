@@ -17,11 +17,13 @@ pub mod IdleChanges
 pub mod LevelSteps
 pub mod ListedCells
 pub mod ListedFormulas
-pub mod Puts
 pub mod Middles
+pub mod PendingChanges
 pub mod PutFormulas
 pub mod PutValues
+pub mod Puts
 pub mod Recalculations
+pub mod ScreenLemmas
 pub mod SetsAsNumbers
 pub mod SettledExists
 pub mod SettledValues

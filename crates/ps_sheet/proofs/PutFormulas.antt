@@ -119,7 +119,7 @@ cells_of-from s [] = refl
 cells_of-from s (e ∷ es) = ap (λ cs. e.0 ∷ cs) (cells_of-from s es)
 
 -- at the cells of entries, s put over t gives s
-overlaid_from : (s t : State) (es : Entries) (c : ℕ) → In (cells_of es) c → overlaid t (entries_from s es) c ≡ s c
+pub overlaid_from : (s t : State) (es : Entries) (c : ℕ) → In (cells_of es) c → overlaid t (entries_from s es) c ≡ s c
 overlaid_from s t [] c i = absurd (let f : false ≡ true = i in cc)
 overlaid_from s t (e ∷ es) c i =
     ⊎_elim

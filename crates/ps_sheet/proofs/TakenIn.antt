@@ -95,14 +95,14 @@ old_formulas_of s b es es1 back i j taken same list index once stands =
 
 -- after the exchange of the states a recalculation may begin
 pub may_recalculate : (s d : State) (es : Entries) (x : Cells) (touched : List ℕ) (first : List (ℕ × Kept))
-    → IsInGrid s → IsSettled s (shown_at x.shown) → IsTidy s x → Stands x.index (with_puts es (forms_of s))
+    → IsInGrid s → IsSettled s (shown_at x.shown.kept) → IsTidy s x → Stands x.index (with_puts es (forms_of s))
     → AreChanges s (joined_state s d) es → state_at x.grid ≡ overlaid s es → touched ≡ cells_of es
     → shown_firsts first ≡ firsts es → MayRecalculate x touched first
 may_recalculate s d es x touched first in_grid settled tidy stands joins given cells shows =
     let t = state_at x.grid in
     let changes : AreChanges s t es = subst (λ (q : State). AreChanges s q es) (sym (given ∙ joins.gives)) joins in
-    let change : IsChange s t (shown_at x.shown) (cells_of es) =
-    change_of s t (shown_at x.shown) es changes in_grid settled in
+    let change : IsChange s t (shown_at x.shown.kept) (cells_of es) =
+    change_of s t (shown_at x.shown.kept) es changes in_grid settled in
     let both : (p : ℕ) → p < CELLS → Lists (refers_to (overlaid s es)) (cells_of es) p (listed x.index p) =
     listed_both s es (listed x.index)
     (λ p q h. refer_below t change.after p q (ap (λ (r : State). refers_to r p q) given ∙ h))
@@ -110,10 +110,10 @@ may_recalculate s d es x touched first in_grid settled tidy stands joins given c
     (λ p q p_lt q_lt. listed_refers x.index (with_puts es (forms_of s)) stands p q p_lt q_lt) in
     record {
       before = s;
-      change = subst (λ (ts : List ℕ). IsChange s t (shown_at x.shown) ts) (sym cells) change;
+      change = subst (λ (ts : List ℕ). IsChange s t (shown_at x.shown.kept) ts) (sym cells) change;
       tidy = tidy;
       once = subst (λ (ts : List ℕ). IsDistinct eqb ts) (sym cells) (increasing_once (cells_of es) joins.ascending);
-      inside = λ c i. touched_inside s t (shown_at x.shown) es changes in_grid settled c
+      inside = λ c i. touched_inside s t (shown_at x.shown.kept) es changes in_grid settled c
           (subst (λ (ts : List ℕ). In ts c) cells i);
       lists = λ p lt.
           subst (λ (r : State). Lists (refers_to r) touched p (listed x.index p)) (sym given)
@@ -127,11 +127,11 @@ may_recalculate s d es x touched first in_grid settled tidy stands joins given c
 pub recalculated : (s d : State) (es : Entries) (x y : Cells) (touched : List ℕ) (evaluated cyclic levels : ℕ)
     → AreChanges s (joined_state s d) es → state_at x.grid ≡ overlaid s es → touched ≡ cells_of es
     → Recalculates x y touched evaluated cyclic levels
-    → IsRecalculated s (state_at y.grid) (shown_at x.shown) (shown_at y.shown) evaluated cyclic levels
+    → IsRecalculated s (state_at y.grid) (shown_at x.shown.kept) (shown_at y.shown.kept) evaluated cyclic levels
 recalculated s d es x y touched evaluated cyclic levels joins given cells did =
     let t = state_at x.grid in
     let changes : AreChanges s t es = subst (λ (q : State). AreChanges s q es) (sym (given ∙ joins.gives)) joins in
-    subst (λ g. IsRecalculated s (state_at g) (shown_at x.shown) (shown_at y.shown) evaluated cyclic levels)
+    subst (λ g. IsRecalculated s (state_at g) (shown_at x.shown.kept) (shown_at y.shown.kept) evaluated cyclic levels)
     (sym did.grid)
     (record {
       touched = touched;

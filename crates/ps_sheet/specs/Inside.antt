@@ -4,6 +4,8 @@ pub mod Bounded
 pub mod BoundedLaws
 pub mod Formulas
 pub mod Kept
+pub mod Pending
+pub mod Screens
 pub mod Steps
 pub mod Waiting
 pub mod Walk

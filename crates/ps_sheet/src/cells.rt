@@ -6,11 +6,13 @@ ghost use Rattle.std.specs.List.{list_all, list_any};
 ghost use Rattle.ps_formula.specs.References.{mentions};
 ghost use Rattle.ps_grid.specs.declared.parties.TheConstants.{WORKERS};
 ghost use Rattle.ps_shown.specs.Shown.{shown_at};
-ghost use Rattle.ps_delta.specs.State.{empty_state, joined_state, state_at};
+ghost use Rattle.ps_delta.specs.State.{State, empty_state, joined_state, state_at};
 ghost use Rattle.ps_delta.specs.Deltas.{state_of};
 ghost use Rattle.ps_sheet.specs.Recalculated.{IsRecalculated};
 ghost use Rattle.ps_sheet.specs.Inside.Steps.{flag_at};
+ghost use Rattle.ps_sheet.specs.Inside.Screens.{before_of};
 ghost use Rattle.ps_sheet.specs.Inside.Kept.{IsWhole, MayRecalculate, Recalculates};
+ghost use Rattle.ps_sheet.specs.Inside.Pending.{IsPending};
 ghost use Rattle.ps_sheet.specs.Inside.Alone.{is_alone, is_empty};
 ghost use Rattle.ps_sheet.specs.Inside.Walk.{formula_at};
 ghost use Rattle.ps_region.specs.Listed.{listed};
@@ -18,14 +20,16 @@ ghost use Rattle.ps_region.specs.Listed.{listed};
 use crate::change::{Change, begin, take_formulas};
 use crate::contents::{formula_of, holds_formula};
 use crate::level::Level;
+use crate::screen::Screen;
 use crate::walk::{clear, close_all, settle_frame, show_all_first};
-use ps_delta::{Delta, Grid};
+use ps_delta::{CellState, Delta, Grid};
 use ps_eval::Meter;
 use ps_formula::Formula;
 use ps_grid::{CELLS, Cell, Refusal};
 use ps_index::Index;
 use ps_region::{After, Region};
-use ps_shown::{Kept, Shown};
+use ps_shown::Kept;
+use ps_workers::{Gate, Open};
 use std::alloc::Global;
 use std::sync::ledger::Ledger;
 use std::thread::Threads;
@@ -38,7 +42,7 @@ pub(crate) struct Cells {
     /// which formulas refer to a cell
     index: Index,
     /// what each cell shows
-    pub(crate) shown: Shown,
+    pub(crate) shown: Screen,
     /// the region of the last change
     region: Region,
     /// the cells that show `#CYCLE!`, each once
@@ -60,6 +64,22 @@ pub(crate) struct Work {
     pub(crate) cyclic: u64,
     /// how many levels the other ones have
     pub(crate) levels: u64,
+}
+
+/// What takes a change back that was made.
+#[derive(Drop)]
+pub(crate) struct Pending {
+    /// the touched cells, ascending, each with the state that it had
+    olds: Vec<(Cell, CellState)>,
+    /// the cells that showed `#CYCLE!`
+    cyclic: Vec<Cell>,
+}
+
+/// A change that was made, and can be taken back.
+#[derive(Drop)]
+pub(crate) struct Made {
+    pub(crate) work: Work,
+    pub(crate) pending: Pending,
 }
 
 /// The formulas that the cells hold.
@@ -126,7 +146,7 @@ impl Cells {
         Ok(Cells {
             grid: Grid::new(alloc)?,
             index: Index::new(alloc)?,
-            shown: Shown::new(alloc)?,
+            shown: Screen::new(alloc)?,
             region: Region::new(alloc)?,
             cyclic,
             flags,
@@ -150,13 +170,46 @@ impl Cells {
         ensures joined { OnOk result (state_at self.new.grid
             ≡ joined_state (state_at self.old.grid) (state_of delta.now)) }
         ensures work { IfOk result (λ w. IsRecalculated (state_at self.old.grid) (state_at self.new.grid)
-            (shown_at self.old.shown) (shown_at self.new.shown) w.evaluated w.cyclic w.levels) }
+            (shown_at self.old.shown.kept) (shown_at self.new.shown.kept) w.evaluated w.cyclic w.levels) }
         ensures metered { IfOk result (λ w. meter.new ≡ meter.old + w.evaluated) }
         ensures memory { IfErr result (λ e. e ≡ Refusal.Memory) }
         ensures kept { OnErr result ((state_at self.new.grid ≡ state_at self.old.grid)
             × (self.new.shown ≡ self.old.shown)) }
         ensures unmetered { OnErr result (meter.new ≡ meter.old) }
     {
+        let made = self.prepare(rt, &Open, alloc, delta, meter)?;
+        self.commit(made.pending);
+        Ok(made.work)
+    }
+
+    /// Joins a delta to what the cells hold, and settles again what they show, so that it can be taken back.
+    ///
+    /// Refused only when out of memory, and then the cells hold and show what they did.
+    pub(crate) fn prepare<R: Threads + Sync, G: Gate, L: Ledger>(
+        &mut self,
+        rt: &R,
+        gate: &G,
+        alloc: Global,
+        delta: &Delta,
+        meter: &mut Meter<L>,
+    ) -> Result<Made, Refusal>
+        requires whole { IsWhole self.old }
+        ensures pending { IfOk result (λ m. IsPending (state_at self.old.grid) self.new m.pending.olds.items
+            m.pending.cyclic.items) }
+        ensures before { OnOk result (before_of self.new.shown ≡ shown_at self.old.shown.kept) }
+        ensures joined { OnOk result (state_at self.new.grid
+            ≡ joined_state (state_at self.old.grid) (state_of delta.now)) }
+        ensures work { IfOk result (λ m. IsRecalculated (state_at self.old.grid) (state_at self.new.grid)
+            (shown_at self.old.shown.kept) (shown_at self.new.shown.kept) m.work.evaluated m.work.cyclic
+            m.work.levels) }
+        ensures metered { IfOk result (λ m. meter.new ≡ meter.old + m.work.evaluated) }
+        ensures memory { IfErr result (λ e. e ≡ Refusal.Memory) }
+        ensures whole { OnErr result (IsWhole self.new) }
+        ensures kept { OnErr result ((state_at self.new.grid ≡ state_at self.old.grid)
+            × (self.new.shown ≡ self.old.shown)) }
+        ensures unmetered { OnErr result (meter.new ≡ meter.old) }
+    {
+        let cyclic = copied(alloc, &self.cyclic)?;
         let change = begin(alloc, &mut self.grid, &mut self.index, delta)?;
         let Change {
             mut raised,
@@ -164,27 +217,60 @@ impl Cells {
             first,
         } = change;
         self.grid.exchange(&mut raised);
-        let work = self.recalculate(rt, &touched, first, meter);
-        take_formulas(&mut self.index, &raised);
-        Ok(work)
+        let work = self.recalculate(rt, gate, &touched, first, meter);
+        Ok(Made {
+            work,
+            pending: Pending {
+                olds: raised,
+                cyclic,
+            },
+        })
+    }
+
+    /// Leaves a change as it was made. It takes no memory.
+    pub(crate) fn commit(&mut self, pending: Pending)
+        requires pending { (s : State) × IsPending s self.old pending.olds.items pending.cyclic.items }
+        ensures whole { IsWhole self.new }
+        ensures grid { self.new.grid ≡ self.old.grid }
+        ensures shown { self.new.shown.kept ≡ self.old.shown.kept }
+    {
+        take_formulas(&mut self.index, &pending.olds);
+        self.shown.keep();
+    }
+
+    /// Takes a change back. It takes no memory.
+    pub(crate) fn cancel(&mut self, pending: Pending)
+        requires pending { (s : State) × IsPending s self.old pending.olds.items pending.cyclic.items }
+        ensures whole { IsWhole self.new }
+        ensures back { (s : State) → IsPending s self.old pending.olds.items pending.cyclic.items
+            → state_at self.new.grid ≡ s }
+        ensures shown { shown_at self.new.shown.kept ≡ before_of self.old.shown }
+    {
+        let Pending { mut olds, cyclic } = pending;
+        self.grid.exchange(&mut olds);
+        take_formulas(&mut self.index, &olds);
+        self.shown.take_back();
+        restore(&cyclic, &mut self.cyclic);
     }
 
     /// Settles what the cells show, after the touched cells got what they hold.
-    fn recalculate<R: Threads + Sync, L: Ledger>(
+    fn recalculate<R: Threads + Sync, G: Gate, L: Ledger>(
         &mut self,
         rt: &R,
+        gate: &G,
         touched: &[Cell],
         first: Vec<(Cell, Kept)>,
         meter: &mut Meter<L>,
     ) -> Work
         requires may { MayRecalculate self.old touched.now first.items }
         ensures done { Recalculates self.old self.new touched.now result.evaluated result.cyclic result.levels }
+        ensures before { before_of self.new.shown ≡ before_of self.old.shown }
         ensures metered { meter.new ≡ meter.old + result.evaluated }
     {
         if self.cyclic.is_empty() && are_alone(&self.grid, &self.index, touched) {
             self.show_alone(touched, first)
         } else {
-            self.recalculate_region(rt, touched, first, meter)
+            self.recalculate_region(rt, gate, touched, first, meter)
         }
     }
 
@@ -196,6 +282,7 @@ impl Cells {
             ≡ true }
         requires none { self.old.cyclic.items ≡ [] }
         ensures done { Recalculates self.old self.new touched.now result.evaluated result.cyclic result.levels }
+        ensures before { before_of self.new.shown ≡ before_of self.old.shown }
         ensures idle { result.evaluated ≡ 0 }
     {
         show_all_first(
@@ -214,15 +301,17 @@ impl Cells {
     }
 
     /// Settles what the cells show, by the region of the change.
-    fn recalculate_region<R: Threads + Sync, L: Ledger>(
+    fn recalculate_region<R: Threads + Sync, G: Gate, L: Ledger>(
         &mut self,
         rt: &R,
+        gate: &G,
         touched: &[Cell],
         first: Vec<(Cell, Kept)>,
         meter: &mut Meter<L>,
     ) -> Work
         requires { MayRecalculate self.old touched.now first.items }
         ensures done { Recalculates self.old self.new touched.now result.evaluated result.cyclic result.levels }
+        ensures before { before_of self.new.shown ≡ before_of self.old.shown }
         ensures metered { meter.new ≡ meter.old + result.evaluated }
     {
         let formulas = Formulas { grid: &self.grid };
@@ -239,6 +328,7 @@ impl Cells {
         let evaluated = settle_frame(
             rt,
             self.workers,
+            gate,
             &self.grid,
             &self.index,
             &self.region,
@@ -279,7 +369,7 @@ fn are_alone(grid: &Grid, index: &Index, cells: &[Cell]) -> bool
 }
 
 /// A table of `n` flags, none of which is set.
-fn no_flags(alloc: Global, n: usize) -> Result<Vec<bool>, Refusal>
+pub(crate) fn no_flags(alloc: Global, n: usize) -> Result<Vec<bool>, Refusal>
     ensures length { IfOk result (λ v. length v.items ≡ n) }
     ensures off { IfOk result (λ v. (c : ℕ) → flag_at v.items c ≡ false) }
     ensures memory { IfErr result (λ e. e ≡ Refusal.Memory) }
@@ -298,4 +388,24 @@ fn renew(region: &Region, cyclic: &mut Vec<Cell>)
 {
     cyclic.retain(|c| !region.contains(*c));
     let _ = cyclic.extend_from_slice(region.cyclic());
+}
+
+/// The same cells.
+fn copied(alloc: Global, cells: &[Cell]) -> Result<Vec<Cell>, Refusal>
+    ensures same { IfOk result (λ v. v.items ≡ cells.now) }
+    ensures memory { IfErr result (λ e. e ≡ Refusal.Memory) }
+{
+    let mut list = Vec::new(alloc);
+    list.extend_from_slice(cells)?;
+    Ok(list)
+}
+
+/// Makes the list of the cyclic cells what it was.
+fn restore(cells: &[Cell], cyclic: &mut Vec<Cell>)
+    requires room { length cells.now ≤ vec_capacity cyclic.old }
+    ensures items { cyclic.new.items ≡ cells.now }
+    ensures room { vec_capacity cyclic.old ≤ vec_capacity cyclic.new }
+{
+    cyclic.clear();
+    let _ = cyclic.extend_from_slice(cells);
 }

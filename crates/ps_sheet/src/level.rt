@@ -8,19 +8,22 @@ ghost use Rattle.ps_shown.specs.Shown.{shown_at};
 ghost use Rattle.ps_delta.specs.State.{state_at};
 ghost use Rattle.ps_region.specs.Listed.{listed};
 ghost use Rattle.ps_workers.specs.Level.{kept_values};
+ghost use Rattle.ps_sheet.specs.Inside.Screens.{before_of};
 ghost use Rattle.ps_sheet.specs.Inside.Walk.{formula_at};
 ghost use Rattle.ps_sheet.specs.Inside.Steps.{flag_at, HasRoom, ShowsAll, StepsLevel, values_at};
 
 use crate::contents::formula_of;
+use crate::room::put;
+use crate::screen::Screen;
 use crate::walk::show;
 use ps_delta::{Grid, grids_are_shared};
 use ps_eval::{Look, Meter};
 use ps_formula::{Formula, Formulas};
 use ps_grid::{CELLS, Cell, Refusal};
 use ps_index::Index;
-use ps_shown::{Kept, Shown};
+use ps_shown::Kept;
 use ps_value::{Operand, Value};
-use ps_workers::{Open, eval_level, workers_worth};
+use ps_workers::{Gate, eval_level, workers_worth};
 use std::alloc::Global;
 use std::mem;
 use std::sync::ledger::Ledger;
@@ -38,13 +41,13 @@ pub(crate) struct Level {
 /// What the cells show, as a formula looks at them.
 #[derive(Drop)]
 struct Looks<'a> {
-    shown: &'a Shown,
+    shown: &'a Screen,
 }
 
 impl Look for Looks<'_> {
     ghost use Rattle.ps_shown.specs.Shown.{shown_at};
 
-    ghost value_at = { λ s. shown_at s.shown.now };
+    ghost value_at = { λ s. shown_at s.shown.now.kept };
 
     fn at(&self, cell: Cell) -> Value {
         self.shown.at(cell)
@@ -89,14 +92,15 @@ impl Level {
 
     /// Settles the cells of a level, by workers. How many were evaluated.
     #[allow(clippy::too_many_arguments)]
-    pub(crate) fn settle<R: Threads + Sync, L: Ledger>(
+    pub(crate) fn settle<R: Threads + Sync, G: Gate, L: Ledger>(
         &mut self,
         rt: &R,
         workers: usize,
+        gate: &G,
         grid: &Grid,
         index: &Index,
         cells: &[Cell],
-        shown: &mut Shown,
+        shown: &mut Screen,
         flags: &mut [bool],
         meter: &mut Meter<L>,
     ) -> usize
@@ -105,14 +109,24 @@ impl Level {
         requires room { HasRoom CELLS self.old }
         requires few { length cells.now ≤ CELLS }
         requires formulas { (c : ℕ) → In cells.now c → formula_at (state_at grid.now) c ≡ true }
-        ensures settled { StepsLevel (state_at grid.now) (listed index.now) cells.now (shown_at shown.old)
-            (shown_at shown.new) (flag_at flags.old) (flag_at flags.new) result }
+        ensures settled { StepsLevel (state_at grid.now) (listed index.now) cells.now (shown_at shown.old.kept)
+            (shown_at shown.new.kept) (flag_at flags.old) (flag_at flags.new) result }
+        ensures before { before_of shown.new ≡ before_of shown.old }
         ensures metered { meter.new ≡ meter.old + result }
         ensures room { HasRoom CELLS self.new }
     {
         list_due(cells, flags, &mut self.due);
         make_places(self.due.len(), &mut self.values);
-        evaluate(rt, workers, grid, &self.due, shown, &mut self.values, meter);
+        evaluate(
+            rt,
+            workers,
+            gate,
+            grid,
+            &self.due,
+            shown,
+            &mut self.values,
+            meter,
+        );
         show_all(index, &self.due, &mut self.values, shown, flags);
         self.due.len()
     }
@@ -146,19 +160,20 @@ fn make_places(count: usize, values: &mut Vec<Kept>)
 }
 
 /// Evaluates the formulas of the cells into their places.
-fn evaluate<R: Threads + Sync, L: Ledger>(
+fn evaluate<R: Threads + Sync, G: Gate, L: Ledger>(
     rt: &R,
     workers: usize,
+    gate: &G,
     grid: &Grid,
     cells: &[Cell],
-    shown: &Shown,
+    shown: &Screen,
     values: &mut [Kept],
     meter: &mut Meter<L>,
 )
     requires workers { (0 < workers) × (workers ≤ WORKERS) }
     requires formulas { (c : ℕ) → In cells.now c → formula_at (state_at grid.now) c ≡ true }
     requires places { length values.old ≡ length cells.now }
-    ensures values { kept_values values.new ≡ values_at (state_at grid.now) (shown_at shown.now) cells.now }
+    ensures values { kept_values values.new ≡ values_at (state_at grid.now) (shown_at shown.now.kept) cells.now }
     ensures metered { meter.new ≡ meter.old + length cells.now }
 {
     // It says that the workers may look at the grid together.
@@ -171,7 +186,7 @@ fn evaluate<R: Threads + Sync, L: Ledger>(
         &Looks { shown },
         values,
         worth,
-        &Open,
+        gate,
         meter,
     );
 }
@@ -181,25 +196,17 @@ fn show_all(
     index: &Index,
     cells: &[Cell],
     values: &mut [Kept],
-    shown: &mut Shown,
+    shown: &mut Screen,
     flags: &mut [bool],
 )
     requires whole { length flags.old ≡ CELLS }
     requires places { length values.old ≡ length cells.now }
-    ensures shows { ShowsAll (listed index.now) cells.now (kept_values values.old) (shown_at shown.old)
-        (shown_at shown.new) (flag_at flags.old) (flag_at flags.new) }
+    ensures shows { ShowsAll (listed index.now) cells.now (kept_values values.old) (shown_at shown.old.kept)
+        (shown_at shown.new.kept) (flag_at flags.old) (flag_at flags.new) }
+    ensures before { before_of shown.new ≡ before_of shown.old }
 {
     for i in 0..cells.len() {
         let kept = mem::replace(&mut values[i], Kept::Empty);
         show(index, cells[i], kept, shown, flags);
     }
-}
-
-/// Puts an item at the end of a list that has room for it.
-fn put<T: Drop>(list: &mut Vec<T>, item: T)
-    requires { length list.old.items < vec_capacity list.old }
-    ensures items { list.new.items ≡ list.old.items ++ item ∷ [] }
-    ensures room { vec_capacity list.old ≤ vec_capacity list.new }
-{
-    let _ = list.push(item);
 }

@@ -38,6 +38,8 @@ mod edit;
 mod laws;
 mod level;
 mod made;
+mod room;
+mod screen;
 mod sheet;
 mod walk;
 

@@ -13,16 +13,19 @@ ghost use Rattle.ps_sheet.specs.Inside.Waiting.{first_value};
 ghost use Rattle.ps_sheet.specs.Inside.Walk.{formula_at, Shows};
 ghost use Rattle.ps_sheet.specs.Inside.Steps.{BeginsAll, ClosesAll, flag_at, HasRoom, IsFirst, MayWalk};
 ghost use Rattle.ps_sheet.specs.Inside.Steps.{StepsLevels};
+ghost use Rattle.ps_sheet.specs.Inside.Screens.{before_of};
 
 use crate::contents::holds_formula;
 use crate::level::Level;
+use crate::screen::Screen;
 use ps_delta::Grid;
 use ps_eval::Meter;
 use ps_grid::{CELLS, Cell};
 use ps_index::Index;
 use ps_region::Region;
-use ps_shown::{Kept, Shown};
+use ps_shown::Kept;
 use ps_value::Fault;
+use ps_workers::Gate;
 use std::sync::ledger::Ledger;
 use std::thread::Threads;
 
@@ -38,10 +41,11 @@ fn flag_dependents(index: &Index, cell: Cell, flags: &mut [bool])
 }
 
 /// Lets a cell show a value, and flags the cells that refer to it where that is another one than it showed.
-pub(crate) fn show(index: &Index, cell: Cell, kept: Kept, shown: &mut Shown, flags: &mut [bool])
+pub(crate) fn show(index: &Index, cell: Cell, kept: Kept, shown: &mut Screen, flags: &mut [bool])
     requires whole { length flags.old ≡ CELLS }
-    ensures shows { Shows cell (value_kept kept) (listed index.now cell) (shown_at shown.old) (shown_at shown.new)
+    ensures shows { Shows cell (value_kept kept) (listed index.now cell) (shown_at shown.old.kept) (shown_at shown.new.kept)
         (flag_at flags.old) (flag_at flags.new) }
+    ensures before { before_of shown.new ≡ before_of shown.old }
 {
     let same = kept.is_same(shown.kept(cell));
     shown.put(cell, kept);
@@ -56,12 +60,13 @@ fn show_first(
     index: &Index,
     cell: Cell,
     kept: Kept,
-    shown: &mut Shown,
+    shown: &mut Screen,
     flags: &mut [bool],
 )
     requires whole { length flags.old ≡ CELLS }
-    ensures first { IsFirst (state_at grid.now) cell (value_kept kept) (listed index.now cell) (shown_at shown.old)
-        (shown_at shown.new) (flag_at flags.old) (flag_at flags.new) }
+    ensures first { IsFirst (state_at grid.now) cell (value_kept kept) (listed index.now cell) (shown_at shown.old.kept)
+        (shown_at shown.new.kept) (flag_at flags.old) (flag_at flags.new) }
+    ensures before { before_of shown.new ≡ before_of shown.old }
 {
     if holds_formula(grid.at(cell)) {
         flags[cell.index()] = true;
@@ -75,14 +80,15 @@ pub(crate) fn show_all_first(
     grid: &Grid,
     index: &Index,
     first: Vec<(Cell, Kept)>,
-    shown: &mut Shown,
+    shown: &mut Screen,
     flags: &mut [bool],
 )
     requires whole { length flags.old ≡ CELLS }
     requires once { IsDistinct nat_eq (map (λ e. e.0) first.items) }
     requires values { All (λ e. value_kept e.1 ≡ first_value (state_at grid.now e.0)) first.items }
-    ensures begun { BeginsAll (state_at grid.now) (listed index.now) (map (λ e. e.0) first.items) (shown_at shown.old)
-        (shown_at shown.new) (flag_at flags.old) (flag_at flags.new) }
+    ensures begun { BeginsAll (state_at grid.now) (listed index.now) (map (λ e. e.0) first.items) (shown_at shown.old.kept)
+        (shown_at shown.new.kept) (flag_at flags.old) (flag_at flags.new) }
+    ensures before { before_of shown.new ≡ before_of shown.old }
 {
     for (cell, kept) in first {
         show_first(grid, index, cell, kept, shown, flags);
@@ -90,8 +96,9 @@ pub(crate) fn show_all_first(
 }
 
 /// Lets cells show `#CYCLE!`.
-pub(crate) fn close_all(cells: &[Cell], shown: &mut Shown)
-    ensures closed { ClosesAll cells.now (shown_at shown.old) (shown_at shown.new) }
+pub(crate) fn close_all(cells: &[Cell], shown: &mut Screen)
+    ensures closed { ClosesAll cells.now (shown_at shown.old.kept) (shown_at shown.new.kept) }
+    ensures before { before_of shown.new ≡ before_of shown.old }
 {
     for cell in cells {
         shown.put(*cell, Kept::Err(Fault::Cycle));
@@ -100,14 +107,15 @@ pub(crate) fn close_all(cells: &[Cell], shown: &mut Shown)
 
 /// Settles the frame, level after level. How many cells were evaluated.
 #[allow(clippy::too_many_arguments)]
-pub(crate) fn settle_frame<R: Threads + Sync, L: Ledger>(
+pub(crate) fn settle_frame<R: Threads + Sync, G: Gate, L: Ledger>(
     rt: &R,
     workers: usize,
+    gate: &G,
     grid: &Grid,
     index: &Index,
     region: &Region,
     level: &mut Level,
-    shown: &mut Shown,
+    shown: &mut Screen,
     flags: &mut [bool],
     meter: &mut Meter<L>,
 ) -> u64
@@ -115,17 +123,20 @@ pub(crate) fn settle_frame<R: Threads + Sync, L: Ledger>(
     requires whole { length flags.old ≡ CELLS }
     requires room { HasRoom CELLS level.old }
     requires begun { MayWalk (state_at grid.now) (listed index.now) (level_cells region.now) (level_count region.now)
-        (shown_at shown.old) (flag_at flags.old) }
+        (shown_at shown.old.kept) (flag_at flags.old) }
     ensures settled { StepsLevels (state_at grid.now) (listed index.now) (level_cells region.now)
-        (level_count region.now) (level_count region.now + 1) (shown_at shown.old) (shown_at shown.new)
+        (level_count region.now) (level_count region.now + 1) (shown_at shown.old.kept) (shown_at shown.new.kept)
         (flag_at flags.old) (flag_at flags.new) result }
+    ensures before { before_of shown.new ≡ before_of shown.old }
     ensures metered { meter.new ≡ meter.old + result }
     ensures room { HasRoom CELLS level.new }
 {
     let mut evaluated = 0;
     for before in 0..region.levels() {
         let cells = region.level(before + 1);
-        evaluated += level.settle(rt, workers, grid, index, cells, shown, flags, meter) as u64;
+        evaluated += level.settle(
+            rt, workers, gate, grid, index, cells, shown, flags, meter,
+        ) as u64;
     }
     evaluated
 }

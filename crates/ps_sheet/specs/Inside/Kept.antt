@@ -1,5 +1,5 @@
 -- What a sheet keeps beside what contracts see, and what its recalculation needs and gives.
-use Rattle.std.specs.Prelude.{◌≡◌, ◌≤◌, ◌<◌, ◌⊎◌, ℕ, true, false, List, length, map, nat_eq, vec_capacity}
+use Rattle.std.specs.Prelude.{◌≡◌, ◌≤◌, ◌<◌, ◌⊎◌, ℕ, true, false, List, [], length, map, nat_eq, vec_capacity}
 use Rattle.std.specs.Arc.{arc_value}
 use Rattle.std.specs.List.{All, IsDistinct}
 use Rattle.ps_grid.specs.Chains.{In, InRegion, IsDepth}
@@ -33,14 +33,15 @@ pub record IsTidy (s : State) (x : Cells) : Type 0 where
 -- BETWEEN TWO CHANGES: what is shown is settled, and the index stands for the formulas
 pub record IsWhole (x : Cells) : Type 0 where
   pub in_grid : IsInGrid (state_at x.grid)
-  pub settled : IsSettled (state_at x.grid) (shown_at x.shown)
+  pub settled : IsSettled (state_at x.grid) (shown_at x.shown.kept)
   pub stands : Stands x.index (forms_of (state_at x.grid))
   pub tidy : IsTidy (state_at x.grid) x
+  pub still : x.shown.olds ≡ []
 
 -- WITHIN A CHANGE: the touched cells hold what they are to hold, and nothing else is done
 pub record MayRecalculate (x : Cells) (touched : List ℕ) (first : List (ℕ × Kept)) : Type 0 where
   pub before : State
-  pub change : IsChange before (state_at x.grid) (shown_at x.shown) touched
+  pub change : IsChange before (state_at x.grid) (shown_at x.shown.kept) touched
   pub tidy : IsTidy before x
   pub once : IsDistinct nat_eq touched
   pub inside : (c : ℕ) → In touched c → c < CELLS
@@ -52,9 +53,9 @@ pub record MayRecalculate (x : Cells) (touched : List ℕ) (first : List (ℕ ×
 pub record Recalculates (x y : Cells) (touched : List ℕ) (evaluated cyclic levels : ℕ) : Type 0 where
   pub grid : y.grid ≡ x.grid
   pub index : y.index ≡ x.index
-  pub settled : IsSettled (state_at x.grid) (shown_at y.shown)
+  pub settled : IsSettled (state_at x.grid) (shown_at y.shown.kept)
   pub tidy : IsTidy (state_at x.grid) y
-  pub works : IsCount (IsWork (state_at x.grid) touched (shown_at x.shown) (shown_at y.shown)) evaluated
+  pub works : IsCount (IsWork (state_at x.grid) touched (shown_at x.shown.kept) (shown_at y.shown.kept)) evaluated
   pub closes : IsCount (λ c. InRegion (refers_to (state_at x.grid)) touched c × (formula_at (state_at x.grid) c ≡ true)
       × Cyclic (state_at x.grid) c) cyclic
   pub deepest : (c : ℕ) → InFrame (state_at x.grid) touched c
@@ -63,7 +64,7 @@ pub record Recalculates (x y : Cells) (touched : List ℕ) (evaluated cyclic lev
       × IsDepth (refers_to (state_at x.grid)) (InFrame (state_at x.grid) touched) c levels)
 
 abbrev pub view_of : Inside → SheetView
-view_of x = record { replica = x.replica; history = map arc_value x.history.items; shown = x.cells.shown }
+view_of x = record { replica = x.replica; history = map arc_value x.history.items; shown = x.cells.shown.kept }
 
 pub record IsKept (x : Inside) : Type 0 where
   pub sheet : IsSheet (view_of x)

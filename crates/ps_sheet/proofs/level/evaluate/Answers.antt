@@ -7,4 +7,4 @@ use Rattle.ps_sheet.proofs.level.evaluate.Goals as goal
 pub returns-clause-values : goal.returns-clause-values
 returns-clause-values g c =
     c.eval_level.ensures.values
-    ∙ formula_values (state_at c.args.grid.now) (shown_at c.args.shown.now) c.args.cells.now c.requires.formulas
+    ∙ formula_values (state_at c.args.grid.now) (shown_at c.args.shown.now.kept) c.args.cells.now c.requires.formulas

@@ -16,10 +16,13 @@ loop-cell-preserved c =
     let x = c.cell-item.result in
     let longer : take (i + 1) cells ≡ take i cells ++ x ∷ [] =
     take_more cells i x c.loop-cell-test.true ∙ ap (λ q. take i cells ++ q ∷ []) (sym c.cell-item.is) in
-    subst (λ xs. ClosesAll xs (shown_at c.args.shown.now) (shown_at c.put.new.self)) (sym longer)
-    (closes_more (take i cells) x (shown_at c.args.shown.now) (shown_at c.loop-cell.shown) (shown_at c.put.new.self)
-    c.loop-cell.invariant
-    (ap (λ (w : Assignment). w x) c.put.ensures.shown ∙ with_value-here (shown_at c.loop-cell.shown) x
-    (Err Fault.Cycle))
-    (λ q ne. ap (λ (w : Assignment). w q) c.put.ensures.shown
-    ∙ with_value-there (shown_at c.loop-cell.shown) x q (Err Fault.Cycle) ne))
+    record {
+      closed = subst (λ xs. ClosesAll xs (shown_at c.args.shown.now.kept) (shown_at c.put.new.self.kept)) (sym longer)
+          (closes_more (take i cells) x (shown_at c.args.shown.now.kept) (shown_at c.loop-cell.shown.kept) (shown_at c.put.new.self.kept)
+          c.loop-cell.invariant.closed
+          (ap (λ (w : Assignment). w x) c.put.ensures.shown ∙ with_value-here (shown_at c.loop-cell.shown.kept) x
+          (Err Fault.Cycle))
+          (λ q ne. ap (λ (w : Assignment). w q) c.put.ensures.shown
+          ∙ with_value-there (shown_at c.loop-cell.shown.kept) x q (Err Fault.Cycle) ne));
+      before = c.put.ensures.before ∙ c.loop-cell.invariant.before;
+    }

@@ -1,8 +1,12 @@
-use Rattle.std.proofs.Common.{take}
+use Rattle.std.proofs.Common.{◌≡◌, take}
 use Rattle.ps_shown.specs.Shown.{shown_at}
+use Rattle.ps_sheet.specs.Inside.Screens.{before_of}
 use Rattle.ps_sheet.specs.Inside.Steps.{ClosesAll}
 use Rattle.ps_sheet.proofs.walk.close_all.Given as goal
 
 -- the cells so far show #CYCLE!
 abbrev pub invariant-loop-cell : goal.invariant-loop-cell
-invariant-loop-cell l = ClosesAll (take l.cell-index l.cells) (shown_at l.initial.shown) (shown_at l.shown)
+invariant-loop-cell l = record {
+  closed : ClosesAll (take l.cell-index l.cells) (shown_at l.initial.shown.kept) (shown_at l.shown.kept);
+  before : before_of l.shown ≡ before_of l.initial.shown;
+}

@@ -1,4 +1,4 @@
-use Rattle.std.proofs.Common.{◌≡◌, ◌+◌, ◌<◌, ◌≤◌, [], length, sym, subst, arith}
+use Rattle.std.proofs.Common.{◌≡◌, ◌+◌, ◌∙◌, ◌<◌, ◌≤◌, [], length, refl, sym, subst, arith}
 use Rattle.ps_grid.specs.Chains.{In}
 use Rattle.ps_grid.specs.declared.size.TheConstants.{CELLS}
 use Rattle.ps_delta.specs.State.{state_at}
@@ -17,7 +17,8 @@ use Rattle.ps_sheet.proofs.walk.settle_frame.Goals.{After-slice_known-in-loop-be
 pub loop-before-init : goal.loop-before-init
 loop-before-init g c = record {
   steps = frame_none (state_at c.args.grid.now) (listed c.args.index.now) (level_cells c.args.region.now)
-      (level_count c.args.region.now) (shown_at c.args.shown.now) (flag_at c.args.flags.now);
+      (level_count c.args.region.now) (shown_at c.args.shown.now.kept) (flag_at c.args.flags.now);
+  before = refl;
   metered = omega arith;
   room = c.requires.room;
 }
@@ -29,7 +30,7 @@ settle-requires-clause-formulas g c κs within2 = λ q i.
     let within : c.loop-before.before + 1 ≤ level_count c.args.region.now = omega (arith, lt, top) in
     let some : 0 < c.loop-before.before + 1 = omega arith in
     level_formula (state_at c.args.grid.now) (listed c.args.index.now) (level_cells c.args.region.now)
-    (level_count c.args.region.now) (shown_at c.args.shown.now) (flag_at c.args.flags.now) c.requires.begun
+    (level_count c.args.region.now) (shown_at c.args.shown.now.kept) (flag_at c.args.flags.now) c.requires.begun
     (c.loop-before.before + 1) some within q
     (subst (λ xs. In xs q) (c.level-cells.ensures.inside some within) i)
 
@@ -44,7 +45,7 @@ settle-requires-clause-few g c κs within2 =
     let some : 0 < c.loop-before.before + 1 = omega arith in
     subst (λ xs. length xs ≤ CELLS) (sym (c.level-cells.ensures.inside some within))
     (level_few (state_at c.args.grid.now) (listed c.args.index.now) (level_cells c.args.region.now)
-    (level_count c.args.region.now) (shown_at c.args.shown.now) (flag_at c.args.flags.now) c.requires.begun
+    (level_count c.args.region.now) (shown_at c.args.shown.now.kept) (flag_at c.args.flags.now) c.requires.begun
     (c.loop-before.before + 1) some within)
 
 pub returns-clause-room : goal.returns-clause-room
@@ -53,8 +54,8 @@ returns-clause-room g c = c.loop-before.invariant.room
 -- one level more
 stepped : (g : Over) (c : After-slice_known-in-loop-before-1 g)
     → StepsLevels (state_at c.args.grid.now) (listed c.args.index.now) (level_cells c.args.region.now)
-    (level_count c.args.region.now) (c.loop-before.before + 1 + 1) (shown_at c.args.shown.now)
-    (shown_at c.settle.new.shown) (flag_at c.args.flags.now) (flag_at c.settle.new.flags)
+    (level_count c.args.region.now) (c.loop-before.before + 1 + 1) (shown_at c.args.shown.now.kept)
+    (shown_at c.settle.new.shown.kept) (flag_at c.args.flags.now) (flag_at c.settle.new.flags)
     (c.loop-before.evaluated + c.settle.result)
 stepped g c =
     let lt = c.loop-before-test.true in
@@ -62,8 +63,8 @@ stepped g c =
     let within : c.loop-before.before + 1 ≤ level_count c.args.region.now = omega (arith, lt, top) in
     let some : 0 < c.loop-before.before + 1 = omega arith in
     frame_more (state_at c.args.grid.now) (listed c.args.index.now) (level_cells c.args.region.now)
-    (level_count c.args.region.now) (c.loop-before.before + 1) c.level-cells.result.now (shown_at c.args.shown.now)
-    (shown_at c.loop-before.shown) (shown_at c.settle.new.shown) (flag_at c.args.flags.now)
+    (level_count c.args.region.now) (c.loop-before.before + 1) c.level-cells.result.now (shown_at c.args.shown.now.kept)
+    (shown_at c.loop-before.shown.kept) (shown_at c.settle.new.shown.kept) (flag_at c.args.flags.now)
     (flag_at c.loop-before.flags) (flag_at c.settle.new.flags) c.loop-before.evaluated c.settle.result
     c.loop-before.invariant.steps c.settle.ensures.settled some within
     (sym (c.level-cells.ensures.inside some within))
@@ -75,7 +76,7 @@ overflow_add-evaluated g c =
     let few : c.loop-before.evaluated + c.settle.result ≤ CELLS =
     count_below_cells
     (λ q. IsPassed (level_cells c.args.region.now) (c.loop-before.before + 1 + 1) [] q
-    × IsDue (state_at c.args.grid.now) may.1 may.0 (shown_at c.settle.new.shown) q)
+    × IsDue (state_at c.args.grid.now) may.1 may.0 (shown_at c.settle.new.shown.kept) q)
     (c.loop-before.evaluated + c.settle.result)
     (λ q p. formula_below (state_at c.args.grid.now) may.2.change.after q (w.framed q p.0).1) w.counted in
     omega (arith, few)
@@ -84,7 +85,12 @@ pub loop-before-preserved : goal.loop-before-preserved
 loop-before-preserved g c =
     let metered = c.loop-before.invariant.metered in
     let more = c.settle.ensures.metered in
-    record { steps = stepped g c; metered = omega (arith, metered, more); room = c.settle.ensures.room }
+    record {
+      steps = stepped g c;
+      before = c.settle.ensures.before ∙ c.loop-before.invariant.before;
+      metered = omega (arith, metered, more);
+      room = c.settle.ensures.room;
+    }
 
 pub returns-clause-settled : goal.returns-clause-settled
 returns-clause-settled g c =
@@ -93,5 +99,5 @@ returns-clause-settled g c =
     let top = c.levels-before-end.ensures in
     let is : c.loop-before.before ≡ level_count c.args.region.now = omega (arith, end, high, top) in
     subst (λ n. StepsLevels (state_at c.args.grid.now) (listed c.args.index.now) (level_cells c.args.region.now)
-    (level_count c.args.region.now) (n + 1) (shown_at c.args.shown.now) (shown_at c.loop-before.shown)
+    (level_count c.args.region.now) (n + 1) (shown_at c.args.shown.now.kept) (shown_at c.loop-before.shown.kept)
     (flag_at c.args.flags.now) (flag_at c.loop-before.flags) c.loop-before.evaluated) is c.loop-before.invariant.steps

@@ -30,12 +30,13 @@ loop-cell-preserved c =
     (subst (λ (xs : List (ℕ × Kept)). All (λ q. value_kept q.1 ≡ first_value (t q.0)) xs) (sym whole)
     c.requires.values) in
     record {
-      begun = subst (λ (xs : List ℕ). BeginsAll t (listed c.args.index.now) xs (shown_at c.args.shown.now)
-          (shown_at c.show_first.new.shown) (flag_at c.args.flags.now) (flag_at c.show_first.new.flags))
+      begun = subst (λ (xs : List ℕ). BeginsAll t (listed c.args.index.now) xs (shown_at c.args.shown.now.kept)
+          (shown_at c.show_first.new.shown.kept) (flag_at c.args.flags.now) (flag_at c.show_first.new.flags))
           (sym (map-append (λ (q : ℕ × Kept). q.0) ys (e ∷ [])))
           (begins_more t (listed c.args.index.now) (map (λ (q : ℕ × Kept). q.0) ys) c.in-Some.cell
-          (value_kept c.in-Some.kept) (shown_at c.args.shown.now) (shown_at c.loop-cell.shown)
-          (shown_at c.show_first.new.shown) (flag_at c.args.flags.now) (flag_at c.loop-cell.flags)
+          (value_kept c.in-Some.kept) (shown_at c.args.shown.now.kept) (shown_at c.loop-cell.shown.kept)
+          (shown_at c.show_first.new.shown.kept) (flag_at c.args.flags.now) (flag_at c.loop-cell.flags)
           (flag_at c.show_first.new.flags) c.loop-cell.invariant.begun fresh value c.show_first.ensures.first);
+      before = c.show_first.ensures.before ∙ c.loop-cell.invariant.before;
       all = append_assoc ys (e ∷ []) rest ∙ whole;
     }

@@ -14,8 +14,8 @@ returns-clause-whole c =
     let empty = c.in_ok-new.ensures.empty in
     record {
       in_grid = subst IsInGrid (sym empty) in_grid_empty;
-      settled = subst (λ (s : State). IsSettled s (shown_at c.in_ok-new-3.field-0)) (sym empty)
-          (settled_empty (shown_at c.in_ok-new-3.field-0)
+      settled = subst (λ (s : State). IsSettled s (shown_at c.in_ok-new-3.field-0.kept)) (sym empty)
+          (settled_empty (shown_at c.in_ok-new-3.field-0.kept)
           (λ q. ap (λ (v : Assignment). v q) c.in_ok-new-3.ensures.empty));
       stands = subst (λ (s : State). Stands c.in_ok-new-2.field-0 (forms_of s)) (sym empty)
           (subst (λ (f : Puts). Stands c.in_ok-new-2.field-0 f) (sym forms_empty) c.in_ok-new-2.ensures.empty);
@@ -28,4 +28,5 @@ returns-clause-whole c =
         level = c.in_ok-level.ensures.room;
         workers = c.requires.workers;
       };
+      still = c.in_ok-new-3.ensures.still;
     }

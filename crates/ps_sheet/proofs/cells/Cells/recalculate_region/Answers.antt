@@ -22,19 +22,19 @@ use Rattle.ps_sheet.proofs.cells.Cells.recalculate_region.Goals.{After-settle_fr
 
 pub mark-requires-clause-extra : goal.mark-requires-clause-extra
 mark-requires-clause-extra g c =
-    extra_bounded c.requires.before (state_at c.args.self.now.grid) (shown_at c.args.self.now.shown) c.args.touched.now
+    extra_bounded c.requires.before (state_at c.args.self.now.grid) (shown_at c.args.self.now.shown.kept) c.args.touched.now
     c.requires.change c.requires.inside (listed c.args.self.now.index) c.requires.lists
 
 pub mark-requires-clause-outside_yes : goal.mark-requires-clause-outside_yes
 mark-requires-clause-outside_yes g c = λ q out i.
-    outside_yes c.requires.before (state_at c.args.self.now.grid) (shown_at c.args.self.now.shown) c.args.touched.now
+    outside_yes c.requires.before (state_at c.args.self.now.grid) (shown_at c.args.self.now.shown.kept) c.args.touched.now
     c.requires.change c.requires.inside c.args.self.now.cyclic.items c.requires.tidy.cyclic q out
     (subst (λ xs. In xs q) c.deref.ensures.value i)
 
 pub mark-requires-clause-outside_no : goal.mark-requires-clause-outside_no
 mark-requires-clause-outside_no g c = λ q out cyc.
     subst (λ xs. In xs q) (sym c.deref.ensures.value)
-    (outside_no c.requires.before (state_at c.args.self.now.grid) (shown_at c.args.self.now.shown) c.args.touched.now
+    (outside_no c.requires.before (state_at c.args.self.now.grid) (shown_at c.args.self.now.shown.kept) c.args.touched.now
     c.requires.change c.requires.inside c.args.self.now.cyclic.items c.requires.tidy.cyclic q out cyc)
 
 -- what the marking found, over all references
@@ -43,7 +43,7 @@ found : (g : Over) (c : After-settle_frame-arg-6-1 g)
     c.args.touched.now
     c.mark.new.self
 found g c =
-    found_now c.requires.before (state_at c.args.self.now.grid) (shown_at c.args.self.now.shown) c.args.touched.now
+    found_now c.requires.before (state_at c.args.self.now.grid) (shown_at c.args.self.now.shown.kept) c.args.touched.now
     c.requires.change c.requires.inside c.mark.new.self c.mark.ensures.found
 
 -- the flags after the touched cells were dealt with
@@ -54,47 +54,47 @@ flags_first g c =
     (c.show_all_first.auto.flags ∙ c.deref_mut.ensures.len)
 
 begun_first : (g : Over) (c : After-settle_frame-arg-6-1 g)
-    → Begun (state_at c.args.self.now.grid) (shown_at c.args.self.now.shown) c.args.touched.now
-    (map (λ (e : ℕ × Kept). e.0) c.args.first.items) [] (shown_at c.show_all_first.new.shown)
+    → Begun (state_at c.args.self.now.grid) (shown_at c.args.self.now.shown.kept) c.args.touched.now
+    (map (λ (e : ℕ × Kept). e.0) c.args.first.items) [] (shown_at c.show_all_first.new.shown.kept)
     (flag_at c.show_all_first.new.flags)
 begun_first g c =
-    c.show_all_first.ensures.begun (shown_at c.args.self.now.shown) c.args.touched.now c.requires.lists
+    c.show_all_first.ensures.begun (shown_at c.args.self.now.shown.kept) c.args.touched.now c.requires.lists
     (λ q i. let j : In c.args.touched.now q = subst (λ xs. In xs q) c.requires.cells i in (j, c.requires.inside q j))
-    (begun_start (state_at c.args.self.now.grid) (shown_at c.args.self.now.shown) c.args.touched.now
-    (shown_at c.args.self.now.shown) (flag_at c.deref_mut.result.now) (λ q. refl)
+    (begun_start (state_at c.args.self.now.grid) (shown_at c.args.self.now.shown.kept) c.args.touched.now
+    (shown_at c.args.self.now.shown.kept) (flag_at c.deref_mut.result.now) (λ q. refl)
     (λ q. ap (λ (xs : List Bool). flag_at xs q) c.deref_mut.ensures.value ∙ c.requires.tidy.off q))
 
 begun_all : (g : Over) (c : After-settle_frame-arg-6-1 g)
-    → Begun (state_at c.args.self.now.grid) (shown_at c.args.self.now.shown) c.args.touched.now
-    c.args.touched.now c.mark.new.self.cyclic (shown_at c.close_all.new.shown)
+    → Begun (state_at c.args.self.now.grid) (shown_at c.args.self.now.shown.kept) c.args.touched.now
+    c.args.touched.now c.mark.new.self.cyclic (shown_at c.close_all.new.shown.kept)
     (flag_at c.deref_mut-2.result.now)
 begun_all g c =
     let t = state_at c.args.self.now.grid in
-    let v = shown_at c.args.self.now.shown in
+    let v = shown_at c.args.self.now.shown.kept in
     let touched = c.args.touched.now in
     let closed = c.close_all.ensures.closed t v touched (map (λ (e : ℕ × Kept). e.0) c.args.first.items)
     (flag_at c.show_all_first.new.flags)
     (λ q i. let z = (found g c).cyclic_sound q (subst (λ xs. In xs q) c.cyclic.ensures i) in (z.0, z.2))
     (begun_first g c) in
-    subst (λ (xs : List Bool). Begun t v touched touched c.mark.new.self.cyclic (shown_at c.close_all.new.shown)
+    subst (λ (xs : List Bool). Begun t v touched touched c.mark.new.self.cyclic (shown_at c.close_all.new.shown.kept)
     (flag_at xs))
     (sym (flags_first g c))
-    (subst (λ (xs : List ℕ). Begun t v touched touched xs (shown_at c.close_all.new.shown)
+    (subst (λ (xs : List ℕ). Begun t v touched touched xs (shown_at c.close_all.new.shown.kept)
     (flag_at c.show_all_first.new.flags)) c.cyclic.ensures
-    (subst (λ (xs : List ℕ). Begun t v touched xs c.cyclic.result.now (shown_at c.close_all.new.shown)
+    (subst (λ (xs : List ℕ). Begun t v touched xs c.cyclic.result.now (shown_at c.close_all.new.shown.kept)
     (flag_at c.show_all_first.new.flags)) c.requires.cells closed))
 
 pub settle_frame-evaluated-requires-clause-begun :
     goal.settle_frame-evaluated-requires-clause-begun
 settle_frame-evaluated-requires-clause-begun g c κs within =
-    may_walk c.requires.before (state_at c.args.self.now.grid) (shown_at c.args.self.now.shown) c.args.touched.now
+    may_walk c.requires.before (state_at c.args.self.now.grid) (shown_at c.args.self.now.shown.kept) c.args.touched.now
     c.requires.change c.requires.inside c.mark.new.self (found g c) (listed c.args.self.now.index) c.requires.lists
-    (shown_at c.close_all.new.shown) (flag_at c.deref_mut-2.result.now) (begun_all g c)
+    (shown_at c.close_all.new.shown.kept) (flag_at c.deref_mut-2.result.now) (begun_all g c)
 
 pub clear-requires-clause-within : goal.clear-requires-clause-within
 clear-requires-clause-within g c = λ q on.
     let t = state_at c.args.self.now.grid in
-    let v = shown_at c.args.self.now.shown in
+    let v = shown_at c.args.self.now.shown.kept in
     let touched = c.args.touched.now in
     let f = c.mark.new.self in
     let now = found_now c.requires.before t v touched c.requires.change c.requires.inside f c.mark.ensures.found in
@@ -108,26 +108,26 @@ clear-requires-clause-within g c = λ q on.
     (c.settle_frame-evaluated.auto.flags ∙ c.deref_mut-2.ensures.len) in
     let w = walked_now c.requires.before t v touched c.requires.change c.requires.inside f now
     (listed c.args.self.now.index) c.requires.lists (map (λ (e : ℕ × Kept). e.0) c.args.first.items) c.cyclic.result.now
-    (shown_at c.show_all_first.new.shown) (shown_at c.close_all.new.shown) (shown_at c.settle_frame-evaluated.new.shown)
+    (shown_at c.show_all_first.new.shown.kept) (shown_at c.close_all.new.shown.kept) (shown_at c.settle_frame-evaluated.new.shown.kept)
     (flag_at c.deref_mut.result.now) (flag_at c.show_all_first.new.flags) (flag_at c.settle_frame-evaluated.new.flags)
     c.settle_frame-evaluated.result c.show_all_first.ensures.begun c.requires.cells
     (λ p. ap (λ (xs : List Bool). flag_at xs p) c.deref_mut.ensures.value ∙ c.requires.tidy.off p)
     c.close_all.ensures.closed c.cyclic.ensures
     (subst (λ (xs : List Bool). StepsLevels t (listed c.args.self.now.index) (level_cells f) (level_count f)
-    (level_count f + 1) (shown_at c.close_all.new.shown) (shown_at c.settle_frame-evaluated.new.shown) (flag_at xs)
+    (level_count f + 1) (shown_at c.close_all.new.shown.kept) (shown_at c.settle_frame-evaluated.new.shown.kept) (flag_at xs)
     (flag_at c.settle_frame-evaluated.new.flags) c.settle_frame-evaluated.result) first
     c.settle_frame-evaluated.ensures.settled) in
     subst (λ xs. In xs q) (sym c.members.ensures)
     (walked_flags c.requires.before t v touched c.requires.change (level_cells f) (level_count f)
     (levels_found c.requires.before t v touched c.requires.change c.requires.inside f now)
-    (shown_at c.settle_frame-evaluated.new.shown) (flag_at c.settle_frame-evaluated.new.flags)
+    (shown_at c.settle_frame-evaluated.new.shown.kept) (flag_at c.settle_frame-evaluated.new.flags)
     c.settle_frame-evaluated.result w f.members now.region_sound now.region_complete q
     (subst (λ (xs : List Bool). flag_at xs q ≡ true) last on))
 
 pub renew-requires : goal.renew-requires
 renew-requires g c =
     let t = state_at c.args.self.now.grid in
-    let v = shown_at c.args.self.now.shown in
+    let v = shown_at c.args.self.now.shown.kept in
     let touched = c.args.touched.now in
     let f = c.mark.new.self in
     let now = found_now c.requires.before t v touched c.requires.change c.requires.inside f c.mark.ensures.found in
@@ -139,7 +139,7 @@ renew-requires g c =
 pub returns-clause-done : goal.returns-clause-done
 returns-clause-done g c =
     let t = state_at c.args.self.now.grid in
-    let v = shown_at c.args.self.now.shown in
+    let v = shown_at c.args.self.now.shown.kept in
     let touched = c.args.touched.now in
     let f = c.mark.new.self in
     let now = found_now c.requires.before t v touched c.requires.change c.requires.inside f c.mark.ensures.found in
@@ -153,13 +153,13 @@ returns-clause-done g c =
     (c.settle_frame-evaluated.auto.flags ∙ c.deref_mut-2.ensures.len) in
     let w = walked_now c.requires.before t v touched c.requires.change c.requires.inside f now
     (listed c.args.self.now.index) c.requires.lists (map (λ (e : ℕ × Kept). e.0) c.args.first.items) c.cyclic.result.now
-    (shown_at c.show_all_first.new.shown) (shown_at c.close_all.new.shown) (shown_at c.settle_frame-evaluated.new.shown)
+    (shown_at c.show_all_first.new.shown.kept) (shown_at c.close_all.new.shown.kept) (shown_at c.settle_frame-evaluated.new.shown.kept)
     (flag_at c.deref_mut.result.now) (flag_at c.show_all_first.new.flags) (flag_at c.settle_frame-evaluated.new.flags)
     c.settle_frame-evaluated.result c.show_all_first.ensures.begun c.requires.cells
     (λ p. ap (λ (xs : List Bool). flag_at xs p) c.deref_mut.ensures.value ∙ c.requires.tidy.off p)
     c.close_all.ensures.closed c.cyclic.ensures
     (subst (λ (xs : List Bool). StepsLevels t (listed c.args.self.now.index) (level_cells f) (level_count f)
-    (level_count f + 1) (shown_at c.close_all.new.shown) (shown_at c.settle_frame-evaluated.new.shown) (flag_at xs)
+    (level_count f + 1) (shown_at c.close_all.new.shown.kept) (shown_at c.settle_frame-evaluated.new.shown.kept) (flag_at xs)
     (flag_at c.settle_frame-evaluated.new.flags) c.settle_frame-evaluated.result) first
     c.settle_frame-evaluated.ensures.settled) in
     let w2 = with_items (with_items c.args.self.now.flags c.show_all_first.new.flags)
@@ -167,7 +167,7 @@ returns-clause-done g c =
     let clean : (with_items w2 c.clear.new.flags).items ≡ c.clear.new.flags =
     with_items_is w2 c.clear.new.flags (c.clear.auto.flags ∙ c.deref_mut-3.ensures.len) in
     let levels = levels_found c.requires.before t v touched c.requires.change c.requires.inside f now in
-    let u3 = shown_at c.settle_frame-evaluated.new.shown in
+    let u3 = shown_at c.settle_frame-evaluated.new.shown.kept in
     let flags3 = flag_at c.settle_frame-evaluated.new.flags in
     let n = c.settle_frame-evaluated.result in
     let top = sym c.levels.ensures in

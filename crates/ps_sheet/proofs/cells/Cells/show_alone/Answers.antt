@@ -18,9 +18,9 @@ clear-requires-clause-within c = λ q on.
     c.deref_mut-2.ensures.value
     ∙ with_items_is c.args.self.now.flags c.show_all_first.new.flags
     (c.show_all_first.auto.flags ∙ c.deref_mut.ensures.len) in
-    flags_alone may.before (state_at c.args.self.now.grid) (shown_at c.args.self.now.shown) c.args.touched.now
+    flags_alone may.before (state_at c.args.self.now.grid) (shown_at c.args.self.now.shown.kept) c.args.touched.now
     may.change may.inside may.once (listed c.args.self.now.index) may.lists c.requires.alone
-    (map (λ (e : ℕ × Kept). e.0) c.args.first.items) may.cells (shown_at c.show_all_first.new.shown)
+    (map (λ (e : ℕ × Kept). e.0) c.args.first.items) may.cells (shown_at c.show_all_first.new.shown.kept)
     (flag_at c.deref_mut.result.now) (flag_at c.show_all_first.new.flags)
     (λ p. ap (λ (xs : List Bool). flag_at xs p) c.deref_mut.ensures.value ∙ may.tidy.off p)
     c.show_all_first.ensures.begun q (subst (λ (xs : List Bool). flag_at xs q ≡ true) first on)
@@ -28,12 +28,12 @@ clear-requires-clause-within c = λ q on.
 pub returns-clause-done : goal.returns-clause-done
 returns-clause-done c =
     let t = state_at c.args.self.now.grid in
-    let v = shown_at c.args.self.now.shown in
+    let v = shown_at c.args.self.now.shown.kept in
     let touched = c.args.touched.now in
     let list = listed c.args.self.now.index in
     let may = c.requires.may in
     let cells = map (λ (e : ℕ × Kept). e.0) c.args.first.items in
-    let u = shown_at c.show_all_first.new.shown in
+    let u = shown_at c.show_all_first.new.shown.kept in
     let none = flag_at c.deref_mut.result.now in
     let flags = flag_at c.show_all_first.new.flags in
     let off : (p : ℕ) → none p ≡ false =

@@ -30,25 +30,25 @@ returns-clause-settled g c =
     let t = state_at c.args.grid.now in
     let list = listed c.args.index.now in
     let flags = flag_at c.args.flags.now in
-    let u = shown_at c.args.shown.now in
+    let u = shown_at c.args.shown.now.kept in
     let due : c.list_due.new.due.items ≡ filter flags c.args.cells.now = c.list_due.ensures.due in
     let values : kept_values c.evaluate.new.values ≡ values_at t u (filter flags c.args.cells.now) =
     c.evaluate.ensures.values ∙ ap (λ xs. values_at t u xs) (c.deref.ensures.value ∙ due) in
     let shown : ShowsAll list (filter flags c.args.cells.now) (kept_values c.evaluate.new.values) u
-    (shown_at c.show_all.new.shown) flags (flag_at c.show_all.new.flags) =
+    (shown_at c.show_all.new.shown.kept) flags (flag_at c.show_all.new.flags) =
     subst
-    (λ xs. ShowsAll list xs (kept_values c.evaluate.new.values) u (shown_at c.show_all.new.shown) flags
+    (λ xs. ShowsAll list xs (kept_values c.evaluate.new.values) u (shown_at c.show_all.new.shown.kept) flags
     (flag_at c.show_all.new.flags))
     (c.deref-2.ensures.value ∙ due)
     (subst
-    (λ vs. ShowsAll list c.deref-2.result.now (kept_values vs) u (shown_at c.show_all.new.shown) flags
+    (λ vs. ShowsAll list c.deref-2.result.now (kept_values vs) u (shown_at c.show_all.new.shown.kept) flags
     (flag_at c.show_all.new.flags))
     (c.deref_mut-2.ensures.value
     ∙ with_items_is c.make_places.new.values c.evaluate.new.values (c.evaluate.auto.values ∙ c.deref_mut.ensures.len))
     c.show_all.ensures.shows) in
     let count : length (filter flags c.args.cells.now) ≡ c.len-2.result =
     (let a = c.len-2.ensures in let b = ap length due in omega (arith, a, b)) in
-    subst (λ n. StepsLevel t list c.args.cells.now u (shown_at c.show_all.new.shown) flags
+    subst (λ n. StepsLevel t list c.args.cells.now u (shown_at c.show_all.new.shown.kept) flags
     (flag_at c.show_all.new.flags) n) count
-    (level_stepped t list c.args.cells.now (kept_values c.evaluate.new.values) u (shown_at c.show_all.new.shown) flags
+    (level_stepped t list c.args.cells.now (kept_values c.evaluate.new.values) u (shown_at c.show_all.new.shown.kept) flags
     (flag_at c.show_all.new.flags) values shown)

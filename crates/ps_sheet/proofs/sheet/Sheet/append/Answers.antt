@@ -40,7 +40,7 @@ invariant_of-self-2 g c =
     let whole = c.in_ok-work.ensures.whole in
     record {
       sheet = sheet_after x d (state_at c.take_in.new.self.grid) (map arc_value c.put.new.history.items)
-          c.take_in.new.self.shown c.self.invariant.sheet new (pushed g c) (joined_now g c) whole.in_grid whole.settled;
+          c.take_in.new.self.shown.kept c.self.invariant.sheet new (pushed g c) (joined_now g c) whole.in_grid whole.settled;
       joined = joined_now g c;
       whole = whole;
     }
@@ -58,7 +58,7 @@ pub returns-clause-report : goal.returns-clause-report
 returns-clause-report g c =
     recalculated_as (state_at c.self.inside.cells.grid) (joined_history c.args.self.now.history)
     (state_at c.take_in.new.self.grid) (joined_history (map arc_value c.put.new.history.items))
-    (shown_at c.self.inside.cells.shown) (shown_at c.args.self.now.shown) (shown_at c.take_in.new.self.shown)
+    (shown_at c.self.inside.cells.shown.kept) (shown_at c.args.self.now.shown) (shown_at c.take_in.new.self.shown.kept)
     c.in_ok-work.work.evaluated c.in_ok-work.work.cyclic c.in_ok-work.work.levels
     (c.self.invariant.joined ∙ ap (λ (x : SheetView). joined_history x.history) c.self.view_is)
     (joined_now g c)

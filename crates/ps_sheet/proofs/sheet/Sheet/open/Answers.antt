@@ -13,9 +13,9 @@ invariant_of-result c =
     let none : map arc_value c.new-2.result.items ≡ [] = ap (map arc_value) c.new-2.ensures.items in
     let whole = c.in_ok-cells.ensures.whole in
     record {
-      sheet = sheet_open c.args.replica (map arc_value c.new-2.result.items) c.in_ok-cells.cells.shown none
+      sheet = sheet_open c.args.replica (map arc_value c.new-2.result.items) c.in_ok-cells.cells.shown.kept none
           ((omega arith, omega arith))
-          (subst (λ (s : State). IsSettled s (shown_at c.in_ok-cells.cells.shown)) c.in_ok-cells.ensures.empty
+          (subst (λ (s : State). IsSettled s (shown_at c.in_ok-cells.cells.shown.kept)) c.in_ok-cells.ensures.empty
           whole.settled);
       joined = c.in_ok-cells.ensures.empty ∙ sym (ap joined_history none ∙ joined_history-nil);
       whole = whole;

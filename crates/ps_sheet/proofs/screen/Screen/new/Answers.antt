@@ -1,0 +1,11 @@
+use Rattle.std.proofs.Common.{arith}
+use Rattle.ps_sheet.proofs.ScreenLemmas.{noted_none}
+use Rattle.ps_sheet.proofs.screen.Screen.new.Goals as goal
+
+pub invariant_of-result : goal.invariant_of-result
+invariant_of-result c =
+    let room = c.in_ok-olds.ensures.capacity in (
+      noted_none c.in_ok-olds.olds.items c.in_ok-is_put.is_put.items c.in_ok-olds.ensures.items
+          c.in_ok-is_put.ensures.length c.in_ok-is_put.ensures.off,
+      omega (arith, room),
+    )

@@ -1,0 +1,14 @@
+-- A code of what contracts see of a screen. Nothing but the view of `Screen` uses it.
+use Rattle.std.specs.Prelude.{ℕ, List, refl}
+use Rattle.std.specs.Coded.{Coded, code_by, coded×, coded_ℕ, coded_list}
+use Rattle.ps_shown.specs.declared.kept.Kept.{Kept}
+use Rattle.ps_shown.specs.contracts.kept.Kept as kept
+use Rattle.ps_sheet.specs.Inside.Screens.{ScreenView}
+
+-- a screen is stored as the pair of its parts
+abbrev pub screen_code : Coded ScreenView
+screen_code =
+    code_by (List Kept × List (ℕ × Kept))
+    (coded× (coded_list kept.the_row.coded) (coded_list (coded× coded_ℕ kept.the_row.coded)))
+    (λ s. (s.kept, s.olds)) (λ p. record { kept = p.0; olds = p.1 })
+    (λ _. refl)
