@@ -19,6 +19,7 @@ pub mod ListedCells
 pub mod ListedFormulas
 pub mod Middles
 pub mod PendingChanges
+pub mod PreparedChanges
 pub mod PutFormulas
 pub mod PutValues
 pub mod Puts

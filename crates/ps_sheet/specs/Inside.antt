@@ -5,6 +5,7 @@ pub mod BoundedLaws
 pub mod Formulas
 pub mod Kept
 pub mod Pending
+pub mod Ready
 pub mod Screens
 pub mod Steps
 pub mod Waiting

@@ -1,6 +1,8 @@
 pub mod Batches
 pub mod Edits
 pub mod Inside
+pub mod Prepared
+pub mod PreparedCode
 pub mod Recalculated
 pub mod ScreenCode
 pub mod Settled

@@ -17,7 +17,7 @@ ghost use Rattle.ps_sheet.specs.Inside.Alone.{is_alone, is_empty};
 ghost use Rattle.ps_sheet.specs.Inside.Walk.{formula_at};
 ghost use Rattle.ps_region.specs.Listed.{listed};
 
-use crate::change::{Change, begin, take_formulas};
+use crate::change::{Plan, begin, take_formulas};
 use crate::contents::{formula_of, holds_formula};
 use crate::level::Level;
 use crate::screen::Screen;
@@ -70,9 +70,9 @@ pub(crate) struct Work {
 #[derive(Drop)]
 pub(crate) struct Pending {
     /// the touched cells, ascending, each with the state that it had
-    olds: Vec<(Cell, CellState)>,
+    pub(crate) olds: Vec<(Cell, CellState)>,
     /// the cells that showed `#CYCLE!`
-    cyclic: Vec<Cell>,
+    pub(crate) cyclic: Vec<Cell>,
 }
 
 /// A change that was made, and can be taken back.
@@ -211,7 +211,7 @@ impl Cells {
     {
         let cyclic = copied(alloc, &self.cyclic)?;
         let change = begin(alloc, &mut self.grid, &mut self.index, delta)?;
-        let Change {
+        let Plan {
             mut raised,
             touched,
             first,

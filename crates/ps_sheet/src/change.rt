@@ -14,9 +14,9 @@ use ps_index::Index;
 use ps_shown::Kept;
 use std::alloc::Global;
 
-/// A change that is about to be made.
+/// What a change is about to do.
 #[derive(Drop)]
-pub(crate) struct Change {
+pub(crate) struct Plan {
     /// the touched cells, ascending, each with its new state
     pub(crate) raised: Vec<(Cell, CellState)>,
     /// the touched cells
@@ -33,7 +33,7 @@ pub(crate) fn begin(
     grid: &mut Grid,
     index: &mut Index,
     delta: &Delta,
-) -> Result<Change, Refusal>
+) -> Result<Plan, Refusal>
     requires stands { (forms : Puts) × Stands index.old forms }
     ensures raised { IfOk result (λ x. IsRaised (state_at grid.old) (state_of delta.now) x.raised.items) }
     ensures ready { IfOk result (λ x. HasRoomFor grid.new x.raised.items) }
@@ -49,7 +49,7 @@ pub(crate) fn begin(
     let touched = cells_alone(alloc, &raised)?;
     let first = first_values(alloc, &raised)?;
     put_formulas(index, &raised)?;
-    Ok(Change {
+    Ok(Plan {
         raised,
         touched,
         first,

@@ -4,9 +4,11 @@ ghost use Rattle.std.specs.Prelude.{◌≡◌};
 ghost use Rattle.std.specs.Option.{SomeIff};
 
 use ps_content::Content;
+use ps_delta::Delta;
 use ps_grid::Cell;
 use ps_lattice::is_ascending;
 use std::marker::Model;
+use std::sync::Arc;
 
 /// One change of a sheet.
 #[derive(Drop)]
@@ -23,6 +25,15 @@ pub enum Edit {
     Choose(Cell, u64),
     /// Takes an option out of it.
     Unchoose(Cell, u64),
+}
+
+/// What changes a sheet.
+#[derive(Drop)]
+pub enum Change {
+    /// What people ask of it.
+    Edit(Edit),
+    /// A delta made elsewhere.
+    Delta(Arc<Delta>),
 }
 
 /// Cells with contents, ascending and distinct, at least one. A contract sees it as the list of them.

@@ -38,16 +38,18 @@ mod edit;
 mod laws;
 mod level;
 mod made;
+mod prepared;
 mod room;
 mod screen;
 mod sheet;
 mod walk;
 
-pub use edit::{Batch, Edit};
+pub use edit::{Batch, Change, Edit};
 pub use laws::{
     accepted_deltas_join, edits_are_fresh, same_deltas_show_the_same, same_join_shows_the_same,
     settled_at_least_once, settled_at_most_once,
 };
+pub use prepared::Prepared;
 pub use sheet::{Report, Sheet};
 
 #[cfg(test)]

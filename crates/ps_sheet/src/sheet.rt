@@ -43,11 +43,11 @@ pub struct Report {
 /// A contract sees it as its `SheetView`.
 #[derive(Drop)]
 pub struct Sheet {
-    replica: u8,
+    pub(crate) replica: u8,
     /// the accepted deltas that changed the state
-    history: Vec<Arc<Delta>>,
+    pub(crate) history: Vec<Arc<Delta>>,
     /// what follows from them
-    cells: Cells,
+    pub(crate) cells: Cells,
 }
 
 impl Model for Sheet {
@@ -283,7 +283,7 @@ impl Sheet {
 }
 
 /// Appends a delta to a history that has room for it.
-fn put(history: &mut Vec<Arc<Delta>>, delta: Arc<Delta>)
+pub(crate) fn put(history: &mut Vec<Arc<Delta>>, delta: Arc<Delta>)
     requires { vec_len history.old < vec_capacity history.old }
     ensures { map arc_value history.new.items ≡ map arc_value history.old.items ++ arc_value delta ∷ [] }
 {

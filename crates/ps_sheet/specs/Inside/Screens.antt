@@ -1,12 +1,12 @@
 -- What the cells show, and what those that were put showed before.
-use Rattle.std.specs.Prelude.{◌≡◌, ℕ, Bool, true, List, [], ◌∷◌, length, map, nat_eq}
+use Rattle.std.specs.Prelude.{◌≡◌, ℕ, Bool, true, List, length, map, nat_eq}
 use Rattle.std.specs.List.{IsDistinct}
 use Rattle.ps_grid.specs.Chains.{In}
 use Rattle.ps_grid.specs.declared.size.TheConstants.{CELLS}
 use Rattle.ps_eval.specs.Items.{Assignment}
 use Rattle.ps_shown.specs.declared.kept.Kept.{Kept}
-use Rattle.ps_shown.specs.Kept.{value_of}
-use Rattle.ps_shown.specs.Shown.{shown_at, with_value}
+use Rattle.ps_shown.specs.Shown.{shown_at}
+unfoldable pub use Rattle.ps_sheet.specs.Prepared.{put_back}
 use Rattle.ps_sheet.specs.Inside.Steps.{flag_at}
 
 -- what is kept of the cells, and of those that were put what was kept before
@@ -17,11 +17,6 @@ pub record ScreenView : Type 0 where
 -- the cells of a list
 abbrev pub cells_in : List (ℕ × Kept) → List ℕ
 cells_in olds = map (λ e. e.0) olds
-
--- the assignment with the values of the list put back
-unfoldable pub put_back : List (ℕ × Kept) → Assignment → Assignment
-put_back [] v = v
-put_back (e ∷ olds) v = with_value (put_back olds v) e.0 (value_of e.1)
 
 -- what the cells showed before they were put
 abbrev pub before_of : ScreenView → Assignment

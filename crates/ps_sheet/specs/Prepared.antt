@@ -1,0 +1,77 @@
+-- A change of a sheet that is worked out, and not yet made: the sheet before it, and what it is after it.
+use Rattle.std.specs.Prelude.{◌≡◌, ℕ, ◌≤◌, ◌↔◌, ◌⊎◌, Bool, true, false, if◌then◌else◌, List, [], ◌∷◌, ◌++◌, length}
+use Rattle.std.specs.Prelude.{Result, Ok, Err, IsOk}
+use Rattle.std.specs.Arc.{arc_value}
+use Rattle.ps_grid.specs.declared.parties.TheConstants.{REPLICAS}
+use Rattle.ps_grid.specs.declared.refusal.Refusal.{Refusal}
+use Rattle.ps_eval.specs.Items.{Assignment}
+use Rattle.ps_shown.specs.declared.kept.Kept.{Kept}
+use Rattle.ps_shown.specs.Kept.{value_of}
+use Rattle.ps_shown.specs.Shown.{shown_at, with_value}
+use Rattle.ps_delta.specs.State.{State, IsInGrid, IsBelow}
+use Rattle.ps_delta.specs.Deltas.{Entries, state_of, joined_history}
+use Rattle.ps_sheet.specs.Edits.{delta_of_edit}
+use Rattle.ps_sheet.specs.Recalculated.{IsReport}
+use Rattle.ps_sheet.specs.Settled.{IsSettled}
+use Rattle.ps_sheet.specs.Sheet.{SheetView, IsSheet, Takes}
+use Rattle.ps_sheet.specs.declared.sheet.Report.{Report}
+use Rattle.ps_sheet.specs.declared.edit.Change.{Change}
+use Rattle.ps_sheet.specs.declared.edit.Change.TheVariants.{Edit, Delta}
+
+-- the assignment with old values put back: of two of a cell the first
+unfoldable pub put_back : List (ℕ × Kept) → Assignment → Assignment
+put_back [] v = v
+put_back (e ∷ olds) v = with_value (put_back olds v) e.0 (value_of e.1)
+
+-- the sheet's replica and history before the change, the change's delta, whether it is to be appended, what each cell
+-- shows after the change, with what some showed before it, and the report
+pub record PreparedView : Type 0 where
+  pub replica : ℕ
+  pub history : List Entries
+  pub delta : Entries
+  pub fresh : Bool
+  pub shown : List Kept
+  pub olds : List (ℕ × Kept)
+  pub report : Report
+
+-- what each cell shows before the change, and after it
+abbrev pub shown_before : PreparedView → Assignment
+shown_before p = put_back p.olds (shown_at p.shown)
+
+abbrev pub shown_after : PreparedView → Assignment
+shown_after p = shown_at p.shown
+
+-- the history after the change
+abbrev pub history_after : PreparedView → List Entries
+history_after p = if p.fresh then (p.history ++ p.delta ∷ []) else p.history
+
+-- a sheet with this replica, this history and these values
+pub record IsOf (x : SheetView) (r : ℕ) (h : List Entries) (v : Assignment) : Type 0 where
+  pub replica : x.replica ≡ r
+  pub history : x.history ≡ h
+  pub shown : shown_at x.shown ≡ v
+
+-- what is true of each prepared change
+pub record IsPrepared (p : PreparedView) : Type 0 where
+  pub takes : Takes p.delta p.history (history_after p)
+  pub fresh : (p.fresh ≡ true) ↔ (¬ IsBelow (state_of p.delta) (joined_history p.history))
+  pub before : IsSettled (joined_history p.history) (shown_before p)
+  pub after : IsSettled (joined_history (history_after p)) (shown_after p)
+  pub version : p.report.version ≡ length (history_after p)
+  pub report : IsReport (joined_history p.history) (joined_history (history_after p)) (shown_before p) (shown_after p)
+      p.report
+
+-- d is the delta of a change at replica r over the state s
+abbrev pub IsDeltaOf : ℕ → State → Change → Entries → Type 0
+IsDeltaOf r s (Edit e) d = delta_of_edit r s e ≡ Ok d
+IsDeltaOf r s (Delta a) d = d ≡ arc_value a
+
+-- the change is refused by e over the state s, for another cause than memory
+abbrev pub IsRefusedBy : ℕ → State → Change → Refusal → Type 0
+IsRefusedBy r s (Edit edit) e = delta_of_edit r s edit ≡ Err e
+IsRefusedBy r s (Delta a) e = ⊥
+
+-- the change would be appended
+abbrev pub IsToAppend : ℕ → State → Change → Type 0
+IsToAppend r s (Edit e) = IsOk (delta_of_edit r s e)
+IsToAppend r s (Delta a) = ¬ IsBelow (state_of (arc_value a)) s
