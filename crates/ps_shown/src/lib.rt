@@ -10,8 +10,8 @@
 //! only that there is a text, and `Shown::operand` of `B1` is the number 7. `Shown::put` of `Kept::Num(1)` at `A1`
 //! returns the kept text, and the same call with that text makes the table what it was.
 //!
-//! Cost: a table takes room of 1.7 MB once, of which as much is written as lies before the last cell that was put. No
-//! other call takes memory, and each is constant but for that.
+//! Cost: a table takes room of 1.7 MB once, of which as much is written as lies before the last cell that was put, and
+//! so does its twin. No other call takes memory, and each is constant but for that.
 #![tactic(auto)]
 
 mod kept;

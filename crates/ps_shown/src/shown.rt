@@ -9,7 +9,7 @@ ghost use Rattle.ps_shown.specs.Kept.{value_of};
 ghost use Rattle.ps_shown.specs.Shown.{place_of, shown_at, with_value};
 
 use crate::kept::Kept;
-use ps_grid::{COLUMNS, Cell, Refusal};
+use ps_grid::{COLUMNS, Cell, Refusal, Twin};
 use ps_value::{Operand, Value};
 use std::alloc::Global;
 use std::marker::Model;
@@ -127,5 +127,19 @@ impl Shown {
         let place = place(cell);
         reach(&mut self.kept, place);
         mem::replace(&mut self.kept[place], kept)
+    }
+}
+
+/// The table once more, where each text gets one more owner.
+impl Twin for Shown {
+    fn twin(&self, alloc: Global) -> Result<Shown, Refusal> {
+        let mut kept = Vec::with_capacity(alloc, PLACES)?;
+        for one in &self.kept {
+            kept.push(one.twin(alloc)?)?;
+        }
+        Ok(Shown {
+            kept,
+            empty: Kept::Empty,
+        })
     }
 }

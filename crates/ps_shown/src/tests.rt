@@ -87,6 +87,25 @@ fn a_text_makes_way_and_comes_back(rt: HostRuntime) -> Result<(), Fail> {
     Ok(())
 }
 
+/// A table with texts in the first and the last cell shows in its twin what it showed, whatever is put into it then.
+#[test]
+fn a_twin_keeps_what_was_shown(rt: HostRuntime) -> Result<(), Fail> {
+    let mut shown = Shown::new(rt.alloc()).ok().ok_or("a table")?;
+    let first = Cell::new(0, 1).ok_or("a cell")?;
+    let last = Cell::new(LAST_COLUMN, LAST_ROW).ok_or("a cell")?;
+    let label = long_label(0, b'w').ok_or("a label")?;
+    for cell in [first, last] {
+        let was_empty = put_text(rt.alloc(), &mut shown, cell, label);
+        assert!(rt; was_empty.ok() == Some(true));
+    }
+    let twin = shown.twin(rt.alloc()).ok().ok_or("a twin")?;
+    let text = shown.put(first, Kept::Num(5));
+    assert!(rt; text.value() == Value::Text(label));
+    assert!(rt; shown.at(first) == Value::Num(5));
+    assert!(rt; shows_text(&twin, first, label) && shows_text(&twin, last, label));
+    Ok(())
+}
+
 /// Each kind of kept value, its value, and what evaluation reads of it; and that it is the same as its twin alone.
 #[test]
 fn every_kind_is_kept(rt: HostRuntime) -> Result<(), Fail> {
