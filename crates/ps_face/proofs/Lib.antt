@@ -1,0 +1,6 @@
+mod Adding
+mod Beginnings
+mod Followed
+mod Kept
+mod Orders
+mod Turned

@@ -1,0 +1,6 @@
+pub mod Book
+pub mod Legal
+pub mod Published
+pub mod Rules
+pub mod Seen
+pub mod Values

@@ -1,0 +1,205 @@
+//! A beginning of the published list, as a token.
+//!
+//! The list exists in contracts alone. What lies in memory is a word with its length, which the writer moves; a token
+//! of no bytes for a beginning that was seen; and that beginning's length beside it.
+
+ghost use Rattle.std.specs.Prelude.{◌≡◌, ◌<◌, ◌≤◌, ◌++◌, ◌∷◌, [], length, MatchBool};
+ghost use mathlib.Core.List.{IsPrefix};
+
+use crate::patch::{Note, Patch};
+use logbook::{Gain, Offer, Plain, Play, Rule, Seen, Start, Word};
+use std::marker::Model;
+
+/// The longest list. No run comes to it.
+const LONGEST: u64 = 1 << 62;
+
+/// The rule of the book: its word is the length of the list.
+pub struct BookLaw;
+
+impl Rule<Note, u64> for BookLaw {
+    ghost use Rattle.std.specs.Prelude.{[]};
+    ghost use base.Fml.{ftrue};
+    ghost use Rattle.ps_face.specs.Book.{IsKept};
+
+    ghost holds = { λ cells log. IsKept cells log };
+
+    ghost first = { [] };
+
+    ghost hinted = { λ n log. Unit {0} };
+
+    ghost shows = { λ log. [] };
+
+    ghost keeps = { λ names log. ftrue };
+
+    ghost moves = { λ ask before after answer. Unit {0} };
+}
+
+/// Nothing is traded at a step.
+pub struct Nothing;
+
+impl Gain<Note, u64> for Nothing {
+    ghost use base.Fml.{ftrue};
+
+    ghost after = { λ names about answer. ftrue };
+}
+
+/// The step that adds a patch.
+pub struct Add;
+
+impl Play<Note, u64> for Add {
+    ghost use Rattle.ps_face.specs.Book.{Adds};
+
+    ghost then = { Adds };
+}
+
+impl Plain<Patch, Note, u64> for Add {
+    ghost use Rattle.std.specs.Prelude.{None};
+
+    ghost ask = { λ patch. patch };
+
+    ghost state = { λ patch. None };
+}
+
+/// A book with an empty list, which no copies have yet. A contract sees it as the book.
+#[derive(Drop)]
+pub struct Opened {
+    /// the length of the list
+    head: Word<Note, u64, BookLaw>,
+    /// the token for the empty list
+    seen: Seen<Note, u64, BookLaw>,
+}
+
+impl Model for Opened {
+    ghost use Rattle.std.specs.Prelude.{◌≡◌, []};
+    ghost use Rattle.logbook.specs.Pages.{Book};
+    ghost use Rattle.ps_face.specs.Book.{head_of};
+
+    ghost Value = { Book };
+
+    ghost view = { λ o. o.seen.book };
+
+    ghost invariant = { λ o. (o.seen.log ≡ []) × (o.head ≡ head_of o.seen.book) };
+}
+
+impl Opened {
+    /// A new book with an empty list.
+    ///
+    /// Cost: constant, no memory.
+    pub fn new() -> Opened {
+        let (seen, mut first, _second) = Seen::open(Start::alone(), 0, 0);
+        Opened {
+            head: Word::tracked(0, &mut first),
+            seen,
+        }
+    }
+
+    /// The book's word, and the beginning that has no patch.
+    pub(crate) fn split(self) -> (Head, Front)
+        ensures head { result.0 ≡ self }
+        ensures front { result.1 ≡ record { book = self; list = [] } }
+    {
+        let Opened { head, seen } = self;
+        (Head { head }, Front { count: 0, seen })
+    }
+}
+
+/// The word of a book: the length of its list. A contract sees it as the book.
+#[derive(Drop)]
+pub(crate) struct Head {
+    head: Word<Note, u64, BookLaw>,
+}
+
+impl Model for Head {
+    ghost use Rattle.std.specs.Prelude.{◌≡◌};
+    ghost use Rattle.logbook.specs.Pages.{Book};
+    ghost use Rattle.ps_face.specs.Book.{head_of};
+
+    ghost Value = { Book };
+
+    ghost view = { λ h. h.head.book };
+
+    ghost invariant = { λ h. h.head ≡ head_of h.head.book };
+}
+
+/// A beginning of the published list that was seen.
+#[derive(Drop)]
+pub struct Front {
+    /// how many patches it has
+    count: u64,
+    /// the token for it
+    seen: Seen<Note, u64, BookLaw>,
+}
+
+impl Model for Front {
+    ghost use Rattle.std.specs.Prelude.{◌≡◌, length};
+    ghost use Rattle.ps_face.specs.Seen.{Told};
+    ghost use Rattle.std.specs.Coded.{codes};
+    ghost use Rattle.ps_face.specs.contracts.patch.Note as note;
+
+    ghost Value = { Told };
+
+    ghost coded = { Prim.hlevel (codes, note.the_row.coded) };
+
+    ghost view = { λ f. record { book = f.seen.book; list = f.seen.log } };
+
+    ghost invariant = { λ f. f.count ≡ length f.seen.log };
+}
+
+impl Front {
+    /// The same beginning once more.
+    ///
+    /// Cost: constant, no memory.
+    pub fn again(&self) -> Front
+        ensures { result ≡ self.now }
+    {
+        Front {
+            count: self.count,
+            seen: self.seen.again(),
+        }
+    }
+
+    /// Whether the other beginning of the list is as long or longer. Then it begins with this one.
+    ///
+    /// Cost: constant.
+    pub fn begins(&self, other: &Front) -> bool
+        requires book { self.now.book ≡ other.now.book }
+        ensures { MatchBool result
+            (IsPrefix self.now.list other.now.list × (length self.now.list ≤ length other.now.list))
+            (length other.now.list < length self.now.list) }
+    {
+        let mut both = self.seen.again();
+        both.learn(&other.seen);
+        if self.count > other.count {
+            return false;
+        }
+        true
+    }
+
+    /// Adds a patch where this is the whole list, which only its writer can know. It may answer no, and then nothing
+    /// was added.
+    pub(crate) fn add(&mut self, head: &Head, patch: &Patch) -> bool
+        requires book { head.now ≡ self.old.book }
+        ensures { MatchBool result
+            (self.new ≡ record self.old { list = self.old.list ++ patch.now ∷ [] })
+            (self.new ≡ self.old) }
+    {
+        let count = self.count;
+        if count >= LONGEST {
+            return false;
+        }
+        let mut seen = self.seen.again();
+        let mut offer: Offer<Note, u64, BookLaw, Nothing> = seen.plain::<Nothing, Patch, Add>(
+            patch,
+        );
+        let mut pen = seen.no_pen();
+        let found = head
+            .head
+            .compare_exchange::<Add, Nothing>(count, count + 1, &mut seen, &mut offer, &mut pen);
+        if found != count {
+            return false;
+        }
+        self.seen = seen;
+        self.count = count + 1;
+        true
+    }
+}

@@ -1,0 +1,156 @@
+//! A patch: what one delta changes.
+
+ghost use Rattle.std.specs.Prelude.{◌≡◌, ◌++◌, map, IfOk, IfErr};
+ghost use Rattle.std.specs.Arc.{arc_value};
+ghost use Rattle.ps_grid.specs.declared.refusal.Refusal.TheVariants.{Memory};
+ghost use Rattle.ps_delta.specs.Deltas.{AreInGrid};
+ghost use Rattle.ps_face.specs.Values.{valued};
+
+use ps_delta::Delta;
+use ps_grid::{Cell, Refusal, Twin};
+use ps_shown::Kept;
+use ps_value::Value;
+use std::alloc::Global;
+use std::collections::LinkedList;
+use std::marker::Model;
+use std::sync::Arc;
+
+/// A patch as contracts see it. No value of it is made.
+pub struct Note {
+    /// The version that the patch leads to.
+    pub number: u64,
+    /// What was accepted.
+    pub delta: Delta,
+    /// Each cell whose shown value changes, with the new value.
+    pub changes: LinkedList<(Cell, Value)>,
+    /// The seat whose call made it.
+    pub owner: u64,
+}
+
+/// A delta, its number in the history, and each cell whose shown value it changes, with what it shows then.
+#[derive(Drop)]
+pub struct Patch {
+    number: u64,
+    delta: Arc<Delta>,
+    changes: Vec<(Cell, Kept)>,
+    /// a note for contracts, which nothing reads
+    owner: u64,
+}
+
+impl Model for Patch {
+    ghost use Rattle.std.specs.Prelude.{map};
+    ghost use Rattle.std.specs.Arc.{arc_value};
+    ghost use Rattle.ps_face.specs.declared.patch.Note.{Note};
+    ghost use Rattle.ps_face.specs.Values.{valued};
+    ghost use Rattle.std.specs.Coded.{codes};
+    ghost use Rattle.ps_face.specs.contracts.patch.Note as note;
+
+    ghost Value = { Note };
+
+    ghost coded = { Prim.hlevel (codes, note.the_row.coded) };
+
+    ghost view = { λ p. record {
+      number = p.number;
+      delta = arc_value p.delta;
+      changes = map valued p.changes.items;
+      owner = p.owner;
+    } };
+}
+
+impl Patch {
+    /// The patch of a delta: its number in the history, the cells whose shown values change, ascending, with what they
+    /// show then, and the seat whose call made it.
+    ///
+    /// Cost: constant.
+    pub fn new(number: u64, delta: Arc<Delta>, changes: Vec<(Cell, Kept)>, owner: u64) -> Patch
+        ensures { result ≡ record {
+          number = number;
+          delta = arc_value delta;
+          changes = map valued changes.items;
+          owner = owner;
+        } }
+    {
+        Patch {
+            number,
+            delta,
+            changes,
+            owner,
+        }
+    }
+
+    /// The same of a delta and of changes that are lent. Refused only when out of memory.
+    ///
+    /// Cost: the number of changes.
+    pub fn of(
+        alloc: Global,
+        number: u64,
+        delta: &Arc<Delta>,
+        changes: &[(Cell, Kept)],
+        owner: u64,
+    ) -> Result<Patch, Refusal>
+        ensures patch { IfOk result (λ p. p ≡ record {
+          number = number;
+          delta = arc_value delta.now;
+          changes = map valued changes.now;
+          owner = owner;
+        }) }
+        ensures memory { IfErr result (λ e. e ≡ Memory) }
+    {
+        let mut copied = Vec::with_capacity(alloc, changes.len())?;
+        copy_all(alloc, changes, &mut copied)?;
+        Ok(Patch::new(number, delta.clone()?, copied, owner))
+    }
+
+    /// The version that the patch leads to.
+    ///
+    /// Cost: constant.
+    pub fn number(&self) -> u64
+        ensures number { result ≡ self.now.number }
+    {
+        self.number
+    }
+
+    /// What was accepted.
+    ///
+    /// Cost: constant.
+    pub fn delta(&self) -> &Arc<Delta>
+        ensures delta { arc_value result.now ≡ self.now.delta }
+        ensures in_grid { AreInGrid self.now.delta }
+    {
+        // for the fact that its cells are in the grid
+        let _ = self.delta.parts();
+        &self.delta
+    }
+
+    /// Each cell whose shown value changes, with what it shows then.
+    ///
+    /// Cost: constant.
+    pub fn changes(&self) -> &[(Cell, Kept)]
+        ensures changes { map valued result.now ≡ self.now.changes }
+    {
+        &self.changes
+    }
+
+    /// The changes alone.
+    pub(crate) fn into_changes(self) -> Vec<(Cell, Kept)>
+        ensures { map valued result.items ≡ self.changes }
+    {
+        self.changes
+    }
+}
+
+/// Appends copies of changes, where a text gets one more owner.
+pub(crate) fn copy_all(
+    alloc: Global,
+    changes: &[(Cell, Kept)],
+    to: &mut Vec<(Cell, Kept)>,
+) -> Result<(), Refusal>
+    ensures copied { IfOk result (λ _. to.new.items ≡ to.old.items ++ changes.now) }
+    ensures memory { IfErr result (λ e. e ≡ Memory) }
+{
+    for (cell, kept) in changes {
+        let kept = kept.twin(alloc)?;
+        to.push((*cell, kept))?;
+    }
+    Ok(())
+}

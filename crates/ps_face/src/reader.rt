@@ -1,0 +1,171 @@
+//! The readers of the copies.
+
+ghost use Rattle.std.specs.Prelude.{◌≡◌, ◌+◌, length, slice_index_or, IfOk, IfErr, MatchBool};
+ghost use mathlib.Core.List.{IsPrefix};
+ghost use Rattle.left_right.specs.Sides.{view};
+ghost use Rattle.ps_value.specs.declared.value.Value.TheVariants.{Empty};
+ghost use Rattle.ps_face.specs.Legal.{IsLegal, Shows, history_of};
+
+use crate::face::Face;
+use crate::front::Front;
+use crate::name::Named;
+use crate::rule::{Enter, Law, View};
+use left_right::reader::{Reader, Reading};
+use ps_grid::Cell;
+use ps_value::Value;
+use std::marker::Model;
+
+/// A reader that isn't reading. A contract sees it as the list that it has seen, and how often it has entered.
+#[derive(Drop)]
+pub struct FaceReader<L: Named> {
+    reader: Reader<Face, View, Law<L>>,
+    front: Front,
+}
+
+impl<L: Named> Model for FaceReader<L> {
+    ghost use Rattle.std.specs.Prelude.{◌≡◌};
+    ghost use Rattle.left_right.specs.Sides.{view as seat_view};
+    ghost use Rattle.ps_face.specs.Legal.{IsLegal};
+    ghost use Rattle.ps_face.specs.declared.rule.View.{View};
+    ghost use Rattle.ps_face.specs.contracts.rule.View as view_row;
+
+    ghost Value = { View };
+
+    ghost coded = { view_row.the_row.coded };
+
+    ghost view = { λ r. record { list = r.front.list; enters = (seat_view r.reader.place).enters } };
+
+    ghost invariant = { λ r. (r.front.book ≡ L.book) × IsLegal L.opening r.front.list };
+}
+
+/// A reader with the copy that it reads, which doesn't change. End it by `leave`.
+///
+/// A contract sees it as the list that was published when it entered, how often the reader has entered, and the values
+/// of all cells in order.
+pub struct Seen<L: Named> {
+    reading: Reading<Face, View, Law<L>>,
+}
+
+impl<L: Named> Model for Seen<L> {
+    ghost use Rattle.std.specs.Prelude.{◌≡◌};
+    ghost use Rattle.std.specs.Coded.{codes};
+    ghost use Rattle.left_right.specs.Sides.{view as seat_view};
+    ghost use Rattle.ps_face.specs.contracts.patch.Note as note;
+    ghost use Rattle.ps_face.specs.Published.{Sight};
+    ghost use Rattle.ps_face.specs.Seen.{Stands};
+
+    ghost Value = { Sight };
+
+    ghost coded = { Prim.hlevel (codes, note.the_row.coded) };
+
+    ghost view = { λ s. record {
+      list = (seat_view s.reading.place).list;
+      enters = (seat_view s.reading.place).enters;
+      values = s.reading.part.value.values;
+    } };
+
+    ghost invariant = { λ s. ((seat_view s.reading.place).list ≡ s.reading.part.value.list)
+        × Stands L.opening L.book s.reading.part.value };
+}
+
+impl<L: Named> FaceReader<L> {
+    /// A reader that has seen a beginning of the list.
+    pub(crate) fn new(reader: Reader<Face, View, Law<L>>, front: Front) -> FaceReader<L>
+        requires book { front.book ≡ L.book }
+        requires legal { IsLegal L.opening front.list }
+        ensures { result ≡ record { list = front.list; enters = (view reader.place).enters } }
+    {
+        FaceReader { reader, front }
+    }
+
+    /// The list that this reader has seen.
+    ///
+    /// Cost: constant.
+    pub fn front(&self) -> &Front
+        ensures front { result.now ≡ record { book = L.book; list = self.now.list } }
+        ensures legal { IsLegal L.opening self.now.list }
+    {
+        &self.front
+    }
+
+    /// Is told of a beginning of the published list, and takes it where it is as long as what this reader has seen or
+    /// longer. It is no step on the copies.
+    ///
+    /// Cost: constant, no memory.
+    pub fn learn(&mut self, front: &Front) -> bool
+        requires book { front.now.book ≡ L.book }
+        requires legal { IsLegal L.opening front.now.list }
+        ensures { MatchBool result
+            (IsPrefix self.old.list front.now.list × (self.new ≡ record self.old { list = front.now.list }))
+            (self.new ≡ self.old) }
+    {
+        if !self.front.begins(front) {
+            return false;
+        }
+        self.front = front.again();
+        true
+    }
+
+    /// Takes the copy that is published now, in one step. The reader comes back where the writer is gone.
+    ///
+    /// What it then shows are the settled values of a history that a legal list of patches stands for, all cells at
+    /// one version, and the list begins with all that this reader had seen.
+    ///
+    /// Cost: constant; no lock, no wait and no memory.
+    pub fn enter(self) -> Result<Seen<L>, FaceReader<L>>
+        ensures later { IfOk result (λ s. IsPrefix self.list s.list) }
+        ensures legal { IfOk result (λ s. IsLegal L.opening s.list) }
+        ensures whole { IfOk result (λ s. Shows (history_of L.opening s.list) s.values) }
+        ensures step { IfOk result (λ s. s.enters ≡ self.enters + 1) }
+        ensures gone { IfErr result (λ r. r.list ≡ self.list) }
+    {
+        let FaceReader { reader, front } = self;
+        let reading = match reader.enter_as::<Enter<L>>() {
+            Ok(reading) => reading,
+            Err(reader) => return Err(FaceReader { reader, front }),
+        };
+        // A copy is never older than what its writer told of.
+        if !front.begins(reading.get().front()) {
+            return Err(FaceReader {
+                reader: reading.leave(),
+                front,
+            });
+        }
+        Ok(Seen { reading })
+    }
+}
+
+impl<L: Named> Seen<L> {
+    /// The length of the history.
+    ///
+    /// Cost: constant.
+    pub fn version(&self) -> u64
+        ensures version { result ≡ length (history_of L.opening self.now.list) }
+    {
+        self.reading.get().version()
+    }
+
+    /// What a cell shows.
+    ///
+    /// Cost: constant.
+    pub fn at(&self, cell: Cell) -> Value
+        ensures value { result ≡ slice_index_or self.now.values cell Empty }
+        ensures whole { Shows (history_of L.opening self.now.list) self.now.values }
+    {
+        self.reading.get().at(cell)
+    }
+
+    /// Ends the reading.
+    ///
+    /// Cost: constant, no memory.
+    pub fn leave(self) -> FaceReader<L>
+        ensures { result ≡ record { list = self.list; enters = self.enters } }
+    {
+        let Seen { reading } = self;
+        let front = reading.get().front().again();
+        FaceReader {
+            reader: reading.leave(),
+            front,
+        }
+    }
+}

@@ -1,0 +1,269 @@
+//! The one writer of the copies.
+
+ghost use Rattle.std.specs.Prelude.{◌≡◌, ◌⊎◌, ◌+◌, ◌<◌, ◌≤◌, ◌++◌, ◌∷◌, [], All, IfOk, IfErr, MatchResult, drop, fold};
+ghost use Rattle.std.specs.Prelude.{length, vec_len};
+ghost use Rattle.ps_grid.specs.declared.parties.TheConstants.{SEATS as MOST};
+ghost use Rattle.ps_grid.specs.declared.refusal.Refusal.TheVariants.{Memory, Seat};
+ghost use Rattle.ps_delta.specs.State.{IsInGrid};
+ghost use Rattle.ps_delta.specs.Deltas.{joined_history};
+ghost use Rattle.ps_shown.specs.Shown.{shown_at};
+ghost use Rattle.ps_sheet.specs.Settled.{IsSettled};
+ghost use Rattle.ps_face.specs.Legal.{Follows, IsLegal, history_of};
+ghost use Rattle.ps_face.specs.Rules.{newcomer};
+ghost use Rattle.ps_face.specs.Seen.{Stands, turned};
+ghost use Rattle.ps_face.specs.Published.{MayShow};
+
+use crate::face::{Face, Operation};
+use crate::front::{Front, Head, Opened};
+use crate::name::Named;
+use crate::patch::Patch;
+use crate::reader::FaceReader;
+use crate::rule::{Law, Publish, View};
+use left_right::writer::Writer;
+use ps_grid::Refusal;
+use ps_shown::Shown;
+use std::alloc::Global;
+use std::marker::Model;
+use std::sync::Wait;
+
+type Copies<L> = Writer<Face, Operation, View, Law<L>>;
+
+/// The writer of two published copies. A contract sees it as the published list, and what is appended and not yet
+/// published.
+pub struct FaceWriter<L: Named, R: Wait + Drop> {
+    copies: Copies<L>,
+    head: Head,
+    front: Front,
+    staged: Vec<Patch>,
+    /// the drop of the copies waits for those that read
+    rt: R,
+}
+
+impl<L: Named, R: Wait + Drop> Model for FaceWriter<L, R> {
+    ghost use Rattle.std.specs.Prelude.{drop};
+    ghost use Rattle.std.specs.Coded.{codes};
+    ghost use Rattle.ps_face.specs.contracts.patch.Note as note;
+    ghost use Rattle.ps_face.specs.Published.{IsHeld, Published};
+
+    ghost Value = { Published };
+
+    ghost coded = { Prim.hlevel (codes, note.the_row.coded) };
+
+    ghost view = { λ w. record { list = w.front.list; pending = w.staged.items } };
+
+    ghost invariant = { λ w. IsHeld L.opening L.book w.copies.desk.shown.value w.front w.head
+        (drop w.copies.behind w.copies.log.items) w.staged.items };
+}
+
+impl<L: Named, R: Wait + Drop> FaceWriter<L, R> {
+    /// Makes two copies of the shown values of a sheet, with its version, and so many readers, 1 to `SEATS`.
+    ///
+    /// Refused where memory runs out, and where a reader gets no place.
+    ///
+    /// Cost: that of copying the shown values twice.
+    pub fn open(
+        rt: R,
+        alloc: Global,
+        opened: Opened,
+        shown: &Shown,
+        version: u64,
+        readers: usize,
+    ) -> Result<(FaceWriter<L, R>, Vec<FaceReader<L>>), Refusal>
+        requires book { opened ≡ L.book }
+        requires version { version ≡ length L.opening }
+        requires settled { IsSettled (joined_history L.opening) (shown_at shown.now) }
+        requires in_grid { IsInGrid (joined_history L.opening) }
+        requires readers { (1 ≤ readers) × (readers ≤ MOST) }
+        ensures writer { IfOk result (λ r. r.0 ≡ record { list = []; pending = [] }) }
+        ensures count { IfOk result (λ r. vec_len r.1 ≡ readers) }
+        ensures readers { IfOk result (λ r. All (λ v. v ≡ newcomer) r.1.items) }
+        ensures refused { IfErr result (λ e. (e ≡ Memory) ⊎ (e ≡ Seat)) }
+    {
+        let (head, front) = opened.split();
+        let copies = open_copies::<L, R>(&rt, alloc, shown, version, &front, readers)?;
+        match make_readers(alloc, &copies, &front, readers) {
+            Ok(readers) => {
+                let writer = FaceWriter {
+                    copies,
+                    head,
+                    front,
+                    staged: Vec::new(alloc),
+                    rt,
+                };
+                Ok((writer, readers))
+            }
+            Err(refusal) => {
+                copies.take(&rt);
+                Err(refusal)
+            }
+        }
+    }
+
+    /// Takes a patch that may come next. Refused only when out of memory, and then nothing has changed.
+    ///
+    /// Cost: constant; the first call takes memory for one patch.
+    pub fn append(&mut self, patch: Patch) -> Result<(), Refusal>
+        requires none { self.old.pending ≡ [] }
+        requires legal { Follows (history_of L.opening self.old.list) patch }
+        ensures pending { MatchResult result
+            (λ _. self.new ≡ record self.old { pending = patch ∷ [] })
+            (λ _. self.new ≡ self.old) }
+        ensures memory { IfErr result (λ e. e ≡ Memory) }
+    {
+        self.staged.push(patch)?;
+        Ok(())
+    }
+
+    /// Shows readers the patch that is pending, all of it at one step. It waits for those that still read what was
+    /// published before the last patch.
+    ///
+    /// Cost: twice the changes of the patch; no memory.
+    pub fn publish(self) -> FaceWriter<L, R>
+        requires one { length self.pending ≡ 1 }
+        ensures { result ≡ record { list = self.list ++ self.pending; pending = [] } }
+    {
+        let FaceWriter {
+            copies,
+            head,
+            front,
+            mut staged,
+            rt,
+        } = self;
+        let patch = staged.pop().unwrap();
+        // for the fact that its cells are in the grid
+        let _ = patch.delta();
+        let front = add_to(&rt, &head, front, &patch);
+        let operation = Operation::new(patch, front.again());
+        let copies = hand_over(&rt, copies, operation);
+        let copies = show(&rt, copies);
+        FaceWriter {
+            copies,
+            head,
+            front,
+            staged,
+            rt,
+        }
+    }
+
+    /// The published list.
+    ///
+    /// Cost: constant.
+    pub fn front(&self) -> &Front
+        ensures front { result.now ≡ record { book = L.book; list = self.now.list } }
+        ensures legal { IsLegal L.opening self.now.list }
+    {
+        &self.front
+    }
+}
+
+impl<L: Named, R: Wait + Drop> Drop for FaceWriter<L, R> {
+    fn drop(self) {
+        let Self {
+            copies,
+            head: _,
+            front: _,
+            staged: _,
+            rt,
+        } = self;
+        copies.take(&rt);
+    }
+}
+
+/// Makes the two copies, with room in their queue.
+fn open_copies<L: Named, R: Wait>(
+    rt: &R,
+    alloc: Global,
+    shown: &Shown,
+    version: u64,
+    front: &Front,
+    readers: usize,
+) -> Result<Copies<L>, Refusal>
+    requires front { front.now ≡ record { book = L.book; list = [] } }
+    requires version { version ≡ length L.opening }
+    requires settled { IsSettled (joined_history L.opening) (shown_at shown.now) }
+    requires in_grid { IsInGrid (joined_history L.opening) }
+    requires readers { (1 ≤ readers) × (readers ≤ MOST) }
+    ensures list { IfOk result (λ w. w.desk.shown.value.list ≡ []) }
+    ensures stands { IfOk result (λ w. Stands L.opening L.book w.desk.shown.value) }
+    ensures queue { IfOk result (λ w. drop w.behind w.log.items ≡ []) }
+    ensures memory { IfErr result (λ e. e ≡ Memory) }
+{
+    let first = Face::new(alloc, version, shown, front.again())?;
+    let second = Face::new(alloc, version, shown, front.again())?;
+    let mut copies: Copies<L> = Writer::new(alloc, first, second, readers)?;
+    let idle = Operation::idle(alloc, version, front.again());
+    if copies.append(idle).is_err() {
+        copies.take(rt);
+        return Err(Refusal::Memory);
+    }
+    Ok(show(rt, copies))
+}
+
+/// Makes so many readers.
+fn make_readers<L: Named>(
+    alloc: Global,
+    copies: &Copies<L>,
+    front: &Front,
+    readers: usize,
+) -> Result<Vec<FaceReader<L>>, Refusal>
+    requires { front.now ≡ record { book = L.book; list = [] } }
+    ensures count { IfOk result (λ r. vec_len r ≡ readers) }
+    ensures readers { IfOk result (λ r. All (λ v. v ≡ newcomer) r.items) }
+    ensures refused { IfErr result (λ e. (e ≡ Memory) ⊎ (e ≡ Seat)) }
+{
+    let mut made = Vec::with_capacity(alloc, readers)?;
+    for _i in 0..readers {
+        let Ok(reader) = copies.factory().reader() else {
+            return Err(Refusal::Seat);
+        };
+        made.push(FaceReader::new(reader, front.again()))?;
+    }
+    Ok(made)
+}
+
+/// Adds the patch to the book, of which this is the one writer.
+fn add_to<R: Wait>(rt: &R, head: &Head, mut front: Front, patch: &Patch) -> Front
+    requires book { head.now ≡ front.book }
+    ensures { result ≡ record front { list = front.list ++ patch.now ∷ [] } }
+{
+    for _ in rt.forever() {
+        if front.add(head, patch) {
+            return front;
+        }
+    }
+    unreachable!()
+}
+
+/// Hands the operation to the copies. Their queue has had room since they were made.
+fn hand_over<L: Named, R: Wait>(rt: &R, mut copies: Copies<L>, operation: Operation) -> Copies<L>
+    requires queue { drop copies.behind copies.log.items ≡ [] }
+    ensures queue { drop result.behind result.log.items ≡ operation ∷ [] }
+    ensures desk { result.desk ≡ copies.desk }
+{
+    let mut operation = operation;
+    for _ in rt.forever() {
+        match copies.append(operation) {
+            Ok(()) => return copies,
+            Err(back) => operation = back,
+        }
+    }
+    unreachable!()
+}
+
+/// Shows readers a copy that has taken in all. It tries again where a text has as many owners as can be counted.
+fn show<L: Named, R: Wait>(rt: &R, mut copies: Copies<L>) -> Copies<L>
+    requires { MayShow L.opening L.book copies.desk.shown.value (drop copies.behind copies.log.items) }
+    ensures shown { result.desk.shown.value
+        ≡ fold turned copies.desk.shown.value (drop copies.behind copies.log.items) }
+    ensures stands { Stands L.opening L.book result.desk.shown.value }
+    ensures queue { drop result.behind result.log.items ≡ [] }
+{
+    for _ in rt.forever() {
+        let (next, answer) = copies.publish_as::<Publish, R>(rt);
+        copies = next;
+        if answer.is_ok() {
+            return copies;
+        }
+    }
+    unreachable!()
+}
