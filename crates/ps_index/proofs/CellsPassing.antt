@@ -16,7 +16,7 @@ pub cells_from-end : (test : ℕ → Bool) (c n : ℕ) → n ≤ c → cells_fro
 unfolding cells_from
 cells_from-end test c n le = let e : n - c ≡ 0 = omega arith in rw e refl
 
-none_within : (k : ℕ) (test : ℕ → Bool) (c x n : ℕ) → c + k ≡ x → x ≤ n → ((q : ℕ) → c ≤ q → q < x → test q ≡ false)
+pub none_within : (k : ℕ) (test : ℕ → Bool) (c x n : ℕ) → c + k ≡ x → x ≤ n → ((q : ℕ) → c ≤ q → q < x → test q ≡ false)
     → cells_from test c n ≡ cells_from test x n
 none_within zero test c x n e le never = ap (λ m. cells_from test m n) (let same : c ≡ x = omega arith in same)
 none_within (suc k) test c x n e le never =

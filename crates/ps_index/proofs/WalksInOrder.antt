@@ -1,22 +1,23 @@
 -- A walk goes through the cells that refer to a row, in order.
 use Rattle.std.proofs.Common.{◌≡◌, ℕ, ◌+◌, ◌-◌, ◌<◌, ◌≤◌, ◌⊎◌, inl, inr, sym, ◌∙◌, ap, refl, arith, Bool, true, false}
-use Rattle.std.proofs.Common.{List, [], ◌∷◌, length, get_or, set, min}
+use Rattle.std.proofs.Common.{List, [], ◌∷◌, length, get_or, set, min, nat_eq}
 use Rattle.std.specs.Prelude.{Option, None, Some, ⊤}
 use Rattle.std.specs.Option.{SomeIff}
 use Rattle.std.specs.Iterator.{YieldsFirst, MakesProgress, item_count}
 use Rattle.std.proofs.lemmas.Bool.{cases_lt}
+use Rattle.std.proofs.lemmas.Bool.Decides.{nat_tests}
 use Rattle.std.proofs.lemmas.List.{get_or-set_same, get_or-set_other}
 use Rattle.ps_grid.specs.declared.size.TheConstants.{CELLS, ROWS}
 use Rattle.ps_index.specs.declared.span.Span.{Span}
-use Rattle.ps_index.proofs.CellsPassing.{cells_from-end, cells_from-first, cells_from-none}
+use Rattle.ps_index.proofs.CellsPassing.{cells_from-end, cells_from-first, none_within}
 use Rattle.ps_index.proofs.ColumnsSorted.{by_cell_within, ends_rise, within_key}
 use Rattle.ps_index.proofs.KeysOnTheWay.{OnTheWay, key_of_within, on_the_way}
-use Rattle.ps_index.specs.Inside.Columns.{IsColumn, IsSpan, key_at}
+use Rattle.ps_index.specs.Inside.Columns.{IsColumn, IsSole, IsSpan, key_at}
 use Rattle.ps_index.specs.Inside.Nodes.{key_of}
-use Rattle.ps_index.specs.Inside.Walks.{IsHead, IsLooked, IsRuns, IsWalk}
+use Rattle.ps_index.specs.Inside.Walks.{IsAhead, IsHead, IsLooked, IsRuns, IsWalk}
 use Rattle.ps_index.specs.Spans.{cell_of, cells_from, holds, refers_at}
-use Rattle.ps_index.proofs.BoolTests.{true_or_false}
-use Rattle.ps_index.proofs.SpansCounted.{holds_both, refers_at-some, refers_at-true}
+use Rattle.ps_index.proofs.BoolTests.{never_true, true_or_false}
+use Rattle.ps_index.proofs.SpansCounted.{holds_both, is_there, one_there, refers_at-some, refers_at-true}
 
 -- ---- the runs
 
@@ -225,29 +226,51 @@ module _ (spans : List Span) (y : ℕ) (before starts ends : List ℕ) (runs lea
     in_grid = walk.in_grid;
   }
 
-  pub walk_ends : CELLS ≤ first → cells_from (refers_at spans y) least CELLS ≡ []
-  walk_ends ge = elim (cases_lt CELLS least) [
-    | inl lt ↦ cells_from-end (refers_at spans y) least CELLS (omega arith)
-    | inr le ↦ cells_from-none (refers_at spans y) least CELLS le (λ (q : ℕ) (from : least ≤ q) (to : q < CELLS).
-        not_before q from (omega arith))
+  -- the walk with the head as its next cell
+  pub IsAhead-next : IsAhead spans y starts ends runs first
+  IsAhead-next = record {
+    later = IsWalk-next;
+    found = elim head.there [
+      | inl e ↦ inl e
+      | inr h ↦ (let d = any_span spans h.0 in let c : cell_of spans h.0 d < CELLS = walk.in_grid h.0 d h.1 in
+          inr (omega (arith, (h.2 d).1), refers_at-true spans y first h.0 h.1 (λ (d : Span). ((h.2 d).0, (h.2 d).1))))
+    ];
+  }
+
+  -- no cell is passed over
+  pub none_passed : cells_from (refers_at spans y) least CELLS ≡ cells_from (refers_at spans y) first CELLS
+  none_passed = elim (cases_lt first least) [
+    | inr le ↦ none_within (first - least) (refers_at spans y) least first CELLS (omega arith) first_in_grid not_before
+    | inl lt ↦ elim head.there [
+      | inl e ↦ cells_from-end (refers_at spans y) least CELLS (omega arith)
+          ∙ sym (cells_from-end (refers_at spans y) first CELLS (omega arith))
+      | inr h ↦ absurd (let l : least ≤ first = (h.2 (any_span spans h.0)).2 in omega arith)
+    ]
   ]
 
-  pub walk_gives : first < CELLS → cells_from (refers_at spans y) least CELLS ≡ first ∷ cells_from (refers_at spans y)
-      (first + 1) CELLS
-  walk_gives lt = elim head.there [
-    | inl e ↦ absurd (omega arith)
-    | inr h ↦ cells_from-first (refers_at spans y) least CELLS first (h.2 (any_span spans h.0)).2 lt
-        (refers_at-true spans y first h.0 h.1 (λ (d : Span). ((h.2 d).0, (h.2 d).1))) not_before
-  ]
-
-  pub walk_yields : (v : List ℕ) (r : Option ℕ) → cells_from (refers_at spans y) least CELLS ≡ v
-      → SomeIff r (first < CELLS) first
-      → YieldsFirst {S = List ℕ} {A = ℕ} (λ rest. rest) v r (cells_from (refers_at spans y) (first + 1) CELLS)
-  walk_yields v None e not_there =
-      let past : CELLS ≤ first = elim (cases_lt first CELLS) [ inl lt ↦ absurd (not_there lt) | inr ge ↦ ge ] in
-      (sym e ∙ walk_ends past, cells_from-end (refers_at spans y) (first + 1) CELLS (omega arith))
-  walk_yields v (Some x) e is = sym e ∙ walk_gives is.0 ∙ ap (λ n. n ∷ cells_from (refers_at spans y) (first + 1) CELLS)
-      (sym is.1)
+-- the next cell comes, and the walk goes on from it
+pub next_yields : (spans : List Span) (y : ℕ) (starts ends : List ℕ) (runs next first : ℕ)
+    → IsAhead spans y starts ends runs next
+    → cells_from (refers_at spans y) (next + 1) CELLS ≡ cells_from (refers_at spans y) first CELLS
+    → (v : List ℕ) (r : Option ℕ) → cells_from (refers_at spans y) next CELLS ≡ v
+    → SomeIff r (next < CELLS) next
+    → YieldsFirst {S = List ℕ} {A = ℕ} (λ rest. rest) v r (cells_from (refers_at spans y) first CELLS)
+next_yields spans y starts ends runs next first ahead moves v None e not_there =
+    let past : CELLS ≤ next = elim (cases_lt next CELLS) [ inl lt ↦ absurd (not_there lt) | inr ge ↦ ge ] in
+    (
+      sym e ∙ cells_from-end (refers_at spans y) next CELLS past,
+      sym moves ∙ cells_from-end (refers_at spans y) (next + 1) CELLS (omega arith),
+    )
+next_yields spans y starts ends runs next first ahead moves v (Some x) e is =
+    let passes : refers_at spans y next ≡ true = elim ahead.found [
+      | inl end ↦ absurd (let lt : next < CELLS = is.0 in omega arith)
+      | inr h ↦ h.1
+    ] in
+    sym e
+    ∙ cells_from-first (refers_at spans y) next CELLS next (omega arith) is.0 passes
+    (λ (q : ℕ) (from : next ≤ q) (to : q < next). absurd (omega arith))
+    ∙ ap (λ n. n ∷ cells_from (refers_at spans y) (next + 1) CELLS) (sym is.1)
+    ∙ ap (λ xs. x ∷ xs) moves
 
 pub walk_goes : (v w : List ℕ) (r : Option ℕ) → YieldsFirst {S = List ℕ} {A = ℕ} (λ rest. rest) v r w
     → MakesProgress {S = List ℕ} {A = ℕ} (λ rest. ⊤) (item_count {S = List ℕ} {A = ℕ} (λ rest. rest)) v r w
@@ -302,3 +325,44 @@ IsWalk-start spans column ranges y starts ends runs col is = record {
       (found.0, found.1, omega (arith, found.2, b.0), omega (arith, found.3, b.1));
   in_grid = λ (i : ℕ) (d : Span) (within : i < length spans). (col.each i d within).in_grid;
 }
+
+-- ---- the walk of a cell that is known to be the only one
+
+module _ (spans : List Span) (y n : ℕ) (sole : IsSole (refers_at spans y) n) (small : n ≤ CELLS) where
+  alone : (c : ℕ) → refers_at spans y c ≡ true → c ≡ n
+  alone c h = elim (cases_lt n CELLS) [
+    | inl lt ↦ (let same : nat_eq c n ≡ true = sym (sole.one lt c) ∙ h in grind (arith, nat_tests, same))
+    | inr ge ↦ absurd (let never : true ≡ false = sym h ∙ sole.none (omega arith) c in cc)
+  ]
+
+  pub known_start : cells_from (refers_at spans y) 0 CELLS ≡ cells_from (refers_at spans y) n CELLS
+  known_start = none_within n (refers_at spans y) 0 n CELLS (omega arith) small
+      (λ (q : ℕ) (from : 0 ≤ q) (to : q < n). never_true (refers_at spans y q)
+      (λ (h : refers_at spans y q ≡ true). let same : q ≡ n = alone q h in omega arith))
+
+  pub known_ahead : (starts ends : List ℕ) → ((i : ℕ) (d : Span) → i < length spans → cell_of spans i d < CELLS)
+      → IsAhead spans y starts ends 0 n
+  known_ahead starts ends in_grid = record {
+    later = record {
+      few = omega arith;
+      rising = λ (r : ℕ) (lt : r < 0). absurd (omega arith);
+      within = λ (r : ℕ) (lt : r < 0). absurd (omega arith);
+      by_cell = λ (r i j : ℕ) (d : Span) (lt : r < 0). absurd (omega arith);
+      whole = λ (i : ℕ) (d : Span) (within : i < length spans) (has : holds (get_or spans i d) y ≡ true)
+          (le : n + 1 ≤ cell_of spans i d).
+          absurd (let same : cell_of spans i d ≡ n = alone (cell_of spans i d) (refers_there i d within has) in
+          omega arith);
+      in_grid = in_grid;
+    };
+    found = elim (cases_lt n CELLS) [
+      | inl lt ↦ inr (lt, sole.one lt n ∙ (let e : n ≡ n = refl in grind (arith, nat_tests, e)))
+      | inr ge ↦ inl (omega arith)
+    ];
+  }
+    where
+      refers_there : (i : ℕ) (d : Span) → i < length spans → holds (get_or spans i d) y ≡ true
+          → refers_at spans y (cell_of spans i d) ≡ true
+      refers_there i d within has =
+          let there = is_there (get_or spans i d) spans (one_there spans i d within) in
+          refers_at-true spans y (cell_of spans i d) there.0 there.1
+          (λ (e : Span). (ap (λ (s : Span). holds s y) (there.2 e) ∙ has, ap (λ (s : Span). s.cell) (there.2 e)))

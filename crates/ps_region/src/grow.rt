@@ -1,12 +1,12 @@
 //! The growth of a region: its members, with the counts of their references.
 
-ghost use Rattle.std.specs.Prelude.{◌≡◌, ◌⊎◌, ◌≤◌, ◌<◌, ◌∷◌, [], length, ℕ, true, false, not, nat_eq, ◌&&◌};
+ghost use Rattle.std.specs.Prelude.{◌≡◌, ◌⊎◌, ◌≢◌, ◌≤◌, ◌<◌, [], length, ℕ, true, false, not, nat_eq, ◌&&◌};
 ghost use Rattle.std.specs.Prelude.{slice_index, slice_index_or, slice_set, ◌+◌, vec_capacity};
 ghost use Rattle.std.specs.List.{list_any};
 ghost use Rattle.ps_grid.specs.declared.size.TheConstants.{CELLS as ALL};
 ghost use Rattle.ps_grid.specs.Chains.{In, InRegion};
 ghost use Rattle.ps_region.specs.Inside.Counts.{as_one, counted_in, cells_left, is_walked};
-ghost use Rattle.ps_region.specs.Inside.Cells.{Marked, with_all};
+ghost use Rattle.ps_region.specs.Inside.Cells.{HasSole, Marked, with_all};
 ghost use Rattle.ps_region.specs.Inside.Touched.{IsPlain};
 ghost use Rattle.ps_region.specs.Listed.{listed};
 
@@ -14,6 +14,12 @@ use crate::after::After;
 use crate::members::{enter, enter_all, has_formula};
 use ps_grid::{CELLS, Cell};
 use ps_index::Index;
+
+/// What is noted of a cell that no cell refers to.
+const NONE: u32 = CELLS as u32;
+
+/// What is noted of a cell that several cells refer to.
+const SEVERAL: u32 = CELLS as u32 + 1;
 
 /// Counts one more reference.
 pub(crate) fn add_one(left: &mut [u32], e: Cell)
@@ -42,7 +48,17 @@ fn is_counted<A: After>(after: &A, fresh: &[bool], counted: bool, e: Cell, d: Ce
     counted && still_refers(after, fresh, e, d)
 }
 
-/// Puts each cell that refers to the cell `d` into the region, counts its reference if `d` is a formula cell, and keeps
+/// What is noted of some cells and one more: the cell where it is the first, and else `SEVERAL`.
+fn noted_with(noted: u32, e: Cell) -> u32
+    ensures first { noted ≡ ALL → result ≡ e }
+    ensures more { noted ≢ ALL → ALL < result }
+{
+    // known by its contract: the cell is in the grid
+    let place = e.index() as u32;
+    if noted == NONE { place } else { SEVERAL }
+}
+
+/// Puts each cell that refers to the cell `d` into the region, counts its reference if `d` is a formula cell, and notes
 /// the one such cell where there is just one.
 #[allow(clippy::too_many_arguments)]
 fn enter_dependents<A: After>(
@@ -72,27 +88,23 @@ fn enter_dependents<A: After>(
     ensures room { ALL ≤ vec_capacity members.new }
     ensures counts { (q : ℕ) → counted_in members.new.items left.new q ≡ counted_in members.old.items left.old q
         + as_one (list_any (nat_eq q) (listed index.now d) && (A.formula after.now d && A.refers after.now q d)) }
-    ensures sole { (e : ℕ) → e < ALL → slice_index sole.new d ≡ e → listed index.now d ≡ e ∷ [] }
+    ensures sole { HasSole (listed index.now d) (slice_index_or sole.new d 0) }
     ensures others { (c : ℕ) → nat_eq c d ≡ false → slice_index_or sole.new c 0 ≡ slice_index_or sole.old c 0 }
 {
     let counted = has_formula(plain, d);
-    let mut some = false;
-    let mut single = false;
-    let mut last = CELLS;
+    let mut noted = NONE;
     for e in index.dependents(d) {
         enter(marks, left, members, e);
         if is_counted(after, fresh, counted, e, d) {
             add_one(left, e);
         }
-        single = !some;
-        some = true;
-        last = e.index();
+        noted = noted_with(noted, e);
     }
-    sole[d.index()] = if single { last as u32 } else { CELLS as u32 };
+    sole[d.index()] = noted;
 }
 
 /// Grows the region from the touched cells, counts for each member its references to formula cells of the region, and
-/// keeps for each the one cell that refers to it, where there is just one.
+/// notes for each the one cell that refers to it, where there is just one.
 #[allow(clippy::too_many_arguments)]
 pub(crate) fn grow<A: After>(
     index: &Index,
@@ -125,8 +137,7 @@ pub(crate) fn grow<A: After>(
     ensures complete { (c : ℕ) → InRegion (A.refers after.now) touched.now c → In members.new.items c }
     ensures counts { (q : ℕ) → counted_in members.new.items left.new q
         ≡ cells_left (A.refers after.now) (is_walked (A.formula after.now) members.new.items) [] ALL q }
-    ensures sole { (m e : ℕ) → In members.new.items m → e < ALL → slice_index_or sole.new m 0 ≡ e
-        → listed index.now m ≡ e ∷ [] }
+    ensures sole { (m : ℕ) → In members.new.items m → HasSole (listed index.now m) (slice_index_or sole.new m 0) }
 {
     enter_all(marks, left, members, touched);
     let mut head = 0;

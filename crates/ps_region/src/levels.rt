@@ -4,6 +4,7 @@ ghost use Rattle.std.specs.Prelude.{◌≡◌, ◌≢◌, ◌-◌, ◌≤◌, �
 ghost use Rattle.std.specs.Prelude.{slice_index_or, slice_set, filter, vec_capacity};
 ghost use Rattle.ps_grid.specs.declared.size.TheConstants.{CELLS as ALL};
 ghost use Rattle.ps_grid.specs.Chains.{In};
+ghost use Rattle.ps_region.specs.Inside.Cells.{HasSole};
 ghost use Rattle.ps_region.specs.Inside.Counts.{Queued, Released, is_in};
 ghost use Rattle.ps_region.specs.Inside.Settles.{Levels, Settling, is_frame, is_held, is_pending, is_ready};
 ghost use Rattle.ps_region.specs.Inside.Touched.{not_plain};
@@ -12,7 +13,7 @@ ghost use Rattle.ps_region.specs.Listed.{listed};
 use crate::after::After;
 use crate::grow::still_refers;
 use crate::members::{has_formula, put};
-use ps_grid::Cell;
+use ps_grid::{CELLS, Cell};
 use ps_index::Index;
 
 /// Whether a member is a formula cell of which no reference is left.
@@ -131,8 +132,8 @@ fn release_each<A: After>(
     }
 }
 
-/// Counts each reference to the cell `d` as settled: of the one cell that refers there, where it is kept, and else by a
-/// walk of the index.
+/// Counts each reference to the cell `d` as settled: by what is noted where at most one cell refers there, and else by
+/// a walk of the index.
 #[allow(clippy::too_many_arguments)]
 fn release<A: After>(
     index: &Index,
@@ -149,7 +150,7 @@ fn release<A: After>(
     requires sole_length { length sole.now ≡ ALL }
     requires left_length { length left.old ≡ ALL }
     requires level_length { length level.old ≡ ALL }
-    requires sole { (e : ℕ) → e < ALL → slice_index_or sole.now d 0 ≡ e → listed index.now d ≡ e ∷ [] }
+    requires sole { HasSole (listed index.now d) (slice_index_or sole.now d 0) }
     requires known { (e : ℕ) → In (listed index.now d) e → slice_index_or fresh.now e false ≡ false
         → A.refers after.now e d ≡ true }
     requires some { (c : ℕ) → A.refers after.now c d ≡ true → 0 < slice_index left.old c }
@@ -159,9 +160,11 @@ fn release<A: After>(
         left.new level.new order.new.items }
     ensures room { ALL ≤ vec_capacity order.new }
 {
-    match Cell::from_index(sole[d.index()] as usize) {
-        Some(e) => release_sole(after, fresh, left, level, order, d, e, k),
-        None => release_each(index, after, fresh, left, level, order, d, k),
+    let noted = sole[d.index()] as usize;
+    if noted > CELLS {
+        release_each(index, after, fresh, left, level, order, d, k);
+    } else if let Some(e) = Cell::from_index(noted) {
+        release_sole(after, fresh, left, level, order, d, e, k);
     }
 }
 
@@ -197,8 +200,8 @@ pub(crate) fn settle<A: After>(
     requires known { (d e : ℕ) → d < ALL → In (listed index.now d) e → slice_index_or fresh.now e false ≡ false
         → A.refers after.now e d ≡ true }
     requires lists_all { (c d : ℕ) → A.refers after.now c d ≡ true → In (listed index.now d) c }
-    requires sole { (m e : ℕ) → slice_index_or marks.now m false ≡ true → e < ALL → slice_index_or sole.now m 0 ≡ e
-        → listed index.now m ≡ e ∷ [] }
+    requires sole { (m : ℕ) → slice_index_or marks.now m false ≡ true
+        → HasSole (listed index.now m) (slice_index_or sole.now m 0) }
     requires closed { (c d : ℕ) → A.refers after.now c d ≡ true → slice_index_or marks.now d false ≡ true
         → slice_index_or marks.now c false ≡ true }
     requires starting { Settling (A.refers after.now) (is_pending (A.formula after.now) (is_in _outside.now) marks.now)

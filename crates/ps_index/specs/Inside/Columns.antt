@@ -1,9 +1,9 @@
 -- How a column keeps its spans.
-use Rattle.std.specs.Prelude.{◌≡◌, ℕ, ◌+◌, ◌<◌, ◌≤◌, Bool, false, nat_lt, nat_le, List, length, get_or}
+use Rattle.std.specs.Prelude.{◌≡◌, ℕ, ◌+◌, ◌<◌, ◌≤◌, Bool, false, nat_lt, nat_le, nat_eq, List, length, get_or}
 use Rattle.ps_grid.specs.declared.size.TheConstants.{CELLS, ROWS}
 use Rattle.ps_index.specs.declared.span.Span.{Span}
 use Rattle.ps_index.specs.Inside.Nodes.{key_of}
-use Rattle.ps_index.specs.Spans.{cell_of}
+use Rattle.ps_index.specs.Spans.{cell_of, refers_at}
 
 -- at least one row, and none outside the grid
 pub record IsSpan (s : Span) : Type 0 where
@@ -28,3 +28,13 @@ pub record IsColumn (spans : List Span) (ends : List ℕ) (ranges : Bool) : Type
   pub each : (i : ℕ) (d : Span) → i < length spans → IsSpan (get_or spans i d)
   pub narrow : ranges ≡ false → (i : ℕ) (d : Span) → i < length spans
       → (get_or spans i d).from ≡ (get_or spans i d).to
+
+-- the cells that pass a test are n alone; none where n is CELLS, and nothing is said where it is greater
+pub record IsSole (test : ℕ → Bool) (n : ℕ) : Type 0 where
+  pub none : n ≡ CELLS → (c : ℕ) → test c ≡ false
+  pub one : n < CELLS → (c : ℕ) → test c ≡ nat_eq c n
+
+-- for each row the one cell with a span there, where each span has one row
+pub record HasSoles (spans : List Span) (sole : List ℕ) (ranges : Bool) : Type 0 where
+  pub size : length sole ≡ ROWS + 1
+  pub noted : ranges ≡ false → (y : ℕ) → 1 ≤ y → y ≤ ROWS → IsSole (refers_at spans y) (get_or sole y 0)

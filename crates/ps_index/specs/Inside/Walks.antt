@@ -3,7 +3,7 @@ use Rattle.std.specs.Prelude.{◌≡◌, ℕ, ◌+◌, ◌-◌, ◌<◌, ◌≤�
 use Rattle.ps_grid.specs.declared.size.TheConstants.{CELLS, ROWS}
 use Rattle.ps_index.specs.declared.span.Span.{Span}
 use Rattle.ps_index.specs.Inside.Nodes.{node_of, rounded}
-use Rattle.ps_index.specs.Spans.{cell_of, holds}
+use Rattle.ps_index.specs.Spans.{cell_of, holds, refers_at}
 
 -- a span that has row y is kept at a row like this
 abbrev pub IsLooked : Bool → ℕ → ℕ → Type 0
@@ -42,3 +42,8 @@ pub record IsWalk (spans : List Span) (y : ℕ) (starts ends : List ℕ) (runs l
       → least ≤ cell_of spans i d
       → (r : ℕ) × (r < runs) × (get_or starts r 0 ≤ i) × (i < get_or ends r 0)
   pub in_grid : (i : ℕ) (d : Span) → i < length spans → cell_of spans i d < CELLS
+
+-- a walk whose next cell is found already, CELLS if there is none
+pub record IsAhead (spans : List Span) (y : ℕ) (starts ends : List ℕ) (runs next : ℕ) : Type 0 where
+  pub later : IsWalk spans y starts ends runs (next + 1)
+  pub found : (next ≡ CELLS) ⊎ ((next < CELLS) × (refers_at spans y next ≡ true))

@@ -8,15 +8,11 @@ use Rattle.ps_region.specs.Inside.Counts.{as_one, counted_in}
 use Rattle.ps_region.proofs.CellListLemmas.{in-with_cell, or_true, with_all_more}
 use Rattle.ps_region.proofs.GrowthCounts.{counted_yes, counted_no}
 use Rattle.ps_region.specs.Listed.{listed}
-use Rattle.ps_region.proofs.ListedLemmas.{next_listed, none_listed, all_listed}
+use Rattle.ps_region.proofs.ListedLemmas.{next_listed, all_listed, listed_below}
+use Rattle.ps_region.proofs.SoleDependents.{sole_more}
 use Rattle.ps_region.proofs.TouchedLemmas.{not_not}
 use Rattle.ps_region.proofs.grow.enter_dependents.Goals as goal
-use Rattle.ps_region.proofs.grow.enter_dependents.Goals.{then-is_counted, else-is_counted, then-single, else-single}
-
-one_item : (xs : List ℕ) → length xs ≡ 1 → xs ≡ get_or xs 0 0 ∷ []
-one_item [] e = absurd (omega arith)
-one_item (x ∷ []) e = refl
-one_item (x ∷ y ∷ xs) e = absurd (omega arith)
+use Rattle.ps_region.proofs.grow.enter_dependents.Goals.{then-is_counted, else-is_counted}
 
 now_in : (members new : List ℕ) (e : ℕ) → new ≡ with_cell members e → In new e
 now_in members new e is =
@@ -57,8 +53,7 @@ loop-e-preserved g c =
     let low : e < length c.enter.new.left =
     omega (
       arith,
-      c.index-last.ensures.in_grid,
-      c.index-last.ensures.index,
+      listed_below c.args.index.now c.args.d e n.inside,
       c.enter.auto.left,
       c.loop-e.auto.left,
       c.requires.left_length,
@@ -93,16 +88,10 @@ loop-e-preserved g c =
             (c.has_formula-counted.ensures
             ∙ (ap not c.requires.formula ∙ not_not (g.A.After.formula c.args.after.now c.args.d))))) q)
       ];
-      none = λ off. absurd (cc);
-      one = λ first. let z = c.loop-e.invariant.none (not_true c.loop-e.some first) in omega (arith, push, z);
-      last = λ some. let back : length (c.loop-e.yielded ++ e ∷ []) - 1 ≡ i = omega (arith, push) in
-          rw back (c.index-last.ensures.index ∙ n.at);
-      last_small = omega (arith, c.index-last.ensures.in_grid);
+      noted = rw (n.push, n.more) (sole_more (take i all) c.loop-e.noted c.noted_with-noted.result e
+          c.loop-e.invariant.noted (listed_below c.args.index.now c.args.d e n.inside)
+          c.noted_with-noted.ensures.first c.noted_with-noted.ensures.more);
     }
-  where
-    not_true : (b : Bool) → not b ≡ true → b ≡ false
-    not_true true h = sym h
-    not_true false h = refl
 
 pub returns-clause-members : goal.returns-clause-members
 returns-clause-members g c =
@@ -123,24 +112,13 @@ returns-clause-counts g c = λ q.
     c.dependents-e-items.ensures.once c.loop-e.yielded_by c.next.ensures.steps c.in-None.is)
 
 pub returns-clause-sole : goal.returns-clause-sole
-returns-clause-sole g c = λ e lt at.
-    let all = listed c.args.index.now c.args.d in
-    let whole =
-    none_listed c.args.index.now c.args.d c.loop-e.yielded _ _
+returns-clause-sole g c =
+    let all =
+    all_listed c.args.index.now c.args.d c.loop-e.yielded _ _
     c.into_iter-e-iterator.ensures.into_iter_gives c.dependents-e-items.ensures.list
     c.dependents-e-items.ensures.once c.loop-e.yielded_by c.next.ensures.steps c.in-None.is in
-    let here : get_or (set c.args.sole.now c.index.result c.if-single.sole) c.index.result 0 ≡ c.if-single.sole =
-    get_or-set_same c.args.sole.now c.index.result c.if-single.sole 0
+    let here : get_or (set c.args.sole.now c.index.result c.loop-e.noted) c.args.d 0 ≡ c.loop-e.noted =
+    ap (λ x. get_or (set c.args.sole.now c.index.result c.loop-e.noted) x 0) (sym c.index.ensures.index)
+    ∙ get_or-set_same c.args.sole.now c.index.result c.loop-e.noted 0
     (omega (arith, c.index.ensures.in_grid, c.requires.sole_length)) in
-    let kept : c.if-single.sole ≡ e =
-    sym here ∙ (ap (λ x. get_or (set c.args.sole.now c.index.result c.if-single.sole) x 0) c.index.ensures.index
-    ∙ at) in
-    elim c.if-single.branch [
-      | then-single w ↦
-          let one = c.loop-e.invariant.one w.if-single.true in
-          let last = c.loop-e.invariant.last (omega (arith, one)) in
-          let zero_is : length c.loop-e.yielded - 1 ≡ 0 = omega (arith, one) in
-          one_item all (sym whole ∙ one)
-          ∙ ap (λ x. x ∷ []) (sym (last ∙ ap (λ j. get_or all j 0) zero_is) ∙ (sym w.sole-is ∙ kept))
-      | else-single w ↦ absurd (omega (arith, w.sole-is, kept, lt))
-    ]
+    rw here (rw all at c.loop-e.invariant.noted)

@@ -3,7 +3,7 @@ use Rattle.std.proofs.Common.{vec_capacity}
 use Rattle.std.specs.List.{list_any}
 use Rattle.std.specs.Prelude.{nat_eq}
 use Rattle.ps_grid.specs.declared.size.TheConstants.{CELLS}
-use Rattle.ps_region.specs.Inside.Cells.{Marked, with_all}
+use Rattle.ps_region.specs.Inside.Cells.{HasSole, Marked, with_all}
 use Rattle.ps_region.specs.Inside.Counts.{as_one, counted_in}
 use Rattle.ps_region.specs.Listed.{listed}
 use Rattle.ps_region.proofs.grow.enter_dependents.Given as goal
@@ -18,8 +18,5 @@ invariant-loop-e g l = record {
   counts : (q : ℕ) → counted_in l.members.items l.left q ≡ counted_in l.initial.members.items l.initial.left q
       + as_one (list_any (nat_eq q) (take (length l.yielded) (listed l.index l.d))
       && (g.A.After.formula l.after l.d && g.A.After.refers l.after q l.d));
-  none : l.some ≡ false → length l.yielded ≡ 0;
-  one : l.single ≡ true → length l.yielded ≡ 1;
-  last : 0 < length l.yielded → l.last ≡ get_or (listed l.index l.d) (length l.yielded - 1) 0;
-  last_small : l.last ≤ CELLS;
+  noted : HasSole (take (length l.yielded) (listed l.index l.d)) l.noted;
 }

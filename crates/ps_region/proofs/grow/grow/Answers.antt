@@ -3,6 +3,7 @@ use Rattle.ps_grid.specs.declared.size.TheConstants.{CELLS}
 use Rattle.ps_region.specs.Listed.{listed}
 use Rattle.std.specs.List.{list_any}
 use Rattle.std.proofs.lemmas.List.{get_or_read, take_all}
+use Rattle.ps_region.specs.Inside.Cells.{HasSole}
 use Rattle.ps_region.specs.Inside.Counts.{cells_left, is_walked}
 use Rattle.ps_region.proofs.CellListLemmas.{marked_below, marked_le, in-get_or, in-take_apart}
 use Rattle.ps_region.proofs.GrowthLemmas.{Grown-start, Grown-step, Grown-complete}
@@ -91,8 +92,8 @@ loop-head-preserved g c =
           c.loop-head.head members (λ x i. c.requires.extra x h (omega (arith, below, long, long2, same)) i)
           c.loop-head.invariant.grown lt);
       soles = rw c.enter_dependents.ensures.members
-          (rw at (λ p. soles_step (listed c.args.index.now) members (listed c.args.index.now h) c.loop-head.sole
-          c.enter_dependents.new.sole c.loop-head.head CELLS lt
+          (rw at (λ p. soles_step (λ m n. HasSole (listed c.args.index.now m) n) members
+          (listed c.args.index.now h) c.loop-head.sole c.enter_dependents.new.sole c.loop-head.head lt
           c.loop-head.invariant.marked.once (rw at at c.enter_dependents.ensures.sole)
           (rw at at c.enter_dependents.ensures.others) c.loop-head.invariant.soles p));
       counts = λ q. rw (c.enter_dependents.ensures.members, at)
@@ -118,5 +119,5 @@ returns-clause-counts g c = λ q. c.loop-head.invariant.counts q
 
 pub returns-clause-sole : goal.returns-clause-sole
 returns-clause-sole g c =
-    soles_end (listed c.args.index.now) c.loop-head.members.items c.loop-head.sole c.loop-head.head CELLS
-    (omega arith) c.loop-head.invariant.soles
+    soles_end (λ m n. HasSole (listed c.args.index.now m) n) c.loop-head.members.items c.loop-head.sole
+    c.loop-head.head (omega arith) c.loop-head.invariant.soles

@@ -20,7 +20,7 @@ release-requires-clause-sole g c =
     let lt : c.walk.head < length order = omega (arith, w, t) in
     let at = get_or_read order c.walk.head c.index-d.result.now lt c.index-d.ensures 0 in
     let h = get_or order c.walk.head 0 in
-    rw at (λ e. c.requires.sole h e
+    rw at (c.requires.sole h
     (and_true_left (get_or c.args.marks.now h false) (g.A.After.formula c.args.after.now h)
     (s.framed h (in-get_or order c.walk.head 0 lt))))
 

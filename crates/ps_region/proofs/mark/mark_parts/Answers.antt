@@ -38,8 +38,8 @@ settle-requires-clause-closed g c =
     c.grow.ensures.sound c.grow.ensures.complete
 
 pub settle-requires-clause-sole : goal.settle-requires-clause-sole
-settle-requires-clause-sole g c = λ m e t.
-    c.grow.ensures.sole m e (sym (c.grow.ensures.marked.same m) ∙ t)
+settle-requires-clause-sole g c = λ m t.
+    c.grow.ensures.sole m (sym (c.grow.ensures.marked.same m) ∙ t)
 
 pub settle-requires-clause-starting : goal.settle-requires-clause-starting
 settle-requires-clause-starting g c =
