@@ -1,0 +1,107 @@
+"""What one line can take: stack, time and memory. The bounds that `docs/FORMATS.md` tells."""
+import subprocess
+import time
+
+import peers
+from program import LIMIT, SHEET, Ended, ProgramTest, lines
+from sizes import COLUMNS, LONGEST_DELTA, name, pushes
+
+# A sheet of 100,048 cells.
+ROWS = 962
+# The longest that a line may take, in seconds, and how often it is tried on a machine that does other work too.
+BOUND = 0.1
+TRIES = 5
+STACK_KB = 2_048
+ENDLESS_KB = 1_024
+
+
+def after_the_one_before(column, row):
+    """The formula of a chain in order, which A1 begins."""
+    if column > 0:
+        return f"=[.{name(column - 1, row)}]+1"
+    return f"=[.{name(COLUMNS - 1, row - 1)}]+1" if row > 1 else "0"
+
+
+class Stack(ProgramTest):
+    def assert_replies(self, given, replies, *words):
+        """A session in a stack of 2 MB has these replies."""
+        command = ["sh", "-c", f'ulimit -s {STACK_KB}; exec "$0" "$@"', SHEET, "run", *words]
+        ran = subprocess.run(command, input=given, capture_output=True, timeout=LIMIT)
+        self.assertEqual(Ended(ran.returncode, ran.stdout, ran.stderr), Ended(0, replies))
+
+    def test_the_deepest_formulas(self):
+        for formula in (
+            f"{'(' * 127}1{')' * 127}", f"{'-' * 254}1", f"{'ABS(' * 50}1{')' * 50}", f"{'IF(1;' * 42}1{')' * 42}"
+        ):
+            given = lines(f"set A1 ={formula}", "get A1", f'push [["B1",[1,2,"={formula}"],[],[]]]', "get B1")
+            self.assert_replies(given, lines("ok 1", "val 1", "ok 2", "val 1"))
+
+    def test_deeper_ones_that_are_refused(self):
+        deeper = [f"{'(' * 255}1{')' * 255}", f"{'-' * 510}1", f"{'ABS(' * 102}1{')' * 102}"]
+        unclosed = ["(" * 511, "-" * 511, "ABS(" * 127, "IF(1;" * 102]
+        given = lines(*(f"set A1 ={formula}" for formula in (*deeper, *unclosed)))
+        self.assert_replies(given, lines(*["err 4 too-long"] * len(deeper), *["err 3 formula"] * len(unclosed)))
+
+    def test_the_deepest_json(self):
+        deep = ["[" * LONGEST_DELTA, '{"a":' * 52_000, "[" * 131_000 + "]" * 131_000, '[["A1",' * 37_000]
+        self.assert_replies(lines(*(f"push {text}" for text in deep)), lines(*["err 14 delta"] * len(deep)))
+
+    def test_a_chain_and_a_cycle_of_100_048_cells(self):
+        last = name(COLUMNS - 1, ROWS)
+        rows = [f"ok {version}" for version in range(1, ROWS + 1)]
+        given = lines(
+            *pushes(after_the_one_before, range(1, ROWS + 1)),
+            "set A1 5", f"get {last}", f"set A1 =[.{last}]", "get B1", "set A1 6", f"get {last}",
+        )
+        replies = lines(
+            *rows, f"ok {ROWS + 1}", "val 100052", f"ok {ROWS + 2}", "val #CYCLE!", f"ok {ROWS + 3}", "val 100053"
+        )
+        self.assert_replies(given, replies)
+
+    def test_deep_formulas_of_several_workers(self):
+        rows = range(2, 161)
+        deep = f"={'(' * 125}[.A1]{')' * 125}"
+        given = lines(*pushes(lambda *_: deep, rows), "set A1 5", "get CZ160")
+        replies = lines(*(f"ok {version}" for version in range(1, len(rows) + 2)), "val 5")
+        self.assert_replies(given, replies, "--workers", "16")
+
+
+class Time(ProgramTest):
+    def assert_in_time(self, peer, line, replies):
+        """One of several tries of this line has all its lines of replies within the bound."""
+        tries = []
+        while len(tries) < TRIES and min(tries, default=BOUND) >= BOUND:
+            begun = time.monotonic()
+            self.assertNotIn("err", peer.ask(line))
+            for _ in range(replies - 1):
+                peer.reply()
+            tries.append(time.monotonic() - begun)
+        self.assertLess(min(tries), BOUND, line[:60])
+
+    def test_lines_on_a_sheet_of_100_048_cells(self):
+        rows = range(2, ROWS + 2)
+        everything = ";".join(["[.A2:.CZ963]"] * 19)
+        with peers.on_pipes("run") as peer:
+            for line in pushes(lambda column, row: column * row, rows):
+                self.assertRegex(peer.ask(line), "^ok ")
+            self.assert_in_time(peer, f"set A1 =SUM({everything})", 1)
+            self.assert_in_time(peer, "set A2 1", 1)
+            self.assertEqual(peer.ask("get A1"), f"val {19 * (sum(range(COLUMNS)) * sum(rows) + 1)}")
+            self.assert_in_time(peer, "rows A1:CZ1024", 1 + 1024)
+            self.assert_in_time(peer, "pull 0 16", 1)
+
+
+class Memory(ProgramTest):
+    def test_a_line_without_end(self):
+        with peers.on_pipes("run") as peer:
+            self.assertEqual(peer.ask("get A1"), "val ")
+            before = self.most_kb(peer)
+            for _ in range(1024):
+                peer.send(b"x" * 65_536)
+            self.assertEqual(peer.ask(""), "err 15 line")
+            self.assertLess(self.most_kb(peer) - before, ENDLESS_KB)
+
+    def most_kb(self, peer):
+        """The most memory that the session had so far, in KB."""
+        with open(f"/proc/{peer.session.pid}/status") as status:
+            return next(int(line.split()[1]) for line in status if line.startswith("VmHWM:"))
