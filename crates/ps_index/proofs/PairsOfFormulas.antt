@@ -10,7 +10,8 @@ use Rattle.ps_grid.specs.declared.size.TheConstants.{COLUMNS, ROWS}
 use Rattle.ps_formula.specs.References.{mentions}
 use Rattle.ps_formula.specs.Tree.{Tree}
 use Rattle.ps_index.specs.declared.span.Span.{Span}
-use Rattle.ps_index.proofs.RunsOfRows.{IsRun, is_run-at, is_run-true}
+use Rattle.ps_index.proofs.RunsOfNumbers.{IsRun, run_same}
+use Rattle.ps_index.proofs.RunsOfRows.{is_run-at, is_run-true}
 use Rattle.ps_index.specs.Inside.Dues.{one_if}
 use Rattle.ps_index.specs.Spans.{cell_of, count_of, holds, refers_at}
 use Rattle.ps_index.specs.Stands.{Puts, Stands, is_run, refers_row, spans_of}
@@ -165,27 +166,6 @@ pairs columns forms is k y c lt some small =
 
 -- ---- the spans of a cell with one formula share no row
 
-rows_same : (test : ℕ → Bool) (a b a' b' y : ℕ) → IsRun test a b → IsRun test a' b' → a ≤ y → y ≤ b → a' ≤ y → y ≤ b'
-    → (a ≡ a') × (b ≡ b')
-rows_same test a b a' b' y r r' p1 p2 p3 p4 =
-    let low : a' ≤ a = elim (cases_lt a a') [
-      | inr e ↦ e
-      | inl lt ↦ absurd (let h : true ≡ false = sym (r.within (a' - 1) (omega arith) (omega arith)) ∙ r'.before in cc)
-    ] in
-    let low' : a ≤ a' = elim (cases_lt a' a) [
-      | inr e ↦ e
-      | inl lt ↦ absurd (let h : true ≡ false = sym (r'.within (a - 1) (omega arith) (omega arith)) ∙ r.before in cc)
-    ] in
-    let high : b ≤ b' = elim (cases_lt b' b) [
-      | inr e ↦ e
-      | inl lt ↦ absurd (let h : true ≡ false = sym (r.within (b' + 1) (omega arith) (omega arith)) ∙ r'.after in cc)
-    ] in
-    let high' : b' ≤ b = elim (cases_lt b b') [
-      | inr e ↦ e
-      | inl lt ↦ absurd (let h : true ≡ false = sym (r'.within (b + 1) (omega arith) (omega arith)) ∙ r.after in cc)
-    ] in
-    (omega arith, omega arith)
-
 pub apart : (columns : List (List Span)) (forms : Puts) → Stands columns forms → (k c : ℕ) (t : Tree) → k < COLUMNS
     → forms c ≡ t ∷ []
     → (i j y : ℕ) (d : Span) → i < j → j < length (spans_of columns k)
@@ -215,7 +195,7 @@ apart columns forms is k c t lt one i j y d before within ci cj hi hj =
     ]) in
     let bi = holds_both si y hi in
     let bj = holds_both sj y hj in
-    let same = rows_same (refers_row t k) si.from si.to sj.from sj.to y (run si ci (one_there spans i d (omega arith)))
+    let same = run_same (refers_row t k) si.from si.to sj.from sj.to y (run si ci (one_there spans i d (omega arith)))
     (run sj cj (one_there spans j d within)) bi.0 bi.1 bj.0 bj.1 in
     let equal : sj ≡ si = same_fields sj si (sym same.0) (sym same.1) (cj ∙ sym ci) in
     omega (

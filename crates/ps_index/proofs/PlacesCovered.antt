@@ -1,12 +1,12 @@
 -- The places that rectangles cover, and runs of them.
-use Rattle.std.proofs.Common.{◌≡◌, ℕ, ◌+◌, ◌/◌, ◌%◌, ◌<◌, ◌≤◌, inl, inr, refl, arith, nat_le, nat_lt, true, false, ◌-◌}
-use Rattle.std.proofs.Common.{sym, ◌∙◌, ◌||◌, List, [], ◌∷◌}
+use Rattle.std.proofs.Common.{◌≡◌, ℕ, ◌+◌, ◌/◌, ◌%◌, ◌<◌, ◌≤◌, inl, inr, refl, arith, nat_le, nat_lt, true, false}
+use Rattle.std.proofs.Common.{◌||◌, List, [], ◌∷◌}
 use Rattle.std.proofs.lemmas.Bool.Decides.{nat_tests}
 use Rattle.ps_grid.specs.Rectangle.{Area}
-use Rattle.std.proofs.lemmas.Bool.{cases_lt}
 use Rattle.ps_index.specs.declared.runs.TheConstants.{STRIDE}
 use Rattle.ps_index.specs.Inside.Places.{covered, covers_place}
 use Rattle.ps_index.proofs.BoolTests.{never_true, true_or_false}
+use Rattle.ps_index.proofs.RunsOfNumbers.{IsRun}
 
 pub record IsAt (a : Area) (q : ℕ) : Type 0 where
   pub left : a.left ≤ q / STRIDE
@@ -50,29 +50,5 @@ pub uncovered-row : (rects : List Area) (q : ℕ) → q % STRIDE ≡ 0 → cover
 uncovered-row rects q e = never_true (covered rects q) (λ (h : covered rects q ≡ true). let some : 1 ≤ q % STRIDE =
     covered-row rects q h in omega arith)
 
-pub record IsPlaceRun (rects : List Area) (a b : ℕ) : Type 0 where
-  pub ordered : a ≤ b
-  pub within : (q : ℕ) → a ≤ q → q ≤ b → covered rects q ≡ true
-  pub before : covered rects (a - 1) ≡ false
-  pub after : covered rects (b + 1) ≡ false
-
-pub place_run_same : (rects : List Area) (a b a' b' q : ℕ) → IsPlaceRun rects a b → IsPlaceRun rects a' b'
-    → a ≤ q → q ≤ b → a' ≤ q → q ≤ b' → (a ≡ a') × (b ≡ b')
-place_run_same rects a b a' b' q r r' p1 p2 p3 p4 =
-    let low : a' ≤ a = elim (cases_lt a a') [
-      | inr e ↦ e
-      | inl lt ↦ absurd (let h : true ≡ false = sym (r.within (a' - 1) (omega arith) (omega arith)) ∙ r'.before in cc)
-    ] in
-    let low' : a ≤ a' = elim (cases_lt a' a) [
-      | inr e ↦ e
-      | inl lt ↦ absurd (let h : true ≡ false = sym (r'.within (a - 1) (omega arith) (omega arith)) ∙ r.before in cc)
-    ] in
-    let high : b ≤ b' = elim (cases_lt b' b) [
-      | inr e ↦ e
-      | inl lt ↦ absurd (let h : true ≡ false = sym (r.within (b' + 1) (omega arith) (omega arith)) ∙ r'.after in cc)
-    ] in
-    let high' : b' ≤ b = elim (cases_lt b b') [
-      | inr e ↦ e
-      | inl lt ↦ absurd (let h : true ≡ false = sym (r'.within (b + 1) (omega arith) (omega arith)) ∙ r.after in cc)
-    ] in
-    (omega arith, omega arith)
+abbrev pub IsPlaceRun : List Area → ℕ → ℕ → Type 0
+IsPlaceRun rects a b = IsRun (covered rects) a b

@@ -6,8 +6,9 @@ use Rattle.std.proofs.lemmas.Bool.Decides.{nat_tests}
 use Rattle.ps_grid.specs.Rectangle.{Area}
 use Rattle.ps_index.specs.declared.runs.TheConstants.{PLACES, STRIDE}
 use Rattle.ps_index.specs.declared.span.Span.{Span}
-use Rattle.ps_index.proofs.PlacesCovered.{IsPlaceRun, covered-row, place_run_same, uncovered-row}
-use Rattle.ps_index.proofs.RunsOfRows.{IsRun, covered_row-at, covered_row-true, is_run-at, is_run-true, place_run}
+use Rattle.ps_index.proofs.PlacesCovered.{IsPlaceRun, covered-row, uncovered-row}
+use Rattle.ps_index.proofs.RunsOfNumbers.{IsRun, run_same}
+use Rattle.ps_index.proofs.RunsOfRows.{covered_row-at, covered_row-true, is_run-at, is_run-true, place_run}
 use Rattle.ps_index.specs.Inside.Dues.{covered_row, due, one_if}
 use Rattle.ps_index.specs.Inside.Places.{covered}
 use Rattle.ps_index.specs.Spans.{same_span}
@@ -149,7 +150,7 @@ module _ (rects : List Area) (p from end : ℕ) (n : IsNext rects p from end) wh
           | inl lt ↦ absurd (let h : true ≡ false = sym (r.2.within (k * STRIDE + s.to) r.2.ordered (omega arith))
               ∙ n.none_before (k * STRIDE + s.to) ge lt in cc)
         ] in
-        let same = place_run_same rects (k * STRIDE + s.from) (k * STRIDE + s.to) from (end - 1)
+        let same = run_same (covered rects) (k * STRIDE + s.from) (k * STRIDE + s.to) from (end - 1)
         (k * STRIDE + s.to) r.2 next_run r.2.ordered (omega arith) past (omega (arith, d.ends)) in
         inr (
           omega (arith, same.0, r.0, r.1, d.run.ordered),

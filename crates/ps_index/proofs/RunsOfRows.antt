@@ -8,16 +8,11 @@ use Rattle.ps_grid.specs.Rectangle.{Area}
 use Rattle.ps_grid.specs.declared.size.TheConstants.{ROWS}
 use Rattle.ps_index.specs.declared.runs.TheConstants.{STRIDE}
 use Rattle.ps_index.proofs.PlacesCovered.{IsPlaceRun, covered-row}
+use Rattle.ps_index.proofs.RunsOfNumbers.{IsRun}
 use Rattle.ps_index.specs.Inside.Dues.{covered_row}
 use Rattle.ps_index.specs.Inside.Places.{covered}
 use Rattle.ps_index.specs.Stands.{is_run}
 use Rattle.ps_index.proofs.BoolTests.{and_true, bool_same, both, never_true, not_false, not_true}
-
-pub record IsRun (test : ℕ → Bool) (from to : ℕ) : Type 0 where
-  pub ordered : from ≤ to
-  pub within : (y : ℕ) → from ≤ y → y ≤ to → test y ≡ true
-  pub before : test (from - 1) ≡ false
-  pub after : test (to + 1) ≡ false
 
 all-at : (n : ℕ) (test : ℕ → Bool) (y : ℕ) → list_all test (range_with_len y n) ≡ true → (q : ℕ) → y ≤ q → q < y + n
     → test q ≡ true

@@ -1,6 +1,6 @@
 -- A walk goes through the cells that refer to a row, in order.
 use Rattle.std.proofs.Common.{◌≡◌, ℕ, ◌+◌, ◌-◌, ◌<◌, ◌≤◌, ◌⊎◌, inl, inr, sym, ◌∙◌, ap, refl, arith, Bool, true, false}
-use Rattle.std.proofs.Common.{List, [], ◌∷◌, length, get_or, set, min, nat_eq}
+use Rattle.std.proofs.Common.{List, ◌∷◌, length, get_or, set, min, nat_eq}
 use Rattle.std.specs.Prelude.{Option, None, Some, ⊤}
 use Rattle.std.specs.Option.{SomeIff}
 use Rattle.std.specs.Iterator.{YieldsFirst, MakesProgress, item_count}
@@ -256,8 +256,7 @@ pub next_yields : (spans : List Span) (y : ℕ) (starts ends : List ℕ) (runs n
     → SomeIff r (next < CELLS) next
     → YieldsFirst {S = List ℕ} {A = ℕ} (λ rest. rest) v r (cells_from (refers_at spans y) first CELLS)
 next_yields spans y starts ends runs next first ahead moves v None e not_there =
-    let past : CELLS ≤ next = elim (cases_lt next CELLS) [ inl lt ↦ absurd (not_there lt) | inr ge ↦ ge ] in
-    (
+    let past : CELLS ≤ next = elim (cases_lt next CELLS) [ inl lt ↦ absurd (not_there lt) | inr ge ↦ ge ] in (
       sym e ∙ cells_from-end (refers_at spans y) next CELLS past,
       sym moves ∙ cells_from-end (refers_at spans y) (next + 1) CELLS (omega arith),
     )

@@ -101,37 +101,6 @@ fn release_sole<A: After>(
     }
 }
 
-/// Counts each reference to the cell `d` as settled, by a walk of the index.
-#[allow(clippy::too_many_arguments)]
-fn release_each<A: After>(
-    index: &Index,
-    after: &A,
-    fresh: &[bool],
-    left: &mut [u32],
-    level: &mut [u32],
-    order: &mut Vec<Cell>,
-    d: Cell,
-    k: u32,
-)
-    requires fresh_length { length fresh.now ≡ ALL }
-    requires left_length { length left.old ≡ ALL }
-    requires level_length { length level.old ≡ ALL }
-    requires known { (e : ℕ) → In (listed index.now d) e → slice_index_or fresh.now e false ≡ false
-        → A.refers after.now e d ≡ true }
-    requires some { (c : ℕ) → A.refers after.now c d ≡ true → 0 < slice_index left.old c }
-    requires queued { Queued left.old order.old.items }
-    requires room { ALL ≤ vec_capacity order.old }
-    ensures released { Released (A.refers after.now) d k (listed index.now d) left.old level.old order.old.items
-        left.new level.new order.new.items }
-    ensures room { ALL ≤ vec_capacity order.new }
-{
-    for e in index.dependents(d) {
-        if still_refers(after, fresh, e, d) {
-            lower(left, level, order, e, k);
-        }
-    }
-}
-
 /// Counts each reference to the cell `d` as settled: by what is noted where at most one cell refers there, and else by
 /// a walk of the index.
 #[allow(clippy::too_many_arguments)]
@@ -161,10 +130,16 @@ fn release<A: After>(
     ensures room { ALL ≤ vec_capacity order.new }
 {
     let noted = sole[d.index()] as usize;
-    if noted > CELLS {
-        release_each(index, after, fresh, left, level, order, d, k);
-    } else if let Some(e) = Cell::from_index(noted) {
-        release_sole(after, fresh, left, level, order, d, e, k);
+    if noted <= CELLS {
+        if let Some(e) = Cell::from_index(noted) {
+            release_sole(after, fresh, left, level, order, d, e, k);
+        }
+        return;
+    }
+    for e in index.dependents(d) {
+        if still_refers(after, fresh, e, d) {
+            lower(left, level, order, e, k);
+        }
     }
 }
 

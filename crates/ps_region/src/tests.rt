@@ -4,6 +4,7 @@ ghost use Rattle.std.specs.Prelude.{◌≡◌, ◌&&◌, IfOk, OnOk, nat_eq};
 ghost use Rattle.std.specs.List.{list_any};
 ghost use Rattle.ps_formula.specs.References.{mentions};
 ghost use Rattle.ps_grid.specs.Rectangle.{is_inside};
+ghost use Rattle.ps_region.specs.Found.{IsFound};
 ghost use Rattle.ps_region.specs.Inside.Examples.{IsSmallSheet, has_formula_in, refers_in, refers_within};
 
 use crate::{After, Region};
@@ -91,11 +92,20 @@ fn put(sheet: &mut Sheet, index: &mut Index, cell: Cell, formula: Formula) -> Re
     Ok(())
 }
 
+/// Marks the change of all formulas.
+fn mark_all(sheet: &Sheet, index: &Index, whole: &mut Region)
+    requires { IsSmallSheet index.now sheet.now.formulas.items sheet.now.cells.items }
+    ensures { IsFound (refers_within sheet.now.formulas.items) (has_formula_in sheet.now.formulas.items)
+        sheet.now.cells.items whole.new }
+{
+    whole.mark(index, sheet, &sheet.cells, &[]);
+}
+
 /// Marks the change of all formulas, and then that of the touched cells alone.
 fn mark(sheet: &Sheet, index: &Index, touched: &[Cell], whole: &mut Region, region: &mut Region)
     requires { IsSmallSheet index.now sheet.now.formulas.items sheet.now.cells.items }
 {
-    whole.mark(index, sheet, &sheet.cells, &[]);
+    mark_all(sheet, index, whole);
     region.mark(index, sheet, touched, whole.cyclic());
 }
 
@@ -110,7 +120,7 @@ fn mark_listed_before(
 ) -> Result<(), Refusal>
     requires { IsSmallSheet index.old sheet.now.formulas.items sheet.now.cells.items }
 {
-    whole.mark(index, sheet, &sheet.cells, &[]);
+    mark_all(sheet, index, whole);
     index.set(cell, None, Some(before))?;
     region.mark(index, sheet, &[cell], whole.cyclic());
     Ok(())

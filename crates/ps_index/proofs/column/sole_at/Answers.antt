@@ -1,7 +1,6 @@
-use Rattle.std.proofs.Common.{◌≡◌, ◌+◌, ◌-◌, ◌≤◌, ◌∙◌, ap, arith, get_or, refl, sym, false}
+use Rattle.std.proofs.Common.{◌-◌, ◌∙◌, ap, arith, get_or, refl, sym, false}
 use Rattle.std.proofs.lemmas.List.{get_or_read}
 use Rattle.ps_index.specs.Inside.Columns.{IsColumn}
-use Rattle.ps_index.specs.Spans.{cell_of}
 use Rattle.ps_index.specs.declared.span.Span.{Span}
 use Rattle.ps_index.proofs.SoleCells.{sole_none, sole_one}
 use Rattle.ps_index.proofs.column.sole_at.Goals as goal

@@ -1,5 +1,5 @@
-use Rattle.std.proofs.Common.{◌≡◌, Bool, not, set, ◌<◌, ℕ, ◌+◌, ◌-◌, ◌&&◌, ◌||◌, ◌++◌, ◌∷◌, [], List, true}
-use Rattle.std.proofs.Common.{false, take, get_or, arith, length, sym, refl, ap, ◌∙◌, eqb, eq-eqb}
+use Rattle.std.proofs.Common.{◌≡◌, not, set, ◌<◌, ℕ, ◌+◌, ◌&&◌, ◌||◌, List}
+use Rattle.std.proofs.Common.{take, get_or, arith, length, sym, refl, ap, ◌∙◌, eqb, eq-eqb}
 use Rattle.std.specs.List.{list_any}
 use Rattle.std.proofs.lemmas.List.{get_or-set_same}
 use Rattle.ps_grid.specs.Chains.{In}

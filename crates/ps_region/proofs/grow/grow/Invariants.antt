@@ -1,4 +1,4 @@
-use Rattle.std.proofs.Common.{◌≡◌, ◌≤◌, ◌<◌, ◌∷◌, get_or, ◌-◌, ℕ, [], take, vec_capacity}
+use Rattle.std.proofs.Common.{◌≡◌, ◌≤◌, ◌<◌, get_or, ◌-◌, ℕ, [], take, vec_capacity}
 use Rattle.ps_grid.specs.declared.size.TheConstants.{CELLS}
 use Rattle.ps_region.specs.Listed.{listed}
 use Rattle.ps_region.specs.Inside.Cells.{HasSole, Marked}

@@ -1,5 +1,4 @@
 use Rattle.std.proofs.Common.{inl}
-use Rattle.std.specs.List.{IsDistinct}
 use Rattle.ps_region.proofs.ExampleLemmas.{cyclic_touched, sheet_extra, sheet_lists}
 use Rattle.ps_region.proofs.tests.mark.Goals as goal
 
@@ -11,26 +10,8 @@ pub mark-requires-clause-extra : goal.mark-requires-clause-extra
 mark-requires-clause-extra c x d lt i =
     inl (sheet_extra c.args.index.now c.args.sheet.now.formulas.items c.args.sheet.now.cells.items c.requires x d lt i)
 
-pub mark-requires-clause-outside_once : goal.mark-requires-clause-outside_once
-unfolding IsDistinct
-mark-requires-clause-outside_once c = tt
-
 pub mark-requires-clause-outside_no : goal.mark-requires-clause-outside_no
 mark-requires-clause-outside_no c x out cyc =
     let found = cyclic_touched c.args.index.now c.args.sheet.now.formulas.items c.args.sheet.now.cells.items c.requires
     x cyc in
-    absurd (out (rw c.deref.ensures.value found.1))
-
-pub mark-requires-2-clause-lists_all : goal.mark-requires-2-clause-lists_all
-mark-requires-2-clause-lists_all c =
-    sheet_lists c.args.index.now c.args.sheet.now.formulas.items c.args.sheet.now.cells.items c.requires
-
-pub mark-requires-2-clause-extra : goal.mark-requires-2-clause-extra
-mark-requires-2-clause-extra c x d lt i =
-    inl (sheet_extra c.args.index.now c.args.sheet.now.formulas.items c.args.sheet.now.cells.items c.requires x d lt i)
-
-pub mark-requires-2-clause-outside_no : goal.mark-requires-2-clause-outside_no
-mark-requires-2-clause-outside_no c x out cyc =
-    let found = cyclic_touched c.args.index.now c.args.sheet.now.formulas.items c.args.sheet.now.cells.items c.requires
-    x cyc in
-    rw c.cyclic.ensures (c.mark.ensures.found.cyclic_complete x (rw c.deref.ensures.value found.1) found.0 cyc)
+    rw c.cyclic.ensures (c.mark_all.ensures.cyclic_complete x found.1 found.0 cyc)

@@ -3,21 +3,21 @@ use Rattle.ps_region.specs.Listed.{listed}
 use Rattle.ps_region.proofs.ListedLemmas.{listed_below, next_listed, all_listed}
 use Rattle.ps_region.specs.Inside.Counts.{Released}
 use Rattle.ps_region.proofs.ReleaseLemmas.{Released-skip, Released-lower}
-use Rattle.ps_region.proofs.levels.release_each.Goals as goal
+use Rattle.ps_region.proofs.levels.release.Goals as goal
 
 pub still_refers-requires-clause-known : goal.still_refers-requires-clause-known
 still_refers-requires-clause-known g c =
     let n = next_listed c.args.index.now c.args.d c.loop-e.yielded _ _
     c.into_iter-e-iterator.ensures.into_iter_gives c.dependents-e-items.ensures.list
-    c.dependents-e-items.ensures.once c.loop-e.yielded_by c.next.ensures.steps c.in-Some.e c.in-Some.is in
-    c.requires.known c.in-Some.e n.inside
+    c.dependents-e-items.ensures.once c.loop-e.yielded_by c.next.ensures.steps c.in-Some-e.e c.in-Some-e.is in
+    c.requires.known c.in-Some-e.e n.inside
 
 pub lower-requires-clause-some : goal.lower-requires-clause-some
 lower-requires-clause-some g c =
     let n = next_listed c.args.index.now c.args.d c.loop-e.yielded _ _
     c.into_iter-e-iterator.ensures.into_iter_gives c.dependents-e-items.ensures.list
-    c.dependents-e-items.ensures.once c.loop-e.yielded_by c.next.ensures.steps c.in-Some.e c.in-Some.is in
-    let e = c.in-Some.e in
+    c.dependents-e-items.ensures.once c.loop-e.yielded_by c.next.ensures.steps c.in-Some-e.e c.in-Some-e.is in
+    let e = c.in-Some-e.e in
     let some = c.requires.some e (sym c.if-still_refers.ensures) in
     let o = rw n.new at (c.loop-e.invariant.released.counted e) in
     omega (arith, some, o)
@@ -26,8 +26,8 @@ pub loop-e-preserved-then-still_refers : goal.loop-e-preserved-then-still_refers
 loop-e-preserved-then-still_refers g c =
     let n = next_listed c.args.index.now c.args.d c.loop-e.yielded _ _
     c.into_iter-e-iterator.ensures.into_iter_gives c.dependents-e-items.ensures.list
-    c.dependents-e-items.ensures.once c.loop-e.yielded_by c.next.ensures.steps c.in-Some.e c.in-Some.is in
-    let e = c.in-Some.e in
+    c.dependents-e-items.ensures.once c.loop-e.yielded_by c.next.ensures.steps c.in-Some-e.e c.in-Some-e.is in
+    let e = c.in-Some-e.e in
     let came = take (length c.loop-e.yielded) (listed c.args.index.now c.args.d) in
     let rel = c.loop-e.invariant.released in
     let low : e < length c.loop-e.left =
@@ -53,7 +53,7 @@ pub loop-e-preserved : goal.loop-e-preserved
 loop-e-preserved g c =
     let n = next_listed c.args.index.now c.args.d c.loop-e.yielded _ _
     c.into_iter-e-iterator.ensures.into_iter_gives c.dependents-e-items.ensures.list
-    c.dependents-e-items.ensures.once c.loop-e.yielded_by c.next.ensures.steps c.in-Some.e c.in-Some.is in
+    c.dependents-e-items.ensures.once c.loop-e.yielded_by c.next.ensures.steps c.in-Some-e.e c.in-Some-e.is in
     let came = take (length c.loop-e.yielded) (listed c.args.index.now c.args.d) in
     record {
       can_next = tt;
@@ -61,7 +61,7 @@ loop-e-preserved g c =
       released = rw (n.push, n.more)
           (Released-skip (g.A.After.refers c.args.after.now) c.args.d c.args.k came c.args.left.now
           c.args.level.now c.args.order.now.items
-          c.loop-e.left c.loop-e.level c.loop-e.order.items c.in-Some.e c.loop-e.invariant.released
+          c.loop-e.left c.loop-e.level c.loop-e.order.items c.in-Some-e.e c.loop-e.invariant.released
           (sym c.if-still_refers.ensures));
       room = c.loop-e.invariant.room;
     }
