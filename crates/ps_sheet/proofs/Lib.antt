@@ -5,6 +5,7 @@ pub mod BatchDeltas
 pub mod Begins
 pub mod Bounded
 pub mod CellCounts
+pub mod ChangeLists
 pub mod ChangedStates
 pub mod CyclicLists
 pub mod EmptySheets

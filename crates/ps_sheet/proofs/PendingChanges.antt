@@ -10,6 +10,7 @@ use Rattle.ps_grid.proofs.ChainLemmas.{In-decided}
 use Rattle.ps_index.specs.Stands.{Stands}
 use Rattle.ps_index.specs.declared.span.Span.{Span}
 use Rattle.ps_eval.specs.Items.{Assignment}
+use Rattle.ps_shown.specs.declared.kept.Kept.{Kept}
 use Rattle.ps_shown.specs.Shown.{shown_at}
 use Rattle.ps_delta.specs.State.{Blocks, State, IsInGrid, joined_state, state_at}
 use Rattle.ps_delta.specs.Deltas.{Entries, cells_of, overlaid}
@@ -17,9 +18,9 @@ use Rattle.ps_delta.specs.Raised.{AreChanges, HasRoomFor, entries_from}
 use Rattle.ps_delta.specs.declared.cell_state.CellState.{CellState}
 use Rattle.ps_sheet.specs.Settled.{IsSettled}
 use Rattle.ps_sheet.specs.Inside.Formulas.{forms_of, with_puts}
-use Rattle.ps_sheet.specs.Inside.Kept.{IsTidy, Recalculates}
+use Rattle.ps_sheet.specs.Inside.Kept.{IsTidy, IsWhole, Recalculates}
 use Rattle.ps_sheet.specs.Inside.Pending.{IsPending}
-use Rattle.ps_sheet.specs.Inside.Screens.{before_of}
+use Rattle.ps_sheet.specs.Inside.Screens.{ScreenView, before_of, put_back}
 use Rattle.ps_sheet.specs.Inside.Walk.{ListsCyclic}
 use Rattle.ps_sheet.specs.declared.cells.Cells.{Cells}
 use Rattle.ps_sheet.proofs.SettledValues.{formula_below}
@@ -93,3 +94,46 @@ pending_of s d v es olds x y cyclic touched evaluated closed levels in_grid sett
       stands = subst (λ (q : State). Stands y.index (with_puts olds (forms_of q))) (sym now) beside;
       tidy = subst (λ (q : State). IsTidy q y) (sym (ap state_at did.grid)) did.tidy;
     }
+
+-- what is shown may be listed: nothing else changes
+module _ (x : Cells) (shown : ScreenView) (kept : shown.kept ≡ x.shown.kept) (olds : shown.olds ≡ x.shown.olds) where
+  pub before_listed : before_of shown ≡ before_of x.shown
+  before_listed =
+      ap (λ (es : List (ℕ × Kept)). put_back es (shown_at shown.kept)) olds
+      ∙ ap (λ (ks : List Kept). put_back x.shown.olds (shown_at ks)) kept
+
+  tidy_listed : (s : State) → IsTidy s x → IsTidy s (record x { shown = shown })
+  tidy_listed s tidy = record {
+    cyclic = tidy.cyclic;
+    room = tidy.room;
+    length = tidy.length;
+    off = tidy.off;
+    level = tidy.level;
+    workers = tidy.workers;
+  }
+
+  pub whole_listed : IsWhole x → IsWhole (record x { shown = shown })
+  whole_listed whole = record {
+    in_grid = whole.in_grid;
+    settled = subst (λ (ks : List Kept). IsSettled (state_at x.grid) (shown_at ks)) (sym kept) whole.settled;
+    stands = whole.stands;
+    tidy = tidy_listed (state_at x.grid) whole.tidy;
+    still = olds ∙ whole.still;
+  }
+
+  pub pending_listed : (s : State) (es : Entries) (cyclic : List ℕ) → IsPending s x es cyclic
+      → IsPending s (record x { shown = shown }) es cyclic
+  pending_listed s es cyclic p = record {
+    was_in_grid = p.was_in_grid;
+    was_settled = subst (IsSettled s) (sym before_listed) p.was_settled;
+    was_cyclic = p.was_cyclic;
+    few = p.few;
+    gives = p.gives;
+    ready = p.ready;
+    ascending = p.ascending;
+    stood = p.stood;
+    in_grid = p.in_grid;
+    settled = subst (λ (ks : List Kept). IsSettled (state_at x.grid) (shown_at ks)) (sym kept) p.settled;
+    stands = p.stands;
+    tidy = tidy_listed (state_at x.grid) p.tidy;
+  }

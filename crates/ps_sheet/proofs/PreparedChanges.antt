@@ -3,6 +3,7 @@ use Rattle.std.proofs.Common.{◌≡◌, ◌++◌, ◌∷◌, [], ℕ, ◌+◌, 
 use Rattle.std.proofs.Common.{Bool, Option, Some, None, is_some, arith, subst}
 use Rattle.std.specs.Prelude.{if◌then◌else◌}
 use Rattle.std.proofs.lemmas.List.{length-append}
+use Rattle.ps_value.specs.declared.value.Value.{Value}
 use Rattle.ps_eval.specs.Items.{Assignment}
 use Rattle.ps_shown.specs.declared.kept.Kept.{Kept}
 use Rattle.ps_shown.specs.Shown.{shown_at}
@@ -10,7 +11,7 @@ use Rattle.ps_delta.specs.State.{State, IsBelow, state_at}
 use Rattle.ps_delta.specs.Deltas.{Entries, state_of, joined_history}
 use Rattle.ps_sheet.specs.Settled.{IsSettled}
 use Rattle.ps_sheet.specs.Recalculated.{IsRecalculated}
-use Rattle.ps_sheet.specs.Prepared.{put_back, IsPrepared}
+use Rattle.ps_sheet.specs.Prepared.{put_back, IsChanges, IsPrepared}
 use Rattle.ps_sheet.specs.Sheet.{IsFresh}
 use Rattle.ps_sheet.specs.Inside.Ready.{IsHeld}
 use Rattle.ps_sheet.specs.declared.cells.Cells.{Cells}
@@ -20,7 +21,8 @@ use Rattle.ps_sheet.proofs.IdleChanges.{idle_recalculated, recalculated_as}
 use Rattle.ps_sheet.proofs.ScreenLemmas.{back_none}
 
 -- a delta below the state
-pub prepared_idle : (r : ℕ) (h : List Entries) (d : Entries) (shown : List Kept) (olds : List (ℕ × Kept)) (n : ℕ)
+pub prepared_idle : (r : ℕ) (h : List Entries) (d : Entries) (shown : List Kept) (olds : List (ℕ × Kept))
+    (changes : List (ℕ × Value)) (n : ℕ) → IsChanges (put_back olds (shown_at shown)) (shown_at shown) changes
     → olds ≡ [] → IsSettled (joined_history h) (shown_at shown) → IsBelow (state_of d) (joined_history h) → n ≡ length h
     → IsPrepared (record {
       replica = r;
@@ -29,9 +31,10 @@ pub prepared_idle : (r : ℕ) (h : List Entries) (d : Entries) (shown : List Kep
       fresh = false;
       shown = shown;
       olds = olds;
+      changes = changes;
       report = record { version = n; evaluated = 0; cyclic = 0; levels = 0 };
     })
-prepared_idle r h d shown olds n none settled below version =
+prepared_idle r h d shown olds changes n differ none settled below version =
     let same : put_back olds (shown_at shown) ≡ shown_at shown = back_none olds (shown_at shown) (ap length none) in
     record {
       takes = inl (below, refl);
@@ -41,11 +44,13 @@ prepared_idle r h d shown olds n none settled below version =
       version = version;
       report = subst (λ (v : Assignment). IsRecalculated (joined_history h) (joined_history h) v (shown_at shown) 0 0 0)
           (sym same) (idle_recalculated (joined_history h) (shown_at shown));
+      changes = differ;
     }
 
 -- a delta that is not below it, and was joined
 pub prepared_made : (r : ℕ) (h : List Entries) (d : Entries) (shown : List Kept) (olds : List (ℕ × Kept))
-    (v : Assignment) (s t : State) (n evaluated cyclic levels : ℕ)
+    (changes : List (ℕ × Value)) (v : Assignment) (s t : State) (n evaluated cyclic levels : ℕ)
+    → IsChanges v (shown_at shown) changes
     → ¬ IsBelow (state_of d) (joined_history h) → put_back olds (shown_at shown) ≡ v → s ≡ joined_history h
     → t ≡ joined_history (h ++ d ∷ []) → IsSettled s v → IsSettled t (shown_at shown) → n ≡ length h
     → IsRecalculated s t v (shown_at shown) evaluated cyclic levels
@@ -56,9 +61,10 @@ pub prepared_made : (r : ℕ) (h : List Entries) (d : Entries) (shown : List Kep
       fresh = true;
       shown = shown;
       olds = olds;
+      changes = changes;
       report = record { version = n + 1; evaluated = evaluated; cyclic = cyclic; levels = levels };
     })
-prepared_made r h d shown olds v s t n evaluated cyclic levels new before was is settled after version work = record {
+prepared_made r h d shown olds changes v s t n evaluated cyclic levels differ new before was is settled after version work = record {
   takes = inr (new, refl);
   fresh = ((λ e. new), (λ e. refl));
   before = subst (IsSettled (joined_history h)) (sym before)
@@ -67,6 +73,7 @@ prepared_made r h d shown olds v s t n evaluated cyclic levels new before was is
   version = let more = length-append h (d ∷ []) in omega (arith, version, more);
   report = recalculated_as s (joined_history h) t (joined_history (h ++ d ∷ [])) v (put_back olds (shown_at shown))
       (shown_at shown) evaluated cyclic levels was is (sym before) work;
+  changes = subst (λ (u : Assignment). IsChanges u (shown_at shown) changes) (sym before) differ;
 }
 
 -- the history and the state after a change

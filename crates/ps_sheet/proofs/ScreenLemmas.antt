@@ -24,7 +24,7 @@ use Rattle.ps_sheet.proofs.CyclicLists.{IsDistinct-joined}
 use Rattle.ps_sheet.proofs.CellCounts.{distinct_below_cells}
 
 -- another cell's value is put back over whatever it is
-back_there : (olds : List (ℕ × Kept)) (v : Assignment) (x c : ℕ) (y : Value) → c ≢ x
+pub back_there : (olds : List (ℕ × Kept)) (v : Assignment) (x c : ℕ) (y : Value) → c ≢ x
     → put_back olds (with_value v x y) c ≡ put_back olds v c
 unfolding put_back with_value
 back_there [] v x c y ne = with_value-there v x c y ne
@@ -160,3 +160,11 @@ noted_less olds e flags within so_far c on =
     (subst (λ xs. In xs c) (map-append (λ (d : ℕ × Kept). d.0) olds (e ∷ []))
     (so_far c (sym (flag_there flags e.0 c false ne) ∙ on)))))
     (cases_eq c e.0)
+
+-- no more cells are kept aside than there are
+pub noted_few : (olds : List (ℕ × Kept)) (flags : List Bool) → IsNoted olds flags → length olds ≤ CELLS
+noted_few olds flags noted =
+    let few = distinct_below_cells (cells_in olds) noted.once
+    (λ c i. subst (λ n. c < n) noted.length (flag_below flags c (noted.flagged c i))) in
+    let same = length-map olds (λ (e : ℕ × Kept). e.0) in
+    omega (arith, few, same)

@@ -1,9 +1,13 @@
 -- A change of a sheet that is worked out, and not yet made: the sheet before it, and what it is after it.
-use Rattle.std.specs.Prelude.{◌≡◌, ℕ, ◌≤◌, ◌↔◌, ◌⊎◌, Bool, true, false, if◌then◌else◌, List, [], ◌∷◌, ◌++◌, length}
+use Rattle.std.specs.Prelude.{◌≡◌, ℕ, ◌≤◌, ◌↔◌, ◌⊎◌, Bool, true, false, if◌then◌else◌, List, [], ◌∷◌, ◌++◌, length, map}
 use Rattle.std.specs.Prelude.{Result, Ok, Err, IsOk}
 use Rattle.std.specs.Arc.{arc_value}
+use Rattle.std.specs.List.{All}
+use Rattle.std.specs.List.Sorted.{IsStrictlyIncreasing}
+use Rattle.ps_grid.specs.Chains.{In}
 use Rattle.ps_grid.specs.declared.parties.TheConstants.{REPLICAS}
 use Rattle.ps_grid.specs.declared.refusal.Refusal.{Refusal}
+use Rattle.ps_value.specs.declared.value.Value.{Value}
 use Rattle.ps_eval.specs.Items.{Assignment}
 use Rattle.ps_shown.specs.declared.kept.Kept.{Kept}
 use Rattle.ps_shown.specs.Kept.{value_of}
@@ -23,8 +27,14 @@ unfoldable pub put_back : List (ℕ × Kept) → Assignment → Assignment
 put_back [] v = v
 put_back (e ∷ olds) v = with_value (put_back olds v) e.0 (value_of e.1)
 
+-- CHANGES: where the cells showed v and show w, exactly the cells that show another value, ascending, with the new one
+pub record IsChanges (v w : Assignment) (changes : List (ℕ × Value)) : Type 0 where
+  pub ascending : IsStrictlyIncreasing (map (λ e. e.0) changes)
+  pub exact : (c : ℕ) → In (map (λ e. e.0) changes) c ↔ ¬ (w c ≡ v c)
+  pub values : All (λ e. e.1 ≡ w e.0) changes
+
 -- the sheet's replica and history before the change, the change's delta, whether it is to be appended, what each cell
--- shows after the change, with what some showed before it, and the report
+-- shows after the change, with what some showed before it, which cells show another value, and the report
 pub record PreparedView : Type 0 where
   pub replica : ℕ
   pub history : List Entries
@@ -32,6 +42,7 @@ pub record PreparedView : Type 0 where
   pub fresh : Bool
   pub shown : List Kept
   pub olds : List (ℕ × Kept)
+  pub changes : List (ℕ × Value)
   pub report : Report
 
 -- what each cell shows before the change, and after it
@@ -60,6 +71,7 @@ pub record IsPrepared (p : PreparedView) : Type 0 where
   pub version : p.report.version ≡ length (history_after p)
   pub report : IsReport (joined_history p.history) (joined_history (history_after p)) (shown_before p) (shown_after p)
       p.report
+  pub changes : IsChanges (shown_before p) (shown_after p) p.changes
 
 -- d is the delta of a change at replica r over the state s
 abbrev pub IsDeltaOf : ℕ → State → Change → Entries → Type 0

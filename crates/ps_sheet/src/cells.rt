@@ -1,18 +1,19 @@
 //! What the cells of a sheet hold and show, and what is kept beside it so that a change costs what its region costs.
 
-ghost use Rattle.std.specs.Prelude.{◌≡◌, ◌+◌, ◌<◌, ◌≤◌, ◌++◌, [], ℕ, true, false, filter, length, nat_eq, not};
+ghost use Rattle.std.specs.Prelude.{◌≡◌, ◌+◌, ◌<◌, ◌≤◌, ◌++◌, [], List, ℕ, true, false, filter, length, nat_eq, not};
 ghost use Rattle.std.specs.Prelude.{vec_capacity, IfOk, IfErr, OnOk, OnErr};
 ghost use Rattle.std.specs.List.{list_all, list_any};
 ghost use Rattle.ps_formula.specs.References.{mentions};
 ghost use Rattle.ps_grid.specs.declared.parties.TheConstants.{WORKERS};
 ghost use Rattle.ps_shown.specs.Shown.{shown_at};
 ghost use Rattle.ps_delta.specs.State.{State, empty_state, joined_state, state_at};
-ghost use Rattle.ps_delta.specs.Deltas.{state_of};
+ghost use Rattle.ps_delta.specs.Deltas.{Entries, state_of};
 ghost use Rattle.ps_sheet.specs.Recalculated.{IsRecalculated};
 ghost use Rattle.ps_sheet.specs.Inside.Steps.{flag_at};
 ghost use Rattle.ps_sheet.specs.Inside.Screens.{before_of};
 ghost use Rattle.ps_sheet.specs.Inside.Kept.{IsWhole, MayRecalculate, Recalculates};
 ghost use Rattle.ps_sheet.specs.Inside.Pending.{IsPending};
+ghost use Rattle.ps_sheet.specs.Prepared.{IsChanges};
 ghost use Rattle.ps_sheet.specs.Inside.Alone.{is_alone, is_empty};
 ghost use Rattle.ps_sheet.specs.Inside.Walk.{formula_at};
 ghost use Rattle.ps_region.specs.Listed.{listed};
@@ -225,6 +226,19 @@ impl Cells {
                 cyclic,
             },
         })
+    }
+
+    /// Lists the cells that show another value than before a change, which may be pending.
+    pub(crate) fn list_changes(&mut self)
+        ensures grid { self.new.grid ≡ self.old.grid }
+        ensures kept { self.new.shown.kept ≡ self.old.shown.kept }
+        ensures olds { self.new.shown.olds ≡ self.old.shown.olds }
+        ensures changes { IsChanges (before_of self.old.shown) (shown_at self.old.shown.kept) self.new.shown.changes }
+        ensures whole { IsWhole self.old → IsWhole self.new }
+        ensures pending { (s : State) (olds : Entries) (cyclic : List ℕ) → IsPending s self.old olds cyclic
+            → IsPending s self.new olds cyclic }
+    {
+        self.shown.list_changes();
     }
 
     /// Leaves a change as it was made. It takes no memory.

@@ -7,7 +7,8 @@ ghost use Rattle.ps_shown.specs.Shown.{shown_at};
 ghost use Rattle.ps_delta.specs.State.{IsBelow, joined_state, state_at};
 ghost use Rattle.ps_delta.specs.Deltas.{Entries, joined_history, state_of};
 ghost use Rattle.ps_sheet.specs.Recalculated.{IsRecalculated};
-ghost use Rattle.ps_sheet.specs.Prepared.{IsDeltaOf, IsOf, IsPrepared, IsRefusedBy, IsToAppend};
+ghost use Rattle.ps_sheet.specs.Sheet.{IsSheet};
+ghost use Rattle.ps_sheet.specs.Prepared.{IsChanges, IsDeltaOf, IsOf, IsPrepared, IsRefusedBy, IsToAppend};
 ghost use Rattle.ps_sheet.specs.Inside.Kept.{IsWhole};
 ghost use Rattle.ps_sheet.specs.Inside.Pending.{IsPending};
 ghost use Rattle.ps_sheet.specs.Inside.Ready.{IsHeld};
@@ -20,7 +21,9 @@ use crate::made::delta_of;
 use crate::sheet::{Report, Sheet, put};
 use ps_delta::Delta;
 use ps_eval::Meter;
-use ps_grid::Refusal;
+use ps_grid::{Cell, Refusal};
+use ps_shown::Shown;
+use ps_value::Value;
 use ps_workers::{Gate, Open};
 use std::alloc::Global;
 use std::marker::Model;
@@ -235,6 +238,26 @@ impl Prepared {
         self.pending.is_some()
     }
 
+    /// Each cell whose shown value the change makes another one, with the new value; ascending.
+    ///
+    /// Cost: constant.
+    pub fn changes(&self) -> &[(Cell, Value)]
+        ensures changes { result.now ≡ self.now.changes }
+        ensures prepared { IsPrepared self.now }
+    {
+        self.cells.shown.changes()
+    }
+
+    /// What each cell shows after the change.
+    ///
+    /// Cost: constant.
+    pub fn shown_after(&self) -> &Shown
+        ensures shown { shown_at result.now ≡ shown_after self.now }
+        ensures prepared { IsPrepared self.now }
+    {
+        self.cells.shown.shown()
+    }
+
     /// The report of the change.
     ///
     /// Cost: constant.
@@ -249,7 +272,8 @@ impl Prepared {
     ///
     /// Cost: the cells of the region.
     pub fn commit(self) -> (Sheet, Report)
-        ensures sheet { IsOf result.0 self.replica (history_after self) (shown_after self) }
+        ensures of { IsOf result.0 self.replica (history_after self) (shown_after self) }
+        ensures sheet { IsSheet result.0 }
         ensures report { result.1 ≡ self.report }
         ensures prepared { IsPrepared self }
     {
@@ -274,7 +298,8 @@ impl Prepared {
     ///
     /// Cost: the cells of the region.
     pub fn cancel(self) -> Sheet
-        ensures sheet { IsOf result self.replica self.history (shown_before self) }
+        ensures of { IsOf result self.replica self.history (shown_before self) }
+        ensures sheet { IsSheet result }
         ensures prepared { IsPrepared self }
     {
         let Prepared {
@@ -306,8 +331,9 @@ fn idle(sheet: Sheet, delta: Arc<Delta>) -> Prepared
     let Sheet {
         replica,
         history,
-        cells,
+        mut cells,
     } = sheet;
+    cells.list_changes();
     let report = Report {
         version: history.len() as u64,
         evaluated: 0,
@@ -340,6 +366,8 @@ fn make<R: Threads + Sync, G: Gate, L: Ledger>(
     ensures pending { IfOk result (λ m. IsPending (state_at cells.old.grid) cells.new m.pending.olds.items
         m.pending.cyclic.items) }
     ensures before { OnOk result (before_of cells.new.shown ≡ shown_at cells.old.shown.kept) }
+    ensures changes { OnOk result (IsChanges (shown_at cells.old.shown.kept) (shown_at cells.new.shown.kept)
+        cells.new.shown.changes) }
     ensures joined { OnOk result (state_at cells.new.grid
         ≡ joined_state (state_at cells.old.grid) (state_of delta.now)) }
     ensures work { IfOk result (λ m. IsRecalculated (state_at cells.old.grid) (state_at cells.new.grid)
@@ -353,7 +381,9 @@ fn make<R: Threads + Sync, G: Gate, L: Ledger>(
     ensures unmetered { OnErr result (meter.new ≡ meter.old) }
 {
     history.reserve(1)?;
-    cells.prepare(rt, gate, alloc, delta, meter)
+    let made = cells.prepare(rt, gate, alloc, delta, meter)?;
+    cells.list_changes();
+    Ok(made)
 }
 
 /// Leaves a change as it was made, where there is one, and appends its delta.

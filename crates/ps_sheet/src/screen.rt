@@ -1,6 +1,7 @@
 //! What the cells show, and what those that a change put showed before it.
 
-ghost use Rattle.std.specs.Prelude.{◌≡◌, ◌<◌, ◌≤◌, [], ℕ, true, false, length, slice_set, vec_capacity, IfOk, IfErr};
+ghost use Rattle.std.specs.Prelude.{◌≡◌, ◌<◌, ◌≤◌, [], ℕ, true, false, length, slice_set, vec_capacity, IfOk, IfErr, map, nat_eq};
+ghost use Rattle.std.specs.List.{IsDistinct};
 ghost use Rattle.ps_grid.specs.Chains.{In};
 ghost use Rattle.ps_value.specs.Operand.{operand_of};
 ghost use Rattle.ps_value.specs.declared.value.Value.TheVariants.{Empty as Nothing};
@@ -8,7 +9,8 @@ ghost use Rattle.ps_shown.specs.Kept.{value_of as value_kept};
 ghost use Rattle.ps_shown.specs.Shown.{shown_at, with_value};
 ghost use Rattle.ps_sheet.specs.Inside.Steps.{flag_at};
 ghost use Rattle.ps_eval.specs.Items.{Assignment};
-ghost use Rattle.ps_sheet.specs.Inside.Screens.{IsNoted, before_of, cells_in, put_back};
+ghost use Rattle.ps_sheet.specs.Inside.Screens.{Differ, IsNoted, ListsDiffering, before_of, cells_in, put_back};
+ghost use Rattle.ps_sheet.specs.Prepared.{IsChanges};
 
 use crate::cells::no_flags;
 use crate::room;
@@ -28,6 +30,10 @@ pub(crate) struct Screen {
     olds: Vec<(Cell, Kept)>,
     /// whether a cell is among these
     is_put: Vec<bool>,
+    /// the cells of the changes, with room for all
+    cells: Vec<Cell>,
+    /// the changes that were listed last, with room for all cells
+    changes: Vec<(Cell, Value)>,
 }
 
 impl Model for Screen {
@@ -40,9 +46,10 @@ impl Model for Screen {
 
     ghost coded = { screen_code };
 
-    ghost view = { λ s. record { kept = s.shown; olds = s.olds.items } };
+    ghost view = { λ s. record { kept = s.shown; olds = s.olds.items; changes = s.changes.items } };
 
-    ghost invariant = { λ s. IsNoted s.olds.items s.is_put.items × (CELLS ≤ vec_capacity s.olds) };
+    ghost invariant = { λ s. IsNoted s.olds.items s.is_put.items × (CELLS ≤ vec_capacity s.olds)
+        × (CELLS ≤ vec_capacity s.cells) × (CELLS ≤ vec_capacity s.changes) };
 }
 
 impl Screen {
@@ -56,11 +63,15 @@ impl Screen {
     {
         let is_put = no_flags(alloc, CELLS)?;
         let olds = Vec::with_capacity(alloc, CELLS)?;
+        let cells = Vec::with_capacity(alloc, CELLS)?;
+        let changes = Vec::with_capacity(alloc, CELLS)?;
         let shown = Shown::new(alloc)?;
         Ok(Screen {
             shown,
             olds,
             is_put,
+            cells,
+            changes,
         })
     }
 
@@ -103,6 +114,24 @@ impl Screen {
         note(&mut self.olds, &mut self.is_put, cell, old);
     }
 
+    /// The changes that were listed last.
+    pub(crate) fn changes(&self) -> &[(Cell, Value)]
+        ensures changes { result.now ≡ self.now.changes }
+    {
+        &self.changes
+    }
+
+    /// Lists the cells that show another value than before, ascending, with what they show.
+    pub(crate) fn list_changes(&mut self)
+        ensures kept { self.new.kept ≡ self.old.kept }
+        ensures olds { self.new.olds ≡ self.old.olds }
+        ensures changes { IsChanges (before_of self.old) (shown_at self.old.kept) self.new.changes }
+    {
+        list_changed(&self.olds, &self.shown, &mut self.cells);
+        self.cells.sort_unstable();
+        list_values(&self.cells, &self.shown, &mut self.changes);
+    }
+
     /// Forgets what was shown before.
     pub(crate) fn keep(&mut self)
         ensures kept { self.new.kept ≡ self.old.kept }
@@ -117,6 +146,43 @@ impl Screen {
         ensures still { self.new.olds ≡ [] }
     {
         put_olds(&mut self.olds, &mut self.is_put, &mut self.shown);
+    }
+}
+
+/// Lists the cells of old values that show another one now.
+fn list_changed(olds: &[(Cell, Kept)], shown: &Shown, cells: &mut Vec<Cell>)
+    requires once { IsDistinct nat_eq (cells_in olds.now) }
+    requires room { length olds.now ≤ vec_capacity cells.old }
+    ensures differ { Differ (shown_at shown.now) (put_back olds.now (shown_at shown.now)) cells.new.items }
+    ensures few { length cells.new.items ≤ length olds.now }
+    ensures room { vec_capacity cells.old ≤ vec_capacity cells.new }
+{
+    cells.clear();
+    for entry in olds {
+        list_one(entry, shown, cells);
+    }
+}
+
+/// Lists the cell of an old value where it shows another one now.
+fn list_one(old: &(Cell, Kept), shown: &Shown, cells: &mut Vec<Cell>)
+    requires room { length cells.old.items < vec_capacity cells.old }
+    ensures listed { ListsDiffering old.now (shown_at shown.now) cells.old.items cells.new.items }
+    ensures room { vec_capacity cells.old ≤ vec_capacity cells.new }
+{
+    if !old.1.is_same(shown.kept(old.0)) {
+        room::put(cells, old.0);
+    }
+}
+
+/// Lists cells with what they show.
+fn list_values(cells: &[Cell], shown: &Shown, changes: &mut Vec<(Cell, Value)>)
+    requires room { length cells.now ≤ vec_capacity changes.old }
+    ensures values { changes.new.items ≡ map (λ c. (c, shown_at shown.now c)) cells.now }
+    ensures room { vec_capacity changes.old ≤ vec_capacity changes.new }
+{
+    changes.clear();
+    for cell in cells {
+        room::put(changes, (*cell, shown.at(*cell)));
     }
 }
 

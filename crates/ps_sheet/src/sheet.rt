@@ -18,6 +18,7 @@ use crate::made::delta_of;
 use ps_delta::Delta;
 use ps_eval::{Look, Meter};
 use ps_grid::{Cell, REPLICAS, Refusal};
+use ps_shown::Shown;
 use ps_value::{Fault, Operand, Value};
 use std::alloc::Global;
 use std::marker::Model;
@@ -239,6 +240,16 @@ impl Sheet {
         ensures sheet { IsSheet self.now }
     {
         self.cells.shown.at(cell)
+    }
+
+    /// What each cell shows.
+    ///
+    /// Cost: constant.
+    pub fn all_shown(&self) -> &Shown
+        ensures shown { shown_at result.now ≡ shown_at self.now.shown }
+        ensures sheet { IsSheet self.now }
+    {
+        self.cells.shown.shown()
     }
 
     /// Whether the cell's register has the last time, so that no edit can give the cell a content any more.

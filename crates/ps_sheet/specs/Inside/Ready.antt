@@ -24,6 +24,7 @@ prepared_of x = record {
   fresh = is_some x.pending;
   shown = x.cells.shown.kept;
   olds = x.cells.shown.olds;
+  changes = x.cells.shown.changes;
   report = x.report;
 }
 

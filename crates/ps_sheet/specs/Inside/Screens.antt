@@ -1,18 +1,21 @@
 -- What the cells show, and what those that were put showed before.
-use Rattle.std.specs.Prelude.{◌≡◌, ℕ, Bool, true, List, length, map, nat_eq}
+use Rattle.std.specs.Prelude.{◌≡◌, ◌↔◌, ◌⊎◌, ℕ, Bool, true, List, [], ◌∷◌, ◌++◌, length, map, nat_eq}
 use Rattle.std.specs.List.{IsDistinct}
 use Rattle.ps_grid.specs.Chains.{In}
 use Rattle.ps_grid.specs.declared.size.TheConstants.{CELLS}
+use Rattle.ps_value.specs.declared.value.Value.{Value}
 use Rattle.ps_eval.specs.Items.{Assignment}
 use Rattle.ps_shown.specs.declared.kept.Kept.{Kept}
+use Rattle.ps_shown.specs.Kept.{value_of}
 use Rattle.ps_shown.specs.Shown.{shown_at}
 unfoldable pub use Rattle.ps_sheet.specs.Prepared.{put_back}
 use Rattle.ps_sheet.specs.Inside.Steps.{flag_at}
 
--- what is kept of the cells, and of those that were put what was kept before
+-- what is kept of the cells, of those that were put what was kept before, and the changes that were listed last
 pub record ScreenView : Type 0 where
   pub kept : List Kept
   pub olds : List (ℕ × Kept)
+  pub changes : List (ℕ × Value)
 
 -- the cells of a list
 abbrev pub cells_in : List (ℕ × Kept) → List ℕ
@@ -28,3 +31,13 @@ pub record IsNoted (olds : List (ℕ × Kept)) (flags : List Bool) : Type 0 wher
   pub once : IsDistinct nat_eq (cells_in olds)
   pub flagged : (c : ℕ) → In (cells_in olds) c → flag_at flags c ≡ true
   pub noted : (c : ℕ) → flag_at flags c ≡ true → In (cells_in olds) c
+
+-- exactly the cells at which two assignments differ, each once
+pub record Differ (w v : Assignment) (cells : List ℕ) : Type 0 where
+  pub once : IsDistinct nat_eq cells
+  pub exact : (c : ℕ) → In cells c ↔ ¬ (w c ≡ v c)
+
+-- ONE CELL is listed, where the cells show w, if that is another value than the one that was kept of it
+abbrev pub ListsDiffering : ℕ × Kept → Assignment → List ℕ → List ℕ → Type 0
+ListsDiffering e w cells cells2 =
+    ((w e.0 ≡ value_of e.1) × (cells2 ≡ cells)) ⊎ ((¬ (w e.0 ≡ value_of e.1)) × (cells2 ≡ cells ++ e.0 ∷ []))

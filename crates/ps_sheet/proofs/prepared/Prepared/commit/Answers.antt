@@ -32,3 +32,6 @@ invariant_of-sheet c =
       joined = joined;
       whole = whole;
     }
+
+pub returns-clause-sheet : goal.returns-clause-sheet
+returns-clause-sheet c = (invariant_of-sheet c).sheet

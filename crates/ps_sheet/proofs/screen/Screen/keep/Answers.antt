@@ -16,4 +16,6 @@ invariant_of-self c =
           (noted_none c.forget.new.olds.items c.forget.new.is_put c.forget.ensures.none
           (whole ∙ c.self.invariant.0.length) c.forget.ensures.off),
       omega (arith, room, more),
+      c.self.invariant.2,
+      c.self.invariant.3,
     )

@@ -8,4 +8,6 @@ invariant_of-result c =
       noted_none c.in_ok-olds.olds.items c.in_ok-is_put.is_put.items c.in_ok-olds.ensures.items
           c.in_ok-is_put.ensures.length c.in_ok-is_put.ensures.off,
       omega (arith, room),
+      (let more = c.in_ok-cells.ensures.capacity in omega (arith, more)),
+      (let more = c.in_ok-changes.ensures.capacity in omega (arith, more)),
     )

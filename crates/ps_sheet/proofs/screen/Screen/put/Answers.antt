@@ -21,6 +21,8 @@ invariant_of-self c =
     let more = c.note.ensures.room in (
       subst (λ (xs : List Bool). IsNoted c.note.new.olds.items xs) (sym is) c.note.ensures.noted,
       omega (arith, room, more),
+      c.self.invariant.2,
+      c.self.invariant.3,
     )
 
 pub returns-clause-before : goal.returns-clause-before

@@ -16,4 +16,6 @@ invariant_of-self c =
           (noted_none c.put_olds.new.olds.items c.put_olds.new.is_put c.put_olds.ensures.none
           (whole ∙ c.self.invariant.0.length) c.put_olds.ensures.off),
       omega (arith, room, more),
+      c.self.invariant.2,
+      c.self.invariant.3,
     )

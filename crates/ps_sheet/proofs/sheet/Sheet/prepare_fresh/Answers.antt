@@ -34,9 +34,10 @@ invariant_of-result g c =
       after = λ e. is;
       fresh = subst IsFresh (sym hist) kept.sheet.fresh;
       replica = kept.sheet.replica;
-      prepared = prepared_made x.replica h d cells.shown.kept cells.shown.olds (shown_at x.cells.shown.kept)
+      prepared = prepared_made x.replica h d cells.shown.kept cells.shown.olds cells.shown.changes
+          (shown_at x.cells.shown.kept)
           (state_at x.cells.grid) (state_at cells.grid) c.len.result c.in-Ok.field-0.work.evaluated
-          c.in-Ok.field-0.work.cyclic c.in-Ok.field-0.work.levels new c.in-Ok.ensures.before was is kept.whole.settled
+          c.in-Ok.field-0.work.cyclic c.in-Ok.field-0.work.levels c.in-Ok.ensures.changes new c.in-Ok.ensures.before was is kept.whole.settled
           pending.settled
           (let n = c.len.ensures in let m = length-map c.make.new.history.items arc_value in omega (arith, n, m))
           c.in-Ok.ensures.work;
