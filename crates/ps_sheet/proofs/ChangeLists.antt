@@ -1,5 +1,6 @@
 -- The list of the cells that show another value than before.
-use Rattle.std.proofs.Common.{◌≡◌, ◌≢◌, ℕ, ◌+◌, ◌<◌, ◌≤◌, Bool, true, false, List, [], ◌∷◌, ◌++◌, length, map, take, get_or}
+use Rattle.std.proofs.Common.{◌≡◌, ◌≢◌, ℕ, ◌+◌, ◌<◌, ◌≤◌, Bool, true, false, List, []}
+use Rattle.std.proofs.Common.{◌∷◌, ◌++◌, length, map, take, get_or}
 use Rattle.std.proofs.Common.{refl, sym, ap, ◌∙◌, arith, ⊎_elim, eqb, ne_eqb, nat_cmp, subst}
 use Rattle.std.specs.Prelude.{if◌then◌else◌}
 use Rattle.std.specs.List.{All, IsDistinct, list_any}
@@ -137,7 +138,8 @@ flips x y =
 
 -- the cells that differ, in order, with what they show
 pub changes_of : (v w : Assignment) (picked sorted : List ℕ) (changes : List (ℕ × Value)) → Differ w v picked
-    → IsPermutation picked sorted → IsSorted nat_cmp sorted → changes ≡ map (λ c. (c, w c)) sorted → IsChanges v w changes
+    → IsPermutation picked sorted → IsSorted nat_cmp sorted → changes ≡ map (λ c. (c, w c)) sorted → IsChanges v w
+    changes
 changes_of v w picked sorted changes differ moved rises is =
     let same : (c : ℕ) → list_any (eqb c) picked ≡ list_any (eqb c) sorted =
     λ c. list_any-IsPermutation (eqb c) picked sorted moved in

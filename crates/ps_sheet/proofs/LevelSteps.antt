@@ -30,7 +30,8 @@ use Rattle.ps_sheet.proofs.Walks.{weaker, evaluate, quiet}
 abbrev pub ShowsPart : (ℕ → List ℕ) → List ℕ → List Value → ℕ → Assignment → Assignment → (ℕ → Bool) → (ℕ → Bool)
     → Type 0
 ShowsPart listed cells values i u u2 flags flags2 =
-    (t : State) (v : Assignment) (touched : List ℕ) (level : ℕ → List ℕ) (top k m : ℕ) → Road t listed v touched level top
+    (t : State) (v : Assignment) (touched : List ℕ) (level : ℕ → List ℕ) (top k m : ℕ) → Road t listed v touched
+    level top
     → 0 < k → k ≤ top → IsDistinct eqb cells → ((c : ℕ) → In cells c → In (level k) c × (flags c ≡ true))
     → values ≡ map (λ c. value_of (t c) u) cells
     → Walked t v touched (IsPassed level k []) u flags m
@@ -68,7 +69,8 @@ formula_values t u (c ∷ cells) formulas =
     rw (here, others) refl
 
 -- what is kept at a place has the value at that place
-pub kept_at : (xs : List Kept) (i : ℕ) (d : Kept) → get_or (kept_values xs) i (value_kept d) ≡ value_kept (get_or xs i d)
+pub kept_at : (xs : List Kept) (i : ℕ) (d : Kept) → get_or (kept_values xs) i (value_kept d) ≡ value_kept
+    (get_or xs i d)
 kept_at [] i d = refl
 kept_at (x ∷ xs) zero d = refl
 kept_at (x ∷ xs) (suc i) d = kept_at xs i d
@@ -139,7 +141,8 @@ shows_more listed cells values i d y e u u2 u3 flags flags2 flags3 so_far lt y_i
     value_by-agrees (content_of (t x)) (t x) u u2
     (λ q r. sym (so.1 q (lower_alone t listed v touched level top k road some within x q here r))) in
     let value : y ≡ value_of (t x) u2 =
-    y_is ∙ (ap (λ (vs : List Value). get_or vs i e) is ∙ (get_or-map (λ c. value_of (t c) u) cells i d e lt ∙ agrees)) in
+    y_is ∙ (ap (λ (vs : List Value). get_or vs i e) is ∙ (get_or-map (λ c. value_of (t c) u) cells i d e lt ∙
+    agrees)) in
     let shows2 : Shows x (value_of (t x) u2) (listed x) u2 u3 flags2 flags3 =
     subst (λ z. Shows x z (listed x) u2 u3 flags2 flags3) value shows in
     let w3 = evaluate road.before t v touched road.change (IsPassed level k (take i cells)) u2 flags2 (m + i) x so.0
@@ -174,10 +177,12 @@ shows_more listed cells values i d y e u u2 u3 flags flags2 flags3 so_far lt y_i
 pub shows_end : (listed : ℕ → List ℕ) (cells : List ℕ) (values : List Value) (i : ℕ) (u u2 : Assignment)
     (flags flags2 : ℕ → Bool) → ShowsPart listed cells values i u u2 flags flags2 → i ≡ length cells
     → ShowsAll listed cells values u u2 flags flags2
-shows_end listed cells values i u u2 flags flags2 so_far all t v touched level top k m road some within once among is w =
+shows_end listed cells values i u u2 flags flags2 so_far all t v touched level top k m road some within once among
+    is w =
     let so = so_far t v touched level top k m road some within once among is w in (
       subst (λ q. Walked t v touched (IsPassed level k cells) u2 flags2 (m + q)) all
-          (subst (λ xs. Walked t v touched (IsPassed level k xs) u2 flags2 (m + i)) (take_all i cells (omega (arith, all)))
+          (subst (λ xs. Walked t v touched (IsPassed level k xs) u2 flags2 (m + i))
+          (take_all i cells (omega (arith, all)))
           so.0),
       so.1,
       so.2,
@@ -269,7 +274,8 @@ pub level_stepped : (t : State) (listed : ℕ → List ℕ) (cells : List ℕ) (
     → StepsLevel t listed cells u u2 flags flags2 (length (filter flags cells))
 level_stepped t listed cells values u u2 flags flags2 is shown v touched level top k m road some within same w =
     subst
-    (λ xs. values ≡ map (λ c. value_of (t c) u) (filter flags xs) → ShowsAll listed (filter flags xs) values u u2 flags flags2
+    (λ xs. values ≡ map (λ c. value_of (t c) u) (filter flags xs) → ShowsAll listed (filter flags xs) values u u2
+    flags flags2
     → Walked t v touched (IsPassed level k xs) u2 flags2 (m + length (filter flags xs)))
     same
     (λ is2 shown2.
@@ -284,5 +290,6 @@ pub few_due : (flags : ℕ → Bool) (cells : List ℕ) → length (filter flags
 few_due flags [] = omega arith
 few_due flags (c ∷ cells) =
     let few = few_due flags cells in
-    ⊎_elim (λ (on : flags c ≡ true). rw on (omega (arith, few))) (λ (off : flags c ≡ false). rw off (omega (arith, few)))
+    ⊎_elim (λ (on : flags c ≡ true). rw on (omega (arith, few)))
+    (λ (off : flags c ≡ false). rw off (omega (arith, few)))
     (bool_cases (flags c))

@@ -67,7 +67,8 @@ pub pending_of : (s d : State) (v : Assignment) (es olds : Entries) (x y : Cells
     → AreChanges s (joined_state s d) es → state_at x.grid ≡ overlaid s es → olds ≡ entries_from s es
     → HasRoomFor x.grid olds → Stands x.index (with_puts es (forms_of s)) → IsInGrid (overlaid s es)
     → Recalculates x y touched evaluated closed levels → IsPending s y olds cyclic
-pending_of s d v es olds x y cyclic touched evaluated closed levels in_grid settled before listed joins given taken ready
+pending_of s d v es olds x y cyclic touched evaluated closed levels in_grid settled before listed joins given taken
+    ready
     stands after did =
     let t : State = overlaid s es in
     let now : state_at y.grid ≡ t = ap state_at did.grid ∙ given in

@@ -64,17 +64,18 @@ pub prepared_made : (r : ℕ) (h : List Entries) (d : Entries) (shown : List Kep
       changes = changes;
       report = record { version = n + 1; evaluated = evaluated; cyclic = cyclic; levels = levels };
     })
-prepared_made r h d shown olds changes v s t n evaluated cyclic levels differ new before was is settled after version work = record {
-  takes = inr (new, refl);
-  fresh = ((λ e. new), (λ e. refl));
-  before = subst (IsSettled (joined_history h)) (sym before)
-      (subst (λ (q : State). IsSettled q v) was settled);
-  after = subst (λ (q : State). IsSettled q (shown_at shown)) is after;
-  version = let more = length-append h (d ∷ []) in omega (arith, version, more);
-  report = recalculated_as s (joined_history h) t (joined_history (h ++ d ∷ [])) v (put_back olds (shown_at shown))
-      (shown_at shown) evaluated cyclic levels was is (sym before) work;
-  changes = subst (λ (u : Assignment). IsChanges u (shown_at shown) changes) (sym before) differ;
-}
+prepared_made r h d shown olds changes v s t n evaluated cyclic levels differ new before was is settled after
+    version work = record {
+      takes = inr (new, refl);
+      fresh = ((λ e. new), (λ e. refl));
+      before = subst (IsSettled (joined_history h)) (sym before)
+          (subst (λ (q : State). IsSettled q v) was settled);
+      after = subst (λ (q : State). IsSettled q (shown_at shown)) is after;
+      version = let more = length-append h (d ∷ []) in omega (arith, version, more);
+      report = recalculated_as s (joined_history h) t (joined_history (h ++ d ∷ [])) v (put_back olds (shown_at shown))
+          (shown_at shown) evaluated cyclic levels was is (sym before) work;
+      changes = subst (λ (u : Assignment). IsChanges u (shown_at shown) changes) (sym before) differ;
+    }
 
 -- the history and the state after a change
 pub after_fresh : (h : List Entries) (d : Entries) (b : Bool) → IsFresh h

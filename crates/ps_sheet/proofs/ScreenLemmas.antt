@@ -100,7 +100,8 @@ flag_below flags c on =
     (cases_lt c (length flags))
 
 -- one cell more is kept aside
-module _ (olds : List (ℕ × Kept)) (flags : List Bool) (x : ℕ) (old : Kept) (noted : IsNoted olds flags) (below : x < CELLS)
+module _ (olds : List (ℕ × Kept)) (flags : List Bool) (x : ℕ) (old : Kept) (noted : IsNoted olds flags)
+    (below : x < CELLS)
     (off : flag_at flags x ≡ false) where
   is : cells_in (olds ++ (x, old) ∷ []) ≡ cells_in olds ++ x ∷ []
   is = map-append (λ (e : ℕ × Kept). e.0) olds ((x, old) ∷ [])

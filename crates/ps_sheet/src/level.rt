@@ -1,6 +1,7 @@
 //! One level of a recalculation: its due cells are evaluated together, by workers, and then shown one after the other.
 
-ghost use Rattle.std.specs.Prelude.{◌≡◌, ◌+◌, ◌<◌, ◌≤◌, ◌∷◌, ◌++◌, [], ℕ, true, filter, length, vec_capacity, IfOk, IfErr};
+ghost use Rattle.std.specs.Prelude.{◌≡◌, ◌+◌, ◌<◌, ◌≤◌, ◌∷◌, ◌++◌, [], ℕ, true};
+ghost use Rattle.std.specs.Prelude.{filter, length, vec_capacity, IfOk, IfErr};
 ghost use Rattle.std.specs.List.{IsDistinct};
 ghost use Rattle.ps_grid.specs.Chains.{In};
 ghost use Rattle.ps_grid.specs.declared.parties.TheConstants.{WORKERS};

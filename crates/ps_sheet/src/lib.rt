@@ -17,6 +17,11 @@
 //! returned only where a delta was to be appended. Settled values exist ([`settled_at_least_once`]), are the only ones
 //! ([`settled_at_most_once`]), and depend on the set of deltas alone ([`same_deltas_show_the_same`]).
 //!
+//! [`Sheet::prepare`] works a change out before it is made: a [`Prepared`] tells the delta, which cells will show
+//! another value, and the report. It is ended by [`Prepared::commit`], which leaves the sheet as after the edit or the
+//! receipt, or by [`Prepared::cancel`], which leaves it with its replica, its history and what it showed. Both take no
+//! memory. So what has to be told elsewhere first can be told, and the change given up where it can't.
+//!
 //! Say replica 1 gives A1 the number 5 and B1 the formula `=[.A1]*2`: two edits, so `version` is 2 and B1 shows 10.
 //! Then a delta of replica 2 comes that gives A1 the number 7 at time 1, as replica 1 did. The greater replica wins: A1
 //! shows 7 and B1 shows 14. The same delta once more is below the state: `version` stays 3.
@@ -27,8 +32,8 @@
 //!
 //! Cost: a sheet keeps its deltas, and for each cell of the grid what it shows and some numbers for recalculating. A
 //! change costs its delta and its region: the cells that it reaches, the references to them, and the evaluations, which
-//! the workers of a wide level share; and it looks once at each cell that shows `#CYCLE!`. A look at a cell costs a
-//! constant.
+//! the workers of a wide level share; and it looks once at each cell that shows `#CYCLE!`. Preparing it puts the cells
+//! that changed in order as well, and taking it back costs what was put. A look at a cell costs a constant.
 #![tactic(auto)]
 
 mod cells;

@@ -64,11 +64,13 @@ impl Model for Prepared {
 }
 
 impl Sheet {
-    /// Works out a change, and makes every growth that it needs.
+    /// Works out a change, after every growth that it needs. A delta below the state changes nothing, and is prepared
+    /// as one that isn't fresh. The formulas are evaluated and counted here, whether the change is then made or given
+    /// up.
     ///
     /// Refused as [`Sheet::edit`] or [`Sheet::receive`] would be, and then the sheet comes back as it was.
     ///
-    /// Cost: that of [`Sheet::edit`] or [`Sheet::receive`].
+    /// Cost: that of [`Sheet::edit`] or [`Sheet::receive`], and of sorting the cells that show another value.
     pub fn prepare<R: Threads + Sync, L: Ledger>(
         self,
         rt: &R,
@@ -270,7 +272,7 @@ impl Prepared {
 
     /// Makes the change. It takes no memory.
     ///
-    /// Cost: the cells of the region.
+    /// Cost: the touched cells with their references, and the cells that were put.
     pub fn commit(self) -> (Sheet, Report)
         ensures of { IsOf result.0 self.replica (history_after self) (shown_after self) }
         ensures sheet { IsSheet result.0 }
@@ -294,9 +296,9 @@ impl Prepared {
         (sheet, report)
     }
 
-    /// Gives up the change: each public answer of the sheet is as it was. It takes no memory.
+    /// Gives up the change: the sheet has its replica, its history and what it showed. It takes no memory.
     ///
-    /// Cost: the cells of the region.
+    /// Cost: the touched cells with their references, the cells that were put, and those that showed `#CYCLE!`.
     pub fn cancel(self) -> Sheet
         ensures of { IsOf result self.replica self.history (shown_before self) }
         ensures sheet { IsSheet result }

@@ -1,6 +1,7 @@
 //! What the cells show, and what those that a change put showed before it.
 
-ghost use Rattle.std.specs.Prelude.{◌≡◌, ◌<◌, ◌≤◌, [], ℕ, true, false, length, slice_set, vec_capacity, IfOk, IfErr, map, nat_eq};
+ghost use Rattle.std.specs.Prelude.{◌≡◌, ◌<◌, ◌≤◌, [], ℕ, true, false, length, slice_set};
+ghost use Rattle.std.specs.Prelude.{vec_capacity, IfOk, IfErr, map, nat_eq};
 ghost use Rattle.std.specs.List.{IsDistinct};
 ghost use Rattle.ps_grid.specs.Chains.{In};
 ghost use Rattle.ps_value.specs.Operand.{operand_of};

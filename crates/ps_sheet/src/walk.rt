@@ -43,7 +43,8 @@ fn flag_dependents(index: &Index, cell: Cell, flags: &mut [bool])
 /// Lets a cell show a value, and flags the cells that refer to it where that is another one than it showed.
 pub(crate) fn show(index: &Index, cell: Cell, kept: Kept, shown: &mut Screen, flags: &mut [bool])
     requires whole { length flags.old ≡ CELLS }
-    ensures shows { Shows cell (value_kept kept) (listed index.now cell) (shown_at shown.old.kept) (shown_at shown.new.kept)
+    ensures shows { Shows cell (value_kept kept) (listed index.now cell) (shown_at shown.old.kept)
+        (shown_at shown.new.kept)
         (flag_at flags.old) (flag_at flags.new) }
     ensures before { before_of shown.new ≡ before_of shown.old }
 {
@@ -86,7 +87,8 @@ pub(crate) fn show_all_first(
     requires whole { length flags.old ≡ CELLS }
     requires once { IsDistinct nat_eq (map (λ e. e.0) first.items) }
     requires values { All (λ e. value_kept e.1 ≡ first_value (state_at grid.now e.0)) first.items }
-    ensures begun { BeginsAll (state_at grid.now) (listed index.now) (map (λ e. e.0) first.items) (shown_at shown.old.kept)
+    ensures begun { BeginsAll (state_at grid.now) (listed index.now) (map (λ e. e.0) first.items)
+        (shown_at shown.old.kept)
         (shown_at shown.new.kept) (flag_at flags.old) (flag_at flags.new) }
     ensures before { before_of shown.new ≡ before_of shown.old }
 {

@@ -14,8 +14,8 @@ use Rattle.ps_sheet.specs.Inside.Screens.{before_of}
 use Rattle.ps_sheet.specs.Inside.Walk.{ListsCyclic}
 use Rattle.ps_sheet.specs.declared.cells.Cells.{Cells}
 
--- PENDING: the touched cells had the states of `olds`, the cyclic cells were those of `cyclic`, and that was the settled
--- state s; the cells hold and show what they do after the change, and the index has old and new formulas
+-- PENDING: the touched cells had the states of `olds`, the cyclic cells were those of `cyclic`, and that was the
+-- settled state s; the cells hold and show what they do after the change, and the index has old and new formulas
 pub record IsPending (s : State) (x : Cells) (olds : Entries) (cyclic : List ℕ) : Type 0 where
   pub was_in_grid : IsInGrid s
   pub was_settled : IsSettled s (before_of x.shown)

@@ -50,7 +50,8 @@ pub record Road (t : State) (listed : ℕ → List ℕ) (v : Assignment) (touche
 -- THE DUE CELLS of a level get the values that they have where the cells show u
 abbrev pub ShowsAll : (ℕ → List ℕ) → List ℕ → List Value → Assignment → Assignment → (ℕ → Bool) → (ℕ → Bool) → Type 0
 ShowsAll listed cells values u u2 flags flags2 =
-    (t : State) (v : Assignment) (touched : List ℕ) (level : ℕ → List ℕ) (top k m : ℕ) → Road t listed v touched level top
+    (t : State) (v : Assignment) (touched : List ℕ) (level : ℕ → List ℕ) (top k m : ℕ) → Road t listed v touched
+    level top
     → 0 < k → k ≤ top → IsDistinct nat_eq cells → ((c : ℕ) → In cells c → In (level k) c × (flags c ≡ true))
     → values ≡ map (λ c. value_of (t c) u) cells
     → Walked t v touched (IsPassed level k []) u flags m

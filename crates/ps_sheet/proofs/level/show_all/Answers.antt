@@ -21,7 +21,8 @@ loop-i-preserved c =
     ∙ sym (kept_at values i place) in
     record {
       shows = shows_more (listed c.args.index.now) c.args.cells.now (kept_values values) i x (value_kept kept)
-          (value_kept place) (shown_at c.args.shown.now.kept) (shown_at c.loop-i.shown.kept) (shown_at c.show.new.shown.kept)
+          (value_kept place) (shown_at c.args.shown.now.kept) (shown_at c.loop-i.shown.kept)
+          (shown_at c.show.new.shown.kept)
           (flag_at c.args.flags.now) (flag_at c.loop-i.flags) (flag_at c.show.new.flags) c.loop-i.invariant.shows
           (let lt = c.loop-i-test.true in let high = c.loop-i.auto.i-end in omega (arith, lt, high)) value
           (subst (λ q. Shows q (value_kept kept) (listed c.args.index.now q) (shown_at c.loop-i.shown.kept)
@@ -36,7 +37,9 @@ loop-i-preserved c =
 pub returns : goal.returns
 returns c = record {
   shows = shows_end (listed c.args.index.now) c.args.cells.now (kept_values c.args.values.now) c.loop-i.i
-      (shown_at c.args.shown.now.kept) (shown_at c.loop-i.shown.kept) (flag_at c.args.flags.now) (flag_at c.loop-i.flags)
-      c.loop-i.invariant.shows (let end = c.loop-i-test.false in let high = c.loop-i.auto.i-end in omega (arith, end, high));
+      (shown_at c.args.shown.now.kept) (shown_at c.loop-i.shown.kept) (flag_at c.args.flags.now)
+      (flag_at c.loop-i.flags)
+      c.loop-i.invariant.shows (let end = c.loop-i-test.false in let high = c.loop-i.auto.i-end in omega
+      (arith, end, high));
   before = c.loop-i.invariant.before;
 }

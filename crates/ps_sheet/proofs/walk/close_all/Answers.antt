@@ -18,7 +18,8 @@ loop-cell-preserved c =
     take_more cells i x c.loop-cell-test.true ∙ ap (λ q. take i cells ++ q ∷ []) (sym c.cell-item.is) in
     record {
       closed = subst (λ xs. ClosesAll xs (shown_at c.args.shown.now.kept) (shown_at c.put.new.self.kept)) (sym longer)
-          (closes_more (take i cells) x (shown_at c.args.shown.now.kept) (shown_at c.loop-cell.shown.kept) (shown_at c.put.new.self.kept)
+          (closes_more (take i cells) x (shown_at c.args.shown.now.kept) (shown_at c.loop-cell.shown.kept)
+          (shown_at c.put.new.self.kept)
           c.loop-cell.invariant.closed
           (ap (λ (w : Assignment). w x) c.put.ensures.shown ∙ with_value-here (shown_at c.loop-cell.shown.kept) x
           (Err Fault.Cycle))

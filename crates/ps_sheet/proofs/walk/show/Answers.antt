@@ -10,7 +10,8 @@ pub returns-then-not-same : goal.returns-then-not-same
 returns-then-not-same c = record {
   shows = shows_put c.args.cell (value_kept c.args.kept) (listed c.args.index.now c.args.cell)
       (shown_at c.args.shown.now.kept)
-      (shown_at c.put.new.self.kept) (flag_at c.args.flags.now) (flag_at c.flag_dependents.new.flags) c.put.ensures.shown
+      (shown_at c.put.new.self.kept) (flag_at c.args.flags.now) (flag_at c.flag_dependents.new.flags)
+      c.put.ensures.shown
       (inr (
         (λ e. let f : false ≡ true = sym c.if-not-same.true ∙ c.is_same-same.ensures.1 (e ∙ sym c.kept.ensures) in cc),
         c.flag_dependents.ensures.flagged,

@@ -38,7 +38,8 @@ returns-clause-whole c =
       settled = subst (λ (v : Assignment). IsSettled (state_at c.exchange.new.self) v) (sym c.take_back.ensures.shown)
           (subst (λ (q : State). IsSettled q (before_of c.args.self.now.shown)) (sym now) p.was_settled);
       stands = subst (λ (q : State). Stands c.take_formulas.new.index (forms_of q)) (sym now)
-          (c.take_formulas.ensures.taken (forms_of s) (new_formulas_of c.requires.pending.0 (state_at c.args.self.now.grid) c.args.self.now.index c.args.pending.olds.items
+          (c.take_formulas.ensures.taken (forms_of s) (new_formulas_of c.requires.pending.0
+          (state_at c.args.self.now.grid) c.args.self.now.index c.args.pending.olds.items
           c.deref_mut.result.now c.exchange.new.cells c.deref.result.now
           (c.deref.ensures.value
           ∙ with_items_is c.args.pending.olds c.exchange.new.cells (c.exchange.auto.cells ∙ c.deref_mut.ensures.len))

@@ -26,7 +26,8 @@ returns-clause-whole c =
       in_grid = p.in_grid;
       settled = subst (λ (xs : List Kept). IsSettled t (shown_at xs)) (sym c.keep.ensures.kept) p.settled;
       stands = c.take_formulas.ensures.taken (forms_of t)
-          (subst (λ (xs : Entries). Stands c.args.self.now.index (with_puts xs (forms_of t))) (sym c.deref.ensures.value)
+          (subst (λ (xs : Entries). Stands c.args.self.now.index (with_puts xs (forms_of t)))
+          (sym c.deref.ensures.value)
           p.stands);
       tidy = record {
         cyclic = p.tidy.cyclic;

@@ -131,7 +131,8 @@ returns-clause-work g c =
       level = c.args.self.now.level;
       workers = c.args.self.now.workers;
     })
-    c.recalculate-work.new.self c.deref-2.result.now c.recalculate-work.result.evaluated c.recalculate-work.result.cyclic
+    c.recalculate-work.new.self c.deref-2.result.now c.recalculate-work.result.evaluated
+    c.recalculate-work.result.cyclic
     c.recalculate-work.result.levels c.in_ok-change.ensures.raised
     (given_of (state_at c.args.self.now.grid) (state_at c.begin.new.grid) (state_at c.exchange.new.self)
     c.in_ok-change.change.raised.items c.deref_mut.result.now c.exchange.ensures.given c.begin.ensures.same

@@ -22,19 +22,22 @@ use Rattle.ps_sheet.proofs.cells.Cells.recalculate_region.Goals.{After-settle_fr
 
 pub mark-requires-clause-extra : goal.mark-requires-clause-extra
 mark-requires-clause-extra g c =
-    extra_bounded c.requires.before (state_at c.args.self.now.grid) (shown_at c.args.self.now.shown.kept) c.args.touched.now
+    extra_bounded c.requires.before (state_at c.args.self.now.grid) (shown_at c.args.self.now.shown.kept)
+    c.args.touched.now
     c.requires.change c.requires.inside (listed c.args.self.now.index) c.requires.lists
 
 pub mark-requires-clause-outside_yes : goal.mark-requires-clause-outside_yes
 mark-requires-clause-outside_yes g c = λ q out i.
-    outside_yes c.requires.before (state_at c.args.self.now.grid) (shown_at c.args.self.now.shown.kept) c.args.touched.now
+    outside_yes c.requires.before (state_at c.args.self.now.grid) (shown_at c.args.self.now.shown.kept)
+    c.args.touched.now
     c.requires.change c.requires.inside c.args.self.now.cyclic.items c.requires.tidy.cyclic q out
     (subst (λ xs. In xs q) c.deref.ensures.value i)
 
 pub mark-requires-clause-outside_no : goal.mark-requires-clause-outside_no
 mark-requires-clause-outside_no g c = λ q out cyc.
     subst (λ xs. In xs q) (sym c.deref.ensures.value)
-    (outside_no c.requires.before (state_at c.args.self.now.grid) (shown_at c.args.self.now.shown.kept) c.args.touched.now
+    (outside_no c.requires.before (state_at c.args.self.now.grid) (shown_at c.args.self.now.shown.kept)
+    c.args.touched.now
     c.requires.change c.requires.inside c.args.self.now.cyclic.items c.requires.tidy.cyclic q out cyc)
 
 -- what the marking found, over all references
@@ -108,13 +111,15 @@ clear-requires-clause-within g c = λ q on.
     (c.settle_frame-evaluated.auto.flags ∙ c.deref_mut-2.ensures.len) in
     let w = walked_now c.requires.before t v touched c.requires.change c.requires.inside f now
     (listed c.args.self.now.index) c.requires.lists (map (λ (e : ℕ × Kept). e.0) c.args.first.items) c.cyclic.result.now
-    (shown_at c.show_all_first.new.shown.kept) (shown_at c.close_all.new.shown.kept) (shown_at c.settle_frame-evaluated.new.shown.kept)
+    (shown_at c.show_all_first.new.shown.kept) (shown_at c.close_all.new.shown.kept)
+    (shown_at c.settle_frame-evaluated.new.shown.kept)
     (flag_at c.deref_mut.result.now) (flag_at c.show_all_first.new.flags) (flag_at c.settle_frame-evaluated.new.flags)
     c.settle_frame-evaluated.result c.show_all_first.ensures.begun c.requires.cells
     (λ p. ap (λ (xs : List Bool). flag_at xs p) c.deref_mut.ensures.value ∙ c.requires.tidy.off p)
     c.close_all.ensures.closed c.cyclic.ensures
     (subst (λ (xs : List Bool). StepsLevels t (listed c.args.self.now.index) (level_cells f) (level_count f)
-    (level_count f + 1) (shown_at c.close_all.new.shown.kept) (shown_at c.settle_frame-evaluated.new.shown.kept) (flag_at xs)
+    (level_count f + 1) (shown_at c.close_all.new.shown.kept) (shown_at c.settle_frame-evaluated.new.shown.kept)
+    (flag_at xs)
     (flag_at c.settle_frame-evaluated.new.flags) c.settle_frame-evaluated.result) first
     c.settle_frame-evaluated.ensures.settled) in
     subst (λ xs. In xs q) (sym c.members.ensures)
@@ -153,13 +158,15 @@ returns-clause-done g c =
     (c.settle_frame-evaluated.auto.flags ∙ c.deref_mut-2.ensures.len) in
     let w = walked_now c.requires.before t v touched c.requires.change c.requires.inside f now
     (listed c.args.self.now.index) c.requires.lists (map (λ (e : ℕ × Kept). e.0) c.args.first.items) c.cyclic.result.now
-    (shown_at c.show_all_first.new.shown.kept) (shown_at c.close_all.new.shown.kept) (shown_at c.settle_frame-evaluated.new.shown.kept)
+    (shown_at c.show_all_first.new.shown.kept) (shown_at c.close_all.new.shown.kept)
+    (shown_at c.settle_frame-evaluated.new.shown.kept)
     (flag_at c.deref_mut.result.now) (flag_at c.show_all_first.new.flags) (flag_at c.settle_frame-evaluated.new.flags)
     c.settle_frame-evaluated.result c.show_all_first.ensures.begun c.requires.cells
     (λ p. ap (λ (xs : List Bool). flag_at xs p) c.deref_mut.ensures.value ∙ c.requires.tidy.off p)
     c.close_all.ensures.closed c.cyclic.ensures
     (subst (λ (xs : List Bool). StepsLevels t (listed c.args.self.now.index) (level_cells f) (level_count f)
-    (level_count f + 1) (shown_at c.close_all.new.shown.kept) (shown_at c.settle_frame-evaluated.new.shown.kept) (flag_at xs)
+    (level_count f + 1) (shown_at c.close_all.new.shown.kept) (shown_at c.settle_frame-evaluated.new.shown.kept)
+    (flag_at xs)
     (flag_at c.settle_frame-evaluated.new.flags) c.settle_frame-evaluated.result) first
     c.settle_frame-evaluated.ensures.settled) in
     let w2 = with_items (with_items c.args.self.now.flags c.show_all_first.new.flags)

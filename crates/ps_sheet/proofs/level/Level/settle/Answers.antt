@@ -50,5 +50,6 @@ returns-clause-settled g c =
     (let a = c.len-2.ensures in let b = ap length due in omega (arith, a, b)) in
     subst (λ n. StepsLevel t list c.args.cells.now u (shown_at c.show_all.new.shown.kept) flags
     (flag_at c.show_all.new.flags) n) count
-    (level_stepped t list c.args.cells.now (kept_values c.evaluate.new.values) u (shown_at c.show_all.new.shown.kept) flags
+    (level_stepped t list c.args.cells.now (kept_values c.evaluate.new.values) u
+    (shown_at c.show_all.new.shown.kept) flags
     (flag_at c.show_all.new.flags) values shown)

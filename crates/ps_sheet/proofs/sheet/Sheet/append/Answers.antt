@@ -40,7 +40,8 @@ invariant_of-self-2 g c =
     let whole = c.in_ok-work.ensures.whole in
     record {
       sheet = sheet_after x d (state_at c.take_in.new.self.grid) (map arc_value c.put.new.history.items)
-          c.take_in.new.self.shown.kept c.self.invariant.sheet new (pushed g c) (joined_now g c) whole.in_grid whole.settled;
+          c.take_in.new.self.shown.kept c.self.invariant.sheet new (pushed g c) (joined_now g c) whole.in_grid
+          whole.settled;
       joined = joined_now g c;
       whole = whole;
     }

@@ -37,7 +37,8 @@ invariant_of-result g c =
       prepared = prepared_made x.replica h d cells.shown.kept cells.shown.olds cells.shown.changes
           (shown_at x.cells.shown.kept)
           (state_at x.cells.grid) (state_at cells.grid) c.len.result c.in-Ok.field-0.work.evaluated
-          c.in-Ok.field-0.work.cyclic c.in-Ok.field-0.work.levels c.in-Ok.ensures.changes new c.in-Ok.ensures.before was is kept.whole.settled
+          c.in-Ok.field-0.work.cyclic c.in-Ok.field-0.work.levels c.in-Ok.ensures.changes new c.in-Ok.ensures.before
+          was is kept.whole.settled
           pending.settled
           (let n = c.len.ensures in let m = length-map c.make.new.history.items arc_value in omega (arith, n, m))
           c.in-Ok.ensures.work;
