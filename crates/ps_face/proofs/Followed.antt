@@ -1,6 +1,6 @@
 -- Legal lists and copies, one patch later.
-use Rattle.std.proofs.Common.{◌≡◌, ℕ, ◌<◌, List, [], ◌∷◌, ◌++◌, length, map, refl, ap, sym, subst, ◌∙◌}
-use Rattle.std.proofs.Common.{append_assoc, arith, length-append}
+use Rattle.std.proofs.Common.{◌≡◌, ℕ, ◌<◌, ◌≤◌, List, [], ◌∷◌, ◌++◌, length, map, refl, ap, sym, subst, ◌∙◌}
+use Rattle.std.proofs.Common.{All, append_assoc, arith, length-append}
 use Rattle.std.proofs.Math.Path.{fun_ext}
 use Rattle.std.proofs.lemmas.List.{append-nil}
 use Rattle.std.proofs.lemmas.List.Elements.{All-head, All-tail}
@@ -41,24 +41,21 @@ nothing_empty : (c : ℕ) → empty_state c ≡ empty_cell
 unfolding empty_state
 nothing_empty c = refl
 
--- a delta in the grid holds nothing outside it
-delta_in_grid : (d : Entries) → AreInGrid d → IsInGrid (state_of d)
-delta_in_grid [] inside c out = ap (λ (s : State). s c) state_of-nil ∙ nothing_empty c
-delta_in_grid (e ∷ d) inside c out =
-    let here : e.0 < CELLS = All-head (λ x. x.0 < CELLS) e d inside in
-    state_of-there e d c (λ p. omega (arith, p, here, out))
-    ∙ delta_in_grid d (All-tail (λ x. x.0 < CELLS) e d inside) c out
+-- a delta of cells below n holds nothing from n on
+delta_below : (n : ℕ) (d : Entries) → All (λ e. e.0 < n) d → (c : ℕ) → n ≤ c → state_of d c ≡ empty_cell
+delta_below n [] low c out = ap (λ (s : State). s c) state_of-nil ∙ nothing_empty c
+delta_below n (e ∷ d) low c out =
+    let here : e.0 < n = All-head (λ x. x.0 < n) e d low in
+    state_of-there e d c (λ p. omega (arith, p, here, out)) ∙ delta_below n d (All-tail (λ x. x.0 < n) e d low) c out
 
--- and so does its join with such a state
-joined_in_grid : (s t : State) → IsInGrid s → IsInGrid t → IsInGrid (joined_state s t)
+-- and so does its join with a history of such deltas
+pub one_more_below : (n : ℕ) (h : List Entries) (d : Entries) → All (λ e. e.0 < n) d
+    → ((c : ℕ) → n ≤ c → joined_history h c ≡ empty_cell) → (c : ℕ) → n ≤ c
+    → joined_history (h ++ d ∷ []) c ≡ empty_cell
 unfolding joined_state
-joined_in_grid s t f g c out = ap (λ x. joined_cell x (t c)) (f c out) ∙ joined_cell-empty (t c) ∙ g c out
-
-pub history_in_grid : (h : List Entries) (d : Entries) → IsInGrid (joined_history h) → AreInGrid d
-    → IsInGrid (joined_history (h ++ d ∷ []))
-history_in_grid h d f inside =
-    subst IsInGrid (sym (joined_history-push h d))
-    (joined_in_grid (joined_history h) (state_of d) f (delta_in_grid d inside))
+one_more_below n h d low none c out =
+    ap (λ (s : State). s c) (joined_history-push h d) ∙ ap (λ x. joined_cell x (state_of d c)) (none c out)
+    ∙ joined_cell-empty (state_of d c) ∙ delta_below n d low c out
 
 -- the values of all cells, where the changes of the patch are written
 shows_next : (h : List Entries) (p : Note) (values : List Value) → IsInGrid (joined_history h) → Shows h values
@@ -83,7 +80,7 @@ stands_next h b x t p s book is version changes inside f =
       legal = subst (IsLegal h) (sym is) (legal_more h x.list p s.legal f);
       version = version ∙ f.number ∙ sym (ap length history ∙ length-append old (p.delta ∷ []));
       in_grid = subst (λ (g : List Entries). IsInGrid (joined_history g)) (sym history)
-          (history_in_grid old p.delta s.in_grid inside);
+          (one_more_below CELLS old p.delta inside s.in_grid);
       shows = subst (λ (z : List Entries × List Value). Shows z.0 z.1)
           (λ i. (sym history i, written x.values (sym changes i))) (shows_next old p x.values s.in_grid s.shows f);
     }

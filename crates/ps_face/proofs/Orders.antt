@@ -1,6 +1,6 @@
 -- The values of all cells in order, with one of them written.
 use Rattle.std.proofs.Common.{◌≡◌, ◌≢◌, ℕ, zero, suc, ◌<◌, ◌≤◌, List, [], ◌∷◌, ◌++◌, length, get_or, set}
-use Rattle.std.proofs.Common.{if◌then◌else◌, refl, sym, ap, ◌∙◌, eq-eqb, ne_eqb, arith, ⊎_elim, length-append}
+use Rattle.std.proofs.Common.{refl, sym, ap, ◌∙◌, arith, ⊎_elim, length-append}
 use Rattle.std.proofs.Math.ListN.{get_or-append}
 use Rattle.std.proofs.Math.Seq.{get_or-append_seam, set-append_seam}
 use Rattle.std.proofs.lemmas.Bool.{cases_eq, cases_lt}
@@ -8,6 +8,7 @@ use Rattle.std.proofs.lemmas.List.{set-append_left, set_past}
 use Rattle.ps_value.specs.declared.value.Value.{Value}
 use Rattle.ps_shown.specs.Shown.{with_value}
 use Rattle.ps_eval.specs.Items.{Assignment}
+use Rattle.ps_sheet.proofs.PutValues.{with_value-here, with_value-there}
 use Rattle.ps_face.specs.Values.{Changes, listed, overlaid, written}
 
 pub length-listed : (v : Assignment) (n : ℕ) → length (listed v n) ≡ n
@@ -29,14 +30,6 @@ get-listed v (suc n) c d h =
     ∙ ap v (sym (last ∙ len)))
     (cases_lt c n)
 
-same_value : (v : Assignment) (c k : ℕ) (x : Value) → c ≡ k → with_value v c x k ≡ x
-unfolding with_value
-same_value v c k x h = ap (λ b. if b then x else v k) (eq-eqb c k h)
-
-other_value : (v : Assignment) (c k : ℕ) (x : Value) → c ≢ k → with_value v c x k ≡ v k
-unfolding with_value
-other_value v c k x h = ap (λ b. if b then x else v k) (ne_eqb c k h)
-
 -- the list of the values of which one is another is the list with that one written
 pub listed-set : (v : Assignment) (n c : ℕ) (x : Value) → listed (with_value v c x) n ≡ set (listed v n) c x
 unfolding listed
@@ -49,11 +42,11 @@ listed-set v (suc n) c x =
     (λ (here : c ≡ n).
     let at : c ≡ length (listed v n) = omega (arith, len, here) in
     ap (λ (vs : List Value). vs ++ with_value v c x n ∷ []) (set_past (listed v n) c x (omega (arith, at)))
-    ∙ ap (λ y. listed v n ++ y ∷ []) (same_value v c n x here)
+    ∙ ap (λ y. listed v n ++ y ∷ []) (ap (with_value v c x) (sym here) ∙ with_value-here v c x)
     ∙ sym (set-append_seam (listed v n) (v n) [] x)
     ∙ ap (λ k. set (listed v n ++ v n ∷ []) k x) (sym at))
     (λ (there : c ≢ n).
-    ap (λ y. set (listed v n) c x ++ y ∷ []) (other_value v c n x there)
+    ap (λ y. set (listed v n) c x ++ y ∷ []) (with_value-there v c n x (λ p. there (sym p)))
     ∙ ⊎_elim
     (λ (below : c < n). sym (set-append_left (listed v n) (v n ∷ []) c x (omega (arith, len, below))))
     (λ (above : n ≤ c).
