@@ -1,0 +1,3 @@
+mod Decided
+mod Receipted
+mod Noted

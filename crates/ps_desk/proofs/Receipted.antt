@@ -1,0 +1,125 @@
+-- What a receipt tells stays told of a list that was seen earlier.
+use Rattle.std.proofs.Common.{◌≡◌, ℕ, ◌+◌, Bool, true, false, List, [], ◌∷◌, ◌++◌, length, refl, sym, ap, ◌∙◌}
+use Rattle.std.proofs.Common.{subst, append_assoc, length-append, Result, Ok, Err}
+use Rattle.std.specs.Prelude.{if◌then◌else◌, MatchBool, IfOk, OnErr, ◌<◌}
+use Rattle.std.specs.Arc.{arc_value}
+use mathlib.Core.List.{IsPrefix}
+use Rattle.ps_grid.specs.declared.refusal.Refusal.{Refusal}
+use Rattle.ps_delta.specs.State.{State}
+use Rattle.ps_delta.specs.Deltas.{Entries, joined_history}
+use Rattle.ps_sheet.specs.declared.edit.Change.{Change}
+use Rattle.ps_sheet.specs.Prepared.{IsDeltaOf, IsPrepared, PreparedView, history_after}
+use Rattle.ps_face.specs.declared.patch.Note.{Note}
+use Rattle.ps_face.specs.Legal.{history_of}
+use Rattle.ps_desk.specs.declared.receipt.Receipt.{Receipt}
+use Rattle.ps_desk.specs.Passes.{PassView}
+use Rattle.ps_desk.specs.Patches.{note_of}
+use Rattle.ps_desk.specs.Receipts.{IsAppended, IsCovered, Tells}
+
+begins_itself : (xs : List Note) → IsPrefix xs xs
+begins_itself xs = ([], append_nil xs)
+  where
+    append_nil : (ys : List Note) → ys ++ [] ≡ ys
+    append_nil [] = refl
+    append_nil (y ∷ ys) = ap (λ l. y ∷ l) (append_nil ys)
+
+pub begins_trans : (xs ys zs : List Note) → IsPrefix xs ys → IsPrefix ys zs → IsPrefix xs zs
+begins_trans xs ys zs p q = (p.0 ++ q.0, sym (append_assoc xs p.0 q.0) ∙ (ap (λ w. w ++ q.0) p.1 ∙ q.1))
+
+on_both : (b : Bool) (P Q R S : Type 0) → (P → R) → (Q → S) → MatchBool b P Q → MatchBool b R S
+on_both true P Q R S f g m = f m
+on_both false P Q R S f g m = g m
+
+-- where more had been seen, and less is asked of the delta
+tells_more : (M N : State → Entries → Type 0) (h : List Entries) (seen mid now : List Note) (seat : ℕ) (r : Receipt)
+    → ((s : State) (d : Entries) → M s d → N s d) → IsPrefix seen mid → Tells M h mid now seat r
+    → Tells N h seen now seat r
+tells_more M N h seen mid now seat r weaker later t =
+    on_both r.fresh (IsAppended M h mid now seat r) (IsCovered M h now r)
+    (IsAppended N h seen now seat r) (IsCovered N h now r)
+    (λ a. record {
+      before = a.before;
+      patch = a.patch;
+      last = a.last;
+      later = begins_trans seen mid a.before later a.later;
+      number = a.number;
+      numbered = a.numbered;
+      delta = a.delta;
+      owner = a.owner;
+      made = weaker (joined_history (history_of h a.before)) (arc_value r.delta) a.made;
+    })
+    (λ a. record {
+      number = a.number;
+      below = a.below;
+      made = weaker (joined_history (history_of h now)) (arc_value r.delta) a.made;
+    })
+    t
+
+fresh_history : (p : PreparedView) → p.fresh ≡ true → history_after p ≡ p.history ++ p.delta ∷ []
+fresh_history p is = ap (λ b. if b then (p.history ++ p.delta ∷ []) else p.history) is
+
+-- what a fresh receipt tells
+tells_fresh : (h : List Entries) (p : PreparedView) (seen now : List Note) (seat : ℕ) (r : Receipt)
+    → IsPrepared p → p.fresh ≡ true → p.history ≡ history_of h seen → now ≡ seen ++ note_of p seat ∷ []
+    → r.number ≡ p.report.version → arc_value r.delta ≡ p.delta → r.fresh ≡ true
+    → Tells (λ s d. (s ≡ joined_history p.history) × (d ≡ p.delta)) h seen now seat r
+tells_fresh h p seen now seat r is fresh history last number delta new =
+    let Made : State → Entries → Type 0 = λ s d. (s ≡ joined_history p.history) × (d ≡ p.delta) in
+    subst (λ b. MatchBool b (IsAppended Made h seen now seat r) (IsCovered Made h now r)) (sym new) (record {
+      before = seen;
+      patch = note_of p seat;
+      last = last;
+      later = begins_itself seen;
+      number = number ∙ is.version ∙ ap length (fresh_history p fresh) ∙ length-append p.history (p.delta ∷ [])
+          ∙ ap (λ (ds : List Entries). length ds + 1) history;
+      numbered = sym number;
+      delta = sym delta;
+      owner = refl;
+      made = (ap joined_history (sym history), delta);
+    })
+
+-- a change that was appended or given up leaves what was seen a beginning
+pub later_either : (A : Type 0) (res : Result Receipt Refusal) (old new : PassView) (note : Note)
+    → IfOk res (λ _. new.list ≡ old.list ++ note ∷ []) → OnErr res (A × (new ≡ old)) → IsPrefix old.list new.list
+later_either A (Ok r) old new note p k = (note ∷ [], sym p)
+later_either A (Err e) old new note p k =
+    subst (IsPrefix old.list) (sym (ap (λ (q : PassView). q.list) k.1)) (begins_itself old.list)
+
+pub tells_if_fresh : (h : List Entries) (p : PreparedView) (res : Result Receipt Refusal) (seen now : List Note)
+    (seat : ℕ) → IsPrepared p → p.fresh ≡ true → p.history ≡ history_of h seen
+    → IfOk res (λ _. now ≡ seen ++ note_of p seat ∷ [])
+    → IfOk res (λ r. (r.number ≡ p.report.version) × (arc_value r.delta ≡ p.delta) × (r.fresh ≡ true))
+    → IfOk res (Tells (λ s d. (s ≡ joined_history p.history) × (d ≡ p.delta)) h seen now seat)
+tells_if_fresh h p (Ok r) seen now seat is fresh history last t =
+    tells_fresh h p seen now seat r is fresh history last t.0 t.1 t.2
+tells_if_fresh h p (Err e) seen now seat is fresh history last t = tt
+
+-- what a pass that was told of a list has seen begins with what it had seen, and its seat stays
+module _ (list : List Note) (old new : PassView) where
+  pub caught_later : (b : Bool)
+      → MatchBool b (IsPrefix old.list list × (new ≡ record old { list = list }))
+      ((length list < length old.list) × (new ≡ old))
+      → IsPrefix old.list new.list
+  caught_later true m = subst (IsPrefix old.list) (sym (ap (λ (q : PassView). q.list) m.1)) m.0
+  caught_later false m = subst (IsPrefix old.list) (sym (ap (λ (q : PassView). q.list) m.1)) (begins_itself old.list)
+
+  pub caught_seat : (b : Bool)
+      → MatchBool b (IsPrefix old.list list × (new ≡ record old { list = list }))
+      ((length list < length old.list) × (new ≡ old))
+      → new.seat ≡ old.seat
+  caught_seat true m = ap (λ (q : PassView). q.seat) m.1
+  caught_seat false m = ap (λ (q : PassView). q.seat) m.1
+
+-- what is told of a prepared change is told of the change
+pub tells_change : (r : ℕ) (h : List Entries) (change : Change) (p : PreparedView) (res : Result Receipt Refusal)
+    (old mid : PassView) (now : List Note) → IsPrefix old.list mid.list → mid.seat ≡ old.seat
+    → IsDeltaOf r (joined_history p.history) change p.delta
+    → IfOk res (Tells (λ s d. (s ≡ joined_history p.history) × (d ≡ p.delta)) h mid.list now mid.seat)
+    → IfOk res (Tells (λ s d. IsDeltaOf r s change d) h old.list now old.seat)
+tells_change r h change p (Ok t) old mid now later seat made told =
+    let M : State → Entries → Type 0 = λ s d. (s ≡ joined_history p.history) × (d ≡ p.delta) in
+    let N : State → Entries → Type 0 = λ s d. IsDeltaOf r s change d in
+    tells_more M N h old.list mid.list now old.seat t
+    (λ s d m. subst (λ (z : State × Entries). IsDeltaOf r z.0 change z.1) (λ i. (sym m.0 i, sym m.1 i)) made)
+    later (subst (λ n. Tells M h mid.list now n t) seat told)
+tells_change r h change p (Err e) old mid now later seat made told = tt

@@ -1,0 +1,4 @@
+pub mod Kept
+pub mod Passes
+pub mod Patches
+pub mod Receipts

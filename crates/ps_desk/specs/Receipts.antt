@@ -1,0 +1,34 @@
+-- What a receipt tells of the published list.
+use Rattle.std.specs.Prelude.{◌≡◌, ℕ, ◌+◌, List, [], ◌∷◌, ◌++◌, length, MatchBool}
+use Rattle.std.specs.Arc.{arc_value}
+use mathlib.Core.List.{IsPrefix}
+use Rattle.ps_delta.specs.State.{State, IsBelow}
+use Rattle.ps_delta.specs.Deltas.{Entries, state_of, joined_history}
+use Rattle.ps_face.specs.declared.patch.Note.{Note}
+use Rattle.ps_face.specs.Legal.{history_of}
+use Rattle.ps_desk.specs.declared.receipt.Receipt.{Receipt}
+
+-- APPENDED: the list ends with a patch of the receipt's delta and number, of this seat, which comes after all that was
+-- seen before; and `Made` holds of the delta and the state before it
+pub record IsAppended (Made : State → Entries → Type 0) (h : List Entries) (seen now : List Note) (seat : ℕ)
+    (r : Receipt) : Type 0 where
+  pub before : List Note
+  pub patch : Note
+  pub last : now ≡ before ++ patch ∷ []
+  pub later : IsPrefix seen before
+  pub number : r.number ≡ length (history_of h before) + 1
+  pub numbered : patch.number ≡ r.number
+  pub delta : patch.delta ≡ arc_value r.delta
+  pub owner : patch.owner ≡ seat
+  pub made : Made (joined_history (history_of h before)) (arc_value r.delta)
+
+-- COVERED: the receipt's number is the length of the history that the list stands for, and its delta is below the join
+-- of that history; and `Made` holds of the delta and this state
+pub record IsCovered (Made : State → Entries → Type 0) (h : List Entries) (now : List Note) (r : Receipt) : Type 0 where
+  pub number : r.number ≡ length (history_of h now)
+  pub below : IsBelow (state_of (arc_value r.delta)) (joined_history (history_of h now))
+  pub made : Made (joined_history (history_of h now)) (arc_value r.delta)
+
+-- TELLS: a fresh receipt's delta was appended, and another's is covered, where the list was `seen` and is `now`
+abbrev pub Tells : (State → Entries → Type 0) → List Entries → List Note → List Note → ℕ → Receipt → Type 0
+Tells Made h seen now seat r = MatchBool r.fresh (IsAppended Made h seen now seat r) (IsCovered Made h now r)

@@ -1,0 +1,129 @@
+//! The desk: a lock round what its passes share.
+
+ghost use Rattle.std.specs.Prelude.{◌≡◌, ◌⊎◌, ◌+◌, true, if◌then◌else◌, Ok, Err, IfOk, IfErr, OnOk, OnErr};
+ghost use Rattle.std.specs.Arc.{arc_value};
+ghost use mathlib.Core.List.{IsPrefix};
+ghost use Rattle.ps_grid.specs.declared.refusal.Refusal.TheVariants.{Memory};
+ghost use Rattle.ps_delta.specs.Deltas.{joined_history};
+ghost use Rattle.ps_sheet.specs.Edits.{delta_of_edit};
+ghost use Rattle.ps_sheet.specs.Prepared.{IsDeltaOf, IsRefusedBy};
+ghost use Rattle.ps_face.specs.Legal.{history_of};
+ghost use Rattle.ps_desk.specs.Receipts.{IsAppended, Tells};
+
+use crate::held::Held;
+use crate::name::DeskName;
+use crate::pass::Pass;
+use crate::receipt::Receipt;
+use ps_delta::Delta;
+use ps_eval::Meter;
+use ps_grid::Refusal;
+use ps_sheet::{Change, Edit, edits_are_fresh};
+use std::alloc::Global;
+use std::sync::ledger::Ledger;
+use std::sync::{Arc, Mutex, Wait};
+use std::thread::Threads;
+
+/// A sheet that several sessions share, each by its pass.
+#[derive(Drop)]
+pub struct Desk<L: DeskName, W: Wait + Drop> {
+    /// empty only while a call is under way
+    held: Mutex<Option<Held<L, W>>>,
+}
+
+impl<L: DeskName, W: Wait + Drop> Desk<L, W> {
+    /// A desk of what is to lie under its lock.
+    pub(crate) fn new(held: Held<L, W>) -> Desk<L, W> {
+        Desk {
+            held: Mutex::new(Some(held)),
+        }
+    }
+
+    /// Makes the delta of an edit over the sheet's state, appends it to the history, and shows it to all who read.
+    ///
+    /// Refused as [`ps_sheet::Sheet::edit`] is, over the history that the pass has then seen, and when out of memory.
+    /// It may wait for other calls, and for those that still read what was published before the last patch.
+    ///
+    /// Cost: that of [`ps_sheet::Sheet::prepare`], and twice the cells that show another value.
+    pub fn edit<R: Threads + Sync, V: Wait, M: Ledger>(
+        &self,
+        rt: &R,
+        wait: &V,
+        alloc: Global,
+        pass: &mut Pass<L>,
+        edit: Edit,
+        meter: &mut Meter<M>,
+    ) -> Result<Receipt, Refusal>
+        ensures later { IsPrefix pass.old.list pass.new.list }
+        ensures fresh { IfOk result (λ r. r.fresh ≡ true) }
+        ensures receipt { IfOk result (IsAppended (λ s d. delta_of_edit L.replica s edit ≡ Ok d) L.opening
+            pass.old.list pass.new.list pass.old.seat) }
+        ensures refused { IfErr result (λ e. (e ≡ Memory)
+            ⊎ (delta_of_edit L.replica (joined_history (history_of L.opening pass.new.list)) edit ≡ Err e)) }
+        ensures counted { OnOk result (pass.new.appended ≡ pass.old.appended + 1) }
+        ensures uncounted { OnErr result (pass.new.appended ≡ pass.old.appended) }
+        ensures seat { (pass.new.seat ≡ pass.old.seat) × (pass.new.enters ≡ pass.old.enters) }
+    {
+        let receipt = self.change(rt, wait, alloc, pass, Change::Edit(edit), meter)?;
+        // for the facts that it is a delta, and that an edit's delta is never below the state
+        let _ = receipt.delta.parts();
+        edits_are_fresh();
+        Ok(receipt)
+    }
+
+    /// Accepts a delta made elsewhere: appends it to the history and shows it to all who read, unless it is below the
+    /// joined history already.
+    ///
+    /// Refused only when out of memory. It may wait as [`Desk::edit`] does.
+    ///
+    /// Cost: that of [`ps_sheet::Sheet::prepare`], and twice the cells that show another value.
+    pub fn receive<R: Threads + Sync, V: Wait, M: Ledger>(
+        &self,
+        rt: &R,
+        wait: &V,
+        alloc: Global,
+        pass: &mut Pass<L>,
+        delta: Arc<Delta>,
+        meter: &mut Meter<M>,
+    ) -> Result<Receipt, Refusal>
+        ensures later { IsPrefix pass.old.list pass.new.list }
+        ensures receipt { IfOk result (Tells (λ s d. d ≡ arc_value delta) L.opening pass.old.list pass.new.list
+            pass.old.seat) }
+        ensures memory { IfErr result (λ e. e ≡ Memory) }
+        ensures counted { IfOk result (λ r. pass.new.appended
+            ≡ pass.old.appended + (if r.fresh then 1 else 0)) }
+        ensures uncounted { OnErr result (pass.new.appended ≡ pass.old.appended) }
+        ensures seat { (pass.new.seat ≡ pass.old.seat) × (pass.new.enters ≡ pass.old.enters) }
+    {
+        self.change(rt, wait, alloc, pass, Change::Delta(delta), meter)
+    }
+
+    /// Makes a change under the lock.
+    fn change<R: Threads + Sync, V: Wait, M: Ledger>(
+        &self,
+        rt: &R,
+        wait: &V,
+        alloc: Global,
+        pass: &mut Pass<L>,
+        change: Change,
+        meter: &mut Meter<M>,
+    ) -> Result<Receipt, Refusal>
+        ensures later { IsPrefix pass.old.list pass.new.list }
+        ensures receipt { IfOk result (Tells (λ s d. IsDeltaOf L.replica s change d) L.opening pass.old.list
+            pass.new.list pass.old.seat) }
+        ensures refused { IfErr result (λ e. (e ≡ Memory)
+            ⊎ IsRefusedBy L.replica (joined_history (history_of L.opening pass.new.list)) change e) }
+        ensures counted { IfOk result (λ r. pass.new.appended
+            ≡ pass.old.appended + (if r.fresh then 1 else 0)) }
+        ensures uncounted { OnErr result (pass.new.appended ≡ pass.old.appended) }
+        ensures seat { (pass.new.seat ≡ pass.old.seat) × (pass.new.enters ≡ pass.old.enters) }
+    {
+        let mut guard = self.held.lock(wait);
+        // No other call is under way while the lock is held.
+        let Some(held) = guard.take() else {
+            return Err(Refusal::Memory);
+        };
+        let (held, answer) = held.make(rt, alloc, pass, change, meter);
+        *guard = Some(held);
+        answer
+    }
+}

@@ -1,0 +1,243 @@
+//! What lies under the lock of a desk.
+
+ghost use Rattle.std.specs.Prelude.{◌≡◌, ◌⊎◌, ◌+◌, ◌++◌, ◌∷◌, [], true, if◌then◌else◌};
+ghost use Rattle.std.specs.Prelude.{IfOk, IfErr, OnErr, MatchResult};
+ghost use Rattle.std.specs.Arc.{arc_value};
+ghost use mathlib.Core.List.{IsPrefix};
+ghost use Rattle.ps_grid.specs.declared.refusal.Refusal.TheVariants.{Memory};
+ghost use Rattle.ps_delta.specs.Deltas.{joined_history};
+ghost use Rattle.ps_sheet.specs.Prepared.{IsDeltaOf, IsRefusedBy, history_after};
+ghost use Rattle.ps_face.specs.Legal.{history_of};
+ghost use Rattle.ps_desk.specs.Kept.{IsKept};
+ghost use Rattle.ps_desk.specs.Patches.{note_of};
+ghost use Rattle.ps_desk.specs.Receipts.{Tells};
+
+use crate::name::DeskName;
+use crate::pass::Pass;
+use crate::patch::patch_of;
+use crate::receipt::Receipt;
+use ps_delta::Delta;
+use ps_eval::Meter;
+use ps_face::{FaceWriter, Front};
+use ps_grid::Refusal;
+use ps_sheet::{Change, Prepared, Sheet};
+use std::alloc::Global;
+use std::marker::Model;
+use std::sync::ledger::{Book, Ledger};
+use std::sync::{Arc, Wait};
+use std::thread::Threads;
+
+/// The sheet, the writer of its published copies, and the book of what was appended. A contract sees it as the
+/// published list.
+#[derive(Drop)]
+pub(crate) struct Held<L: DeskName, W: Wait + Drop> {
+    sheet: Sheet,
+    copies: FaceWriter<L, W>,
+    book: Book<L>,
+}
+
+impl<L: DeskName, W: Wait + Drop> Model for Held<L, W> {
+    ghost use Rattle.std.specs.Prelude.{List};
+    ghost use Rattle.std.specs.Coded.{codes};
+    ghost use Rattle.ps_face.specs.declared.patch.Note.{Note};
+    ghost use Rattle.ps_face.specs.contracts.patch.Note as note;
+    ghost use Rattle.ps_desk.specs.Kept.{IsKept};
+
+    ghost Value = { List Note };
+
+    ghost coded = { Prim.hlevel (codes, note.the_row.coded) };
+
+    ghost view = { λ h. h.copies.list };
+
+    ghost invariant = { λ h. IsKept L.replica L.opening h.sheet.replica h.sheet.history h.copies h.book.total };
+}
+
+impl<L: DeskName, W: Wait + Drop> Held<L, W> {
+    /// What lies under the lock of a desk that opens.
+    pub(crate) fn new(sheet: Sheet, copies: FaceWriter<L, W>, book: Book<L>) -> Held<L, W>
+        requires replica { sheet.replica ≡ L.replica }
+        requires history { sheet.history ≡ L.opening }
+        requires copies { copies ≡ record { list = []; pending = [] } }
+        requires book { book.total ≡ 0 }
+        ensures { result ≡ [] }
+    {
+        Held {
+            sheet,
+            copies,
+            book,
+        }
+    }
+
+    /// The published list.
+    pub(crate) fn front(&self) -> &Front
+        ensures front { result.now ≡ record { book = L.book; list = self.now } }
+    {
+        self.copies.front()
+    }
+
+    /// Makes a change for the session of a pass, which has then seen all that is published.
+    ///
+    /// Refused as the sheet refuses the change, and when out of memory; then nothing is published.
+    pub(crate) fn make<R: Threads + Sync, M: Ledger>(
+        self,
+        rt: &R,
+        alloc: Global,
+        pass: &mut Pass<L>,
+        change: Change,
+        meter: &mut Meter<M>,
+    ) -> (Held<L, W>, Result<Receipt, Refusal>)
+        ensures later { IsPrefix pass.old.list pass.new.list }
+        ensures all { IfOk result.1 (λ _. pass.new.list ≡ result.0) }
+        ensures receipt { IfOk result.1 (Tells (λ s d. IsDeltaOf L.replica s change d) L.opening pass.old.list
+            pass.new.list pass.old.seat) }
+        ensures refused { IfErr result.1 (λ e. (e ≡ Memory)
+            ⊎ IsRefusedBy L.replica (joined_history (history_of L.opening pass.new.list)) change e) }
+        ensures kept { OnErr result.1 (result.0 ≡ self) }
+        ensures counted { IfOk result.1 (λ r. pass.new.appended
+            ≡ pass.old.appended + (if r.fresh then 1 else 0)) }
+        ensures uncounted { OnErr result.1 (pass.new.appended ≡ pass.old.appended) }
+        ensures seat { (pass.new.seat ≡ pass.old.seat) × (pass.new.enters ≡ pass.old.enters) }
+    {
+        let Held {
+            sheet,
+            copies,
+            book,
+        } = self;
+        // A pass has never seen more than what is published.
+        if !pass.catch_up(copies.front()) {
+            return (Held::of(sheet, copies, book), Err(Refusal::Memory));
+        }
+        match sheet.prepare(rt, alloc, change, meter) {
+            Err((sheet, refusal)) => (Held::of(sheet, copies, book), Err(refusal)),
+            Ok(prepared) => settle(alloc, prepared, copies, book, pass),
+        }
+    }
+
+    /// The three together.
+    fn of(sheet: Sheet, copies: FaceWriter<L, W>, book: Book<L>) -> Held<L, W>
+        requires { IsKept L.replica L.opening sheet.replica sheet.history copies book.total }
+        ensures { result ≡ copies.list }
+    {
+        Held {
+            sheet,
+            copies,
+            book,
+        }
+    }
+}
+
+/// Makes a prepared change, or gives it up where it can't be told.
+fn settle<L: DeskName, W: Wait + Drop>(
+    alloc: Global,
+    prepared: Prepared,
+    copies: FaceWriter<L, W>,
+    book: Book<L>,
+    pass: &mut Pass<L>,
+) -> (Held<L, W>, Result<Receipt, Refusal>)
+    requires kept { IsKept L.replica L.opening prepared.replica prepared.history copies book.total }
+    requires seen { pass.old.list ≡ copies.list }
+    ensures later { IsPrefix pass.old.list pass.new.list }
+    ensures all { IfOk result.1 (λ _. pass.new.list ≡ result.0) }
+    ensures receipt { IfOk result.1 (Tells (λ s d. (s ≡ joined_history prepared.history) × (d ≡ prepared.delta))
+        L.opening pass.old.list pass.new.list pass.old.seat) }
+    ensures memory { IfErr result.1 (λ e. e ≡ Memory) }
+    ensures kept { OnErr result.1 ((result.0 ≡ copies.list) × (pass.new ≡ pass.old)) }
+    ensures counted { IfOk result.1 (λ r. pass.new.appended ≡ pass.old.appended + (if r.fresh then 1 else 0)) }
+    ensures seat { (pass.new.seat ≡ pass.old.seat) × (pass.new.enters ≡ pass.old.enters) }
+{
+    let Ok(delta) = prepared.delta().clone() else {
+        return (give_up(prepared, copies, book), Err(Refusal::Memory));
+    };
+    if prepared.fresh() {
+        return append(alloc, prepared, delta, copies, book, pass);
+    }
+    let receipt = Receipt {
+        number: prepared.report().version,
+        delta,
+        fresh: false,
+    };
+    (commit(prepared, copies, book), Ok(receipt))
+}
+
+/// Publishes a fresh change and makes it, or gives it up where it can't be told.
+fn append<L: DeskName, W: Wait + Drop>(
+    alloc: Global,
+    prepared: Prepared,
+    delta: Arc<Delta>,
+    mut copies: FaceWriter<L, W>,
+    mut book: Book<L>,
+    pass: &mut Pass<L>,
+) -> (Held<L, W>, Result<Receipt, Refusal>)
+    requires fresh { prepared.fresh ≡ true }
+    requires delta { arc_value delta ≡ prepared.delta }
+    requires kept { IsKept L.replica L.opening prepared.replica prepared.history copies book.total }
+    requires seen { pass.old.list ≡ copies.list }
+    ensures all { IfOk result.1 (λ _. pass.new.list ≡ result.0) }
+    ensures published { IfOk result.1 (λ _. pass.new.list
+        ≡ pass.old.list ++ note_of prepared pass.old.seat ∷ []) }
+    ensures receipt { IfOk result.1 (λ r. (r.number ≡ prepared.report.version)
+        × (arc_value r.delta ≡ prepared.delta) × (r.fresh ≡ true)) }
+    ensures memory { IfErr result.1 (λ e. e ≡ Memory) }
+    ensures kept { OnErr result.1 ((result.0 ≡ copies.list) × (pass.new ≡ pass.old)) }
+    ensures counted { IfOk result.1 (λ _. pass.new.appended ≡ pass.old.appended + 1) }
+    ensures seat { (pass.new.seat ≡ pass.old.seat) × (pass.new.enters ≡ pass.old.enters) }
+{
+    match tell(alloc, &prepared, &mut copies, pass.seat()) {
+        Ok(()) => {}
+        Err(refusal) => return (give_up(prepared, copies, book), Err(refusal)),
+    }
+    let receipt = Receipt {
+        number: prepared.report().version,
+        delta,
+        fresh: true,
+    };
+    let copies = copies.publish();
+    pass.count(&mut book);
+    let _ = pass.catch_up(copies.front());
+    (commit(prepared, copies, book), Ok(receipt))
+}
+
+/// Hands the writer the patch of a fresh change. Refused only when out of memory, and then nothing has changed.
+fn tell<L: DeskName, W: Wait + Drop>(
+    alloc: Global,
+    prepared: &Prepared,
+    copies: &mut FaceWriter<L, W>,
+    seat: u64,
+) -> Result<(), Refusal>
+    requires fresh { prepared.now.fresh ≡ true }
+    requires history { prepared.now.history ≡ history_of L.opening copies.old.list }
+    requires none { copies.old.pending ≡ [] }
+    ensures pending { MatchResult result
+        (λ _. copies.new ≡ record copies.old { pending = note_of prepared.now seat ∷ [] })
+        (λ _. copies.new ≡ copies.old) }
+    ensures memory { IfErr result (λ e. e ≡ Memory) }
+{
+    let patch = patch_of(alloc, prepared, seat)?;
+    copies.append(patch)
+}
+
+/// Makes a change whose patch, where it is fresh, is published.
+fn commit<L: DeskName, W: Wait + Drop>(
+    prepared: Prepared,
+    copies: FaceWriter<L, W>,
+    book: Book<L>,
+) -> Held<L, W>
+    requires { IsKept L.replica L.opening prepared.replica (history_after prepared) copies book.total }
+    ensures { result ≡ copies.list }
+{
+    let (sheet, _report) = prepared.commit();
+    Held::of(sheet, copies, book)
+}
+
+/// Gives up a change of which nothing was published.
+fn give_up<L: DeskName, W: Wait + Drop>(
+    prepared: Prepared,
+    copies: FaceWriter<L, W>,
+    book: Book<L>,
+) -> Held<L, W>
+    requires { IsKept L.replica L.opening prepared.replica prepared.history copies book.total }
+    ensures { result ≡ copies.list }
+{
+    let sheet = prepared.cancel();
+    Held::of(sheet, copies, book)
+}
