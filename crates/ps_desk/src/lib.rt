@@ -9,6 +9,15 @@
 //!
 //! A pass belongs to a session. It holds a beginning of the published list, that which the session has seen, and it
 //! counts what its session appended.
+//!
+//! The contract to use is that of [`Desk::edit`] and [`Desk::receive`]: what the pass has seen only grows, and a fresh
+//! [`Receipt`] has a number above all that was seen before, at which its delta stands. A desk can't be opened, read or
+//! closed yet.
+//!
+//! Say a pass has seen three patches, and another session has appended a fourth. An edit by this pass then has the
+//! number 5: its delta is made over all four, and the pass has seen all five.
+//!
+//! Cost: that of preparing the change, and twice the cells that show another value.
 #![tactic(auto)]
 
 mod desk;
