@@ -7,8 +7,8 @@ pub mod GrowthLemmas
 pub mod ListedLemmas
 pub mod QueueEnd
 pub mod QueueStart
-pub mod QuietLaw
 pub mod ReleaseLemmas
 pub mod SettlingLemmas
 pub mod SoleDependents
 pub mod TouchedLemmas
+pub mod ValueLaws

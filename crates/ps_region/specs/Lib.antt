@@ -2,3 +2,4 @@ pub mod Found
 pub mod Inside
 pub mod Laws
 pub mod Listed
+pub mod Values

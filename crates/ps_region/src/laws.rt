@@ -6,6 +6,7 @@ ghost use Rattle.ps_grid.specs.declared.size.TheConstants.{CELLS as ALL};
 ghost use Rattle.ps_index.specs.Stands.{Puts, Stands, refers};
 ghost use Rattle.ps_region.specs.Laws.{SameCyclicOutside, SameRegion};
 ghost use Rattle.ps_region.specs.Listed.{listed};
+ghost use Rattle.ps_region.specs.Values.{OutsideKeeps, QuietKeeps};
 
 use ps_index::Index;
 
@@ -29,4 +30,19 @@ pub fn old_and_new_give_one_region()
 /// Cost: none.
 pub fn cycles_stay_outside()
     ensures { SameCyclicOutside }
+{}
+
+/// Whatever formulas are worth, as long as that depends on the cells that they refer to alone: outside the region each
+/// cell keeps its value.
+///
+/// Cost: none.
+pub fn cells_outside_keep_their_values<V>()
+    ensures { OutsideKeeps V }
+{}
+
+/// A cell of the frame that isn't touched and refers to no cell whose value changes keeps its value.
+///
+/// Cost: none.
+pub fn quiet_cells_keep_their_values<V>()
+    ensures { QuietKeeps V }
 {}

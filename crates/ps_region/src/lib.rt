@@ -32,7 +32,10 @@ mod outside;
 mod region;
 
 pub use after::After;
-pub use laws::{cycles_stay_outside, listed_cells_refer, old_and_new_give_one_region};
+pub use laws::{
+    cells_outside_keep_their_values, cycles_stay_outside, listed_cells_refer,
+    old_and_new_give_one_region, quiet_cells_keep_their_values,
+};
 pub use region::Region;
 
 #[cfg(test)]
