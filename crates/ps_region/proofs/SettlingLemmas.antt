@@ -306,3 +306,13 @@ Levels-more starts order level k start end v count some begin lt le here =
 -- a queue has at most as many cells as there are
 pub Queued-le : (left order : List ℕ) → Queued left order → length order ≤ length left
 Queued-le left order q = length-le_from_distinct_below order (length left) q.once q.below
+
+-- there are at most as many levels as places in the table of counts, while the queue goes on
+pub few_levels : (starts order left level : List ℕ) (head stop k : ℕ) → Levels starts order level → Queued left order
+    → length starts ≡ k → 0 < k → get_or starts (k - 1) 0 ≡ head → head < stop → stop ≤ length order
+    → k ≤ length left
+few_levels starts order left level head stop k levels queued count some begin more within =
+    let lt : k - 1 < length starts = omega (arith, some, count) in
+    let le = Levels-le starts order level levels (k - 1) lt in
+    let few = Queued-le left order queued in
+    omega (arith, some, begin, le, more, within, few)

@@ -103,3 +103,12 @@ filter-same p r (x ∷ xs) same =
 pub and_true : (a : Bool) → (a && true) ≡ a
 and_true true = refl
 and_true false = refl
+
+-- of the cells of a region, those that aren't noted as plain are its formula cells
+pub formula_cells : (refers : References) (formula : ℕ → Bool) (plain : List Bool) (touched members : List ℕ)
+    → ((c d : ℕ) → refers c d ≡ true → formula c ≡ true) → IsPlain formula plain touched
+    → ((c : ℕ) → In members c → InRegion refers touched c) → (passes : ℕ → Bool)
+    → filter (λ q. not_plain plain q && passes q) members ≡ filter (λ q. formula q && passes q) members
+formula_cells refers formula plain touched members has noted sound passes =
+    filter-same (λ q. not_plain plain q && passes q) (λ q. formula q && passes q) members
+    (λ q i. ap (λ b. b && passes q) (not_plain_is refers formula plain touched has noted q (sound q i)))

@@ -7,7 +7,7 @@ use Rattle.ps_region.proofs.CountLemmas.{and_true_left}
 use Rattle.ps_region.specs.Inside.Counts.{is_in}
 use Rattle.ps_region.proofs.CellListLemmas.{in-get_or}
 use Rattle.ps_region.proofs.SettlingLemmas.{Settling-lowers, Settling-step, Settling-level, Levels-keep, Levels-more}
-use Rattle.ps_region.proofs.SettlingLemmas.{Levels-le, Queued-le, frame_pending, frame_back}
+use Rattle.ps_region.proofs.SettlingLemmas.{few_levels, Queued-le, frame_pending, frame_back}
 use Rattle.ps_region.specs.Inside.Settles.{Settling, is_frame, is_pending}
 use Rattle.ps_region.proofs.levels.settle.Goals as goal
 
@@ -76,17 +76,12 @@ walk-preserved g c =
 pub put_start-requires-in-levels : goal.put_start-requires-in-levels
 put_start-requires-in-levels g c =
     let i = c.levels.invariant in
-    let k = c.levels.k in
-    let some = i.some in
-    let count = i.count in
-    let begin = i.begin in
-    let lt : k - 1 < length c.levels.starts.items = omega (arith, some, count) in
-    let le = Levels-le c.levels.starts.items c.levels.order.items c.levels.level i.levels (k - 1) lt in
-    let t = c.levels-test.true in
+    let few = few_levels _ _ _ _ _ _ _ i.levels i.state.queued i.count i.some i.begin c.levels-test.true i.state.within in
     let w = i.state.within in
-    let few = Queued-le c.levels.left c.levels.order.items i.state.queued in
+    let count = i.count in
+    let places = Queued-le c.levels.left c.levels.order.items i.state.queued in
     let room = i.room_starts in
-    omega (arith, some, count, begin, le, t, w, few, room)
+    omega (arith, few, count, w, places, room)
 
 pub levels-smaller : goal.levels-smaller
 levels-smaller g c =
@@ -144,30 +139,16 @@ levels-preserved g c =
 pub overflow_add-k : goal.overflow_add-k
 overflow_add-k g c =
     let i = c.levels.invariant in
-    let some = i.some in
-    let count = i.count in
-    let begin = i.begin in
-    let lt : c.levels.k - 1 < length c.levels.starts.items = omega (arith, some, count) in
-    let le = Levels-le c.levels.starts.items c.levels.order.items c.levels.level i.levels (c.levels.k - 1) lt in
-    let t = c.levels-test.true in
-    let w = i.state.within in
-    let few = Queued-le c.levels.left c.levels.order.items i.state.queued in
+    let few = few_levels _ _ _ _ _ _ _ i.levels i.state.queued i.count i.some i.begin c.levels-test.true i.state.within in
     let long = c.levels.auto.left in
-    omega (arith, some, begin, le, t, w, few, long, c.requires.left_length)
+    omega (arith, few, long, c.requires.left_length)
 
 pub overflow_add-k-in-levels : goal.overflow_add-k-in-levels
 overflow_add-k-in-levels g c =
     let i = c.levels.invariant in
-    let some = i.some in
-    let count = i.count in
-    let begin = i.begin in
-    let lt : c.levels.k - 1 < length c.levels.starts.items = omega (arith, some, count) in
-    let le = Levels-le c.levels.starts.items c.levels.order.items c.levels.level i.levels (c.levels.k - 1) lt in
-    let t = c.levels-test.true in
-    let w = i.state.within in
-    let few = Queued-le c.levels.left c.levels.order.items i.state.queued in
+    let few = few_levels _ _ _ _ _ _ _ i.levels i.state.queued i.count i.some i.begin c.levels-test.true i.state.within in
     let long = c.levels.auto.left in
-    omega (arith, some, begin, le, t, w, few, long, c.requires.left_length)
+    omega (arith, few, long, c.requires.left_length)
 
 pub release-requires-clause-known : goal.release-requires-clause-known
 release-requires-clause-known g c = λ e.
