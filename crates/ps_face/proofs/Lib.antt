@@ -1,5 +1,5 @@
 mod Adding
-mod Beginnings
+pub mod Beginnings
 mod Followed
 mod Kept
 mod Orders

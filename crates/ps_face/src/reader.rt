@@ -1,6 +1,6 @@
 //! The readers of the copies.
 
-ghost use Rattle.std.specs.Prelude.{◌≡◌, ◌+◌, length, slice_index_or, IfOk, IfErr, MatchBool};
+ghost use Rattle.std.specs.Prelude.{◌≡◌, ◌+◌, ◌<◌, length, slice_index_or, IfOk, IfErr, MatchBool};
 ghost use mathlib.Core.List.{IsPrefix};
 ghost use Rattle.left_right.specs.Sides.{view};
 ghost use Rattle.ps_value.specs.declared.value.Value.TheVariants.{Empty};
@@ -97,7 +97,7 @@ impl<L: Named> FaceReader<L> {
         requires legal { IsLegal L.opening front.now.list }
         ensures { MatchBool result
             (IsPrefix self.old.list front.now.list × (self.new ≡ record self.old { list = front.now.list }))
-            (self.new ≡ self.old) }
+            ((length front.now.list < length self.old.list) × (self.new ≡ self.old)) }
     {
         if !self.front.begins(front) {
             return false;
