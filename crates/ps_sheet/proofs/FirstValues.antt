@@ -15,7 +15,7 @@ use Rattle.ps_sheet.specs.Inside.Walk.{formula_at, IsDue, Lists, Shows, Begun, W
 use Rattle.ps_sheet.proofs.SettledValues.{true_not_false}
 use Rattle.ps_sheet.proofs.ChangedStates.{plain_agrees, cyclic_formula}
 use Rattle.ps_sheet.proofs.ListedCells.{In-pushed, In-end, In-pushed_cases, count_none}
-use Rattle.ps_sheet.proofs.Puts.{flag_stays, flag_inside, flag_due, unflagged_kept}
+use Rattle.ps_sheet.proofs.Puts.{due_elsewhere, flag_stays, flag_inside, flag_due, unflagged_kept}
 
 module _ (t : State) (v : Assignment) (touched : List ℕ) where
   -- START: each cell shows what it showed, and none is flagged
@@ -126,20 +126,8 @@ module _ (t : State) (v : Assignment) (touched : List ℕ) where
         (In-decided closed x)
 
     due_stays : (c : ℕ) → IsDue t touched v u c → IsDue t touched v u2 c
-    due_stays c due =
-        ⊎_elim
-        (λ i. inl i)
-        (λ r. inr (
-          r.0,
-          r.1,
-          (λ e. ⊎_elim
-              (λ (is : r.0 ≡ x).
-              let changed : ¬ (u x ≡ v x) = subst (λ q. ¬ (u q ≡ v q)) is r.2 in
-              changed (sym (as_before changed) ∙ subst (λ q. u2 q ≡ v q) is e))
-              (λ ne. r.2 (sym (others r.0 ne) ∙ e))
-              (cases_eq r.0 x)),
-        ))
-        due
+    due_stays =
+        due_elsewhere t touched v u u2 x (λ changed e. changed (sym (as_before changed) ∙ e)) others
 
     pub begun_cycle : Begun t v touched walked (closed ++ x ∷ []) u2 flags
     begun_cycle = record {

@@ -43,6 +43,18 @@ one_fresh s c x d made new =
     let is : (c, x) ∷ [] ≡ d = cc in
     subst (λ (e : Entries). ¬ IsBelow (state_of e) s) is (new_one s c x new)
 
+-- the delta of a counter's step by an amount in range
+stepped_fresh : (s : State) (c amount : ℕ) (other full : Bool) (x : CellState) (d : Entries)
+    → (1 ≤ amount → ¬ (joined_cell (s c) x ≡ s c))
+    → refused_if (not (is_amount amount)) Amount
+    (refused_if other NotTally (refused_if full TallyFull (Ok ((c, x) ∷ [])))) ≡ Ok d
+    → ¬ IsBelow (state_of d) s
+stepped_fresh s c amount other full x d new h =
+    let in_range = passed _ Amount _ d h in
+    let tally = passed _ NotTally _ d in_range.1 in
+    let made = passed _ TallyFull _ d tally.1 in
+    one_fresh s c x d made.1 (new (amount_some amount in_range.0))
+
 batch_fresh : (r : ℕ) (s : State) (cells : List (ℕ × Content)) (d : Entries) → IsDelta d
     → delta_of_batch r s cells ≡ Ok d → ¬ IsBelow (state_of d) s
 batch_fresh r s cells d delta h =
@@ -57,17 +69,9 @@ pub edits_are_fresh : EditsAreFresh
 edits_are_fresh r s (Set c content) d delta h = batch_fresh r s ((c, content) ∷ []) d delta h
 edits_are_fresh r s (SetAll cells) d delta h = batch_fresh r s cells d delta h
 edits_are_fresh r s (Add c amount) d delta h =
-    let in_range = passed _ Amount _ d h in
-    let tally = passed _ NotTally _ d in_range.1 in
-    let made = passed _ TallyFull _ d tally.1 in
-    one_fresh s c _ d made.1
-    (new_tally (s c) _ (add_is_fresh (s c).tally r amount _ refl (amount_some amount in_range.0)))
+    stepped_fresh s c amount _ _ _ d (λ t. new_tally (s c) _ (add_is_fresh (s c).tally r amount _ refl t)) h
 edits_are_fresh r s (Sub c amount) d delta h =
-    let in_range = passed _ Amount _ d h in
-    let tally = passed _ NotTally _ d in_range.1 in
-    let made = passed _ TallyFull _ d tally.1 in
-    one_fresh s c _ d made.1
-    (new_tally (s c) _ (sub_is_fresh (s c).tally r amount _ refl (amount_some amount in_range.0)))
+    stepped_fresh s c amount _ _ _ d (λ t. new_tally (s c) _ (sub_is_fresh (s c).tally r amount _ refl t)) h
 edits_are_fresh r s (Choose c option) d delta h =
     let in_range = passed _ OptionRange _ d h in
     let choice = passed _ NotChoice _ d in_range.1 in

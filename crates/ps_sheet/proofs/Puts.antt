@@ -1,5 +1,5 @@
 -- One cell shows a new value: which flags are set, and which cells are due after it.
-use Rattle.std.proofs.Common.{◌≡◌, ℕ, Bool, true, false, ◌⊎◌, inl, inr, List, sym, ◌∙◌, ⊎_elim, subst}
+use Rattle.std.proofs.Common.{◌≡◌, ◌≢◌, ℕ, Bool, true, false, ◌⊎◌, inl, inr, List, sym, ◌∙◌, ⊎_elim, subst}
 use Rattle.std.proofs.Common.{eqb}
 use Rattle.std.specs.List.{list_any}
 use Rattle.std.proofs.lemmas.Bool.{cases_eq, or_left, or_right, or_cases}
@@ -12,6 +12,23 @@ use Rattle.ps_delta.specs.State.{State}
 use Rattle.ps_sheet.specs.Settled.{refers_to}
 use Rattle.ps_sheet.specs.Inside.Walk.{IsDue, Lists, Shows}
 use Rattle.ps_sheet.proofs.SettledValues.{true_not_false}
+
+-- One cell alone shows another value, and where it had changed before it still has: each due cell stays due.
+module _ (t : State) (touched : List ℕ) (v u u2 : Assignment) where
+  pub due_elsewhere : (x : ℕ) → (¬ (u x ≡ v x) → ¬ (u2 x ≡ v x)) → ((c : ℕ) → c ≢ x → u2 c ≡ u c)
+      → (c : ℕ) → IsDue t touched v u c → IsDue t touched v u2 c
+  due_elsewhere x still others c due =
+      ⊎_elim
+      (λ i. inl i)
+      (λ r. inr (
+        r.0,
+        r.1,
+        ⊎_elim
+            (λ is. subst (λ q. ¬ (u2 q ≡ v q)) (sym is) (still (subst (λ q. ¬ (u q ≡ v q)) is r.2)))
+            (λ ne e. r.2 (sym (others r.0 ne) ∙ e))
+            (cases_eq r.0 x),
+      ))
+      due
 
 module _ (t : State) (touched : List ℕ) (x : ℕ) (y : Value) (listed : List ℕ) (u u2 : Assignment)
     (flags flags2 : ℕ → Bool) (lists : Lists (refers_to t) touched x listed)
@@ -66,18 +83,7 @@ module _ (t : State) (touched : List ℕ) (x : ℕ) (y : Value) (listed : List �
     module _ (v : Assignment) (waited : u x ≡ v x) where
       -- where x showed what it showed before the change, a due cell stays due
       pub due_stays : (c : ℕ) → IsDue t touched v u c → IsDue t touched v u2 c
-      due_stays c due =
-          ⊎_elim
-          (λ i. inl i)
-          (λ r. inr (
-            r.0,
-            r.1,
-            (λ e. ⊎_elim
-                (λ is. r.2 (subst (λ q. u q ≡ v q) (sym is) waited))
-                (λ ne. r.2 (sym (shows.others r.0 ne) ∙ e))
-                (cases_eq r.0 x)),
-          ))
-          due
+      due_stays = due_elsewhere t touched v u u2 x (λ changed. absurd (changed waited)) shows.others
 
       -- a flagged cell is due
       pub flag_due : (c : ℕ) → (flags c ≡ true → IsDue t touched v u c) → flags2 c ≡ true → IsDue t touched v u2 c
