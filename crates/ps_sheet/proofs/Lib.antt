@@ -27,6 +27,7 @@ pub mod Puts
 pub mod Recalculations
 pub mod ScreenLemmas
 pub mod SetsAsNumbers
+pub mod SettledChanges
 pub mod SettledExists
 pub mod SettledValues
 pub mod TakenIn

@@ -1,9 +1,10 @@
 -- What an accepted change recalculates, by the states and the shown values before and after it.
-use Rattle.std.specs.Prelude.{◌≡◌, ◌≤◌, ◌↔◌, ◌⊎◌, ℕ, Bool, true, List, is_some}
+use Rattle.std.specs.Prelude.{◌≡◌, ◌≤◌, ◌↔◌, ◌⊎◌, ℕ, Bool, true, false, List, is_some, nat_eq}
+use Rattle.std.specs.List.{list_any}
 use Rattle.ps_grid.specs.Chains.{References, In, InRegion, IsDepth}
 use Rattle.ps_eval.specs.Items.{Assignment}
-use Rattle.ps_delta.specs.State.{State}
-use Rattle.ps_sheet.specs.Settled.{content_of, refers_to, Cyclic}
+use Rattle.ps_delta.specs.State.{State, IsInGrid}
+use Rattle.ps_sheet.specs.Settled.{content_of, refers_to, Cyclic, IsSettled}
 use Rattle.ps_content.specs.Order.{formula_in}
 use Rattle.ps_region.specs.Found.{IsFrame, IsCount}
 use Rattle.ps_sheet.specs.declared.sheet.Report.{Report}
@@ -42,3 +43,24 @@ pub record IsRecalculated (s t : State) (v w : Assignment) (evaluated cyclic lev
 -- the report of such a change
 abbrev pub IsReport : State → State → Assignment → Assignment → Report → Type 0
 IsReport s t v w r = IsRecalculated s t v w r.evaluated r.cyclic r.levels
+
+-- two states of the grid that are the same but at touched cells, and the settled values of each
+pub record IsSettledChange (s t : State) (touched : List ℕ) (v w : Assignment) : Type 0 where
+  pub before : IsInGrid s
+  pub after : IsInGrid t
+  pub same : (c : ℕ) → list_any (nat_eq c) touched ≡ false → s c ≡ t c
+  pub settled_before : IsSettled s v
+  pub settled_after : IsSettled t w
+
+-- LAW: a cell outside the region shows what it showed
+abbrev pub OutsideShowsTheSame : Type 0
+OutsideShowsTheSame =
+    (s t : State) (touched : List ℕ) (v w : Assignment) → IsSettledChange s t touched v w
+    → (c : ℕ) → ¬ InRegion (refers_to t) touched c → w c ≡ v c
+
+-- LAW: so does a cell of the frame that isn't touched, where each cell that it refers to shows what it showed
+abbrev pub QuietShowsTheSame : Type 0
+QuietShowsTheSame =
+    (s t : State) (touched : List ℕ) (v w : Assignment) → IsSettledChange s t touched v w
+    → (c : ℕ) → InFrame t touched c → list_any (nat_eq c) touched ≡ false
+    → ((d : ℕ) → refers_to t c d ≡ true → w d ≡ v d) → w c ≡ v c

@@ -4,6 +4,7 @@ ghost use Rattle.std.specs.Prelude.{◌≡◌};
 ghost use Rattle.ps_shown.specs.Shown.{shown_at};
 ghost use Rattle.ps_delta.specs.Deltas.{joined_history};
 ghost use Rattle.ps_sheet.specs.Edits.{EditsAreFresh};
+ghost use Rattle.ps_sheet.specs.Recalculated.{OutsideShowsTheSame, QuietShowsTheSame};
 ghost use Rattle.ps_sheet.specs.Sheet.{AcceptedDeltasJoin, TookTheSame};
 ghost use Rattle.ps_sheet.specs.Settled.{SettledAtLeastOnce, SettledAtMostOnce};
 
@@ -21,6 +22,21 @@ pub fn settled_at_most_once()
 /// Cost: none.
 pub fn settled_at_least_once()
     ensures { SettledAtLeastOnce }
+{}
+
+/// Of two states, a cell shows the same outside the region of the cells where they differ.
+///
+/// Cost: none.
+pub fn cells_outside_show_the_same()
+    ensures { OutsideShowsTheSame }
+{}
+
+/// A formula cell of that region shows the same where it reaches no cycle, isn't one of these cells, and refers to no
+/// cell that shows another value.
+///
+/// Cost: none.
+pub fn quiet_cells_show_the_same()
+    ensures { QuietShowsTheSame }
 {}
 
 /// A delta that an edit makes over a state is not below it: an edit that isn't refused always changes the state.

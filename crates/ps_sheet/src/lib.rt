@@ -51,8 +51,9 @@ mod walk;
 
 pub use edit::{Batch, Change, Edit};
 pub use laws::{
-    accepted_deltas_join, edits_are_fresh, same_deltas_show_the_same, same_join_shows_the_same,
-    settled_at_least_once, settled_at_most_once,
+    accepted_deltas_join, cells_outside_show_the_same, edits_are_fresh, quiet_cells_show_the_same,
+    same_deltas_show_the_same, same_join_shows_the_same, settled_at_least_once,
+    settled_at_most_once,
 };
 pub use prepared::Prepared;
 pub use sheet::{Report, Sheet};
