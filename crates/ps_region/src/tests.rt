@@ -7,7 +7,7 @@ ghost use Rattle.ps_grid.specs.Rectangle.{is_inside};
 ghost use Rattle.ps_region.specs.Found.{IsFound};
 ghost use Rattle.ps_region.specs.Inside.Examples.{IsSmallSheet, has_formula_in, refers_in, refers_within};
 
-use crate::{After, Region};
+use crate::{After, Region, cells_outside_keep_their_values, quiet_cells_keep_their_values};
 use ps_formula::Formula;
 use ps_grid::{Cell, Rect, Refusal};
 use ps_index::Index;
@@ -183,6 +183,8 @@ fn region_of(alloc: Global, lines: &str, touched: &[Cell]) -> Result<Region, Ref
 #[test]
 fn a_chain_has_a_level_for_each_formula(rt: HostRuntime) {
     assert!(rt; chain(rt.alloc()) == Ok(true));
+    cells_outside_keep_their_values::<i64>();
+    quiet_cells_keep_their_values::<i64>();
 }
 
 fn chain(alloc: Global) -> Result<bool, Refusal> {
