@@ -76,7 +76,8 @@ walk-preserved g c =
 pub put_start-requires-in-levels : goal.put_start-requires-in-levels
 put_start-requires-in-levels g c =
     let i = c.levels.invariant in
-    let few = few_levels _ _ _ _ _ _ _ i.levels i.state.queued i.count i.some i.begin c.levels-test.true i.state.within in
+    let few = few_levels _ _ _ _ _ _ _ i.levels i.state.queued i.count i.some i.begin
+    c.levels-test.true i.state.within in
     let w = i.state.within in
     let count = i.count in
     let places = Queued-le c.levels.left c.levels.order.items i.state.queued in
@@ -139,14 +140,16 @@ levels-preserved g c =
 pub overflow_add-k : goal.overflow_add-k
 overflow_add-k g c =
     let i = c.levels.invariant in
-    let few = few_levels _ _ _ _ _ _ _ i.levels i.state.queued i.count i.some i.begin c.levels-test.true i.state.within in
+    let few = few_levels _ _ _ _ _ _ _ i.levels i.state.queued i.count i.some i.begin
+    c.levels-test.true i.state.within in
     let long = c.levels.auto.left in
     omega (arith, few, long, c.requires.left_length)
 
 pub overflow_add-k-in-levels : goal.overflow_add-k-in-levels
 overflow_add-k-in-levels g c =
     let i = c.levels.invariant in
-    let few = few_levels _ _ _ _ _ _ _ i.levels i.state.queued i.count i.some i.begin c.levels-test.true i.state.within in
+    let few = few_levels _ _ _ _ _ _ _ i.levels i.state.queued i.count i.some i.begin
+    c.levels-test.true i.state.within in
     let long = c.levels.auto.left in
     omega (arith, few, long, c.requires.left_length)
 

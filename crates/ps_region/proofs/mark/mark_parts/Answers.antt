@@ -23,7 +23,16 @@ count_outside-requires-clause-counted g c =
 pub first_level-requires-clause-room : goal.first_level-requires-clause-room
 first_level-requires-clause-room g c =
     let le = marked_le c.grow.new.marks c.grow.new.members.items c.grow.ensures.marked in
-    rw c.deref.ensures.value (omega (arith, le, c.grow.auto.marks, c.clear.auto.marks, c.requires.marks_length, c.clear-2.ensures.capacity, c.requires.order_room))
+    rw c.deref.ensures.value
+    (omega (
+      arith,
+      le,
+      c.grow.auto.marks,
+      c.clear.auto.marks,
+      c.requires.marks_length,
+      c.clear-2.ensures.capacity,
+      c.requires.order_room,
+    ))
 
 pub settle-requires-clause-closed : goal.settle-requires-clause-closed
 settle-requires-clause-closed g c =
@@ -61,7 +70,16 @@ settle-requires-clause-starting g c =
 pub list_held-requires-clause-room : goal.list_held-requires-clause-room
 list_held-requires-clause-room g c =
     let le = marked_le c.grow.new.marks c.grow.new.members.items c.grow.ensures.marked in
-    rw c.deref-2.ensures.value (omega (arith, le, c.grow.auto.marks, c.clear.auto.marks, c.requires.marks_length, c.clear-4.ensures.capacity, c.requires.cyclic_room))
+    rw c.deref-2.ensures.value
+    (omega (
+      arith,
+      le,
+      c.grow.auto.marks,
+      c.clear.auto.marks,
+      c.requires.marks_length,
+      c.clear-4.ensures.capacity,
+      c.requires.cyclic_room,
+    ))
 
 pub returns-clause-cyclic : goal.returns-clause-cyclic
 returns-clause-cyclic g c =

@@ -17,12 +17,18 @@ table v lent new same whole is size = (with_items_is v new (same ∙ whole), sam
 
 pub invariant_of-self : goal.invariant_of-self
 invariant_of-self g c =
-    let marks = table c.self.inside.marks _ _ c.mark_parts.auto.marks c.deref_mut.ensures.len c.deref_mut.ensures.value c.self.invariant.marks_length in
-    let fresh = table c.self.inside.fresh _ _ c.mark_parts.auto.fresh c.deref_mut-2.ensures.len c.deref_mut-2.ensures.value c.self.invariant.fresh_length in
-    let plain = table c.self.inside.plain _ _ c.mark_parts.auto.plain c.deref_mut-3.ensures.len c.deref_mut-3.ensures.value c.self.invariant.plain_length in
-    let left = table c.self.inside.left _ _ c.mark_parts.auto.left c.deref_mut-4.ensures.len c.deref_mut-4.ensures.value c.self.invariant.left_length in
-    let level = table c.self.inside.level _ _ c.mark_parts.auto.level c.deref_mut-5.ensures.len c.deref_mut-5.ensures.value c.self.invariant.level_length in
-    let sole = table c.self.inside.sole _ _ c.mark_parts.auto.sole c.deref_mut-6.ensures.len c.deref_mut-6.ensures.value c.self.invariant.sole_length in
+    let marks = table c.self.inside.marks _ _ c.mark_parts.auto.marks
+    c.deref_mut.ensures.len c.deref_mut.ensures.value c.self.invariant.marks_length in
+    let fresh = table c.self.inside.fresh _ _ c.mark_parts.auto.fresh
+    c.deref_mut-2.ensures.len c.deref_mut-2.ensures.value c.self.invariant.fresh_length in
+    let plain = table c.self.inside.plain _ _ c.mark_parts.auto.plain
+    c.deref_mut-3.ensures.len c.deref_mut-3.ensures.value c.self.invariant.plain_length in
+    let left = table c.self.inside.left _ _ c.mark_parts.auto.left
+    c.deref_mut-4.ensures.len c.deref_mut-4.ensures.value c.self.invariant.left_length in
+    let level = table c.self.inside.level _ _ c.mark_parts.auto.level
+    c.deref_mut-5.ensures.len c.deref_mut-5.ensures.value c.self.invariant.level_length in
+    let sole = table c.self.inside.sole _ _ c.mark_parts.auto.sole
+    c.deref_mut-6.ensures.len c.deref_mut-6.ensures.value c.self.invariant.sole_length in
     let sound : (x : ℕ) → In c.args.touched.now x → In c.mark_parts.new.members.items x =
     λ x t. c.mark_parts.ensures.complete x
     (InRegion-touched (g.A.After.refers c.args.after.now) c.args.touched.now x t) in
@@ -46,9 +52,12 @@ invariant_of-self g c =
 
 pub returns : goal.returns
 returns g c =
-    let marks = table c.self.inside.marks _ _ c.mark_parts.auto.marks c.deref_mut.ensures.len c.deref_mut.ensures.value c.self.invariant.marks_length in
-    let plain = table c.self.inside.plain _ _ c.mark_parts.auto.plain c.deref_mut-3.ensures.len c.deref_mut-3.ensures.value c.self.invariant.plain_length in
-    let left = table c.self.inside.left _ _ c.mark_parts.auto.left c.deref_mut-4.ensures.len c.deref_mut-4.ensures.value c.self.invariant.left_length in
+    let marks = table c.self.inside.marks _ _ c.mark_parts.auto.marks
+    c.deref_mut.ensures.len c.deref_mut.ensures.value c.self.invariant.marks_length in
+    let plain = table c.self.inside.plain _ _ c.mark_parts.auto.plain
+    c.deref_mut-3.ensures.len c.deref_mut-3.ensures.value c.self.invariant.plain_length in
+    let left = table c.self.inside.left _ _ c.mark_parts.auto.left
+    c.deref_mut-4.ensures.len c.deref_mut-4.ensures.value c.self.invariant.left_length in
     record {
       found = rw (left.0, plain.0)
           (is_found (g.A.After.refers c.args.after.now) (g.A.After.formula c.args.after.now) (is_in c.args.cyclic.now)
@@ -62,5 +71,6 @@ returns g c =
           c.mark_parts.new.left c.mark_parts.new.level c.mark_parts.new.order.items c.mark_parts.new.starts.items
           c.mark_parts.new.cyclic.items
           c.mark_parts.new.plain c.mark_parts.ensures.plain
-          c.mark_parts.ensures.ended c.mark_parts.ensures.levels c.mark_parts.ensures.whole c.mark_parts.ensures.cyclic);
+          c.mark_parts.ensures.ended c.mark_parts.ensures.levels
+          c.mark_parts.ensures.whole c.mark_parts.ensures.cyclic);
     }
