@@ -1,5 +1,5 @@
 -- The first values of a change: touched cells without a formula show their values, cyclic cells of the region #CYCLE!.
-use Rattle.std.proofs.Common.{◌≡◌, ◌≢◌, ℕ, Bool, true, false, inl, inr, List, [], ◌∷◌, ◌++◌, sym, ◌∙◌}
+use Rattle.std.proofs.Common.{◌≡◌, ◌≢◌, ℕ, Bool, true, false, inl, List, [], ◌∷◌, ◌++◌, sym, ◌∙◌}
 use Rattle.std.proofs.Common.{⊎_elim, subst}
 use Rattle.std.proofs.lemmas.Bool.{cases_eq}
 use Rattle.ps_grid.specs.Chains.{In, InRegion}
@@ -15,7 +15,7 @@ use Rattle.ps_sheet.specs.Inside.Walk.{formula_at, IsDue, Lists, Shows, Begun, W
 use Rattle.ps_sheet.proofs.SettledValues.{true_not_false}
 use Rattle.ps_sheet.proofs.ChangedStates.{plain_agrees, cyclic_formula}
 use Rattle.ps_sheet.proofs.ListedCells.{In-pushed, In-end, In-pushed_cases, count_none}
-use Rattle.ps_sheet.proofs.Puts.{due_elsewhere, flag_stays, flag_inside, flag_due, unflagged_kept}
+use Rattle.ps_sheet.proofs.Puts.{flag_stays, flag_inside, flag_due, stays_due, unflagged_kept}
 
 module _ (t : State) (v : Assignment) (touched : List ℕ) where
   -- START: each cell shows what it showed, and none is flagged
@@ -125,10 +125,6 @@ module _ (t : State) (v : Assignment) (touched : List ℕ) where
         (λ out. absurd (changed (b.kept x (λ i. cyclic_formula t x cyc) out)))
         (In-decided closed x)
 
-    due_stays : (c : ℕ) → IsDue t touched v u c → IsDue t touched v u2 c
-    due_stays =
-        due_elsewhere t touched v u u2 x (λ changed e. changed (sym (as_before changed) ∙ e)) others
-
     pub begun_cycle : Begun t v touched walked (closed ++ x ∷ []) u2 flags
     begun_cycle = record {
       among = b.among;
@@ -145,7 +141,8 @@ module _ (t : State) (v : Assignment) (touched : List ℕ) where
           ∙ b.kept c f (λ i. out (In-pushed closed x c i));
       formula = b.formula;
       passed = λ c d r acyclic off. others d (λ e. acyclic (subst (Cyclic t) (sym e) cyc)) ∙ b.passed c d r acyclic off;
-      flagged = λ c on. due_stays c (b.flagged c on);
+      flagged = λ c on. stays_due t touched v x u u2 (λ changed is. changed (sym (as_before changed) ∙ is)) others c
+          (b.flagged c on);
       inside = b.inside;
     }
 

@@ -24,23 +24,23 @@ use Rattle.ps_sheet.specs.Inside.Steps.{Road, ShowsAll, StepsLevel, values_at}
 use Rattle.ps_sheet.proofs.SettledValues.{true_not_false, formula_below, value_by-agrees}
 use Rattle.ps_sheet.proofs.CyclicLists.{In-filter, In-filtered}
 use Rattle.ps_sheet.proofs.ListedCells.{In-pushed, In-end, In-pushed_cases, In-place, fresh_place}
-use Rattle.ps_sheet.proofs.Walks.{weaker, evaluate, quiet}
+use Rattle.ps_sheet.proofs.Walks.{weaker, evaluate, evaluate_unread, quiet}
 
 -- the first i of the cells are shown
-abbrev pub ShowsPart : (ℕ → List ℕ) → List ℕ → List Value → ℕ → Assignment → Assignment → (ℕ → Bool) → (ℕ → Bool)
-    → Type 0
-ShowsPart listed cells values i u u2 flags flags2 =
+abbrev pub ShowsPart : Bool → (ℕ → List ℕ) → List ℕ → List Value → ℕ → Assignment → Assignment → (ℕ → Bool)
+    → (ℕ → Bool) → Type 0
+ShowsPart is_last listed cells values i u u2 flags flags2 =
     (t : State) (v : Assignment) (touched : List ℕ) (level : ℕ → List ℕ) (top k m : ℕ) → Road t listed v touched
     level top
-    → 0 < k → k ≤ top → IsDistinct eqb cells → ((c : ℕ) → In cells c → In (level k) c × (flags c ≡ true))
+    → 0 < k → k ≤ top → (is_last ≡ true → k ≡ top) → IsDistinct eqb cells → ((c : ℕ) → In cells c → In (level k) c × (flags c ≡ true))
     → values ≡ map (λ c. value_of (t c) u) cells
     → Walked t v touched (IsPassed level k []) u flags m
     → Walked t v touched (IsPassed level k (take i cells)) u2 flags2 (m + i)
     × ((c : ℕ) → ¬ In (level k) c → u2 c ≡ u c) × ((c : ℕ) → In (level k) c → flags2 c ≡ flags c)
 
-pub shows_none : (listed : ℕ → List ℕ) (cells : List ℕ) (values : List Value) (u : Assignment) (flags : ℕ → Bool)
-    → ShowsPart listed cells values 0 u u flags flags
-shows_none listed cells values u flags t v touched level top k m road some within once among is w =
+pub shows_none : (is_last : Bool) (listed : ℕ → List ℕ) (cells : List ℕ) (values : List Value) (u : Assignment)
+    (flags : ℕ → Bool) → ShowsPart is_last listed cells values 0 u u flags flags
+shows_none is_last listed cells values u flags t v touched level top k m road some within last once among is w =
     let same : m ≡ m + 0 = omega arith in
     (subst (λ q. Walked t v touched (IsPassed level k []) u flags q) same w, (λ c out. refl), (λ c here. refl))
 
@@ -98,6 +98,16 @@ module _ (t : State) (listed : ℕ → List ℕ) (v : Assignment) (touched : Lis
   not_passed c here p =
       ⊎_elim (λ j. not_lower c here j) (λ i. let f : false ≡ true = i in cc) p
 
+  -- no cell of the frame refers to one of the last level
+  unread : k ≡ top → (x : ℕ) → In (level k) x → (c : ℕ) → InFrame t touched c → ¬ (refers_to t c x ≡ true)
+  unread last x here c f r =
+      let at = road.levels.complete c f in
+      let j = road.levels.falls at.0 c x at.1 at.2 at.3 r (frame x here) in
+      let high = j.2 in
+      let most = at.2 in
+      let same = road.levels.apart j.0 k x j.1 (omega (arith, high, most)) some within j.3 here in
+      omega (arith, high, most, same, last)
+
   passed_below : (cells : List ℕ) (c e : ℕ) → In (level k) c → refers_to t c e ≡ true → InFrame t touched e
       → IsPassed level k cells e
   passed_below cells c e here r f =
@@ -119,15 +129,30 @@ or_off : (a b : Bool) → (a ≡ false → b ≡ false) → (a || b) ≡ a
 or_off true b h = refl
 or_off false b h = h refl
 
+-- a cell shows a value: the cells that refer to it are flagged, or none has to be since it is of the last level
+abbrev pub ShowsOne : Bool → ℕ → Value → List ℕ → Assignment → Assignment → (ℕ → Bool) → (ℕ → Bool) → Type 0
+ShowsOne is_last x y listed u u2 flags flags2 =
+    Shows x y listed u u2 flags flags2
+    ⊎ ((is_last ≡ true) × (u2 x ≡ y) × ((c : ℕ) → c ≢ x → u2 c ≡ u c) × (flags2 ≡ flags))
+
+one_others : (is_last : Bool) (x : ℕ) (y : Value) (listed : List ℕ) (u u2 : Assignment) (flags flags2 : ℕ → Bool)
+    → ShowsOne is_last x y listed u u2 flags flags2 → (c : ℕ) → c ≢ x → u2 c ≡ u c
+one_others is_last x y listed u u2 flags flags2 one c ne =
+    ⊎_elim
+    (λ (shows : Shows x y listed u u2 flags flags2). shows.others c ne)
+    (λ (put : (is_last ≡ true) × (u2 x ≡ y) × ((c : ℕ) → c ≢ x → u2 c ≡ u c) × (flags2 ≡ flags)). put.2 c ne)
+    one
+
 -- STEP: the next due cell shows its value
-pub shows_more : (listed : ℕ → List ℕ) (cells : List ℕ) (values : List Value) (i d : ℕ) (y e : Value)
-    (u u2 u3 : Assignment) (flags flags2 flags3 : ℕ → Bool) → ShowsPart listed cells values i u u2 flags flags2
+pub shows_more : (is_last : Bool) (listed : ℕ → List ℕ) (cells : List ℕ) (values : List Value) (i d : ℕ) (y e : Value)
+    (u u2 u3 : Assignment) (flags flags2 flags3 : ℕ → Bool)
+    → ShowsPart is_last listed cells values i u u2 flags flags2
     → i < length cells → y ≡ get_or values i e
-    → Shows (get_or cells i d) y (listed (get_or cells i d)) u2 u3 flags2 flags3
-    → ShowsPart listed cells values (i + 1) u u3 flags flags3
-shows_more listed cells values i d y e u u2 u3 flags flags2 flags3 so_far lt y_is shows t v touched level top k m road
-    some within once among is w =
-    let so = so_far t v touched level top k m road some within once among is w in
+    → ShowsOne is_last (get_or cells i d) y (listed (get_or cells i d)) u2 u3 flags2 flags3
+    → ShowsPart is_last listed cells values (i + 1) u u3 flags flags3
+shows_more is_last listed cells values i d y e u u2 u3 flags flags2 flags3 so_far lt y_is one t v touched level top k m
+    road some within last once among is w =
+    let so = so_far t v touched level top k m road some within last once among is w in
     let x : ℕ = get_or cells i d in
     let place = among x (In-place cells i d lt) in
     let here : In (level k) x = place.0 in
@@ -143,13 +168,22 @@ shows_more listed cells values i d y e u u2 u3 flags flags2 flags3 so_far lt y_i
     let value : y ≡ value_of (t x) u2 =
     y_is ∙ (ap (λ (vs : List Value). get_or vs i e) is ∙ (get_or-map (λ c. value_of (t c) u) cells i d e lt ∙
     agrees)) in
-    let shows2 : Shows x (value_of (t x) u2) (listed x) u2 u3 flags2 flags3 =
-    subst (λ z. Shows x z (listed x) u2 u3 flags2 flags3) value shows in
-    let w3 = evaluate road.before t v touched road.change (IsPassed level k (take i cells)) u2 flags2 (m + i) x so.0
-    inside fresh
-    (λ q r f. passed_below t listed v touched level top k road some within (take i cells) x q here r f)
-    (listed x) u3 flags3 (so.2 x here ∙ place.1)
-    (road.lists x (formula_below t road.change.after x inside.1)) shows2 in
+    let one2 : ShowsOne is_last x (value_of (t x) u2) (listed x) u2 u3 flags2 flags3 =
+    subst (λ z. ShowsOne is_last x z (listed x) u2 u3 flags2 flags3) value one in
+    let below : (q : ℕ) → refers_to t x q ≡ true → InFrame t touched q → IsPassed level k (take i cells) q =
+    λ q r f. passed_below t listed v touched level top k road some within (take i cells) x q here r f in
+    let on : flags2 x ≡ true = so.2 x here ∙ place.1 in
+    let w3 : Walked t v touched (λ c. IsPassed level k (take i cells) c ⊎ (c ≡ x)) u3 flags3 ((m + i) + 1) =
+    ⊎_elim
+    (λ (shows : Shows x (value_of (t x) u2) (listed x) u2 u3 flags2 flags3).
+    evaluate road.before t v touched road.change (IsPassed level k (take i cells)) u2 flags2 (m + i) x so.0
+    inside fresh below (listed x) u3 flags3 on (road.lists x (formula_below t road.change.after x inside.1)) shows)
+    (λ (put : (is_last ≡ true) × (u3 x ≡ value_of (t x) u2) × ((c : ℕ) → c ≢ x → u3 c ≡ u2 c) × (flags3 ≡ flags2)).
+    subst (λ fs. Walked t v touched (λ c. IsPassed level k (take i cells) c ⊎ (c ≡ x)) u3 fs ((m + i) + 1)) (sym put.3)
+    (evaluate_unread road.before t v touched road.change (IsPassed level k (take i cells)) u2 flags2 (m + i) x so.0
+    inside fresh below u3 on put.1 put.2
+    (unread t listed v touched level top k road some within (last put.0) x here)))
+    one2 in
     let longer : take (i + 1) cells ≡ take i cells ++ x ∷ [] = take_more cells i d lt in
     let count : (m + i) + 1 ≡ m + (i + 1) = omega arith in (
       subst (λ q. Walked t v touched (IsPassed level k (take (i + 1) cells)) u3 flags3 q) count
@@ -164,22 +198,27 @@ shows_more listed cells values i d y e u u2 u3 flags flags2 flags3 so_far lt y_i
           (λ q. ⊎_elim (λ before. inl (inr before)) (λ same. inr same)
           (In-pushed_cases (take i cells) x c (subst (λ xs. In xs c) longer q)))
           p)),
-      (λ c out. shows.others c (λ same. out (subst (In (level k)) (sym same) here)) ∙ so.1 c out),
+      (λ c out. one_others is_last x y (listed x) u2 u3 flags2 flags3 one c
+          (λ same. out (subst (In (level k)) (sym same) here)) ∙ so.1 c out),
       (λ c there. ⊎_elim
+          (λ (shows : Shows x y (listed x) u2 u3 flags2 flags3). ⊎_elim
           (λ same. same.1 c ∙ so.2 c there)
           (λ spread. spread.1 c
           ∙ (ap (λ b. b || list_any (eqb c) (listed x)) (so.2 c there)
           ∙ or_off (flags c) (list_any (eqb c) (listed x))
           (λ off. flag_stays t listed v touched level top k road some within u flags m w x here c there off)))
-          shows.spread),
+          shows.spread)
+          (λ (put : (is_last ≡ true) × (u3 x ≡ y) × ((c : ℕ) → c ≢ x → u3 c ≡ u2 c) × (flags3 ≡ flags2)).
+          ap (λ (fs : ℕ → Bool). fs c) put.3 ∙ so.2 c there)
+          one),
     )
 
-pub shows_end : (listed : ℕ → List ℕ) (cells : List ℕ) (values : List Value) (i : ℕ) (u u2 : Assignment)
-    (flags flags2 : ℕ → Bool) → ShowsPart listed cells values i u u2 flags flags2 → i ≡ length cells
-    → ShowsAll listed cells values u u2 flags flags2
-shows_end listed cells values i u u2 flags flags2 so_far all t v touched level top k m road some within once among
-    is w =
-    let so = so_far t v touched level top k m road some within once among is w in (
+pub shows_end : (is_last : Bool) (listed : ℕ → List ℕ) (cells : List ℕ) (values : List Value) (i : ℕ)
+    (u u2 : Assignment) (flags flags2 : ℕ → Bool) → ShowsPart is_last listed cells values i u u2 flags flags2
+    → i ≡ length cells → ShowsAll is_last listed cells values u u2 flags flags2
+shows_end is_last listed cells values i u u2 flags flags2 so_far all t v touched level top k m road some within last
+    once among is w =
+    let so = so_far t v touched level top k m road some within last once among is w in (
       subst (λ q. Walked t v touched (IsPassed level k cells) u2 flags2 (m + q)) all
           (subst (λ xs. Walked t v touched (IsPassed level k xs) u2 flags2 (m + i))
           (take_all i cells (omega (arith, all)))
@@ -268,18 +307,19 @@ module _ (t : State) (listed : ℕ → List ℕ) (v : Assignment) (touched : Lis
       (λ c p. ⊎_elim (λ j. inl (inl j)) (λ i. inr (subst (λ xs. In xs c) (sym whole) i)) p)
 
 -- THE LEVEL: its due cells show the values that they have where the cells show what they showed before it
-pub level_stepped : (t : State) (listed : ℕ → List ℕ) (cells : List ℕ) (values : List Value) (u u2 : Assignment)
-    (flags flags2 : ℕ → Bool) → values ≡ map (λ c. value_of (t c) u) (filter flags cells)
-    → ShowsAll listed (filter flags cells) values u u2 flags flags2
-    → StepsLevel t listed cells u u2 flags flags2 (length (filter flags cells))
-level_stepped t listed cells values u u2 flags flags2 is shown v touched level top k m road some within same w =
+pub level_stepped : (t : State) (listed : ℕ → List ℕ) (cells : List ℕ) (is_last : Bool) (values : List Value)
+    (u u2 : Assignment) (flags flags2 : ℕ → Bool) → values ≡ map (λ c. value_of (t c) u) (filter flags cells)
+    → ShowsAll is_last listed (filter flags cells) values u u2 flags flags2
+    → StepsLevel t listed cells is_last u u2 flags flags2 (length (filter flags cells))
+level_stepped t listed cells is_last values u u2 flags flags2 is shown v touched level top k m road some within last
+    same w =
     subst
-    (λ xs. values ≡ map (λ c. value_of (t c) u) (filter flags xs) → ShowsAll listed (filter flags xs) values u u2
-    flags flags2
+    (λ xs. values ≡ map (λ c. value_of (t c) u) (filter flags xs)
+    → ShowsAll is_last listed (filter flags xs) values u u2 flags flags2
     → Walked t v touched (IsPassed level k xs) u2 flags2 (m + length (filter flags xs)))
     same
     (λ is2 shown2.
-    let so = shown2 t v touched level top k m road some within (distinct-filter flags (level k) (road.levels.once k some
+    let so = shown2 t v touched level top k m road some within last (distinct-filter flags (level k) (road.levels.once k some
     within)) (λ c i. In-filtered flags (level k) c i) is2 w in
     quiet_all t listed v touched level top k road some within flags flags2 u2 (m + length (filter flags (level k))) so.2
     so.0)

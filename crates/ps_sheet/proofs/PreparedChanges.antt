@@ -1,5 +1,5 @@
 -- What is true of a prepared change.
-use Rattle.std.proofs.Common.{◌≡◌, ◌++◌, ◌∷◌, [], ℕ, ◌+◌, List, true, false, inl, inr, length, refl, sym, ap, ◌∙◌}
+use Rattle.std.proofs.Common.{◌≡◌, ◌++◌, ◌∷◌, [], ℕ, ◌+◌, List, true, false, inl, inr, length, refl, sym, ap}
 use Rattle.std.proofs.Common.{Bool, Option, Some, None, is_some, arith, subst}
 use Rattle.std.specs.Prelude.{if◌then◌else◌}
 use Rattle.std.proofs.lemmas.List.{length-append}

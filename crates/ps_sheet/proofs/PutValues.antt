@@ -1,15 +1,11 @@
 -- One cell shows another value.
-use Rattle.std.proofs.Common.{◌≡◌, ◌≢◌, ◌||◌, ◌⊎◌, ◌∙◌, ℕ, Bool, false, List, ap, eq-eqb, ne_eqb, refl, sym}
+use Rattle.std.proofs.Common.{◌≡◌, ◌≢◌, ◌||◌, ◌⊎◌, ◌∙◌, ℕ, Bool, List, ap, eq-eqb, ne_eqb, refl, sym}
 use Rattle.std.specs.Prelude.{nat_eq, if◌then◌else◌}
 use Rattle.std.specs.List.{list_any}
 use Rattle.ps_value.specs.declared.value.Value.{Value}
 use Rattle.ps_eval.specs.Items.{Assignment}
-use Rattle.ps_eval.specs.Number.{Number}
-use Rattle.ps_eval.specs.Value.{ev, number_of, shown_as}
-use Rattle.ps_formula.specs.Tree.{Tree}
 use Rattle.ps_shown.specs.Shown.{with_value}
 use Rattle.ps_sheet.specs.Inside.Walk.{Shows}
-use Rattle.std.specs.Prelude.{Ok, Err}
 
 pub with_value-here : (v : Assignment) (c : ℕ) (x : Value) → with_value v c x c ≡ x
 unfolding with_value

@@ -13,22 +13,23 @@ use Rattle.ps_sheet.specs.Settled.{refers_to}
 use Rattle.ps_sheet.specs.Inside.Walk.{IsDue, Lists, Shows}
 use Rattle.ps_sheet.proofs.SettledValues.{true_not_false}
 
--- One cell alone shows another value, and where it had changed before it still has: each due cell stays due.
-module _ (t : State) (touched : List ℕ) (v u u2 : Assignment) where
-  pub due_elsewhere : (x : ℕ) → (¬ (u x ≡ v x) → ¬ (u2 x ≡ v x)) → ((c : ℕ) → c ≢ x → u2 c ≡ u c)
-      → (c : ℕ) → IsDue t touched v u c → IsDue t touched v u2 c
-  due_elsewhere x still others c due =
-      ⊎_elim
-      (λ i. inl i)
-      (λ r. inr (
-        r.0,
-        r.1,
-        ⊎_elim
-            (λ is. subst (λ q. ¬ (u2 q ≡ v q)) (sym is) (still (subst (λ q. ¬ (u q ≡ v q)) is r.2)))
-            (λ ne e. r.2 (sym (others r.0 ne) ∙ e))
-            (cases_eq r.0 x),
-      ))
-      due
+-- the value of x alone becomes another one: where it is no longer the one before the change only if it was so already, a
+-- due cell stays due
+pub stays_due : (t : State) (touched : List ℕ) (v : Assignment) (x : ℕ) (u u2 : Assignment)
+    → (¬ (u x ≡ v x) → ¬ (u2 x ≡ v x)) → ((c : ℕ) → c ≢ x → u2 c ≡ u c)
+    → (c : ℕ) → IsDue t touched v u c → IsDue t touched v u2 c
+stays_due t touched v x u u2 differs others c due =
+    ⊎_elim
+    (λ i. inl i)
+    (λ r. inr (
+      r.0,
+      r.1,
+      (λ e. ⊎_elim
+          (λ (is : r.0 ≡ x). differs (subst (λ q. ¬ (u q ≡ v q)) is r.2) (subst (λ q. u2 q ≡ v q) is e))
+          (λ ne. r.2 (sym (others r.0 ne) ∙ e))
+          (cases_eq r.0 x)),
+    ))
+    due
 
 module _ (t : State) (touched : List ℕ) (x : ℕ) (y : Value) (listed : List ℕ) (u u2 : Assignment)
     (flags flags2 : ℕ → Bool) (lists : Lists (refers_to t) touched x listed)
@@ -82,8 +83,8 @@ module _ (t : State) (touched : List ℕ) (x : ℕ) (y : Value) (listed : List �
 
     module _ (v : Assignment) (waited : u x ≡ v x) where
       -- where x showed what it showed before the change, a due cell stays due
-      pub due_stays : (c : ℕ) → IsDue t touched v u c → IsDue t touched v u2 c
-      due_stays = due_elsewhere t touched v u u2 x (λ changed. absurd (changed waited)) shows.others
+      due_stays : (c : ℕ) → IsDue t touched v u c → IsDue t touched v u2 c
+      due_stays c due = stays_due t touched v x u u2 (λ changed. absurd (changed waited)) shows.others c due
 
       -- a flagged cell is due
       pub flag_due : (c : ℕ) → (flags c ≡ true → IsDue t touched v u c) → flags2 c ≡ true → IsDue t touched v u2 c

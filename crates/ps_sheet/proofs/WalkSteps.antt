@@ -1,7 +1,6 @@
 -- The loops of a recalculation: each begins, and goes one cell or one level on.
-use Rattle.std.proofs.Common.{◌≡◌, ◌≢◌, ℕ, Bool, ◌+◌, ◌<◌, ◌≤◌, true, false, List, [], ◌∷◌, ◌++◌, length, take}
-use Rattle.std.proofs.Common.{get_or, refl, sym, ◌∙◌, arith, ⊎_elim, subst}
-use Rattle.std.proofs.lemmas.List.{take_all}
+use Rattle.std.proofs.Common.{◌≡◌, ◌≢◌, ℕ, Bool, ◌+◌, ◌<◌, ◌≤◌, true, false, List, [], ◌∷◌, ◌++◌, length}
+use Rattle.std.proofs.Common.{refl, sym, ◌∙◌, ⊎_elim, subst}
 use Rattle.ps_grid.specs.Chains.{In}
 use Rattle.ps_grid.specs.declared.size.TheConstants.{CELLS}
 use Rattle.ps_value.specs.declared.value.Value.{Value}
@@ -15,12 +14,12 @@ use Rattle.ps_delta.specs.declared.cell_state.CellState.{CellState}
 use Rattle.ps_sheet.specs.Settled.{content_of, value_by, value_of}
 use Rattle.ps_sheet.specs.Inside.Waiting.{first_by, first_value, is_formula}
 use Rattle.ps_sheet.specs.Inside.Walk.{formula_at, Shows, Begun, Walked, IsPassed}
-use Rattle.ps_sheet.specs.Inside.Steps.{IsFirst, BeginsAll, ClosesAll, Road, StepsLevel, MayWalk, StepsLevels}
+use Rattle.ps_sheet.specs.Inside.Steps.{IsFirst, BeginsAll, ClosesAll, StepsLevel, MayWalk, StepsLevels}
 use Rattle.ps_sheet.proofs.SettledValues.{true_not_false, formula_below}
 use Rattle.ps_sheet.proofs.CellCounts.{distinct_below_cells}
-use Rattle.ps_sheet.proofs.ListedCells.{In-pushed, In-end, In-place}
+use Rattle.ps_sheet.proofs.ListedCells.{In-pushed, In-end}
 use Rattle.ps_sheet.proofs.FirstValues.{begun_plain, begun_formula, begun_cycle}
-use Rattle.ps_sheet.proofs.WalkLevels.{levels_start, levels_next, levels_evaluate, levels_quiet}
+use Rattle.ps_sheet.proofs.WalkLevels.{levels_start, levels_next}
 
 first_by-plain : (k : Content) (x : CellState) (v : Assignment) → is_formula k ≡ false → first_by k x ≡ value_by k x v
 first_by-plain Blank x v h = refl
@@ -70,63 +69,6 @@ closes_more cells x u u2 u3 so_far here others t v touched walked flags cyclic b
     begun_cycle t v touched walked cells x u2 u3 flags
     (so_far t v touched walked flags (λ c i. cyclic c (In-pushed cells x c i)) b) last.0 last.1 here others
 
--- THE CELLS OF A LEVEL, of which the first i were gone through, and n evaluated
-
-abbrev pub StepsPart : State → (ℕ → List ℕ) → List ℕ → ℕ → Assignment → Assignment → (ℕ → Bool) → (ℕ → Bool) → ℕ
-    → Type 0
-StepsPart t listed cells i u u2 flags flags2 n =
-    (v : Assignment) (touched : List ℕ) (level : ℕ → List ℕ) (top k m : ℕ) → Road t listed v touched level top
-    → 0 < k → k ≤ top → level k ≡ cells
-    → Walked t v touched (IsPassed level k []) u flags m
-    → Walked t v touched (IsPassed level k (take i cells)) u2 flags2 (m + n)
-
-pub part_none : (t : State) (listed : ℕ → List ℕ) (cells : List ℕ) (u : Assignment) (flags : ℕ → Bool)
-    → StepsPart t listed cells 0 u u flags flags 0
-part_none t listed cells u flags v touched level top k m road some within is w =
-    let same : m ≡ m + 0 = omega arith in subst (λ q. Walked t v touched (IsPassed level k []) u flags q) same w
-
-pub part_evaluated : (t : State) (listed : ℕ → List ℕ) (cells : List ℕ) (i d : ℕ) (u u2 u3 : Assignment)
-    (flags flags2 flags3 : ℕ → Bool) (n : ℕ) → StepsPart t listed cells i u u2 flags flags2 n → i < length cells
-    → flags2 (get_or cells i d) ≡ true
-    → Shows (get_or cells i d) (value_of (t (get_or cells i d)) u2) (listed (get_or cells i d)) u2 u3 flags2 flags3
-    → StepsPart t listed cells (i + 1) u u3 flags flags3 (n + 1)
-part_evaluated t listed cells i d u u2 u3 flags flags2 flags3 n so_far lt on shows v touched level top k m road some
-    within is w =
-    let one_more : (m + n) + 1 ≡ m + (n + 1) = omega arith in
-    subst (λ q. Walked t v touched (IsPassed level k (take (i + 1) cells)) u3 flags3 q) one_more
-    (subst
-    (λ xs. i < length xs → flags2 (get_or xs i d) ≡ true
-    → Shows (get_or xs i d) (value_of (t (get_or xs i d)) u2) (listed (get_or xs i d)) u2 u3 flags2 flags3
-    → Walked t v touched (IsPassed level k (take i xs)) u2 flags2 (m + n)
-    → Walked t v touched (IsPassed level k (take (i + 1) xs)) u3 flags3 ((m + n) + 1))
-    is
-    (λ lt2 on2 shows2 w2. levels_evaluate road.before t v touched road.change level top road.levels k i d some within
-    lt2
-    (listed (get_or (level k) i d)) u2 u3 flags2 flags3 (m + n) w2 on2 (road.lists (get_or (level k) i d)
-    (formula_below t road.change.after (get_or (level k) i d)
-    (road.levels.sound k (get_or (level k) i d) some within (In-place (level k) i d lt2)).1)) shows2)
-    lt on shows (so_far v touched level top k m road some within is w))
-
-pub part_quiet : (t : State) (listed : ℕ → List ℕ) (cells : List ℕ) (i d : ℕ) (u u2 : Assignment)
-    (flags flags2 : ℕ → Bool) (n : ℕ) → StepsPart t listed cells i u u2 flags flags2 n → i < length cells
-    → flags2 (get_or cells i d) ≡ false → StepsPart t listed cells (i + 1) u u2 flags flags2 n
-part_quiet t listed cells i d u u2 flags flags2 n so_far lt off v touched level top k m road some within is w =
-    subst
-    (λ xs. i < length xs → flags2 (get_or xs i d) ≡ false
-    → Walked t v touched (IsPassed level k (take i xs)) u2 flags2 (m + n)
-    → Walked t v touched (IsPassed level k (take (i + 1) xs)) u2 flags2 (m + n))
-    is
-    (λ lt2 off2 w2. levels_quiet road.before t v touched road.change level top road.levels k i d some within lt2
-    u2 flags2 (m + n) w2 off2)
-    lt off (so_far v touched level top k m road some within is w)
-
-pub part_end : (t : State) (listed : ℕ → List ℕ) (cells : List ℕ) (i : ℕ) (u u2 : Assignment)
-    (flags flags2 : ℕ → Bool) (n : ℕ) → StepsPart t listed cells i u u2 flags flags2 n → length cells ≤ i
-    → StepsLevel t listed cells u u2 flags flags2 n
-part_end t listed cells i u u2 flags flags2 n so_far all v touched level top k m road some within is w =
-    subst (λ xs. Walked t v touched (IsPassed level k xs) u2 flags2 (m + n)) (take_all i cells all)
-    (so_far v touched level top k m road some within is w)
-
 -- THE LEVELS
 
 pub frame_none : (t : State) (listed level : ℕ → List ℕ) (top : ℕ) (u : Assignment) (flags : ℕ → Bool)
@@ -134,15 +76,16 @@ pub frame_none : (t : State) (listed level : ℕ → List ℕ) (top : ℕ) (u : 
 frame_none t listed level top u flags v touched road w =
     levels_start road.before t v touched road.change level top road.levels u flags 0 w
 
-pub frame_more : (t : State) (listed level : ℕ → List ℕ) (top n : ℕ) (cells : List ℕ) (u u2 u3 : Assignment)
+pub frame_more : (t : State) (listed level : ℕ → List ℕ) (top n : ℕ) (cells : List ℕ) (is_last : Bool) (u u2 u3 : Assignment)
     (flags flags2 flags3 : ℕ → Bool) (count more : ℕ) → StepsLevels t listed level top n u u2 flags flags2 count
-    → StepsLevel t listed cells u2 u3 flags2 flags3 more → 0 < n → n ≤ top → level n ≡ cells
+    → StepsLevel t listed cells is_last u2 u3 flags2 flags3 more → 0 < n → n ≤ top → (is_last ≡ true → n ≡ top)
+    → level n ≡ cells
     → StepsLevels t listed level top (n + 1) u u3 flags flags3 (count + more)
-frame_more t listed level top n cells u u2 u3 flags flags2 flags3 count more so_far step some within is v touched road
-    w =
+frame_more t listed level top n cells is_last u u2 u3 flags flags2 flags3 count more so_far step some within last is v
+    touched road w =
     levels_next road.before t v touched road.change level top road.levels n u3 flags3 (count + more) some
     (subst (λ xs. Walked t v touched (IsPassed level n xs) u3 flags3 (count + more)) (sym is)
-    (step v touched level top n count road some within is (so_far v touched road w)))
+    (step v touched level top n count road some within last is (so_far v touched road w)))
 
 -- a cell of a level has a formula
 pub level_formula : (t : State) (listed level : ℕ → List ℕ) (top : ℕ) (u : Assignment) (flags : ℕ → Bool)

@@ -9,11 +9,11 @@ use Rattle.ps_value.specs.declared.value.Fault.{Fault}
 use Rattle.ps_eval.specs.Items.{Assignment}
 use Rattle.ps_delta.specs.State.{State}
 use Rattle.ps_sheet.specs.Settled.{content_of, content_mentions, refers_to, Cyclic, value_of}
-use Rattle.ps_sheet.specs.Inside.Walk.{formula_at, InFrame, IsDue, IsChange, Lists, Shows, Walked}
+use Rattle.ps_sheet.specs.Inside.Walk.{formula_at, InFrame, IsDue, IsChange, IsQuiet, Lists, Shows, Walked}
 use Rattle.ps_sheet.proofs.SettledValues.{true_not_false, value_by-agrees}
 use Rattle.ps_sheet.proofs.ChangedStates.{value_cycle, plain_agrees, plain_real, region_touched, outside_cyclic}
 use Rattle.ps_sheet.proofs.ListedCells.{count_same, count_more}
-use Rattle.ps_sheet.proofs.Puts.{due_stays, flag_due, unflagged_kept, flag_was_off, flag_inside}
+use Rattle.ps_sheet.proofs.Puts.{flag_due, stays_due, unflagged_kept, flag_was_off, flag_inside}
 
 -- the facts of a walk stay under another name for the cells that are done
 pub weaker : (t : State) (v : Assignment) (touched : List ℕ) (Done Done2 : ℕ → Type 0) (u : Assignment)
@@ -77,60 +77,57 @@ module _ (s t : State) (v : Assignment) (touched : List ℕ) (change : IsChange 
   framed_on : (c : ℕ) → Done c ⊎ (c ≡ x) → InFrame t touched c
   framed_on c here = ⊎_elim (λ done. w.framed c done) (λ e. subst (InFrame t touched) (sym e) frame) here
 
-  -- STEP: a flagged cell of the frame, whose references in the frame are done, is evaluated
-  module _ (listed : List ℕ) (u2 : Assignment) (flags2 : ℕ → Bool) (on : flags x ≡ true)
-      (lists : Lists (refers_to t) touched x listed) (shows : Shows x (value_of (t x) u) listed u u2 flags flags2) where
+  -- a flagged cell of the frame, whose references in the frame are done, is evaluated
+  module _ (u2 : Assignment) (on : flags x ≡ true) (is : u2 x ≡ value_of (t x) u)
+      (others : (c : ℕ) → c ≢ x → u2 c ≡ u c) where
     here : u2 x ≡ value_of (t x) u2
-    here =
-        shows.here ∙ value_by-agrees (content_of (t x)) (t x) u u2 (λ d r. sym (shows.others d (apart d r)))
+    here = is ∙ value_by-agrees (content_of (t x)) (t x) u u2 (λ d r. sym (others d (apart d r)))
 
     earlier : (c : ℕ) → Done c → u2 c ≡ value_of (t c) u2
     earlier c done =
-        shows.others c (other c done)
+        others c (other c done)
         ∙ (w.done c done
-        ∙ value_by-agrees (content_of (t c)) (t c) u u2 (λ d r. sym (shows.others d (before c d done r))))
+        ∙ value_by-agrees (content_of (t c)) (t c) u u2 (λ d r. sym (others d (before c d done r))))
 
     due_on : (c : ℕ) → IsDue t touched v u c → IsDue t touched v u2 c
-    due_on c due =
-        due_stays t touched x (value_of (t x) u) listed u u2 flags flags2 lists shows v waited c due
+    due_on c due = stays_due t touched v x u u2 (λ changed. absurd (changed waited)) others c due
 
     -- a cell that is done was due before, if it is now
     due_back : (c : ℕ) → Done c → IsDue t touched v u2 c → IsDue t touched v u c
     due_back c done due =
         ⊎_elim
         (λ i. inl i)
-        (λ r. inr (r.0, r.1, (λ e. r.2 (shows.others r.0 (before c r.0 done r.1) ∙ e))))
+        (λ r. inr (r.0, r.1, (λ e. r.2 (others r.0 (before c r.0 done r.1) ∙ e))))
         due
 
-    pub evaluate : Walked t v touched (λ c. Done c ⊎ (c ≡ x)) u2 flags2 (n + 1)
-    evaluate = record {
-      outside = λ c out. shows.others c (λ e. out (subst (InRegion (refers_to t) touched) (sym e) frame.0))
+    -- a cell of the frame that is not done after it
+    abbrev Left : ℕ → Type 0
+    Left c = InFrame t touched c × (¬ (Done c ⊎ (c ≡ x)))
+
+    -- the flags after it say which of the cells that are left are due
+    evaluated : (flags2 : ℕ → Bool) → ((c : ℕ) → Left c → flags2 c ≡ true → IsDue t touched v u2 c)
+        → ((c : ℕ) → Left c → flags2 c ≡ false → IsQuiet t touched v u2 c)
+        → ((c : ℕ) → flags2 c ≡ true → InRegion (refers_to t) touched c)
+        → Walked t v touched (λ c. Done c ⊎ (c ≡ x)) u2 flags2 (n + 1)
+    evaluated flags2 due quiet inside = record {
+      outside = λ c out. others c (λ e. out (subst (InRegion (refers_to t) touched) (sym e) frame.0))
           ∙ w.outside c out;
-      cyclic = λ c i cyc. shows.others c (λ e. frame.2 (subst (Cyclic t) e cyc)) ∙ w.cyclic c i cyc;
-      plain = λ c i p. shows.others c
+      cyclic = λ c i cyc. others c (λ e. frame.2 (subst (Cyclic t) e cyc)) ∙ w.cyclic c i cyc;
+      plain = λ c i p. others c
           (λ e. true_not_false (formula_at t x) frame.1 (subst (λ q. formula_at t q ≡ false) e p))
           ∙ (w.plain c i p ∙ plain_agrees (content_of (t c)) (t c) u u2 p);
       done = λ c d. ⊎_elim
           (λ done. earlier c done)
           (λ e. subst (λ q. u2 q ≡ value_of (t q) u2) (sym e) here)
           d;
-      real = λ c d is. ⊎_elim
-          (λ done. w.real c done (sym (shows.others c (other c done)) ∙ is))
-          (λ e. value_real (sym shows.here ∙ subst (λ q. u2 q ≡ Err Fault.Cycle) e is))
+      real = λ c d cycle. ⊎_elim
+          (λ done. w.real c done (sym (others c (other c done)) ∙ cycle))
+          (λ e. value_real (sym is ∙ subst (λ q. u2 q ≡ Err Fault.Cycle) e cycle))
           d;
-      waiting = λ c f out. shows.others c (λ e. out (inr e)) ∙ w.waiting c f (λ done. out (inl done));
-      flagged = λ c f out is.
-          flag_due t touched x (value_of (t x) u) listed u u2 flags flags2 lists shows v waited c
-          (λ was. w.flagged c f (λ done. out (inl done)) was) is;
-      quiet = λ c f out off.
-          let was = w.quiet c f (λ done. out (inl done))
-          (flag_was_off t touched x (value_of (t x) u) listed u u2 flags flags2 lists shows c off) in (
-            was.0,
-            (λ d r. unflagged_kept t touched x (value_of (t x) u) listed u u2 flags flags2 lists shows v waited
-                c d r off (λ was_off. was.1 d r)),
-          );
-      inside = λ c is. flag_inside t touched x (value_of (t x) u) listed u u2 flags flags2 lists shows frame.0
-          c (w.inside c) is;
+      waiting = λ c f out. others c (λ e. out (inr e)) ∙ w.waiting c f (λ done. out (inl done));
+      flagged = λ c f out on2. due c (f, out) on2;
+      quiet = λ c f out off. quiet c (f, out) off;
+      inside = inside;
       framed = framed_on;
       closed = closed_on;
       counted = count_more (λ c. Done c × IsDue t touched v u c) (λ c. (Done c ⊎ (c ≡ x)) × IsDue t touched v u2 c) n x
@@ -139,6 +136,37 @@ module _ (s t : State) (v : Assignment) (touched : List ℕ) (change : IsChange 
           (inr refl, due_on x (w.flagged x frame fresh on))
           (λ c p. ⊎_elim (λ done. inl (done, due_back c done p.1)) (λ e. inr e) p.0);
     }
+
+    -- STEP: where no cell of the frame refers to it, the flags stay
+    pub evaluate_unread : ((c : ℕ) → InFrame t touched c → ¬ (refers_to t c x ≡ true))
+        → Walked t v touched (λ c. Done c ⊎ (c ≡ x)) u2 flags (n + 1)
+    evaluate_unread unread =
+        evaluated flags
+        (λ c left was. due_on c (w.flagged c left.0 (λ done. left.1 (inl done)) was))
+        (λ c left off.
+        let quiet = w.quiet c left.0 (λ done. left.1 (inl done)) off in (
+          quiet.0,
+          (λ d r. others d (λ e. unread c left.0 (subst (λ q. refers_to t c q ≡ true) e r)) ∙ quiet.1 d r),
+        ))
+        w.inside
+
+  -- STEP: else the cells that refer to it are flagged
+  pub evaluate : (listed : List ℕ) (u2 : Assignment) (flags2 : ℕ → Bool) → flags x ≡ true
+      → Lists (refers_to t) touched x listed → Shows x (value_of (t x) u) listed u u2 flags flags2
+      → Walked t v touched (λ c. Done c ⊎ (c ≡ x)) u2 flags2 (n + 1)
+  evaluate listed u2 flags2 on lists shows =
+      evaluated u2 on shows.here shows.others flags2
+      (λ c left is. flag_due t touched x (value_of (t x) u) listed u u2 flags flags2 lists shows v waited c
+      (λ was. w.flagged c left.0 (λ done. left.1 (inl done)) was) is)
+      (λ c left off.
+      let was = w.quiet c left.0 (λ done. left.1 (inl done))
+      (flag_was_off t touched x (value_of (t x) u) listed u u2 flags flags2 lists shows c off) in (
+        was.0,
+        (λ d r. unflagged_kept t touched x (value_of (t x) u) listed u u2 flags flags2 lists shows v waited
+            c d r off (λ was_off. was.1 d r)),
+      ))
+      (λ c is. flag_inside t touched x (value_of (t x) u) listed u u2 flags flags2 lists shows frame.0
+      c (w.inside c) is)
 
   -- STEP: a cell of the frame that is not flagged keeps its value
   module _ (off : flags x ≡ false) where

@@ -1,23 +1,22 @@
 -- A change of a sheet that is worked out, and not yet made: the sheet before it, and what it is after it.
-use Rattle.std.specs.Prelude.{◌≡◌, ℕ, ◌≤◌, ◌↔◌, ◌⊎◌, Bool, true, false, if◌then◌else◌, List, [], ◌∷◌, ◌++◌, length, map}
-use Rattle.std.specs.Prelude.{Result, Ok, Err, IsOk}
+use Rattle.std.specs.Prelude.{◌≡◌, ℕ, ◌↔◌, Bool, true, if◌then◌else◌, List, [], ◌∷◌, ◌++◌, length, map}
+use Rattle.std.specs.Prelude.{Ok, Err, IsOk}
 use Rattle.std.specs.Arc.{arc_value}
 use Rattle.std.specs.List.{All}
 use Rattle.std.specs.List.Sorted.{IsStrictlyIncreasing}
 use Rattle.ps_grid.specs.Chains.{In}
-use Rattle.ps_grid.specs.declared.parties.TheConstants.{REPLICAS}
 use Rattle.ps_grid.specs.declared.refusal.Refusal.{Refusal}
 use Rattle.ps_value.specs.declared.value.Value.{Value}
 use Rattle.ps_eval.specs.Items.{Assignment}
 use Rattle.ps_shown.specs.declared.kept.Kept.{Kept}
 use Rattle.ps_shown.specs.Kept.{value_of}
 use Rattle.ps_shown.specs.Shown.{shown_at, with_value}
-use Rattle.ps_delta.specs.State.{State, IsInGrid, IsBelow}
+use Rattle.ps_delta.specs.State.{State, IsBelow}
 use Rattle.ps_delta.specs.Deltas.{Entries, state_of, joined_history}
 use Rattle.ps_sheet.specs.Edits.{delta_of_edit}
 use Rattle.ps_sheet.specs.Recalculated.{IsReport}
 use Rattle.ps_sheet.specs.Settled.{IsSettled}
-use Rattle.ps_sheet.specs.Sheet.{SheetView, IsSheet, Takes}
+use Rattle.ps_sheet.specs.Sheet.{SheetView, Takes}
 use Rattle.ps_sheet.specs.declared.sheet.Report.{Report}
 use Rattle.ps_sheet.specs.declared.edit.Change.{Change}
 use Rattle.ps_sheet.specs.declared.edit.Change.TheVariants.{Edit, Delta}

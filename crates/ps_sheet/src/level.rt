@@ -1,6 +1,6 @@
 //! One level of a recalculation: its due cells are evaluated together, by workers, and then shown one after the other.
 
-ghost use Rattle.std.specs.Prelude.{◌≡◌, ◌+◌, ◌<◌, ◌≤◌, ◌∷◌, ◌++◌, [], ℕ, true};
+ghost use Rattle.std.specs.Prelude.{◌≡◌, ◌+◌, ◌<◌, ◌≤◌, ◌∷◌, ◌++◌, [], List, ℕ, Bool, false, true};
 ghost use Rattle.std.specs.Prelude.{filter, length, vec_capacity, IfOk, IfErr};
 ghost use Rattle.std.specs.List.{IsDistinct};
 ghost use Rattle.ps_grid.specs.Chains.{In};
@@ -92,6 +92,8 @@ impl Level {
     }
 
     /// Settles the cells of a level, by workers. How many were evaluated.
+    ///
+    /// No flag is set for the last level, since no cell that is still to be evaluated refers to one of it.
     #[allow(clippy::too_many_arguments)]
     pub(crate) fn settle<R: Threads + Sync, G: Gate, L: Ledger>(
         &mut self,
@@ -101,6 +103,7 @@ impl Level {
         grid: &Grid,
         index: &Index,
         cells: &[Cell],
+        is_last: bool,
         shown: &mut Screen,
         flags: &mut [bool],
         meter: &mut Meter<L>,
@@ -110,8 +113,8 @@ impl Level {
         requires room { HasRoom CELLS self.old }
         requires few { length cells.now ≤ CELLS }
         requires formulas { (c : ℕ) → In cells.now c → formula_at (state_at grid.now) c ≡ true }
-        ensures settled { StepsLevel (state_at grid.now) (listed index.now) cells.now (shown_at shown.old.kept)
-            (shown_at shown.new.kept) (flag_at flags.old) (flag_at flags.new) result }
+        ensures settled { StepsLevel (state_at grid.now) (listed index.now) cells.now is_last
+            (shown_at shown.old.kept) (shown_at shown.new.kept) (flag_at flags.old) (flag_at flags.new) result }
         ensures before { before_of shown.new ≡ before_of shown.old }
         ensures metered { meter.new ≡ meter.old + result }
         ensures room { HasRoom CELLS self.new }
@@ -128,7 +131,7 @@ impl Level {
             &mut self.values,
             meter,
         );
-        show_all(index, &self.due, &mut self.values, shown, flags);
+        show_due(index, &self.due, &mut self.values, is_last, shown, flags);
         self.due.len()
     }
 }
@@ -192,6 +195,41 @@ fn evaluate<R: Threads + Sync, G: Gate, L: Ledger>(
     );
 }
 
+/// Lets each due cell of a level show the value of its place, and flags the cells of further levels that are due then.
+fn show_due(
+    index: &Index,
+    cells: &[Cell],
+    values: &mut [Kept],
+    is_last: bool,
+    shown: &mut Screen,
+    flags: &mut [bool],
+)
+    requires whole { length flags.old ≡ CELLS }
+    requires places { length values.old ≡ length cells.now }
+    ensures shows { ShowsAll is_last (listed index.now) cells.now (kept_values values.old) (shown_at shown.old.kept)
+        (shown_at shown.new.kept) (flag_at flags.old) (flag_at flags.new) }
+    ensures before { before_of shown.new ≡ before_of shown.old }
+{
+    if is_last {
+        put_all(cells, values, shown);
+    } else {
+        show_all(index, cells, values, shown, flags);
+    }
+}
+
+/// Lets each cell of the last level show the value of its place.
+fn put_all(cells: &[Cell], values: &mut [Kept], shown: &mut Screen)
+    requires places { length values.old ≡ length cells.now }
+    ensures shows { (lists : ℕ → List ℕ) (flags : ℕ → Bool) → ShowsAll true lists cells.now (kept_values values.old)
+        (shown_at shown.old.kept) (shown_at shown.new.kept) flags flags }
+    ensures before { before_of shown.new ≡ before_of shown.old }
+{
+    for i in 0..cells.len() {
+        let kept = mem::replace(&mut values[i], Kept::Empty);
+        shown.put(cells[i], kept);
+    }
+}
+
 /// Lets each cell show the value of its place, and flags the cells that refer to those which showed another one.
 fn show_all(
     index: &Index,
@@ -202,7 +240,7 @@ fn show_all(
 )
     requires whole { length flags.old ≡ CELLS }
     requires places { length values.old ≡ length cells.now }
-    ensures shows { ShowsAll (listed index.now) cells.now (kept_values values.old) (shown_at shown.old.kept)
+    ensures shows { ShowsAll false (listed index.now) cells.now (kept_values values.old) (shown_at shown.old.kept)
         (shown_at shown.new.kept) (flag_at flags.old) (flag_at flags.new) }
     ensures before { before_of shown.new ≡ before_of shown.old }
 {

@@ -134,10 +134,12 @@ pub(crate) fn settle_frame<R: Threads + Sync, G: Gate, L: Ledger>(
     ensures room { HasRoom CELLS level.new }
 {
     let mut evaluated = 0;
-    for before in 0..region.levels() {
+    let levels = region.levels();
+    for before in 0..levels {
         let cells = region.level(before + 1);
+        let is_last = before + 1 == levels;
         evaluated += level.settle(
-            rt, workers, gate, grid, index, cells, shown, flags, meter,
+            rt, workers, gate, grid, index, cells, is_last, shown, flags, meter,
         ) as u64;
     }
     evaluated

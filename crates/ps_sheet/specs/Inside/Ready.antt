@@ -1,10 +1,10 @@
 -- What a prepared change keeps beside what contracts see.
-use Rattle.std.specs.Prelude.{◌≡◌, ◌<◌, ◌≤◌, ◌∷◌, ◌++◌, [], ℕ, Bool, true, false, List}
-use Rattle.std.specs.Prelude.{length, map, Option, Some, None, is_some}
+use Rattle.std.specs.Prelude.{◌≡◌, ◌<◌, ◌≤◌, ◌∷◌, ◌++◌, [], true, List}
+use Rattle.std.specs.Prelude.{map, Option, Some, None, is_some}
 use Rattle.std.specs.Prelude.{vec_len, vec_capacity}
 use Rattle.std.specs.Arc.{arc_value}
 use Rattle.ps_grid.specs.declared.parties.TheConstants.{REPLICAS}
-use Rattle.ps_delta.specs.State.{State, state_at}
+use Rattle.ps_delta.specs.State.{state_at}
 use Rattle.ps_delta.specs.Deltas.{Entries, joined_history}
 use Rattle.ps_sheet.specs.Prepared.{PreparedView, IsPrepared}
 use Rattle.ps_sheet.specs.Sheet.{IsFresh}

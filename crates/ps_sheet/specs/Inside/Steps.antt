@@ -47,22 +47,24 @@ pub record Road (t : State) (listed : ℕ → List ℕ) (v : Assignment) (touche
   pub lists : AreListed (refers_to t) touched listed
   pub levels : AreLevels t touched level top
 
--- THE DUE CELLS of a level get the values that they have where the cells show u
-abbrev pub ShowsAll : (ℕ → List ℕ) → List ℕ → List Value → Assignment → Assignment → (ℕ → Bool) → (ℕ → Bool) → Type 0
-ShowsAll listed cells values u u2 flags flags2 =
+-- THE DUE CELLS of a level, which may be the last one, get the values that they have where the cells show u
+abbrev pub ShowsAll : Bool → (ℕ → List ℕ) → List ℕ → List Value → Assignment → Assignment → (ℕ → Bool) → (ℕ → Bool)
+    → Type 0
+ShowsAll is_last listed cells values u u2 flags flags2 =
     (t : State) (v : Assignment) (touched : List ℕ) (level : ℕ → List ℕ) (top k m : ℕ) → Road t listed v touched
     level top
-    → 0 < k → k ≤ top → IsDistinct nat_eq cells → ((c : ℕ) → In cells c → In (level k) c × (flags c ≡ true))
+    → 0 < k → k ≤ top → (is_last ≡ true → k ≡ top) → IsDistinct nat_eq cells → ((c : ℕ) → In cells c → In (level k) c × (flags c ≡ true))
     → values ≡ map (λ c. value_of (t c) u) cells
     → Walked t v touched (IsPassed level k []) u flags m
     → Walked t v touched (IsPassed level k cells) u2 flags2 (m + length cells)
     × ((c : ℕ) → ¬ In (level k) c → u2 c ≡ u c) × ((c : ℕ) → In (level k) c → flags2 c ≡ flags c)
 
--- ONE LEVEL: n of its cells were evaluated
-abbrev pub StepsLevel : State → (ℕ → List ℕ) → List ℕ → Assignment → Assignment → (ℕ → Bool) → (ℕ → Bool) → ℕ → Type 0
-StepsLevel t listed cells u u2 flags flags2 n =
+-- ONE LEVEL, which may be the last one: n of its cells were evaluated
+abbrev pub StepsLevel : State → (ℕ → List ℕ) → List ℕ → Bool → Assignment → Assignment → (ℕ → Bool) → (ℕ → Bool) → ℕ
+    → Type 0
+StepsLevel t listed cells is_last u u2 flags flags2 n =
     (v : Assignment) (touched : List ℕ) (level : ℕ → List ℕ) (top k m : ℕ) → Road t listed v touched level top
-    → 0 < k → k ≤ top → level k ≡ cells
+    → 0 < k → k ≤ top → (is_last ≡ true → k ≡ top) → level k ≡ cells
     → Walked t v touched (IsPassed level k []) u flags m
     → Walked t v touched (IsPassed level k cells) u2 flags2 (m + n)
 

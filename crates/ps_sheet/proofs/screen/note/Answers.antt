@@ -1,7 +1,5 @@
-use Rattle.std.proofs.Common.{◌≡◌, ◌<◌, ◌++◌, ◌∷◌, [], ℕ, List, false, true, set, sym, ap, ◌∙◌, subst, arith}
-use Rattle.ps_grid.specs.Chains.{In}
+use Rattle.std.proofs.Common.{◌≡◌, ◌<◌, ℕ, List, false, true, set, sym, ap, ◌∙◌, subst, arith}
 use Rattle.ps_grid.specs.declared.size.TheConstants.{CELLS}
-use Rattle.ps_eval.specs.Items.{Assignment}
 use Rattle.ps_shown.specs.declared.kept.Kept.{Kept}
 use Rattle.ps_shown.specs.Shown.{with_value}
 use Rattle.ps_sheet.specs.Inside.Steps.{flag_at}

@@ -1,5 +1,5 @@
-use Rattle.std.proofs.Common.{◌≡◌, ◌<◌, ◌++◌, ◌∷◌, [], ℕ, List, true, length, refl, sym, ap, ◌∙◌, subst, arith}
-use Rattle.std.proofs.Common.{set, false}
+use Rattle.std.proofs.Common.{◌≡◌, ◌<◌, ◌++◌, ◌∷◌, [], ℕ, List, true, length, sym, ap, ◌∙◌, subst, arith}
+use Rattle.std.proofs.Common.{false}
 use Rattle.std.proofs.lemmas.List.{length-set}
 use Rattle.ps_grid.specs.Chains.{In}
 use Rattle.ps_grid.specs.declared.size.TheConstants.{CELLS}

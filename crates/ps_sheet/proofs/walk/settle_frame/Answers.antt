@@ -1,4 +1,5 @@
-use Rattle.std.proofs.Common.{◌≡◌, ◌+◌, ◌∙◌, ◌<◌, ◌≤◌, [], length, refl, sym, subst, arith}
+use Rattle.std.proofs.Common.{◌≡◌, ◌+◌, ◌∙◌, ◌<◌, ◌≤◌, [], length, nat_eq, refl, sym, subst, arith}
+use Rattle.std.proofs.lemmas.Bool.{eqb-true}
 use Rattle.ps_grid.specs.Chains.{In}
 use Rattle.ps_grid.specs.declared.size.TheConstants.{CELLS}
 use Rattle.ps_delta.specs.State.{state_at}
@@ -26,7 +27,7 @@ loop-before-init g c = record {
 pub settle-requires-clause-formulas : goal.settle-requires-clause-formulas
 settle-requires-clause-formulas g c κs within2 = λ q i.
     let lt = c.loop-before-test.true in
-    let top = c.levels-before-end.ensures in
+    let top = c.levels-levels.ensures in
     let within : c.loop-before.before + 1 ≤ level_count c.args.region.now = omega (arith, lt, top) in
     let some : 0 < c.loop-before.before + 1 = omega arith in
     level_formula (state_at c.args.grid.now) (listed c.args.index.now) (level_cells c.args.region.now)
@@ -40,7 +41,7 @@ settle-requires-clause-room g c κs within2 = c.loop-before.invariant.room
 pub settle-requires-clause-few : goal.settle-requires-clause-few
 settle-requires-clause-few g c κs within2 =
     let lt = c.loop-before-test.true in
-    let top = c.levels-before-end.ensures in
+    let top = c.levels-levels.ensures in
     let within : c.loop-before.before + 1 ≤ level_count c.args.region.now = omega (arith, lt, top) in
     let some : 0 < c.loop-before.before + 1 = omega arith in
     subst (λ xs. length xs ≤ CELLS) (sym (c.level-cells.ensures.inside some within))
@@ -59,14 +60,17 @@ stepped : (g : Over) (c : After-slice_known-in-loop-before-1 g)
     (c.loop-before.evaluated + c.settle.result)
 stepped g c =
     let lt = c.loop-before-test.true in
-    let top = c.levels-before-end.ensures in
+    let top = c.levels-levels.ensures in
     let within : c.loop-before.before + 1 ≤ level_count c.args.region.now = omega (arith, lt, top) in
     let some : 0 < c.loop-before.before + 1 = omega arith in
     frame_more (state_at c.args.grid.now) (listed c.args.index.now) (level_cells c.args.region.now)
-    (level_count c.args.region.now) (c.loop-before.before + 1) c.level-cells.result.now (shown_at c.args.shown.now.kept)
+    (level_count c.args.region.now) (c.loop-before.before + 1) c.level-cells.result.now
+    (nat_eq (c.loop-before.before + 1) c.levels-levels.result)
+    (shown_at c.args.shown.now.kept)
     (shown_at c.loop-before.shown.kept) (shown_at c.settle.new.shown.kept) (flag_at c.args.flags.now)
     (flag_at c.loop-before.flags) (flag_at c.settle.new.flags) c.loop-before.evaluated c.settle.result
     c.loop-before.invariant.steps c.settle.ensures.settled some within
+    (λ on. eqb-true (c.loop-before.before + 1) c.levels-levels.result on ∙ top)
     (sym (c.level-cells.ensures.inside some within))
 
 pub overflow_add-evaluated : goal.overflow_add-evaluated
@@ -96,7 +100,7 @@ pub returns-clause-settled : goal.returns-clause-settled
 returns-clause-settled g c =
     let end = c.loop-before-test.false in
     let high = c.loop-before.auto.before-end in
-    let top = c.levels-before-end.ensures in
+    let top = c.levels-levels.ensures in
     let is : c.loop-before.before ≡ level_count c.args.region.now = omega (arith, end, high, top) in
     subst (λ n. StepsLevels (state_at c.args.grid.now) (listed c.args.index.now) (level_cells c.args.region.now)
     (level_count c.args.region.now) (n + 1) (shown_at c.args.shown.now.kept) (shown_at c.loop-before.shown.kept)

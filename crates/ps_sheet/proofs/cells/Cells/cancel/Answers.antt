@@ -2,11 +2,10 @@ use Rattle.std.proofs.Common.{◌≡◌, ℕ, List, sym, ap, ◌∙◌, subst, a
 use Rattle.std.proofs.lemmas.List.{with_items_is}
 use Rattle.ps_delta.specs.State.{State, IsInGrid, state_at}
 use Rattle.ps_delta.specs.Deltas.{Entries, overlaid}
-use Rattle.ps_delta.specs.Raised.{entries_from}
 use Rattle.ps_index.specs.Stands.{Stands}
 use Rattle.ps_eval.specs.Items.{Assignment}
 use Rattle.ps_sheet.specs.Settled.{IsSettled}
-use Rattle.ps_sheet.specs.Inside.Formulas.{forms_of, with_puts}
+use Rattle.ps_sheet.specs.Inside.Formulas.{forms_of}
 use Rattle.ps_sheet.specs.Inside.Screens.{before_of}
 use Rattle.ps_sheet.specs.Inside.Walk.{ListsCyclic}
 use Rattle.ps_sheet.proofs.PendingChanges.{new_formulas_of}

@@ -1,4 +1,4 @@
-use Rattle.std.proofs.Common.{◌≡◌, sym, subst}
+use Rattle.std.proofs.Common.{sym, subst}
 use Rattle.ps_delta.specs.State.{state_at}
 use Rattle.ps_delta.specs.Deltas.{Entries}
 use Rattle.ps_index.specs.Stands.{Stands}

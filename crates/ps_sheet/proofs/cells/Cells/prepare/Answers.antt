@@ -7,12 +7,12 @@ use Rattle.ps_sheet.specs.Inside.Formulas.{forms_of}
 use Rattle.ps_sheet.specs.Inside.Kept.{IsWhole}
 use Rattle.ps_sheet.specs.Inside.Walk.{ListsCyclic}
 use Rattle.std.proofs.lemmas.List.{with_items_is}
-use Rattle.ps_delta.specs.Deltas.{Entries, overlaid, state_of}
+use Rattle.ps_delta.specs.Deltas.{Entries, state_of}
 use Rattle.std.specs.Vec.{with_items}
 use Rattle.ps_delta.specs.Raised.{HasRoomFor, entries_from}
 use Rattle.ps_sheet.proofs.ScreenLemmas.{still_before}
 use Rattle.ps_sheet.proofs.PendingChanges.{pending_of}
-use Rattle.ps_sheet.proofs.TakenIn.{after_in_grid, given_of, may_recalculate, old_formulas_of, recalculated}
+use Rattle.ps_sheet.proofs.TakenIn.{after_in_grid, given_of, may_recalculate, recalculated}
 use Rattle.ps_sheet.proofs.cells.Cells.prepare.Goals as goal
 
 pub returns-in_err-change-clause-whole : goal.returns-in_err-change-clause-whole

@@ -1,4 +1,4 @@
-use Rattle.std.proofs.Common.{◌≡◌, ◌∙◌, ◌≤◌, ℕ, List, filter, length, sym, subst, arith, ap}
+use Rattle.std.proofs.Common.{◌≡◌, ◌∙◌, filter, length, subst, arith, ap}
 use Rattle.std.proofs.lemmas.List.{with_items_is}
 use Rattle.ps_grid.specs.Chains.{In}
 use Rattle.ps_delta.specs.State.{state_at}
@@ -34,22 +34,22 @@ returns-clause-settled g c =
     let due : c.list_due.new.due.items ≡ filter flags c.args.cells.now = c.list_due.ensures.due in
     let values : kept_values c.evaluate.new.values ≡ values_at t u (filter flags c.args.cells.now) =
     c.evaluate.ensures.values ∙ ap (λ xs. values_at t u xs) (c.deref.ensures.value ∙ due) in
-    let shown : ShowsAll list (filter flags c.args.cells.now) (kept_values c.evaluate.new.values) u
-    (shown_at c.show_all.new.shown.kept) flags (flag_at c.show_all.new.flags) =
+    let shown : ShowsAll c.args.is_last list (filter flags c.args.cells.now) (kept_values c.evaluate.new.values) u
+    (shown_at c.show_due.new.shown.kept) flags (flag_at c.show_due.new.flags) =
     subst
-    (λ xs. ShowsAll list xs (kept_values c.evaluate.new.values) u (shown_at c.show_all.new.shown.kept) flags
-    (flag_at c.show_all.new.flags))
+    (λ xs. ShowsAll c.args.is_last list xs (kept_values c.evaluate.new.values) u (shown_at c.show_due.new.shown.kept) flags
+    (flag_at c.show_due.new.flags))
     (c.deref-2.ensures.value ∙ due)
     (subst
-    (λ vs. ShowsAll list c.deref-2.result.now (kept_values vs) u (shown_at c.show_all.new.shown.kept) flags
-    (flag_at c.show_all.new.flags))
+    (λ vs. ShowsAll c.args.is_last list c.deref-2.result.now (kept_values vs) u (shown_at c.show_due.new.shown.kept) flags
+    (flag_at c.show_due.new.flags))
     (c.deref_mut-2.ensures.value
     ∙ with_items_is c.make_places.new.values c.evaluate.new.values (c.evaluate.auto.values ∙ c.deref_mut.ensures.len))
-    c.show_all.ensures.shows) in
+    c.show_due.ensures.shows) in
     let count : length (filter flags c.args.cells.now) ≡ c.len-2.result =
     (let a = c.len-2.ensures in let b = ap length due in omega (arith, a, b)) in
-    subst (λ n. StepsLevel t list c.args.cells.now u (shown_at c.show_all.new.shown.kept) flags
-    (flag_at c.show_all.new.flags) n) count
-    (level_stepped t list c.args.cells.now (kept_values c.evaluate.new.values) u
-    (shown_at c.show_all.new.shown.kept) flags
-    (flag_at c.show_all.new.flags) values shown)
+    subst (λ n. StepsLevel t list c.args.cells.now c.args.is_last u (shown_at c.show_due.new.shown.kept) flags
+    (flag_at c.show_due.new.flags) n) count
+    (level_stepped t list c.args.cells.now c.args.is_last (kept_values c.evaluate.new.values) u
+    (shown_at c.show_due.new.shown.kept) flags
+    (flag_at c.show_due.new.flags) values shown)

@@ -1,5 +1,4 @@
-use Rattle.std.proofs.Common.{◌≡◌, ◌≤◌, ℕ, List, length, map, sym, ap, ◌∙◌, subst, arith}
-use Rattle.ps_eval.specs.Items.{Assignment}
+use Rattle.std.proofs.Common.{ℕ, List, length, map, ap, ◌∙◌, subst, arith}
 use Rattle.ps_shown.specs.declared.kept.Kept.{Kept}
 use Rattle.ps_shown.specs.Shown.{shown_at}
 use Rattle.ps_sheet.specs.Prepared.{IsChanges}

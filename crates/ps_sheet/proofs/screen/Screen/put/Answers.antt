@@ -1,6 +1,5 @@
-use Rattle.std.proofs.Common.{◌≡◌, ◌∙◌, Bool, List, length, sym, ap, subst, arith}
+use Rattle.std.proofs.Common.{◌∙◌, Bool, List, sym, ap, subst, arith}
 use Rattle.std.proofs.lemmas.List.{with_items_is}
-use Rattle.ps_eval.specs.Items.{Assignment}
 use Rattle.ps_shown.specs.Kept.{value_of}
 use Rattle.ps_shown.specs.Shown.{shown_at}
 use Rattle.ps_sheet.specs.Inside.Screens.{put_back, before_of, IsNoted}
