@@ -1,5 +1,6 @@
 mod Adding
 pub mod Beginnings
+mod ComparedValues
 mod Followed
 mod Kept
 mod Orders

@@ -31,6 +31,8 @@ mod name;
 mod patch;
 mod reader;
 mod rule;
+#[cfg(test)]
+mod tests;
 mod writer;
 
 pub use front::{Front, Opened};
