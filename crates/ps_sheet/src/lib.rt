@@ -39,6 +39,7 @@
 mod cells;
 mod change;
 mod contents;
+mod crossing;
 mod edit;
 mod laws;
 mod level;
@@ -49,6 +50,7 @@ mod screen;
 mod sheet;
 mod walk;
 
+pub use crossing::sheet_crosses;
 pub use edit::{Batch, Change, Edit};
 pub use laws::{
     accepted_deltas_join, cells_outside_show_the_same, edits_are_fresh, quiet_cells_show_the_same,
