@@ -1,5 +1,5 @@
--- What the commands begin with, and what the command `table` writes.
-use Rattle.std.specs.Prelude.{◌≡◌, ◌==◌, ℕ, List, [], Option, if◌then◌else◌}
+-- What the commands begin with, and what they write.
+use Rattle.std.specs.Prelude.{◌≡◌, ◌==◌, ◌∷◌, ◌++◌, ℕ, List, [], Option, if◌then◌else◌, codes, decimal}
 use Rattle.ps_grid.specs.Rectangle.{Area}
 use Rattle.ps_delta.specs.Deltas.{joined_history}
 use Rattle.ps_shown.specs.Shown.{shown_at}
@@ -8,7 +8,7 @@ use Rattle.ps_csv.specs.Exports.{exported}
 use Rattle.ps_csv.specs.Faults.{ReaderFails, TableFault, WholeTable}
 use Rattle.ps_csv.specs.Imports.{ImportsTable}
 use Rattle.sheet.specs.declared.fault.ProgramFault.{ProgramFault}
-use Rattle.sheet.specs.declared.fault.ProgramFault.TheVariants.{ReaderFailed, Refused}
+use Rattle.sheet.specs.declared.fault.ProgramFault.TheVariants.{PeerRefused, ReaderFailed, Refused}
 
 -- the sheet is the empty one of this replica
 pub record IsOpened (replica : ℕ) (sheet : SheetView) : Type 0 where
@@ -41,3 +41,8 @@ pub record IsTableOf (bytes text : List ℕ) : Type 0 where
 abbrev pub IsCauseOf : Option (List ℕ) → Option (List ℕ) → ProgramFault → Type 0
 IsCauseOf old new (Refused e) = TableFault (joined_history []) old new e
 IsCauseOf old new (ReaderFailed error) = WholeTable old new (λ bytes. ReaderFails (joined_history []) bytes error)
+IsCauseOf old new (PeerRefused reply) = ⊥
+
+-- what `sync` writes at the end: how many lines it pushed
+abbrev pub synced_text : ℕ → List ℕ
+synced_text lines = codes "synced " ++ decimal lines ++ 10 ∷ []

@@ -8,7 +8,7 @@ use Rattle.clap.specs.declared.builder.action.ArgAction.TheVariants.{Set}
 use Rattle.clap.specs.declared.builder.value_parser.ValueParser.TheVariants as vp
 use Rattle.ps_grid.specs.declared.parties.TheConstants.{REPLICAS, WORKERS}
 use Rattle.sheet.specs.declared.options.Options.{Options}
-use Rattle.sheet.specs.declared.options.Options.TheVariants.{Run, Table}
+use Rattle.sheet.specs.declared.options.Options.TheVariants.{Run, Sync, Table}
 
 -- an option with a number from 1 to most, 1 where it is not given
 abbrev pub number_option : Text → ℕ → Rule
@@ -19,6 +19,15 @@ number_option id most = record (new_rule id) {
   defaults = codes "1" ∷ [];
 }
 
+-- an option with the number of a port, which has to be given
+abbrev pub port_option : Text → Rule
+port_option id = record (new_rule id) {
+  long = Some id;
+  action = Some Set;
+  parser = Some (vp.Signed (pos 1) (pos 65535));
+  required = true;
+}
+
 abbrev pub run_app : App
 run_app = with_rule (with_rule (new_app (codes "run")) (number_option (codes "workers") WORKERS)) (number_option (codes
     "replica") REPLICAS)
@@ -26,10 +35,15 @@ run_app = with_rule (with_rule (new_app (codes "run")) (number_option (codes "wo
 abbrev pub table_app : App
 table_app = with_rule (new_app (codes "table")) (number_option (codes "workers") WORKERS)
 
+abbrev pub sync_app : App
+sync_app = with_rule (with_rule (new_app (codes "sync")) (port_option (codes "from"))) (port_option (codes "to"))
+
 -- the program has one of the commands, and a version
 abbrev pub sheet_app : App
-sheet_app = with_subcommand (with_subcommand (on_top (λ s. record s { subcommand_required = true; has_version = true })
-    (new_app (codes "sheet"))) run_app.top) table_app.top
+sheet_app = with_subcommand (with_subcommand (with_subcommand (on_top (λ s. record s {
+  subcommand_required = true;
+  has_version = true;
+}) (new_app (codes "sheet"))) run_app.top) table_app.top) sync_app.top
 
 -- among a command's matches the option has this number
 abbrev pub GivesNumber : List Row → Text → ℕ → Type 0
@@ -40,11 +54,13 @@ GivesNumber rows id n = (text : Text) × (one_of id rows ≡ Some text)
 abbrev pub name_of : Options → Text
 name_of (Run o) = codes "run"
 name_of (Table o) = codes "table"
+name_of (Sync o) = codes "sync"
 
 -- among a command's matches its options have these numbers
 abbrev pub GivesNumbers : List Row → Options → Type 0
 GivesNumbers rows (Run o) = GivesNumber rows (codes "workers") o.workers × GivesNumber rows (codes "replica") o.replica
 GivesNumbers rows (Table o) = GivesNumber rows (codes "workers") o.workers
+GivesNumbers rows (Sync o) = GivesNumber rows (codes "from") o.from × GivesNumber rows (codes "to") o.to
 
 -- the matches are those of the command with its numbers
 abbrev pub GivesOptions : Option (Text × List Row) → Options → Type 0

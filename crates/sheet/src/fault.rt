@@ -7,7 +7,8 @@ use ps_grid::Refusal;
 use std::alloc::AllocError;
 use thiserror::Error;
 
-/// What ended the program. Its text is the line that standard error gets: `err`, the refusal's number and its name.
+/// What ended the program. Its text is the line that standard error gets: `err`, the refusal's number and its name, or
+/// a peer's own such line.
 #[derive(Debug, Drop, Error)]
 pub enum ProgramFault {
     /// A call was refused.
@@ -16,6 +17,9 @@ pub enum ProgramFault {
     /// `csv`'s own reader failed over a table, with this error. The text is that of `Csv`.
     #[error("err {} {}", Refusal::Csv.number(), Refusal::Csv.name())]
     ReaderFailed(csv::Error),
+    /// A peer refused a request. The text is its reply, as it came.
+    #[error("{0}")]
+    PeerRefused(String),
 }
 
 impl From<Refusal> for ProgramFault {
@@ -50,6 +54,7 @@ pub fn status_of(fault: &ProgramFault) -> u8
 {
     match fault {
         ProgramFault::Refused(Refusal::Device) => 1,
-        ProgramFault::Refused(_) | ProgramFault::ReaderFailed(_) => 3,
+        ProgramFault::Refused(_) | ProgramFault::ReaderFailed(_) | ProgramFault::PeerRefused(_) =>
+            3,
     }
 }

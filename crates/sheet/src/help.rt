@@ -7,6 +7,12 @@ pub const WORKERS_HELP: &str =
 /// What `--replica` means, with the range 1 to `REPLICAS`.
 pub const REPLICA_HELP: &str = "the number of this replica, 1 to 32";
 
+/// What `--from` means.
+pub const FROM_HELP: &str = "the port of the replica whose deltas are pulled, 1 to 65535";
+
+/// What `--to` means.
+pub const TO_HELP: &str = "the port of the replica that takes them in, 1 to 65535";
+
 /// What stands below the options of `sheet run --help`.
 pub const RUN_HELP: &str = "\
 Each line of standard input is a command, and has a reply on standard output:
@@ -47,3 +53,19 @@ writes
 
   2,6
   \"x,y\",0";
+
+/// What stands below the options of `sheet sync --help`.
+pub const SYNC_HELP: &str = "\
+Both replicas listen on this machine, 127.0.0.1. All deltas of the first are
+pulled, from version 0 on, up to 16 in a line, and each line is pushed to the
+second; what the second has already changes nothing. At the end comes `synced`
+and the number of lines. Nothing goes the other way: for that call it again with
+the ports exchanged.
+
+Example:
+
+  sheet sync --from 7001 --to 7002
+
+writes
+
+  synced 1";

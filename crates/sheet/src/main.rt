@@ -1,12 +1,14 @@
 //! A replicated spreadsheet on the command line.
 //!
 //! `sheet run` opens an empty sheet and answers each line of standard input on standard output; `sheet table` reads a
-//! table of CSV and writes the table of its settled values. It keeps nothing from one start to the next, and talks to
-//! no other replica: the lines `pull` and `push` carry deltas, and who starts the programs brings them across.
+//! table of CSV and writes the table of its settled values. `sheet sync` hands what one replica has to another, both of
+//! which listen on this machine. It keeps nothing from one start to the next: the lines `pull` and `push` carry deltas,
+//! and who starts the programs keeps them.
 //!
 //! The contracts to use: [`read_words`] ties the command and the numbers that it returns to the matches that `clap`
 //! finds in the words. [`answer_lines`] makes what was read and written the transcript of an empty sheet, [`table_on`]
-//! what was written the table of what an empty sheet shows once it has taken the table in. A [`ProgramFault`] is what
+//! what was written the table of what an empty sheet shows once it has taken the table in. [`sync`] ends whatever its
+//! peers reply, and fails as a device only where a connection did. A [`ProgramFault`] is what
 //! ends the program early, and [`status_of`] its exit status: 0 where all went well, 1 where a device failed, 2 for a
 //! command line that is none, 3 for any other refusal.
 //!
@@ -19,23 +21,28 @@
 ghost use Rattle.std.specs.Prelude.{◌≡◌, ◌<◌};
 ghost use Rattle.ps_grid.specs.Blanks.{IsBlankOf};
 
+mod exchange;
 mod fault;
 mod help;
 mod options;
+mod peer;
 mod session;
 mod table;
 mod words;
 
 use clap::Error;
 use clap::error::ErrorKind;
+pub use exchange::{sync, sync_on};
 pub use fault::{ProgramFault, status_of};
-pub use options::{Options, RunOptions, TableOptions};
+pub use options::{Options, RunOptions, SyncOptions, TableOptions};
+pub use peer::Peer;
 use ps_device::{ConsoleOutput, Reading, Writing};
 use ps_eval::Meter;
 use ps_grid::Refusal;
 pub use session::{answer_lines, open_sheet};
 use std::io;
 use std::marker::Brand;
+use std::net::{Net, TcpStream};
 use std::process::ExitCode;
 use std::sync::ledger::{Blank, Ledger};
 use std::thread::Threads;
@@ -54,7 +61,10 @@ fn main(rt: HostRuntime) -> ExitCode {
 }
 
 /// Reads the words and runs their command.
-fn start<R: Threads + Sync>(rt: &HostRuntime, threads: &R) -> Result<ExitCode, ProgramFault> {
+fn start<R: Net<Stream = TcpStream> + Threads + Sync>(
+    rt: &HostRuntime,
+    threads: &R,
+) -> Result<ExitCode, ProgramFault> {
     let given = match std::env::args(rt) {
         Ok(given) => given,
         Err(error) => return unread_words(rt, &error),
@@ -92,7 +102,7 @@ fn tell(rt: &HostRuntime, error: &Error) -> Result<ExitCode, ProgramFault> {
 }
 
 /// Runs a command on standard input and output.
-fn run_command<R: Threads + Sync>(
+fn run_command<R: Net<Stream = TcpStream> + Threads + Sync>(
     rt: &HostRuntime,
     threads: &R,
     options: Options,
@@ -112,7 +122,7 @@ fn run_command<R: Threads + Sync>(
 ///
 /// The replies of `run` wait in memory and are written before the next read, so a batch of lines costs one write a
 /// piece of the input, and a peer that waits for a reply has it. A table waits nowhere.
-fn on_standard<R: Threads + Sync, I: Ledger, O: Ledger, M: Ledger>(
+fn on_standard<R: Net<Stream = TcpStream> + Threads + Sync, I: Ledger, O: Ledger, M: Ledger>(
     rt: &HostRuntime,
     threads: &R,
     input: Blank,
@@ -148,6 +158,10 @@ fn on_standard<R: Threads + Sync, I: Ledger, O: Ledger, M: Ledger>(
                 &mut meter,
                 options.workers,
             )
+        }
+        Options::Sync(options) => {
+            let mut sink = ConsoleOutput::<_, O>::new(rt.alloc(), rt.stdout(), output)?;
+            sync_on(threads, rt.alloc(), options.from, options.to, &mut sink)
         }
     }
 }

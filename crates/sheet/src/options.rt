@@ -21,6 +21,17 @@ pub struct TableOptions {
     ghost workers_in_range: { (1 ≤ workers) × (workers ≤ WORKERS) },
 }
 
+/// What `sheet sync` is asked for.
+#[derive(Debug, Clone, Copy, PartialEq, Eq)]
+pub struct SyncOptions {
+    /// The port of the replica whose deltas are pulled, 1 or more.
+    pub from: u16,
+    /// The port of the replica to which they are pushed, 1 or more.
+    pub to: u16,
+    ghost from_in_range: { 1 ≤ from },
+    ghost to_in_range: { 1 ≤ to },
+}
+
 /// A command with its numbers.
 #[derive(Clone, Copy)]
 pub enum Options {
@@ -28,4 +39,6 @@ pub enum Options {
     Run(RunOptions),
     /// Reads a table and writes its settled values.
     Table(TableOptions),
+    /// Hands all that one replica has to another.
+    Sync(SyncOptions),
 }

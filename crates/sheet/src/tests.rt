@@ -2,6 +2,7 @@ mod cells;
 mod cycles;
 mod deltas;
 mod devices;
+mod exchange;
 mod formulas;
 mod help;
 mod limits;

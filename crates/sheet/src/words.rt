@@ -8,13 +8,17 @@ ghost use Rattle.sheet.specs.Words.{
   GivesOptions,
   name_of,
   number_option,
+  port_option,
   run_app,
   sheet_app,
+  sync_app,
   table_app,
 };
 
-use crate::help::{REPLICA_HELP, RUN_HELP, TABLE_HELP, WORKERS_HELP};
-use crate::options::{Options, RunOptions, TableOptions};
+use crate::help::{
+    FROM_HELP, REPLICA_HELP, RUN_HELP, SYNC_HELP, TABLE_HELP, TO_HELP, WORKERS_HELP,
+};
+use crate::options::{Options, RunOptions, SyncOptions, TableOptions};
 use clap::builder::ValueParser;
 use clap::{Arg, ArgAction, ArgMatches, Command, Error};
 use ps_grid::{REPLICAS, WORKERS};
@@ -33,6 +37,18 @@ fn number_option<'a>(alloc: Global, id: &'a str, most: u8) -> Arg<'a>
         .action(ArgAction::Set)
         .value_parser(ValueParser::Signed(1, i64::from(most)))
         .default_value("1")
+}
+
+/// An option with the number of a port, which has to be given.
+fn port_option<'a>(alloc: Global, id: &'a str) -> Arg<'a>
+    ensures rule { rule_of result ≡ port_option id.now }
+    ensures local { result.global ≡ false }
+{
+    Arg::new(alloc, id)
+        .long(id)
+        .action(ArgAction::Set)
+        .value_parser(ValueParser::Signed(1, i64::from(u16::MAX)))
+        .required(true)
 }
 
 /// The command `run`.
@@ -61,6 +77,20 @@ fn table_command<'a>(alloc: Global) -> Result<Command<'a>, AllocError>
         .arg(workers)
 }
 
+/// The command `sync`.
+fn sync_command<'a>(alloc: Global) -> Result<Command<'a>, AllocError>
+    ensures app { IfOk result (λ command. app_of command ≡ sync_app) }
+    ensures local { IfOk result (λ command. (fields_of command).has_globals ≡ false) }
+{
+    let from = port_option(alloc, "from").help(FROM_HELP);
+    let to = port_option(alloc, "to").help(TO_HELP);
+    Command::new(alloc, "sync")
+        .about("hands all that one replica has to another")
+        .after_help(SYNC_HELP)
+        .arg(from)?
+        .arg(to)
+}
+
 /// The whole command line.
 fn sheet_command<'a>(alloc: Global) -> Result<Command<'a>, AllocError>
     ensures { IfOk result (λ command. app_of command ≡ sheet_app) }
@@ -70,7 +100,8 @@ fn sheet_command<'a>(alloc: Global) -> Result<Command<'a>, AllocError>
         .subcommand_required(true)
         .version(VERSION)
         .subcommand(run_command(alloc)?)?
-        .subcommand(table_command(alloc)?)
+        .subcommand(table_command(alloc)?)?
+        .subcommand(sync_command(alloc)?)
 }
 
 /// The number of an option, if it lies in 1..=most.
@@ -80,6 +111,17 @@ fn number_of(matches: &ArgMatches<'_>, id: &str, most: u8) -> Option<u8>
 {
     match matches.get_one::<u8>(id) {
         Some(number) if 1 <= number && number <= most => Some(number),
+        _ => None,
+    }
+}
+
+/// The port of an option, if it is one.
+fn port_of(matches: &ArgMatches<'_>, id: &str) -> Option<u16>
+    ensures number { IfSome result (GivesNumber (rows_of (found_of matches.now)) id.now) }
+    ensures range { IfSome result (λ n. 1 ≤ n) }
+{
+    match matches.get_one::<u16>(id) {
+        Some(number) if 1 <= number => Some(number),
         _ => None,
     }
 }
@@ -103,6 +145,16 @@ fn table_options(matches: &ArgMatches<'_>) -> Option<Options>
     Some(Options::Table(TableOptions { workers }))
 }
 
+/// The numbers of `sync`.
+fn sync_options(matches: &ArgMatches<'_>) -> Option<Options>
+    ensures { IfSome result (λ options. (name_of options ≡ codes "sync")
+        × GivesNumbers (rows_of (found_of matches.now)) options) }
+{
+    let from = port_of(matches, "from")?;
+    let to = port_of(matches, "to")?;
+    Some(Options::Sync(SyncOptions { from, to }))
+}
+
 /// The options of a command by its name.
 fn options_of(name: &str, matches: &ArgMatches<'_>) -> Option<Options>
     ensures { IfSome result (λ options. (name_of options ≡ name.now)
@@ -111,6 +163,7 @@ fn options_of(name: &str, matches: &ArgMatches<'_>) -> Option<Options>
     match name {
         "run" => run_options(matches),
         "table" => table_options(matches),
+        "sync" => sync_options(matches),
         _ => None,
     }
 }

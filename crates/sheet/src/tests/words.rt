@@ -11,17 +11,18 @@ fn words(alloc: Global, given: &[&str]) -> Result<Vec<String>, AllocError> {
     Ok(words)
 }
 
-/// The numbers of `run`, or that of `table` and 0, or the exit status that `clap` gives.
-fn numbers(alloc: Global, given: &[&str]) -> Result<Result<(u8, u8), i32>, AllocError> {
+/// The numbers of `run` or of `sync`, or that of `table` and 0, or the exit status that `clap` gives.
+fn numbers(alloc: Global, given: &[&str]) -> Result<Result<(u16, u16), i32>, AllocError> {
     let words = words(alloc, given)?;
     Ok(match read_words(alloc, words.as_slice()) {
-        Ok(Options::Run(options)) => Ok((options.workers, options.replica)),
-        Ok(Options::Table(options)) => Ok((options.workers, 0)),
+        Ok(Options::Run(options)) => Ok((u16::from(options.workers), u16::from(options.replica))),
+        Ok(Options::Table(options)) => Ok((u16::from(options.workers), 0)),
+        Ok(Options::Sync(options)) => Ok((options.from, options.to)),
         Err(error) => Err(error.exit_code()),
     })
 }
 
-/// The options of `run` and of `table`, given in both spellings, or left out.
+/// The options of each command, given in both spellings, or left out.
 #[test]
 fn options_are_read(rt: HostRuntime) -> Result<(), Fail> {
     let alloc = rt.alloc();
@@ -30,6 +31,7 @@ fn options_are_read(rt: HostRuntime) -> Result<(), Fail> {
     assert!(rt;
         numbers(alloc, &["sheet", "run", "--workers", "16", "--replica=32"])? == Ok((16, 32))
     );
+    assert!(rt; numbers(alloc, &["sheet", "sync", "--to=65535", "--from", "1"])? == Ok((1, 65535)));
     Ok(())
 }
 
@@ -44,6 +46,9 @@ fn other_words_are_refused(rt: HostRuntime) -> Result<(), Fail> {
     assert!(rt; numbers(alloc, &["sheet", "run", "--workers", "17"])? == Err(2));
     assert!(rt; numbers(alloc, &["sheet", "run", "--replica", "33"])? == Err(2));
     assert!(rt; numbers(alloc, &["sheet", "run", "--replica", "x"])? == Err(2));
+    assert!(rt; numbers(alloc, &["sheet", "sync", "--from", "1"])? == Err(2));
+    assert!(rt; numbers(alloc, &["sheet", "sync", "--from=0", "--to=1"])? == Err(2));
+    assert!(rt; numbers(alloc, &["sheet", "sync", "--from=1", "--to=65536"])? == Err(2));
     assert!(rt; numbers(alloc, &["sheet", "--help"])? == Err(0));
     assert!(rt; numbers(alloc, &["sheet", "run", "--help"])? == Err(0));
     assert!(rt; numbers(alloc, &["sheet", "--version"])? == Err(0));

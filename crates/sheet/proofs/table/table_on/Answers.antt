@@ -14,7 +14,7 @@ use Rattle.ps_device.proofs.DeviceLemmas.{Appends-keeps}
 use Rattle.sheet.specs.Commands.{IsCauseOf, IsOpened, IsTableOf, table_of}
 use Rattle.sheet.specs.Status.{program_fault}
 use Rattle.sheet.specs.declared.fault.ProgramFault.{ProgramFault}
-use Rattle.sheet.specs.declared.fault.ProgramFault.TheVariants.{ReaderFailed, Refused}
+use Rattle.sheet.specs.declared.fault.ProgramFault.TheVariants.{PeerRefused, ReaderFailed, Refused}
 use Rattle.sheet.proofs.table.table_on.Goals as goal
 
 -- the refusal that a result has, or this one
@@ -22,6 +22,7 @@ abbrev refusal_in : Refusal → Result (Unit {0}) ProgramFault → Refusal
 refusal_in other (Ok done) = other
 refusal_in other (Err (Refused e)) = e
 refusal_in other (Err (ReaderFailed error)) = other
+refusal_in other (Err (PeerRefused reply)) = other
 
 same_refusal : (e wanted : Refusal) → ◌≡◌ {A = Result (Unit {0}) ProgramFault} (Err (Refused e)) (Err (Refused wanted))
     → e ≡ wanted
@@ -34,6 +35,7 @@ fault_in other (Err fault) = fault
 abbrev is_refused : ProgramFault → Bool
 is_refused (Refused e) = true
 is_refused (ReaderFailed error) = false
+is_refused (PeerRefused reply) = false
 
 -- an import ends the program with a device's fault only where a device failed
 device_of : (own : Option Error) (e : Refusal) → program_fault own e ≡ Refused Device → e ≡ Device

@@ -24,7 +24,9 @@ returns c =
     let with_run = c.in_ok-subcommand.ensures.shape c.in_ok-run_command.ensures.local
     ∙ ap₂ with_subcommand (top_is ∙ ap (on_top asks) c.new.ensures.app) (ap (λ (a : App). a.top)
     c.in_ok-run_command.ensures.app) in
-    IfOk-weaker c.subcommand-2.result _ _
-    (λ command h. h.shape c.in_ok-table_command.ensures.local
-    ∙ ap₂ with_subcommand with_run (ap (λ (a : App). a.top) c.in_ok-table_command.ensures.app))
-    c.subcommand-2.ensures
+    let with_table = c.in_ok-subcommand-2.ensures.shape c.in_ok-table_command.ensures.local
+    ∙ ap₂ with_subcommand with_run (ap (λ (a : App). a.top) c.in_ok-table_command.ensures.app) in
+    IfOk-weaker c.subcommand-3.result _ _
+    (λ command h. h.shape c.in_ok-sync_command.ensures.local
+    ∙ ap₂ with_subcommand with_table (ap (λ (a : App). a.top) c.in_ok-sync_command.ensures.app))
+    c.subcommand-3.ensures
