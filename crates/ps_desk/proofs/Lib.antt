@@ -1,3 +1,5 @@
 mod Decided
 mod Receipted
 mod Noted
+mod Pulled
+mod Read

@@ -1,6 +1,6 @@
 -- What a receipt tells stays told of a list that was seen earlier.
 use Rattle.std.proofs.Common.{◌≡◌, ℕ, ◌+◌, Bool, true, false, List, [], ◌∷◌, ◌++◌, length, refl, sym, ap, ◌∙◌}
-use Rattle.std.proofs.Common.{subst, append_assoc, length-append, Result, Ok, Err}
+use Rattle.std.proofs.Common.{subst, length-append, Result, Ok, Err}
 use Rattle.std.specs.Prelude.{if◌then◌else◌, MatchBool, IfOk, OnErr, ◌<◌}
 use Rattle.std.specs.Arc.{arc_value}
 use mathlib.Core.List.{IsPrefix}
@@ -11,20 +11,11 @@ use Rattle.ps_sheet.specs.declared.edit.Change.{Change}
 use Rattle.ps_sheet.specs.Prepared.{IsDeltaOf, IsPrepared, PreparedView, history_after}
 use Rattle.ps_face.specs.declared.patch.Note.{Note}
 use Rattle.ps_face.specs.Legal.{history_of}
+use Rattle.ps_face.proofs.Beginnings.{begins_itself, begins_trans}
 use Rattle.ps_desk.specs.declared.receipt.Receipt.{Receipt}
 use Rattle.ps_desk.specs.Passes.{PassView}
 use Rattle.ps_desk.specs.Patches.{note_of}
 use Rattle.ps_desk.specs.Receipts.{IsAppended, IsCovered, Tells}
-
-begins_itself : (xs : List Note) → IsPrefix xs xs
-begins_itself xs = ([], append_nil xs)
-  where
-    append_nil : (ys : List Note) → ys ++ [] ≡ ys
-    append_nil [] = refl
-    append_nil (y ∷ ys) = ap (λ l. y ∷ l) (append_nil ys)
-
-pub begins_trans : (xs ys zs : List Note) → IsPrefix xs ys → IsPrefix ys zs → IsPrefix xs zs
-begins_trans xs ys zs p q = (p.0 ++ q.0, sym (append_assoc xs p.0 q.0) ∙ (ap (λ w. w ++ q.0) p.1 ∙ q.1))
 
 on_both : (b : Bool) (P Q R S : Type 0) → (P → R) → (Q → S) → MatchBool b P Q → MatchBool b R S
 on_both true P Q R S f g m = f m

@@ -1,11 +1,11 @@
 -- What contracts see of a pass.
-use Rattle.std.specs.Prelude.{◌≡◌, ℕ, List, Option, Some, None, IsSome}
-use Rattle.logbook.specs.Pages.{Book}
-use Rattle.ps_delta.specs.Deltas.{Entries}
+use Rattle.std.specs.Prelude.{◌≡◌, ℕ, List, [], Option, Some, None, IsSome}
+use Rattle.ps_value.specs.declared.value.Value.{Value}
+use Rattle.ps_eval.specs.Items.{Assignment}
+use Rattle.ps_delta.specs.Deltas.{Entries, joined_history}
+use Rattle.ps_sheet.specs.Settled.{IsSettled}
 use Rattle.ps_face.specs.declared.patch.Note.{Note}
 use Rattle.ps_face.specs.declared.rule.View.{View}
-use Rattle.ps_face.specs.Legal.{IsLegal}
-use Rattle.ps_face.specs.Seen.{Told}
 
 -- the beginning of the published list that was seen, how often a copy was entered, how many deltas this pass appended,
 -- and its seat
@@ -15,17 +15,23 @@ pub record PassView : Type 0 where
   pub appended : ℕ
   pub seat : ℕ
 
+-- the beginning of the published list that a reader has seen
+abbrev pub seen_by : Option View → List Note
+seen_by (Some v) = v.list
+seen_by None = []
+
 -- how often a reader has entered
 abbrev pub entered : Option View → ℕ
 entered (Some v) = v.enters
 entered None = 0
 
--- what holds of a pass between two calls: its reader is there, what it has seen is a legal list of this desk, and its
--- share of the ledger is one part, with the amount that the pass counted
-pub record IsPass (b : Book) (h : List Entries) (reader : Option View) (front : Told)
-    (parts amount count : ℕ) : Type 0 where
+-- what holds of a pass between two calls: its reader is there, and its share of the ledger is one part, with the amount
+-- that the pass counted
+pub record IsPass (reader : Option View) (parts amount count : ℕ) : Type 0 where
   pub here : IsSome reader
-  pub book : front.book ≡ b
-  pub legal : IsLegal h front.list
   pub part : parts ≡ 1
   pub same : amount ≡ count
+
+-- SHOWN: the value is the cell's settled value of the joined history
+abbrev pub IsShown : List Entries → ℕ → Value → Type 0
+IsShown h c x = (v : Assignment) × IsSettled (joined_history h) v × (x ≡ v c)

@@ -1,9 +1,10 @@
 //! The desk: a lock round what its passes share.
 
-ghost use Rattle.std.specs.Prelude.{◌≡◌, ◌⊎◌, ◌+◌, true, if◌then◌else◌, Ok, Err, IfOk, IfErr, OnOk, OnErr};
+ghost use Rattle.std.specs.Prelude.{◌≡◌, ◌⊎◌, ◌+◌, ◌<◌, ◌≤◌, true, if◌then◌else◌, drop, length, map, take};
+ghost use Rattle.std.specs.Prelude.{Ok, Err, IfOk, IfErr, OnOk, OnErr};
 ghost use Rattle.std.specs.Arc.{arc_value};
 ghost use mathlib.Core.List.{IsPrefix};
-ghost use Rattle.ps_grid.specs.declared.refusal.Refusal.TheVariants.{Memory};
+ghost use Rattle.ps_grid.specs.declared.refusal.Refusal.TheVariants.{Memory, Version};
 ghost use Rattle.ps_delta.specs.Deltas.{joined_history};
 ghost use Rattle.ps_sheet.specs.Edits.{delta_of_edit};
 ghost use Rattle.ps_sheet.specs.Prepared.{IsDeltaOf, IsRefusedBy};
@@ -95,6 +96,37 @@ impl<L: DeskName, W: Wait + Drop> Desk<L, W> {
         ensures seat { (pass.new.seat ≡ pass.old.seat) × (pass.new.enters ≡ pass.old.enters) }
     {
         self.change(rt, wait, alloc, pass, Change::Delta(delta), meter)
+    }
+
+    /// The deltas of the history after the number `from`, in order, at most so many. The pass has then seen all that is
+    /// published.
+    ///
+    /// Refused where the history is shorter than the number, and when out of memory. It may wait for other calls.
+    ///
+    /// Cost: the deltas that are handed out.
+    pub fn pull<V: Wait>(
+        &self,
+        wait: &V,
+        alloc: Global,
+        pass: &mut Pass<L>,
+        from: u64,
+        at_most: usize,
+    ) -> Result<Vec<Arc<Delta>>, Refusal>
+        ensures later { IsPrefix pass.old.list pass.new.list }
+        ensures deltas { IfOk result (λ ds. map arc_value ds.items
+            ≡ take at_most (drop from (history_of L.opening pass.new.list))) }
+        ensures there { IfOk result (λ _. from ≤ length (history_of L.opening pass.new.list)) }
+        ensures refused { IfErr result (λ e. (e ≡ Memory)
+            ⊎ ((e ≡ Version) × (length (history_of L.opening pass.new.list) < from))) }
+        ensures same { (pass.new.appended ≡ pass.old.appended) × (pass.new.seat ≡ pass.old.seat)
+            × (pass.new.enters ≡ pass.old.enters) }
+    {
+        let guard = self.held.lock(wait);
+        // No other call is under way while the lock is held.
+        let Some(held) = &*guard else {
+            return Err(Refusal::Memory);
+        };
+        held.pull(alloc, pass, from, at_most)
     }
 
     /// Makes a change under the lock.

@@ -1,10 +1,10 @@
 //! What lies under the lock of a desk.
 
-ghost use Rattle.std.specs.Prelude.{◌≡◌, ◌⊎◌, ◌+◌, ◌++◌, ◌∷◌, [], true, if◌then◌else◌};
-ghost use Rattle.std.specs.Prelude.{IfOk, IfErr, OnErr, MatchResult};
+ghost use Rattle.std.specs.Prelude.{◌≡◌, ◌⊎◌, ◌↔◌, ◌+◌, ◌<◌, ◌≤◌, ◌++◌, ◌∷◌, [], true, if◌then◌else◌};
+ghost use Rattle.std.specs.Prelude.{drop, length, map, take, Err, IfOk, IfErr, OnErr, MatchResult};
 ghost use Rattle.std.specs.Arc.{arc_value};
 ghost use mathlib.Core.List.{IsPrefix};
-ghost use Rattle.ps_grid.specs.declared.refusal.Refusal.TheVariants.{Memory};
+ghost use Rattle.ps_grid.specs.declared.refusal.Refusal.TheVariants.{Memory, Version};
 ghost use Rattle.ps_delta.specs.Deltas.{joined_history};
 ghost use Rattle.ps_sheet.specs.Prepared.{IsDeltaOf, IsRefusedBy, history_after};
 ghost use Rattle.ps_face.specs.Legal.{history_of};
@@ -113,6 +113,57 @@ impl<L: DeskName, W: Wait + Drop> Held<L, W> {
         }
     }
 
+    /// The deltas of the history after a number, in order, at most so many, for a pass, which has then seen all that is
+    /// published.
+    ///
+    /// Refused where the history is shorter than the number, and when out of memory.
+    pub(crate) fn pull(
+        &self,
+        alloc: Global,
+        pass: &mut Pass<L>,
+        from: u64,
+        at_most: usize,
+    ) -> Result<Vec<Arc<Delta>>, Refusal>
+        ensures later { IsPrefix pass.old.list pass.new.list }
+        ensures all { IfOk result (λ _. pass.new.list ≡ self.now) }
+        ensures deltas { IfOk result (λ ds. map arc_value ds.items
+            ≡ take at_most (drop from (history_of L.opening pass.new.list))) }
+        ensures there { IfOk result (λ _. from ≤ length (history_of L.opening pass.new.list)) }
+        ensures refused { IfErr result (λ e. (e ≡ Memory)
+            ⊎ ((e ≡ Version) × (length (history_of L.opening pass.new.list) < from))) }
+        ensures same { (pass.new.appended ≡ pass.old.appended) × (pass.new.seat ≡ pass.old.seat)
+            × (pass.new.enters ≡ pass.old.enters) }
+    {
+        // A pass has never seen more than what is published.
+        if !pass.catch_up(self.copies.front()) {
+            return Err(Refusal::Memory);
+        }
+        self.deltas_after(alloc, from, at_most)
+    }
+
+    /// The deltas of the history after a number, in order, at most so many.
+    fn deltas_after(
+        &self,
+        alloc: Global,
+        from: u64,
+        at_most: usize,
+    ) -> Result<Vec<Arc<Delta>>, Refusal>
+        ensures deltas { IfOk result (λ ds. map arc_value ds.items
+            ≡ take at_most (drop from (history_of L.opening self.now))) }
+        ensures above { (result ≡ Err Version) ↔ (length (history_of L.opening self.now) < from) }
+        ensures other { IfErr result (λ e. (e ≡ Version) ⊎ (e ≡ Memory)) }
+    {
+        let history = self.sheet.history();
+        if from > history.len() as u64 {
+            return Err(Refusal::Version);
+        }
+        let later = &history[from as usize..];
+        if at_most < later.len() {
+            return copy_deltas(alloc, &later[..at_most]);
+        }
+        copy_deltas(alloc, later)
+    }
+
     /// The three together.
     fn of(sheet: Sheet, copies: FaceWriter<L, W>, book: Book<L>) -> Held<L, W>
         requires { IsKept L.replica L.opening sheet.replica sheet.history copies book.total }
@@ -124,6 +175,18 @@ impl<L: DeskName, W: Wait + Drop> Held<L, W> {
             book,
         }
     }
+}
+
+/// The same deltas once more. Refused only when out of memory.
+fn copy_deltas(alloc: Global, deltas: &[Arc<Delta>]) -> Result<Vec<Arc<Delta>>, Refusal>
+    ensures copied { IfOk result (λ c. map arc_value c.items ≡ map arc_value deltas.now) }
+    ensures memory { IfErr result (λ e. e ≡ Memory) }
+{
+    let mut copied = Vec::with_capacity(alloc, deltas.len())?;
+    for delta in deltas {
+        copied.push(delta.clone()?)?;
+    }
+    Ok(copied)
 }
 
 /// Makes a prepared change, or gives it up where it can't be told.

@@ -8,16 +8,20 @@
 //! bytes and no lines.
 //!
 //! A pass belongs to a session. It holds a beginning of the published list, that which the session has seen, and it
-//! counts what its session appended.
+//! counts what its session appended. It reads the copies with no lock.
 //!
-//! The contract to use is that of [`Desk::edit`] and [`Desk::receive`]: what the pass has seen only grows, and a fresh
-//! [`Receipt`] has a number above all that was seen before, at which its delta stands. A desk can't be opened, read or
+//! The contract to use is that of [`Desk::edit`], [`Desk::receive`], [`Desk::pull`], [`Pass::read`] and
+//! [`Pass::read_all`]. What the pass has seen only grows. A fresh [`Receipt`] has a number above all that was seen
+//! before, at which its delta stands. A read shows the settled values of a whole history, and so of one that has all
+//! that the pass had seen or appended. A pull hands out just the deltas after a number. A desk can't be opened or
 //! closed yet.
 //!
 //! Say a pass has seen three patches, and another session has appended a fourth. An edit by this pass then has the
-//! number 5: its delta is made over all four, and the pass has seen all five.
+//! number 5: its delta is made over all four, and the pass has seen all five. A read by it shows version 5 or a later
+//! one.
 //!
-//! Cost: that of preparing the change, and twice the cells that show another value.
+//! Cost: a change costs what preparing it does, and twice the cells that show another value. A read of one cell is
+//! constant, and a pull costs what it hands out.
 #![tactic(auto)]
 
 mod desk;
@@ -26,8 +30,10 @@ mod name;
 mod pass;
 mod patch;
 mod receipt;
+mod shot;
 
 pub use desk::Desk;
 pub use name::DeskName;
 pub use pass::Pass;
 pub use receipt::Receipt;
+pub use shot::Shot;

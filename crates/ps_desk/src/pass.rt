@@ -1,11 +1,16 @@
 //! A session's pass.
 
-ghost use Rattle.std.specs.Prelude.{◌≡◌, ◌+◌, ◌<◌, ◌^◌, length, MatchBool};
+ghost use Rattle.std.specs.Prelude.{◌≡◌, ◌+◌, ◌<◌, ◌^◌, length, IfNone, IfSome, MatchBool};
 ghost use mathlib.Core.List.{IsPrefix};
-ghost use Rattle.ps_face.specs.Legal.{IsLegal};
+ghost use Rattle.ps_grid.specs.declared.size.TheConstants.{CELLS};
+ghost use Rattle.ps_face.specs.Legal.{IsLegal, Shows, history_of};
+ghost use Rattle.ps_desk.specs.Passes.{IsShown};
 
 use crate::name::DeskName;
-use ps_face::{FaceReader, Front};
+use crate::shot::Shot;
+use ps_face::{FaceReader, Front, Seen};
+use ps_grid::Cell;
+use ps_value::Value;
 use std::marker::Model;
 use std::sync::ledger::{Book, Share};
 
@@ -14,8 +19,6 @@ use std::sync::ledger::{Book, Share};
 pub struct Pass<L: DeskName> {
     /// out while a copy is read
     reader: Option<FaceReader<L>>,
-    /// the beginning of the published list that its session has seen
-    front: Front,
     /// this seat's part of what was appended
     share: Share<L>,
     appended: u64,
@@ -25,20 +28,20 @@ pub struct Pass<L: DeskName> {
 impl<L: DeskName> Model for Pass<L> {
     ghost use Rattle.std.specs.Coded.{codes};
     ghost use Rattle.ps_face.specs.contracts.patch.Note as note;
-    ghost use Rattle.ps_desk.specs.Passes.{IsPass, PassView, entered};
+    ghost use Rattle.ps_desk.specs.Passes.{IsPass, PassView, entered, seen_by};
 
     ghost Value = { PassView };
 
     ghost coded = { Prim.hlevel (codes, note.the_row.coded) };
 
     ghost view = { λ p. record {
-      list = p.front.list;
+      list = seen_by p.reader;
       enters = entered p.reader;
       appended = p.appended;
       seat = p.seat;
     } };
 
-    ghost invariant = { λ p. IsPass L.book L.opening p.reader p.front p.share.parts p.share.amount p.appended };
+    ghost invariant = { λ p. IsPass p.reader p.share.parts p.share.amount p.appended };
 }
 
 impl<L: DeskName> Pass<L> {
@@ -48,10 +51,8 @@ impl<L: DeskName> Pass<L> {
         requires amount { share.amount ≡ 0 }
         ensures { result ≡ record { list = reader.list; enters = reader.enters; appended = 0; seat = seat } }
     {
-        let front = reader.front().again();
         Pass {
             reader: Some(reader),
-            front,
             share,
             appended: 0,
             seat,
@@ -65,6 +66,71 @@ impl<L: DeskName> Pass<L> {
         ensures appended { result ≡ self.now.appended }
     {
         self.appended
+    }
+
+    /// What a cell shows now, with the version that it is of. None means that the desk is gone.
+    ///
+    /// It is the settled value of a history that a legal published list stands for, and the list begins with all that
+    /// this pass had seen or appended.
+    ///
+    /// Cost: constant; no lock, no wait and no memory.
+    pub fn read(&mut self, cell: Cell) -> Option<Shot>
+        ensures later { IsPrefix self.old.list self.new.list }
+        ensures legal { IfSome result (λ _. IsLegal L.opening self.new.list) }
+        ensures step { IfSome result (λ _. self.new.enters ≡ self.old.enters + 1) }
+        ensures version { IfSome result (λ s. s.version ≡ length (history_of L.opening self.new.list)) }
+        ensures value { IfSome result (λ s. IsShown (history_of L.opening self.new.list) cell s.value) }
+        ensures gone { IfNone result (self.new.list ≡ self.old.list) }
+        ensures same { (self.new.appended ≡ self.old.appended) × (self.new.seat ≡ self.old.seat) }
+    {
+        match self.reader.take().unwrap().enter() {
+            Ok(seen) => {
+                let shot = Shot {
+                    version: seen.version(),
+                    value: seen.at(cell),
+                };
+                // for the fact that the cell is in the grid
+                let _ = cell.index();
+                self.reader = Some(seen.leave());
+                Some(shot)
+            }
+            Err(reader) => {
+                self.reader = Some(reader);
+                None
+            }
+        }
+    }
+
+    /// Writes what all cells show now, in order, and answers the version that it is of. None means that the desk is
+    /// gone.
+    ///
+    /// All are settled values of the one history that a legal published list stands for, and the list begins with all
+    /// that this pass had seen or appended.
+    ///
+    /// Cost: the cells of the grid; no lock, no wait and no memory.
+    pub fn read_all(&mut self, values: &mut [Value]) -> Option<u64>
+        requires room { length values.old ≡ CELLS }
+        ensures later { IsPrefix self.old.list self.new.list }
+        ensures legal { IfSome result (λ _. IsLegal L.opening self.new.list) }
+        ensures step { IfSome result (λ _. self.new.enters ≡ self.old.enters + 1) }
+        ensures version { IfSome result (λ n. n ≡ length (history_of L.opening self.new.list)) }
+        ensures values { IfSome result (λ _. Shows (history_of L.opening self.new.list) values.new) }
+        ensures room { length values.new ≡ CELLS }
+        ensures gone { IfNone result ((self.new.list ≡ self.old.list) × (values.new ≡ values.old)) }
+        ensures same { (self.new.appended ≡ self.old.appended) × (self.new.seat ≡ self.old.seat) }
+    {
+        match self.reader.take().unwrap().enter() {
+            Ok(seen) => {
+                let version = seen.version();
+                copy_all(&seen, values);
+                self.reader = Some(seen.leave());
+                Some(version)
+            }
+            Err(reader) => {
+                self.reader = Some(reader);
+                None
+            }
+        }
     }
 
     /// The seat that the pass is for.
@@ -82,11 +148,10 @@ impl<L: DeskName> Pass<L> {
             (IsPrefix self.old.list front.now.list × (self.new ≡ record self.old { list = front.now.list }))
             ((length front.now.list < length self.old.list) × (self.new ≡ self.old)) }
     {
-        if !self.front.begins(front) {
-            return false;
-        }
-        self.front = front.again();
-        true
+        let mut reader = self.reader.take().unwrap();
+        let learned = reader.learn(front);
+        self.reader = Some(reader);
+        learned
     }
 
     /// Counts one delta more.
@@ -104,5 +169,19 @@ impl<L: DeskName> Pass<L> {
         book.audit(share);
         book.add(share, 1);
         *appended += 1;
+    }
+}
+
+/// Writes what all cells show, in order.
+fn copy_all<L: DeskName>(seen: &Seen<L>, values: &mut [Value])
+    requires shows { Shows (history_of L.opening seen.now.list) seen.now.values }
+    requires room { length values.old ≡ CELLS }
+    ensures shows { Shows (history_of L.opening seen.now.list) values.new }
+    ensures room { length values.new ≡ CELLS }
+{
+    for index in 0..values.len() {
+        if let Some(cell) = Cell::from_index(index) {
+            values[index] = seen.at(cell);
+        }
     }
 }

@@ -3,5 +3,5 @@ pub mod Beginnings
 mod ComparedValues
 mod Followed
 mod Kept
-mod Orders
+pub mod Orders
 mod Turned

@@ -1,7 +1,8 @@
 use Rattle.std.proofs.Common.{ℕ, List, sym, subst}
 use Rattle.ps_delta.specs.Deltas.{Entries, joined_history}
 use Rattle.ps_sheet.specs.Prepared.{IsDeltaOf}
-use Rattle.ps_desk.proofs.Receipted.{begins_trans, caught_later, caught_seat, tells_change}
+use Rattle.ps_face.proofs.Beginnings.{begins_trans}
+use Rattle.ps_desk.proofs.Receipted.{caught_later, caught_seat, tells_change}
 use Rattle.ps_desk.proofs.held.Held.make.Goals as goal
 
 pub returns-then-not-catch_up-clause-later : goal.returns-then-not-catch_up-clause-later
