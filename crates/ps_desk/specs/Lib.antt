@@ -1,4 +1,5 @@
 pub mod Kept
+pub mod Opening
 pub mod Passes
 pub mod Patches
 pub mod Receipts

@@ -20,23 +20,49 @@ use ps_eval::Meter;
 use ps_grid::Refusal;
 use ps_sheet::{Change, Edit, edits_are_fresh};
 use std::alloc::Global;
+use std::marker::Model;
 use std::sync::ledger::Ledger;
 use std::sync::{Arc, Mutex, Wait};
 use std::thread::Threads;
 
-/// A sheet that several sessions share, each by its pass.
+/// A sheet that several sessions share, each by its pass. A contract sees it as the number of its seats.
 #[derive(Drop)]
 pub struct Desk<L: DeskName, W: Wait + Drop> {
     /// empty only while a call is under way
     held: Mutex<Option<Held<L, W>>>,
+    seats: usize,
+}
+
+impl<L: DeskName, W: Wait + Drop> Model for Desk<L, W> {
+    ghost use Rattle.std.specs.Prelude.{◌≡◌, ℕ};
+
+    ghost Value = { ℕ };
+
+    ghost view = { λ d. d.seats };
+
+    ghost invariant = { λ d. d.seats ≡ L.parts };
 }
 
 impl<L: DeskName, W: Wait + Drop> Desk<L, W> {
     /// A desk of what is to lie under its lock.
-    pub(crate) fn new(held: Held<L, W>) -> Desk<L, W> {
+    pub(crate) fn new(held: Held<L, W>, seats: usize) -> Desk<L, W>
+        requires { seats ≡ L.parts }
+        ensures { result ≡ seats }
+    {
         Desk {
             held: Mutex::new(Some(held)),
+            seats,
         }
+    }
+
+    /// For how many sessions the desk is.
+    ///
+    /// Cost: constant.
+    pub fn seats(&self) -> usize
+        ensures seats { result ≡ self.now }
+        ensures parts { result ≡ L.parts }
+    {
+        self.seats
     }
 
     /// Makes the delta of an edit over the sheet's state, appends it to the history, and shows it to all who read.

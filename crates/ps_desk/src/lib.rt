@@ -13,8 +13,11 @@
 //! The contract to use is that of [`Desk::edit`], [`Desk::receive`], [`Desk::pull`], [`Pass::read`] and
 //! [`Pass::read_all`]. What the pass has seen only grows. A fresh [`Receipt`] has a number above all that was seen
 //! before, at which its delta stands. A read shows the settled values of a whole history, and so of one that has all
-//! that the pass had seen or appended. A pull hands out just the deltas after a number. A desk can't be opened or
-//! closed yet.
+//! that the pass had seen or appended. A pull hands out just the deltas after a number. A desk can't be closed
+//! yet.
+//!
+//! A desk is opened from [`Parts`], which are made before its name is picked; [`Desk::open`] is called in a function
+//! that is generic in the name. It gives a pass for each seat, and each has seen nothing; or the sheet comes back.
 //!
 //! Say a pass has seen three patches, and another session has appended a fourth. An edit by this pass then has the
 //! number 5: its delta is made over all four, and the pass has seen all five. A read by it shows version 5 or a later
@@ -27,6 +30,8 @@
 mod desk;
 mod held;
 mod name;
+mod open;
+mod parts;
 mod pass;
 mod patch;
 mod receipt;
@@ -34,6 +39,7 @@ mod shot;
 
 pub use desk::Desk;
 pub use name::DeskName;
+pub use parts::Parts;
 pub use pass::Pass;
 pub use receipt::Receipt;
 pub use shot::Shot;

@@ -1,0 +1,60 @@
+//! What a desk is opened from.
+
+ghost use Rattle.std.specs.Prelude.{◌≡◌, ◌≤◌};
+ghost use Rattle.ps_grid.specs.declared.parties.TheConstants.{SEATS as MOST};
+
+use ps_face::Opened;
+use ps_sheet::Sheet;
+use std::marker::Model;
+use std::sync::ledger::Blank;
+
+/// A sheet that is to be shared by so many seats. It is made before the desk's name is picked, since the name tells of
+/// what is in it. A contract sees it as its `PartsView`.
+#[derive(Drop)]
+pub struct Parts {
+    pub(crate) sheet: Sheet,
+    /// the list that is to be published, still empty
+    pub(crate) opened: Opened,
+    /// the ledger of what is appended, with a part for each seat
+    pub(crate) blank: Blank,
+    pub(crate) seats: usize,
+}
+
+impl Model for Parts {
+    ghost use Rattle.std.specs.Prelude.{◌≡◌, ◌≤◌};
+    ghost use Rattle.std.specs.Coded.{codes};
+    ghost use Rattle.ps_grid.specs.declared.parties.TheConstants.{SEATS as MOST};
+    ghost use Rattle.ps_sheet.specs.SheetCode.{sheet_code};
+    ghost use Rattle.ps_desk.specs.Opening.{PartsView};
+
+    ghost Value = { PartsView };
+
+    ghost coded = { Prim.hlevel (codes, sheet_code) };
+
+    ghost view = { λ p. record {
+      sheet = p.sheet;
+      book = p.opened;
+      ledger = p.blank.name;
+      seats = p.seats;
+    } };
+
+    ghost invariant = { λ p. (p.blank.parts ≡ p.seats) × (1 ≤ p.seats) × (p.seats ≤ MOST) };
+}
+
+impl Parts {
+    /// A sheet for so many seats, 1 to `SEATS`.
+    ///
+    /// Cost: constant, no memory.
+    pub fn new(sheet: Sheet, seats: usize) -> Parts
+        requires seats { (1 ≤ seats) × (seats ≤ MOST) }
+        ensures sheet { result.sheet ≡ sheet }
+        ensures seats { result.seats ≡ seats }
+    {
+        Parts {
+            sheet,
+            opened: Opened::new(),
+            blank: Blank::new(seats as u64),
+            seats,
+        }
+    }
+}
