@@ -1,27 +1,32 @@
--- Joins take nothing away, and each cell, count and pair takes 8 bytes of a line.
-use Rattle.std.proofs.Common.{◌≡◌, ◌≢◌, inl, inr, ℕ, zero, suc, ◌+◌, ◌*◌, ◌/◌, ◌%◌, ◌<◌, ◌≤◌, ◌==◌}
-use Rattle.std.proofs.Common.{Bool, true, false, ◌||◌, cond, if◌then◌else◌}
-use Rattle.std.proofs.Common.{List, [], ◌∷◌, map, length, take, get_or, ◌-◌, refl, sym, ap, subst, ◌∙◌, arith}
-use Rattle.std.proofs.lemmas.Bool.{cases_lt, cases_order}
+-- Joins take nothing away, and shorten no cell, count or pair.
+use Rattle.std.proofs.Common.{◌≡◌, ◌≢◌, inl, inr, ℕ, zero, suc, ◌+◌, ◌/◌, ◌%◌, ◌<◌, ◌≤◌, ◌==◌}
+use Rattle.std.proofs.Common.{Bool, true, false, ◌||◌, cond, if◌then◌else◌, Option, Some, None}
+use Rattle.std.proofs.Common.{List, [], ◌∷◌, map, length, refl, sym, ap, subst, ◌∙◌, arith}
+use Rattle.std.proofs.lemmas.Bool.{cases_lt, cases_order, ne_eqb}
 use Rattle.std.proofs.lemmas.List.Elements.{All-head, All-tail}
-use Rattle.std.proofs.lemmas.List.Sums.{sum_by-cons, sum_by-take-le, sum_by_more}
-use Rattle.std.specs.Prelude.{sum_by}
+use Rattle.std.proofs.lemmas.List.Sums.{sum_by-cons, sum_by-le-sum_by}
+use Rattle.std.specs.Prelude.{max, sum_by}
 use Rattle.std.specs.List.{All}
 use Rattle.std.specs.Fmt.{digits, digits_onto, digit_glyph}
-use Rattle.std.specs.Ordering.{nat_cmp}
+use Rattle.std.specs.Ordering.{is_eq, is_lt, nat_cmp}
 use Rattle.std.specs.Cmp.{IsTotalOrder, nat_cmp_total}
 use Rattle.std.specs.declared.cmp.Ordering.{Ordering}
+use Rattle.std.specs.declared.cmp.Ordering.TheVariants.{Less, Equal, Greater}
 use Rattle.std.specs.FinMap as maps
-use Rattle.serde_json.specs.Data.{Data, string}
-use Rattle.serde_json.specs.View.{items_of}
-use Rattle.serde_json.specs.Written.{items_text}
+use Rattle.std.specs.FinMap.{entries_sorted, entries-insert, get-entries, get-insert}
+use Rattle.std.specs.FinMap.Entries.{below_all, by_order}
+use Rattle.serde_json.specs.Data.{Data, null, string}
 use Rattle.ps_lattice.specs.Maps.{joined_maps, raised, with_entries}
 use Rattle.ps_lattice.specs.Choice.{pair_cmp}
 use Rattle.ps_lattice.specs.ChoiceLaws.{pairs_total}
 use Rattle.ps_lattice.specs.Tally.{greater_counts}
+use Rattle.ps_lattice.specs.declared.register.Assignment.{Assignment}
 use Rattle.ps_lattice.specs.declared.tally.Count.{Count}
 use Rattle.ps_lattice.specs.declared.choice.Pair.{Pair}
+use Rattle.ps_lattice.proofs.Rising.{and_left, and_right, from_T}
 use Rattle.ps_grid.specs.Place.{cell_name}
+use Rattle.ps_content.specs.Content.{canonical_text}
+use Rattle.ps_content.specs.declared.content.Content.{Content}
 use Rattle.ps_delta.specs.declared.cell_state.CellState.{CellState}
 use Rattle.ps_delta.specs.State.{State, empty_cell, joined_cell, IsBelow}
 use Rattle.ps_delta.specs.CellLaws.{joined_cell-comm, joined_cell-empty}
@@ -30,38 +35,36 @@ use Rattle.ps_delta.specs.Order.{Rising}
 use Rattle.ps_delta.proofs.EntryLemmas.{state_of-here, state_of-rising, state_of-there}
 use Rattle.ps_delta.proofs.StateLemmas.{joined_state-at}
 use Rattle.ps_delta.proofs.WalkLemmas.{rising_of}
-use Rattle.ps_wire.specs.Length.{OutgrowsLine, entry_count, parts_count, size}
+use Rattle.ps_wire.specs.Length.{OutgrowsLine, bare_value, lasting_size, size}
 use Rattle.ps_wire.specs.Line.{delta_text}
 use Rattle.ps_wire.specs.declared.TheConstants.{DELTA_LINE_LIMIT}
 use Rattle.ps_wire.specs.Value.{array_of, cell_value, count_value, delta_value, gone_number, pair_value, register_value}
 use Rattle.ps_wire.specs.Value.{whole}
-use Rattle.ps_wire.proofs.SizeLemmas.{item_first, item_later, size_of_four, size_of_three}
+use Rattle.ps_wire.proofs.SizeLemmas.{ended, gone_digit, size_of_array, size_of_four, size_of_three}
 
 -- ---- bytes
 
--- items that take so many bytes each, with a comma
-items_least : {X : Type 0} (f : X → Data) (least : X → ℕ) → ((x : X) → least x ≤ 1 + size (f x)) → (xs : List X)
-    → 1 + sum_by least xs ≤ length (items_text true (items_of (map f xs)))
-items_least f least each [] = omega arith
-items_least f least each (x ∷ xs) =
+-- items of which each takes no more
+arrays_more : {X : Type 0} (f g : X → Data) → ((x : X) → size (f x) ≤ size (g x)) → (xs : List X)
+    → size (array_of (map f xs)) ≤ size (array_of (map g xs))
+arrays_more f g each [] = omega arith
+arrays_more f g each (x ∷ xs) =
     omega (
       arith,
-      each x,
-      items_least f least each xs,
-      sum_by-cons least x xs,
-      item_later (f x) (items_of (map f xs)),
+      size_of_array f (x ∷ xs) (omega arith),
+      size_of_array g (x ∷ xs) (omega arith),
+      sum_by-le-sum_by (ended f) (ended g) (x ∷ xs) (λ y. omega (arith, each y)),
     )
 
-array_least : {X : Type 0} (f : X → Data) (least : X → ℕ) → ((x : X) → least x ≤ 1 + size (f x)) → (xs : List X)
-    → 1 + sum_by least xs ≤ size (array_of (map f xs))
-array_least f least each [] = omega arith
-array_least f least each (x ∷ xs) =
-    let rest = items_of (map f xs) in
-    omega (arith, items_least f least each (x ∷ xs), item_later (f x) rest, item_first (f x) rest)
-
-same_sum : {X : Type 0} (m : ℕ) (xs : List X) → sum_by (λ _. m) xs ≡ m * length xs
-same_sum m [] = omega arith
-same_sum m (x ∷ xs) = omega (arith, sum_by-cons (λ _. m) x xs, same_sum m xs)
+-- items that take no more all together
+items_more : {X : Type 0} (f : X → Data) (xs ys : List X) → sum_by (ended f) xs ≤ sum_by (ended f) ys
+    → size (array_of (map f xs)) ≤ size (array_of (map f ys))
+items_more f [] [] le = omega arith
+items_more f [] (y ∷ ys) le =
+    omega (arith, size_of_array f (y ∷ ys) (omega arith), sum_by-cons (ended f) y ys)
+items_more f (x ∷ xs) [] le = absurd (omega (arith, le, sum_by-cons (ended f) x xs))
+items_more f (x ∷ xs) (y ∷ ys) le =
+    omega (arith, le, size_of_array f (x ∷ xs) (omega arith), size_of_array f (y ∷ ys) (omega arith))
 
 -- digits stand before what they are put before
 digits_more : (k n : ℕ) (acc : List ℕ) → length acc ≤ length (digits_onto k 10 false n acc)
@@ -77,104 +80,170 @@ digits_more (suc k) n acc =
     by_last true more = omega arith
     by_last false more = omega (arith, more)
 
-whole_least : (n : ℕ) → 1 ≤ size (whole n)
+-- what is put before a list where the last digit stands there already
+abbrev further : ℕ → ℕ → List ℕ → List ℕ
+further k n acc = if n == 0 then acc else digits_onto k 10 false n acc
+
+-- what a greater number comes to is no shorter
+abbrev Rises : (ℕ → List ℕ → List ℕ) → Type 0
+Rises f = (n m : ℕ) (xs ys : List ℕ) → n ≤ m → length xs ≡ length ys → length (f n xs) ≤ length (f m ys)
+
+further_some : (k n : ℕ) (acc : List ℕ) → further k (suc n) acc ≡ digits_onto k 10 false (suc n) acc
+further_some k n acc =
+    ap (λ b. if b then acc else digits_onto k 10 false (suc n) acc) (ne_eqb (suc n) 0 (λ e. omega (arith, e)))
+
+further_rise : (k : ℕ) → Rises (digits_onto k 10 false) → Rises (further k)
+further_rise k each zero zero xs ys le same = omega (arith, same)
+further_rise k each zero (suc b) xs ys le same =
+    omega (arith, same, digits_more k (suc b) ys, ap length (further_some k b ys))
+further_rise k each (suc a) zero xs ys le same = absurd (omega (arith, le))
+further_rise k each (suc a) (suc b) xs ys le same =
+    omega (
+      arith,
+      each (suc a) (suc b) xs ys le same,
+      ap length (further_some k a xs),
+      ap length (further_some k b ys),
+    )
+
+-- a greater number has no fewer digits
+digits_rise : (k : ℕ) → Rises (digits_onto k 10 false)
+digits_rise zero n m xs ys le same = omega (arith, same)
+digits_rise (suc k) n m xs ys le same =
+    further_rise k (digits_rise k) (n / 10) (m / 10) (digit_glyph false (n % 10) ∷ xs) (digit_glyph false (m % 10) ∷ ys)
+    (omega (arith, le)) (ap suc same)
+
+whole_rise : (n m : ℕ) → n ≤ m → size (whole n) ≤ size (whole m)
 unfolding digits
-whole_least n = by_last (n / 10 == 0)
-  where
-    by_last : (last : Bool) → 1 ≤ length (if last then digit_glyph false (n % 10) ∷ []
-        else digits_onto 63 10 false (n / 10) (digit_glyph false (n % 10) ∷ []))
-    by_last true = omega arith
-    by_last false = omega (arith, digits_more 63 (n / 10) (digit_glyph false (n % 10) ∷ []))
+whole_rise n m le = digits_rise 64 n m [] [] le refl
 
-count_least : (e : ℕ × Count) → 8 ≤ 1 + size (count_value e)
-count_least e =
-    omega (
-      arith,
-      size_of_three (whole e.0) (whole e.1.added) (whole e.1.subtracted),
-      whole_least e.0,
-      whole_least e.1.added,
-      whole_least e.1.subtracted,
-    )
+-- ---- cells
 
-pair_least : (e : Pair × Bool) → 8 ≤ 1 + size (pair_value e)
-pair_least e =
-    omega (
-      arith,
-      size_of_four (whole e.0.option) (whole e.0.replica) (whole e.0.sequence) (whole (gone_number e.1)),
-      whole_least e.0.option,
-      whole_least e.0.replica,
-      whole_least e.0.sequence,
-    )
+register_least : (r : Option (Assignment Content)) → 4 ≤ size (register_value r)
+register_least None = omega arith
+register_least (Some a) =
+    omega (arith, size_of_three (whole a.time) (whole a.replica) (string (canonical_text a.content)))
 
-cell_least : (e : ℕ × CellState) → 8 * parts_count e ≤ 1 + size (cell_value e)
+cell_least : (e : ℕ × CellState) → size (bare_value e) ≤ size (cell_value e)
 unfolding cell_value
 cell_least e =
-    let counts = maps.entries e.1.tally in
-    let pairs = maps.entries e.1.choice in
+    let counts = array_of (map count_value (maps.entries e.1.tally)) in
+    let pairs = array_of (map pair_value (maps.entries e.1.choice)) in
     omega (
       arith,
-      size_of_four (string (cell_name e.0)) (register_value e.1.register) (array_of (map count_value counts))
-          (array_of (map pair_value pairs)),
-      array_least count_value (λ _. 8) count_least counts,
-      array_least pair_value (λ _. 8) pair_least pairs,
-      same_sum 8 counts,
-      same_sum 8 pairs,
+      size_of_four (string (cell_name e.0)) null counts pairs,
+      size_of_four (string (cell_name e.0)) (register_value e.1.register) counts pairs,
+      register_least e.1.register,
     )
 
-eightfold : (es : Entries) → sum_by (λ e. 8 * parts_count e) es ≡ 8 * entry_count es
-eightfold [] = omega arith
-eightfold (e ∷ es) =
-    omega (arith, eightfold es, sum_by-cons parts_count e es, sum_by-cons (λ x. 8 * parts_count x) e es)
-
-text_least : (delta : Entries) → 8 * entry_count delta ≤ length (delta_text delta)
+text_least : (delta : Entries) → lasting_size delta ≤ length (delta_text delta)
 unfolding delta_text delta_value
-text_least delta =
-    omega (arith, eightfold delta, array_least cell_value (λ e. 8 * parts_count e) cell_least delta)
+text_least delta = arrays_more bare_value cell_value cell_least delta
 
 -- ---- joins
 
-inserted_more : {K X : Type 0} (R : K → K → Ordering) (o : IsTotalOrder R) (m : maps.FinMap R X) (k : K) (v : X)
-    → length (maps.entries m) ≤ length (maps.entries (maps.insert m k v))
-inserted_more R o m k v =
-    by_key (maps.contains_key m k)
-    (sym (maps.len-entries (maps.insert m k v)) ∙ maps.len-insert o m k v)
-  where
-    by_key : (has : Bool) → length (maps.entries (maps.insert m k v)) ≡ cond has (maps.len m) (maps.len m + 1)
-        → length (maps.entries m) ≤ length (maps.entries (maps.insert m k v))
-    by_key true e = omega (arith, e, maps.len-entries m)
-    by_key false e = omega (arith, e, maps.len-entries m)
+is_less : (r : Ordering) → is_lt r ≡ true → r ≡ Less
+is_less Less e = refl
+is_less Equal e = cc
+is_less Greater e = cc
 
-with_more : {K X : Type 0} (R : K → K → Ordering) (o : IsTotalOrder R) (f : X → X → X) (m : maps.FinMap R X)
-    (es : List (K × X)) → length (maps.entries m) ≤ length (maps.entries (with_entries f m es))
-with_more R o f m [] = omega arith
-with_more R o f m (e ∷ es) =
+module _ {K X : Type 0} (R : K → K → Ordering) (o : IsTotalOrder R) (w : K × X → ℕ) where
+  -- a value that isn't smaller than the one in its place
+  put_more : (k : K) (v : X) (es : List (K × X))
+      → ((x : X) → maps.find R k es ≡ Some x → (q : K) → w (q, x) ≤ w (q, v))
+      → sum_by w es ≤ sum_by w (maps.put R k v es)
+  put_more k v [] greater = omega arith
+  put_more k v (e ∷ es) greater =
+      elim (R k e.0) as (λ r. R k e.0 ≡ r
+      → sum_by w (e ∷ es) ≤ sum_by w (by_order r ((k, v) ∷ e ∷ es) ((e.0, v) ∷ es) (e ∷ maps.put R k v es))) [
+        | Less ↦ λ is. omega (arith, sum_by-cons w (k, v) (e ∷ es))
+        | Equal ↦ λ is.
+            let found = greater e.1 (ap (λ r. cond (is_eq r) (Some e.1) (maps.find R k es)) is) e.0 in
+            omega (arith, found, sum_by-cons w e es, sum_by-cons w (e.0, v) es)
+        | Greater ↦ λ is.
+            let rest = put_more k v es
+            (λ x found. greater x (ap (λ r. cond (is_eq r) (Some e.1) (maps.find R k es)) is ∙ found)) in
+            omega (arith, rest, sum_by-cons w e es, sum_by-cons w e (maps.put R k v es))
+      ] refl
+
+  module _ (f : X → X → X) (rises : (q : K) (x y : X) → w (q, x) ≤ w (q, f x y)) where
+    -- a key below those that are joined in holds what it held
+    untouched : (m : maps.FinMap R X) (es : List (K × X)) (q : K) → below_all R q es ≡ true
+        → maps.get (with_entries f m es) q ≡ maps.get m q
+    untouched m [] q below = refl
+    untouched m (e ∷ es) q below =
+        get-insert o (with_entries f m es) e.0 (raised f (maps.get m e.0) e.1) q
+        ∙ ap (λ r. cond (is_eq r) (Some (raised f (maps.get m e.0) e.1)) (maps.get (with_entries f m es) q))
+        (is_less (R q e.0) (and_left (is_lt (R q e.0)) (below_all R q es) below))
+        ∙ untouched m es q (and_right (is_lt (R q e.0)) (below_all R q es) below)
+
+    raised_more : (a : Option X) (q : K) (x y : X) → a ≡ Some x → w (q, x) ≤ w (q, raised f a y)
+    raised_more a q x y is = subst (λ b. w (q, x) ≤ w (q, raised f b y)) (sym is) (rises q x y)
+
+    with_more : (m : maps.FinMap R X) (es : List (K × X)) → maps.is_sorted R es ≡ true
+        → sum_by w (maps.entries m) ≤ sum_by w (maps.entries (with_entries f m es))
+    with_more m [] sorted = omega arith
+    with_more m (e ∷ es) sorted =
+        let before = with_entries f m es in
+        let value = raised f (maps.get m e.0) e.1 in
+        let held = untouched m es e.0 (and_left (below_all R e.0 es) (maps.is_sorted R es) sorted) in
+        let more = put_more e.0 value (maps.entries before)
+        (λ x found q. raised_more (maps.get m e.0) q x e.1 (sym held ∙ get-entries before e.0 ∙ found)) in
+        let rest = with_more m es (and_right (below_all R e.0 es) (maps.is_sorted R es) sorted) in
+        omega (arith, more, rest, ap (sum_by w) (entries-insert o before e.0 value))
+
+    joined_more : (m n : maps.FinMap R X)
+        → sum_by w (maps.entries m) ≤ sum_by w (maps.entries (joined_maps f m n))
+    unfolding joined_maps
+    joined_more m n = with_more m (maps.entries n) (from_T _ (entries_sorted n))
+
+counts_rise : (replica : ℕ) (x y : Count)
+    → ended count_value (replica, x) ≤ ended count_value (replica, greater_counts x y)
+counts_rise replica x y =
     omega (
       arith,
-      with_more R o f m es,
-      inserted_more R o (with_entries f m es) e.0 (raised f (maps.get m e.0) e.1),
+      size_of_three (whole replica) (whole x.added) (whole x.subtracted),
+      size_of_three (whole replica) (whole (max x.added y.added)) (whole (max x.subtracted y.subtracted)),
+      whole_rise x.added (max x.added y.added) (omega arith),
+      whole_rise x.subtracted (max x.subtracted y.subtracted) (omega arith),
     )
 
-joined_more : {K X : Type 0} (R : K → K → Ordering) (o : IsTotalOrder R) (f : X → X → X) (m n : maps.FinMap R X)
-    → length (maps.entries m) ≤ length (maps.entries (joined_maps f m n))
-unfolding joined_maps
-joined_more R o f m n = with_more R o f m (maps.entries n)
-
-parts_more : (c : ℕ) (s t : CellState) → parts_count (c, s) ≤ parts_count (c, joined_cell s t)
-unfolding joined_cell
-parts_more c s t =
+pairs_rise : (pair : Pair) (x y : Bool) → ended pair_value (pair, x) ≤ ended pair_value (pair, x || y)
+pairs_rise pair x y =
+    let option = whole pair.option in
+    let replica = whole pair.replica in
+    let sequence = whole pair.sequence in
     omega (
       arith,
-      joined_more nat_cmp nat_cmp_total greater_counts s.tally t.tally,
-      joined_more pair_cmp pairs_total ◌||◌ s.choice t.choice,
+      size_of_four option replica sequence (whole (gone_number x)),
+      size_of_four option replica sequence (whole (gone_number (x || y))),
+      gone_digit x,
+      gone_digit (x || y),
+    )
+
+parts_more : (c : ℕ) (s t : CellState) → size (bare_value (c, s)) ≤ size (bare_value (c, joined_cell s t))
+unfolding joined_cell
+parts_more c s t =
+    let tally = joined_maps greater_counts s.tally t.tally in
+    let choice = joined_maps ◌||◌ s.choice t.choice in
+    omega (
+      arith,
+      size_of_four (string (cell_name c)) null (array_of (map count_value (maps.entries s.tally)))
+          (array_of (map pair_value (maps.entries s.choice))),
+      size_of_four (string (cell_name c)) null (array_of (map count_value (maps.entries tally)))
+          (array_of (map pair_value (maps.entries choice))),
+      items_more count_value (maps.entries s.tally) (maps.entries tally)
+          (joined_more nat_cmp nat_cmp_total (ended count_value) greater_counts counts_rise s.tally t.tally),
+      items_more pair_value (maps.entries s.choice) (maps.entries choice)
+          (joined_more pair_cmp pairs_total (ended pair_value) ◌||◌ pairs_rise s.choice t.choice),
     )
 
 -- a cell state that is below another one
 abbrev IsUnder : CellState → CellState → Type 0
 IsUnder s t = joined_cell t s ≡ t
 
-under_count : (c : ℕ) (s t : CellState) → IsUnder s t → parts_count (c, s) ≤ parts_count (c, t)
-under_count c s t h =
-    subst (λ x. parts_count (c, s) ≤ parts_count (c, x)) (joined_cell-comm s t ∙ h) (parts_more c s t)
+under_size : (c : ℕ) (s t : CellState) → IsUnder s t → size (bare_value (c, s)) ≤ size (bare_value (c, t))
+under_size c s t h =
+    subst (λ x. size (bare_value (c, s)) ≤ size (bare_value (c, x))) (joined_cell-comm s t ∙ h) (parts_more c s t)
 
 under_empty : (s t : CellState) → IsUnder s t → t ≡ empty_cell → s ≡ empty_cell
 under_empty s t h none =
@@ -187,31 +256,36 @@ empty_under s t e f =
 abbrev IsFilled : ℕ × CellState → Type 0
 IsFilled e = e.1 ≢ empty_cell
 
-count_cons : (e : ℕ × CellState) (es : Entries) → entry_count (e ∷ es) ≡ parts_count e + entry_count es
-count_cons e es = sum_by-cons parts_count e es
+-- what the cells take, each with a comma or the last bracket
+abbrev bare_sum : Entries → ℕ
+bare_sum es = sum_by (ended bare_value) es
 
-counts_under : (n : ℕ) (d e : Entries) → Rising n (cells_of d) → Rising n (cells_of e) → All IsFilled d
-    → ((c : ℕ) → IsUnder (state_of d c) (state_of e c)) → entry_count d ≤ entry_count e
-counts_under n [] e r s filled under = omega arith
-counts_under n (a ∷ more) [] r s filled under =
+sum_cons : (e : ℕ × CellState) (es : Entries) → bare_sum (e ∷ es) ≡ 1 + size (bare_value e) + bare_sum es
+sum_cons e es = sum_by-cons (ended bare_value) e es
+
+sums_under : (n : ℕ) (d e : Entries) → Rising n (cells_of d) → Rising n (cells_of e) → All IsFilled d
+    → ((c : ℕ) → IsUnder (state_of d c) (state_of e c)) → bare_sum d ≤ bare_sum e
+sums_under n [] e r s filled under = omega arith
+sums_under n (a ∷ more) [] r s filled under =
     absurd (All-head IsFilled a more filled
     (sym (state_of-here a more a.0 refl) ∙ under_empty _ _ (under a.0)
     (state_of-rising (a.0 + 1) [] a.0 tt (omega arith))))
-counts_under n (a ∷ more) (b ∷ others) r s filled under = elim (cases_order a.0 b.0) [
+sums_under n (a ∷ more) (b ∷ others) r s filled under = elim (cases_order a.0 b.0) [
   | inl is ↦
-      let rest = counts_under (a.0 + 1) more others r.1 (subst (λ m. Rising (m + 1) (cells_of others)) (sym is) s.1)
+      let rest = sums_under (a.0 + 1) more others r.1 (subst (λ m. Rising (m + 1) (cells_of others)) (sym is) s.1)
       (All-tail IsFilled a more filled) (λ c. rest_under c is) in
       let here : IsUnder a.1 b.1 =
       subst (λ x. IsUnder a.1 x) (state_of-here b others a.0 (sym is))
       (subst (λ x. IsUnder x (state_of (b ∷ others) a.0)) (state_of-here a more a.0 refl) (under a.0)) in
-      omega (arith, rest, under_count a.0 a.1 b.1 here, count_cons a more, count_cons b others)
+      let head = subst (λ n. size (bare_value a) ≤ size (bare_value (n, b.1))) is (under_size a.0 a.1 b.1 here) in
+      omega (arith, rest, head, sum_cons a more, sum_cons b others)
   | inr (inl lt) ↦
       absurd (All-head IsFilled a more filled
       (sym (state_of-here a more a.0 refl) ∙ under_empty _ _ (under a.0)
       (state_of-rising (a.0 + 1) (b ∷ others) a.0 (omega (arith, lt), s.1) (omega arith))))
   | inr (inr lt) ↦
-      let rest = counts_under (b.0 + 1) (a ∷ more) others (omega (arith, lt), r.1) s.1 filled (λ c. after c lt) in
-      omega (arith, rest, count_cons b others)
+      let rest = sums_under (b.0 + 1) (a ∷ more) others (omega (arith, lt), r.1) s.1 filled (λ c. after c lt) in
+      omega (arith, rest, sum_cons b others)
 ]
   where
     rest_under : (c : ℕ) → a.0 ≡ b.0 → IsUnder (state_of more c) (state_of others c)
@@ -234,36 +308,14 @@ counts_under n (a ∷ more) (b ∷ others) r s filled under = elim (cases_order 
           (under c)
     ]
 
--- what is joined has no less
-pub more_entries : (d e : Entries) → IsDelta d → IsDelta e → IsBelow (state_of d) (state_of e)
-    → entry_count d ≤ entry_count e
-more_entries d e x y below =
-    counts_under 0 d e (rising_of d x) (rising_of e y) x.none_empty
-    (λ c. sym (joined_state-at (state_of e) (state_of d) c) ∙ ap (λ (s : State). s c) below)
+-- what is joined takes no less
+pub lasting_more : (d e : Entries) → IsDelta d → IsDelta e → IsBelow (state_of d) (state_of e)
+    → lasting_size d ≤ lasting_size e
+lasting_more d e x y below =
+    items_more bare_value d e (sums_under 0 d e (rising_of d x) (rising_of e y) x.none_empty
+    (λ c. sym (joined_state-at (state_of e) (state_of d) c) ∙ ap (λ (s : State). s c) below))
 
--- so many that no line has room for them
-pub outgrows : (d : Entries) → IsDelta d → DELTA_LINE_LIMIT < 8 * entry_count d → OutgrowsLine d
-outgrows d lawful many more other below =
-    omega (arith, many, more_entries d more lawful other below, text_least more)
-
--- ---- the walk over the cells
-
-module _ (cells : Entries) (i : ℕ) (e : ℕ × CellState) (left counts pairs : ℕ) (within : i < length cells)
-    (is : e ≡ get_or cells i e) (so_far : left + entry_count (take i cells) ≡ DELTA_LINE_LIMIT / 8)
-    (counts_are : counts ≡ length (maps.entries e.1.tally)) (pairs_are : pairs ≡ length (maps.entries e.1.choice)) where
-  one_more : entry_count (take (i + 1) cells) ≡ entry_count (take i cells) + (1 + counts + pairs)
-  one_more =
-      let here : parts_count e ≡ parts_count (get_or cells i e) = ap parts_count is in
-      omega (arith, sum_by_more parts_count cells i e within, here, counts_are, pairs_are)
-
-  -- what is left after one more cell
-  pub left_more : (rest : ℕ) → (1 + counts + pairs ≤ left) × (rest ≡ left - (1 + counts + pairs))
-      → rest + entry_count (take (i + 1) cells) ≡ DELTA_LINE_LIMIT / 8
-  left_more rest spent = omega (arith, one_more, so_far, spent.0, spent.1)
-
-  -- a cell for which too little is left
-  pub too_many : ¬ (1 + counts + pairs ≤ left) → DELTA_LINE_LIMIT < 8 * entry_count cells
-  too_many above = elim (cases_lt left (1 + counts + pairs)) [
-    | inl lt ↦ omega (arith, lt, one_more, so_far, sum_by-take-le parts_count cells (i + 1))
-    | inr le ↦ absurd (above le)
-  ]
+-- so much that no line has room for it
+pub outgrows : (d : Entries) → IsDelta d → DELTA_LINE_LIMIT < lasting_size d → OutgrowsLine d
+outgrows d lawful long more other below =
+    omega (arith, long, lasting_more d more lawful other below, text_least more)

@@ -1,25 +1,30 @@
--- How much a delta holds, and when a line has no room for it.
-use Rattle.std.specs.Prelude.{ℕ, ◌+◌, ◌<◌, length, sum_by}
+-- How long the text of a delta is, how much of it stays whatever the delta is joined with, and when no line has room
+-- for that.
+use Rattle.std.specs.Prelude.{ℕ, ◌<◌, [], ◌∷◌, map as each, length}
 use Rattle.std.specs.FinMap as map
-use Rattle.serde_json.specs.Data.{Data}
+use Rattle.serde_json.specs.Data.{Data, null, string}
 use Rattle.serde_json.specs.Written.{compact_text}
+use Rattle.ps_grid.specs.Place.{cell_name}
 use Rattle.ps_delta.specs.declared.cell_state.CellState.{CellState}
 use Rattle.ps_delta.specs.Deltas.{Entries, IsDelta, state_of}
 use Rattle.ps_delta.specs.State.{IsBelow}
 use Rattle.ps_wire.specs.Line.{delta_text}
+use Rattle.ps_wire.specs.Value.{array_of, count_value, pair_value}
 use Rattle.ps_wire.specs.declared.TheConstants.{DELTA_LINE_LIMIT}
 
 -- how long the text of a value is
 abbrev pub size : Data → ℕ
 size value = length (compact_text value)
 
--- a cell, and the counts and pairs that it has
-abbrev pub parts_count : ℕ × CellState → ℕ
-parts_count e = 1 + length (map.entries e.1.tally) + length (map.entries e.1.choice)
+-- the value of a cell where its register is null; what else the cell holds, joins never shorten
+abbrev pub bare_value : ℕ × CellState → Data
+bare_value e =
+    array_of (string (cell_name e.0) ∷ null ∷ array_of (each count_value (map.entries e.1.tally))
+    ∷ array_of (each pair_value (map.entries e.1.choice)) ∷ [])
 
--- the cells, counts and pairs of a delta
-abbrev pub entry_count : Entries → ℕ
-entry_count delta = sum_by parts_count delta
+-- how long the text of a delta is where each register is null
+abbrev pub lasting_size : Entries → ℕ
+lasting_size delta = size (array_of (each bare_value delta))
 
 -- no delta that this one is below has a line
 abbrev pub OutgrowsLine : Entries → Type 0

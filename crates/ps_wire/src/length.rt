@@ -10,7 +10,7 @@ ghost use Rattle.ps_content.specs.Content.{canonical_text};
 ghost use Rattle.ps_delta.specs.Deltas.{Entries, IsDelta, state_of};
 ghost use Rattle.ps_delta.specs.State.{IsBelow};
 ghost use Rattle.ps_wire.specs.Fits.{FitsLine};
-ghost use Rattle.ps_wire.specs.Length.{OutgrowsLine, entry_count, size};
+ghost use Rattle.ps_wire.specs.Length.{OutgrowsLine, bare_value, lasting_size, size};
 ghost use Rattle.ps_wire.specs.Value.{array_of, whole, register_value, count_value, pair_value, cell_value};
 
 use crate::DELTA_LINE_LIMIT;
@@ -20,31 +20,42 @@ use ps_delta::{CellState, Delta};
 use ps_grid::{Cell, NAME_BYTES};
 use ps_lattice::{Count, Pair, Register};
 
-/// Whether the delta has so many cells, counts and pairs that whatever it is joined with has no line: each of them
-/// takes 8 bytes at least, and joins never take one away.
+/// Whether whatever the delta is joined with has no line: without the registers, of which a join may take a shorter
+/// one, the text is too long already. What joins do to the rest never shortens it.
 ///
-/// Cost: the number of the delta's cells; it takes no memory.
+/// Cost: that of the cells, counts and pairs for which a line has room, however many there are; it takes no memory.
 pub fn outgrows_line(delta: &Delta) -> bool
-    ensures count { IsTrue result ↔ (DELTA_LINE_LIMIT < 8 * entry_count delta.now) }
+    ensures lasting { IsTrue result ↔ (DELTA_LINE_LIMIT < lasting_size delta.now) }
     ensures outgrows { OnTrue result (OutgrowsLine delta.now) }
 {
-    let mut left = DELTA_LINE_LIMIT / 8;
-    let cells = delta.parts();
-    for entry in cells {
-        let (_, tally, choice) = entry.1.parts();
-        match left_after(left, tally.parts().len(), choice.parts().len()) {
-            Some(rest) => left = rest,
-            None => return true,
-        }
+    match bare_cells_left(delta.parts(), DELTA_LINE_LIMIT) {
+        Some(_) => false,
+        None => true,
     }
-    false
 }
 
-/// What is left of so many after one cell with its counts and pairs, if it is not more than that.
-fn left_after(left: usize, counts: usize, pairs: usize) -> Option<usize>
-    ensures { SomeIff result (1 + counts + pairs ≤ left) (left - (1 + counts + pairs)) }
+/// What is left of so many bytes after the text of the cells with their registers null, if that isn't longer.
+fn bare_cells_left(cells: &[(Cell, CellState)], room: usize) -> Option<usize>
+    requires { 0 < length cells.now }
+    ensures { SomeIff result (size (array_of (each bare_value cells.now)) ≤ room)
+        (room - size (array_of (each bare_value cells.now))) }
 {
-    left.checked_sub(1)?.checked_sub(counts)?.checked_sub(pairs)
+    let mut left = room.checked_sub(1)?;
+    for cell in cells {
+        // a comma or the last bracket comes after it
+        left = bare_left(cell, left)?.checked_sub(1)?;
+    }
+    Some(left)
+}
+
+/// What is left of so many bytes after the text of the cell with its register null, if that isn't longer.
+fn bare_left(cell: &(Cell, CellState), left: usize) -> Option<usize>
+    ensures { SomeIff result (size (bare_value cell.now) ≤ left) (left - size (bare_value cell.now)) }
+{
+    let (_, tally, choice) = cell.1.parts();
+    let left = left.checked_sub(9 + name_size(cell.0))?;
+    let left = array_left(tally.parts(), left)?;
+    array_left(choice.parts(), left)
 }
 
 /// Whether the compact text of the delta is short enough for a line.

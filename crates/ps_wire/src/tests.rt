@@ -150,21 +150,24 @@ fn pairs_from(alloc: Global, first: u64, count: usize) -> Result<Arc<Delta>, Ref
     Ok(Arc::new(alloc, decode(alloc, &line)?)?)
 }
 
-/// Two deltas of a cell with 16,384 pairs each are lines. Their join has 32,769 cells and pairs, of 8 bytes at least,
-/// and no line; with a pair less that isn't known from the numbers, and it has none either.
+/// The join of 16,384 pairs of a cell and 6,086 more has a text of 262,144 bytes, and so a line. With one pair more it
+/// has none, whatever it is joined with.
 #[test]
 fn what_outgrows_a_line(rt: HostRuntime) -> Result<(), Refusal> {
     let first = pairs_from(rt.alloc(), 0, 16_384)?;
-    let second = pairs_from(rt.alloc(), 8, 16_384)?;
-    let fewer = pairs_from(rt.alloc(), 8, 16_383)?;
-    assert!(rt; !outgrows_line(&first) && !outgrows_line(&second));
-    let both = Delta::joined(rt.alloc(), &[first.clone()?, second])?;
-    assert!(rt; outgrows_line(&both));
+    let fewer = pairs_from(rt.alloc(), 8, 6_086)?;
+    let more = pairs_from(rt.alloc(), 8, 6_087)?;
+    let longest = Delta::joined(rt.alloc(), &[first.clone()?, fewer])?;
+    assert!(rt; fits_line(&longest) && !outgrows_line(&longest));
+    let longer = Delta::joined(rt.alloc(), &[first.clone()?, more])?;
+    assert!(rt; !fits_line(&longer) && outgrows_line(&longer));
     let mut line = Vec::new(rt.alloc());
-    assert!(rt; matches!(encode(rt.alloc(), &both, &mut line), Err(Refusal::TooLong)));
-    let most = Delta::joined(rt.alloc(), &[first.clone()?, fewer])?;
-    assert!(rt; !outgrows_line(&most));
-    assert!(rt; fits_line(&first) && !fits_line(&both) && !fits_line(&most));
+    assert!(rt;
+        matches!(
+            encode(rt.alloc(), &longer, &mut line),
+            Err(Refusal::TooLong)
+        )
+    );
     Ok(())
 }
 
