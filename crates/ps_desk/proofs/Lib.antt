@@ -1,3 +1,4 @@
+mod Closes
 mod Decided
 mod Receipted
 mod Noted

@@ -1,3 +1,4 @@
+pub mod Closing
 pub mod Kept
 pub mod Opening
 pub mod Passes

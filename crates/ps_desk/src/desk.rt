@@ -34,25 +34,35 @@ pub struct Desk<L: DeskName, W: Wait + Drop> {
 }
 
 impl<L: DeskName, W: Wait + Drop> Model for Desk<L, W> {
-    ghost use Rattle.std.specs.Prelude.{◌≡◌, ℕ};
+    ghost use Rattle.std.specs.Prelude.{◌≡◌, ◌≤◌, ℕ};
 
     ghost Value = { ℕ };
 
     ghost view = { λ d. d.seats };
 
-    ghost invariant = { λ d. d.seats ≡ L.parts };
+    ghost invariant = { λ d. (d.seats ≡ L.parts) × (1 ≤ d.seats) };
 }
 
 impl<L: DeskName, W: Wait + Drop> Desk<L, W> {
     /// A desk of what is to lie under its lock.
     pub(crate) fn new(held: Held<L, W>, seats: usize) -> Desk<L, W>
-        requires { seats ≡ L.parts }
+        requires parts { seats ≡ L.parts }
+        requires some { 1 ≤ seats }
         ensures { result ≡ seats }
     {
         Desk {
             held: Mutex::new(Some(held)),
             seats,
         }
+    }
+
+    /// What lies under the lock.
+    pub(crate) fn into_held(self) -> Option<Held<L, W>>
+        ensures parts { self ≡ L.parts }
+        ensures some { 1 ≤ self }
+    {
+        let Desk { held, seats: _ } = self;
+        held.into_inner()
     }
 
     /// For how many sessions the desk is.

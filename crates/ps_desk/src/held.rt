@@ -7,7 +7,8 @@ ghost use mathlib.Core.List.{IsPrefix};
 ghost use Rattle.ps_grid.specs.declared.refusal.Refusal.TheVariants.{Memory, Version};
 ghost use Rattle.ps_delta.specs.Deltas.{joined_history};
 ghost use Rattle.ps_sheet.specs.Prepared.{IsDeltaOf, IsRefusedBy, history_after};
-ghost use Rattle.ps_face.specs.Legal.{history_of};
+ghost use Rattle.ps_sheet.specs.Sheet.{IsSheet};
+ghost use Rattle.ps_face.specs.Legal.{IsLegal, history_of};
 ghost use Rattle.ps_desk.specs.Kept.{IsKept};
 ghost use Rattle.ps_desk.specs.Patches.{note_of};
 ghost use Rattle.ps_desk.specs.Receipts.{Tells};
@@ -23,7 +24,7 @@ use ps_grid::Refusal;
 use ps_sheet::{Change, Prepared, Sheet};
 use std::alloc::Global;
 use std::marker::Model;
-use std::sync::ledger::{Book, Ledger};
+use std::sync::ledger::{Book, Ledger, Share};
 use std::sync::{Arc, Wait};
 use std::thread::Threads;
 
@@ -71,8 +72,28 @@ impl<L: DeskName, W: Wait + Drop> Held<L, W> {
     /// The published list.
     pub(crate) fn front(&self) -> &Front
         ensures front { result.now ≡ record { book = L.book; list = self.now } }
+        ensures legal { IsLegal L.opening self.now }
     {
         self.copies.front()
+    }
+
+    /// Ends it, where the shares of all passes are gathered.
+    pub(crate) fn end(self, all: &mut Share<L>) -> Sheet
+        requires all { all.old.parts ≡ L.parts }
+        ensures replica { result.replica ≡ L.replica }
+        ensures history { result.history ≡ history_of L.opening self }
+        ensures grown { length self ≡ all.old.amount }
+        ensures sheet { IsSheet result }
+    {
+        let Held {
+            sheet,
+            copies: _,
+            mut book,
+        } = self;
+        book.audit(all);
+        // for the facts of each sheet
+        let _ = sheet.version();
+        sheet
     }
 
     /// Makes a change for the session of a pass, which has then seen all that is published.

@@ -13,8 +13,9 @@
 //! The contract to use is that of [`Desk::edit`], [`Desk::receive`], [`Desk::pull`], [`Pass::read`] and
 //! [`Pass::read_all`]. What the pass has seen only grows. A fresh [`Receipt`] has a number above all that was seen
 //! before, at which its delta stands. A read shows the settled values of a whole history, and so of one that has all
-//! that the pass had seen or appended. A pull hands out just the deltas after a number. A desk can't be closed
-//! yet.
+//! that the pass had seen or appended. A pull hands out just the deltas after a number.
+//! [`Desk::close`] gives the sheet back: its history begins with what each pass stands for, and has grown by just what
+//! the passes appended.
 //!
 //! A desk is opened from [`Parts`], which are made before its name is picked; [`Desk::open`] is called in a function
 //! that is generic in the name. It gives a pass for each seat, and each has seen nothing; or the sheet comes back.
@@ -27,6 +28,7 @@
 //! constant, and a pull costs what it hands out.
 #![tactic(auto)]
 
+mod close;
 mod desk;
 mod held;
 mod name;

@@ -12,6 +12,7 @@ use ps_face::{FaceReader, Front, Seen};
 use ps_grid::Cell;
 use ps_value::Value;
 use std::marker::Model;
+use std::sync::Wait;
 use std::sync::ledger::{Book, Share};
 
 /// A session's pass to a desk. A contract sees it as its `PassView`.
@@ -169,6 +170,22 @@ impl<L: DeskName> Pass<L> {
         book.audit(share);
         book.add(share, 1);
         *appended += 1;
+    }
+
+    /// Gives up its share, where what it has seen is a beginning of the published list. No run meets another one; the
+    /// call would wait for ever.
+    pub(crate) fn end<V: Wait>(mut self, wait: &V, front: &Front) -> Share<L>
+        requires book { front.now.book ≡ L.book }
+        requires legal { IsLegal L.opening front.now.list }
+        ensures begins { IsPrefix self.list front.now.list }
+        ensures share { (result.parts ≡ 1) × (result.amount ≡ self.appended) }
+    {
+        if !self.catch_up(front) {
+            for _ in wait.forever() {}
+            unreachable!()
+        }
+        let Pass { share, .. } = self;
+        share
     }
 }
 

@@ -1,0 +1,81 @@
+//! Closing a desk.
+
+ghost use Rattle.std.specs.Prelude.{◌≡◌, ◌+◌, ◌≤◌, length, vec_len};
+ghost use Rattle.ps_sheet.specs.Sheet.{IsSheet};
+ghost use Rattle.ps_face.specs.Legal.{IsLegal};
+ghost use Rattle.ps_desk.specs.Closing.{HistoryBegins, ListBegins, appended_of};
+
+use crate::desk::Desk;
+use crate::held::Held;
+use crate::name::DeskName;
+use crate::pass::Pass;
+use ps_face::Front;
+use ps_sheet::Sheet;
+use std::sync::Wait;
+use std::sync::ledger::Share;
+
+impl<L: DeskName, W: Wait + Drop> Desk<L, W> {
+    /// Ends the desk, and gives its sheet back, once the passes of all seats are given back.
+    ///
+    /// The history begins with what each pass stands for, and has grown since the desk was opened by just what the
+    /// passes appended. So each delta of a fresh receipt stands at its number, and there is no other.
+    ///
+    /// Cost: that of freeing the published copies.
+    pub fn close<V: Wait>(self, wait: &V, passes: Vec<Pass<L>>) -> Sheet
+        requires passes { vec_len passes ≡ self }
+        ensures replica { result.replica ≡ L.replica }
+        ensures begins { HistoryBegins L.opening result.history passes.items }
+        ensures grown { length result.history ≡ length L.opening + appended_of passes.items }
+        ensures sheet { IsSheet result }
+    {
+        let held = take_out(wait, self.into_held());
+        let mut all = gather(wait, held.front(), passes);
+        held.end(&mut all)
+    }
+}
+
+/// What lay under the lock. It is out only while a call is under way.
+fn take_out<L: DeskName, W: Wait + Drop, V: Wait>(
+    wait: &V,
+    slot: Option<Held<L, W>>,
+) -> Held<L, W> {
+    match slot {
+        Some(held) => held,
+        None => {
+            for _ in wait.forever() {}
+            unreachable!()
+        }
+    }
+}
+
+/// The shares of all passes together.
+fn gather<L: DeskName, V: Wait>(wait: &V, front: &Front, mut passes: Vec<Pass<L>>) -> Share<L>
+    requires book { front.now.book ≡ L.book }
+    requires legal { IsLegal L.opening front.now.list }
+    requires some { 1 ≤ vec_len passes }
+    ensures begins { ListBegins front.now.list passes.items }
+    ensures parts { result.parts ≡ vec_len passes }
+    ensures amount { result.amount ≡ appended_of passes.items }
+{
+    let all = passes.pop().unwrap().end(wait, front);
+    merge_all(wait, front, all, passes)
+}
+
+/// The shares of passes beside a share.
+fn merge_all<L: DeskName, V: Wait>(
+    wait: &V,
+    front: &Front,
+    mut all: Share<L>,
+    passes: Vec<Pass<L>>,
+) -> Share<L>
+    requires book { front.now.book ≡ L.book }
+    requires legal { IsLegal L.opening front.now.list }
+    ensures begins { ListBegins front.now.list passes.items }
+    ensures parts { result.parts ≡ all.parts + vec_len passes }
+    ensures amount { result.amount ≡ all.amount + appended_of passes.items }
+{
+    for pass in passes {
+        all.merge(pass.end(wait, front));
+    }
+    all
+}
