@@ -32,7 +32,8 @@ abbrev pub ShowsPart : Bool → (ℕ → List ℕ) → List ℕ → List Value �
 ShowsPart is_last listed cells values i u u2 flags flags2 =
     (t : State) (v : Assignment) (touched : List ℕ) (level : ℕ → List ℕ) (top k m : ℕ) → Road t listed v touched
     level top
-    → 0 < k → k ≤ top → (is_last ≡ true → k ≡ top) → IsDistinct eqb cells → ((c : ℕ) → In cells c → In (level k) c × (flags c ≡ true))
+    → 0 < k → k ≤ top → (is_last ≡ true → k ≡ top) → IsDistinct eqb cells
+    → ((c : ℕ) → In cells c → In (level k) c × (flags c ≡ true))
     → values ≡ map (λ c. value_of (t c) u) cells
     → Walked t v touched (IsPassed level k []) u flags m
     → Walked t v touched (IsPassed level k (take i cells)) u2 flags2 (m + i)
@@ -319,8 +320,8 @@ level_stepped t listed cells is_last values u u2 flags flags2 is shown v touched
     → Walked t v touched (IsPassed level k xs) u2 flags2 (m + length (filter flags xs)))
     same
     (λ is2 shown2.
-    let so = shown2 t v touched level top k m road some within last (distinct-filter flags (level k) (road.levels.once k some
-    within)) (λ c i. In-filtered flags (level k) c i) is2 w in
+    let so = shown2 t v touched level top k m road some within last
+    (distinct-filter flags (level k) (road.levels.once k some within)) (λ c i. In-filtered flags (level k) c i) is2 w in
     quiet_all t listed v touched level top k road some within flags flags2 u2 (m + length (filter flags (level k))) so.2
     so.0)
     is shown

@@ -76,8 +76,9 @@ pub frame_none : (t : State) (listed level : ℕ → List ℕ) (top : ℕ) (u : 
 frame_none t listed level top u flags v touched road w =
     levels_start road.before t v touched road.change level top road.levels u flags 0 w
 
-pub frame_more : (t : State) (listed level : ℕ → List ℕ) (top n : ℕ) (cells : List ℕ) (is_last : Bool) (u u2 u3 : Assignment)
-    (flags flags2 flags3 : ℕ → Bool) (count more : ℕ) → StepsLevels t listed level top n u u2 flags flags2 count
+pub frame_more : (t : State) (listed level : ℕ → List ℕ) (top n : ℕ) (cells : List ℕ) (is_last : Bool)
+    (u u2 u3 : Assignment) (flags flags2 flags3 : ℕ → Bool) (count more : ℕ)
+    → StepsLevels t listed level top n u u2 flags flags2 count
     → StepsLevel t listed cells is_last u2 u3 flags2 flags3 more → 0 < n → n ≤ top → (is_last ≡ true → n ≡ top)
     → level n ≡ cells
     → StepsLevels t listed level top (n + 1) u u3 flags flags3 (count + more)

@@ -53,7 +53,8 @@ abbrev pub ShowsAll : Bool → (ℕ → List ℕ) → List ℕ → List Value �
 ShowsAll is_last listed cells values u u2 flags flags2 =
     (t : State) (v : Assignment) (touched : List ℕ) (level : ℕ → List ℕ) (top k m : ℕ) → Road t listed v touched
     level top
-    → 0 < k → k ≤ top → (is_last ≡ true → k ≡ top) → IsDistinct nat_eq cells → ((c : ℕ) → In cells c → In (level k) c × (flags c ≡ true))
+    → 0 < k → k ≤ top → (is_last ≡ true → k ≡ top) → IsDistinct nat_eq cells
+    → ((c : ℕ) → In cells c → In (level k) c × (flags c ≡ true))
     → values ≡ map (λ c. value_of (t c) u) cells
     → Walked t v touched (IsPassed level k []) u flags m
     → Walked t v touched (IsPassed level k cells) u2 flags2 (m + length cells)

@@ -18,7 +18,13 @@ loop-pass-preserved g c =
     let list : List Note = c.args.front.now.list in
     let i = c.loop-pass.invariant in (
       omega (arith, length-append yielded (pass ∷ []), i.0, c.merge.ensures.parts, c.end.ensures.share.0),
-      omega (arith, sum_by-append (λ (p : PassView). p.appended) yielded (pass ∷ []), i.1, c.merge.ensures.amount, c.end.ensures.share.1),
+      omega (
+        arith,
+        sum_by-append (λ (p : PassView). p.appended) yielded (pass ∷ []),
+        i.1,
+        c.merge.ensures.amount,
+        c.end.ensures.share.1,
+      ),
       All-push (λ p. IsPrefix p.list list) yielded pass i.2 c.end.ensures.begins,
     )
 
@@ -32,6 +38,8 @@ returns-clause-begins g c =
     let it = c.into_iter-pass-iterator in
     let items : into_iter_items it.result ≡ passes = search rules in
     let len : into_iter_len it.result ≡ length passes = search rules in
-    let seen = YieldsList-end (YieldsList-from_vec passes items len) c.loop-pass.yielded c.loop-pass.pass-iterator c.loop-pass.yielded_by _ c.next.new.self c.in-None.is c.next.ensures.steps in
+    let seen = YieldsList-end (YieldsList-from_vec passes items len)
+    c.loop-pass.yielded c.loop-pass.pass-iterator c.loop-pass.yielded_by _ c.next.new.self c.in-None.is
+    c.next.ensures.steps in
     let all : c.loop-pass.yielded ≡ passes = sym (map_same c.loop-pass.yielded) ∙ seen.0 in
     subst (λ (l : List PassView). ListBegins c.args.front.now.list l) all c.loop-pass.invariant.2

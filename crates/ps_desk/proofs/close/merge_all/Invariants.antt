@@ -4,5 +4,6 @@ use Rattle.ps_desk.proofs.close.merge_all.Given as goal
 
 abbrev pub invariant-loop-pass : goal.invariant-loop-pass
 invariant-loop-pass g l =
-    (l.all.parts ≡ l.initial.all.parts + length l.yielded) × (l.all.amount ≡ l.initial.all.amount + appended_of l.yielded)
+    (l.all.parts ≡ l.initial.all.parts + length l.yielded)
+    × (l.all.amount ≡ l.initial.all.amount + appended_of l.yielded)
     × ListBegins l.front.list l.yielded

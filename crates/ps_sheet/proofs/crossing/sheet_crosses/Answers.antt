@@ -69,5 +69,6 @@ returns c =
     let i : IsSend index.the_row = record { owned = c.crosses-3.ensures.send.owned; leaving = λ k x w. tt } in
     let s : IsSend screen.the_row = record { owned = c.crosses-4.ensures.send.owned; leaving = λ k x w. tt } in
     let r : IsSend region.the_row = record { owned = c.crosses-5.ensures.send.owned; leaving = λ k x w. tt } in
-    let l : IsSend level.the_row = record { owned = c.crosses-6.ensures.send.owned; leaving = λ k x w. (tt, (tt, tt)) } in
+    let l : IsSend level.the_row =
+    record { owned = c.crosses-6.ensures.send.owned; leaving = λ k x w. (tt, (tt, tt)) } in
     view_send _ _ _ _ _ (sheet_send d e (cells_send g i s r l))

@@ -37,12 +37,12 @@ returns-clause-settled g c =
     let shown : ShowsAll c.args.is_last list (filter flags c.args.cells.now) (kept_values c.evaluate.new.values) u
     (shown_at c.show_due.new.shown.kept) flags (flag_at c.show_due.new.flags) =
     subst
-    (λ xs. ShowsAll c.args.is_last list xs (kept_values c.evaluate.new.values) u (shown_at c.show_due.new.shown.kept) flags
-    (flag_at c.show_due.new.flags))
+    (λ xs. ShowsAll c.args.is_last list xs (kept_values c.evaluate.new.values) u
+    (shown_at c.show_due.new.shown.kept) flags (flag_at c.show_due.new.flags))
     (c.deref-2.ensures.value ∙ due)
     (subst
-    (λ vs. ShowsAll c.args.is_last list c.deref-2.result.now (kept_values vs) u (shown_at c.show_due.new.shown.kept) flags
-    (flag_at c.show_due.new.flags))
+    (λ vs. ShowsAll c.args.is_last list c.deref-2.result.now (kept_values vs) u
+    (shown_at c.show_due.new.shown.kept) flags (flag_at c.show_due.new.flags))
     (c.deref_mut-2.ensures.value
     ∙ with_items_is c.make_places.new.values c.evaluate.new.values (c.evaluate.auto.values ∙ c.deref_mut.ensures.len))
     c.show_due.ensures.shows) in
