@@ -2,8 +2,11 @@
 
 mod cycles;
 mod edits;
+mod gates;
 mod long;
 mod orders;
+mod prepared;
 mod reports;
 mod rounds;
 mod script;
+mod slots;

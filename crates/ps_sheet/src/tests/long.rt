@@ -139,7 +139,7 @@ fn a_cycle_of_1000_cells_opens_in_its_middle(rt: HostRuntime) -> Result<(), Refu
 }
 
 /// The first cells in order from `A2` on, each one more than `A1`.
-fn fan<R: Abort + Threads + Sync>(
+pub(crate) fn fan<R: Abort + Threads + Sync>(
     rt: &R,
     alloc: Global,
     sheet: &mut Sheet,

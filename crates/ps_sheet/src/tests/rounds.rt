@@ -4,7 +4,8 @@
 ghost use Rattle.std.specs.Prelude.{◌<◌};
 
 use crate::tests::script::{CYCLE, apply, cell};
-use crate::{Batch, Edit, Sheet};
+use crate::tests::slots::give_up;
+use crate::{Batch, Change, Edit, Sheet};
 use Entry::{Blank, Branch, Count, Greater, Number, Rest, Sum, Total};
 use ps_content::{Content, read_entry};
 use ps_grid::Refusal;
@@ -220,6 +221,23 @@ impl Random {
     }
 }
 
+/// New entries for one to six cells.
+fn new_entries(
+    rt: &impl Abort,
+    alloc: Global,
+    entries: &mut [Entry; PLACES],
+    random: &mut Random,
+) -> Result<Edit, Refusal> {
+    let first = random.below(PLACES);
+    let end = (first + 1 + random.below(6)).min(PLACES);
+    let mut cells = Vec::new(alloc);
+    for place in first..end {
+        entries[place] = random.entry();
+        cells.push((cell(rt, name(place)), content_of(alloc, entries[place])?))?;
+    }
+    Ok(Edit::SetAll(Batch::new(cells).expect(rt, "a batch")))
+}
+
 /// Gives one to six cells new entries, by one edit.
 fn change<R: Abort + Threads + Sync>(
     rt: &R,
@@ -228,15 +246,8 @@ fn change<R: Abort + Threads + Sync>(
     entries: &mut [Entry; PLACES],
     random: &mut Random,
 ) -> Result<(), Refusal> {
-    let first = random.below(PLACES);
-    let end = (first + 1 + random.below(6)).min(PLACES);
-    let mut cells = Vec::new(alloc);
-    for place in first..end {
-        entries[place] = random.entry();
-        cells.push((cell(rt, name(place)), content_of(alloc, entries[place])?))?;
-    }
-    let batch = Batch::new(cells).expect(rt, "a batch");
-    apply(rt, alloc, sheet, Edit::SetAll(batch))?;
+    let edit = new_entries(rt, alloc, entries, random)?;
+    apply(rt, alloc, sheet, edit)?;
     Ok(())
 }
 
@@ -272,4 +283,35 @@ fn change_often<R: Abort + Threads + Sync>(
 fn a_random_script_shows_what_rounds_give(rt: HostRuntime) -> Result<(), Refusal> {
     let mut sheet = Sheet::open(rt.alloc(), 1, 1)?;
     change_often(&rt, rt.alloc(), &mut sheet)
+}
+
+/// A change that is given up, and one that is made; the sheet is compared after both.
+fn give_up_and_change<R: Abort + Threads + Sync>(
+    rt: &R,
+    alloc: Global,
+    slot: &mut Option<Sheet>,
+    entries: &mut [Entry; PLACES],
+    random: &mut Random,
+) -> Result<(), Refusal> {
+    let mut others = *entries;
+    let edit = new_entries(rt, alloc, &mut others, random)?;
+    give_up(rt, alloc, slot, Change::Edit(edit));
+    let sheet = slot.as_mut().expect(rt, "a sheet");
+    compare(rt, sheet, entries);
+    change(rt, alloc, sheet, entries, random)?;
+    compare(rt, sheet, entries);
+    Ok(())
+}
+
+/// A hundred changes that are given up leave no trace in what later ones show.
+#[test]
+fn a_random_script_gives_changes_up(rt: HostRuntime) -> Result<(), Refusal> {
+    let sheet = Sheet::open(rt.alloc(), 1, 1)?;
+    let mut slot = Some(sheet);
+    let mut entries = [Blank; PLACES];
+    let mut random = Random { state: 2 };
+    for _ in 0..100 {
+        give_up_and_change(&rt, rt.alloc(), &mut slot, &mut entries, &mut random)?;
+    }
+    Ok(())
 }

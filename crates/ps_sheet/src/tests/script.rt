@@ -223,7 +223,7 @@ pub(crate) fn delta_of(
     Ok(Arc::new(alloc, Delta::new(cells).expect(rt, "a delta"))?)
 }
 
-fn text(rt: &impl Abort, text: &str) -> Value {
+pub(crate) fn text(rt: &impl Abort, text: &str) -> Value {
     Value::Text(Label::new(text.as_bytes()).expect(rt, "a text"))
 }
 
