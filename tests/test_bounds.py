@@ -4,7 +4,7 @@ import time
 
 import peers
 from program import LIMIT, SHEET, Ended, ProgramTest, lines
-from sizes import COLUMNS, LONGEST_DELTA, name, pushes
+from sizes import COLUMNS, LARGEST_TABLE, LONGEST_DELTA, name, pushes
 
 # A sheet of 100,048 cells.
 ROWS = 962
@@ -13,6 +13,8 @@ BOUND = 0.1
 TRIES = 5
 STACK_KB = 2_048
 ENDLESS_KB = 1_024
+# In this the dearest table is refused for what is at fault in it.
+TABLE_KB = 3_000_000
 
 
 def after_the_one_before(column, row):
@@ -22,12 +24,17 @@ def after_the_one_before(column, row):
     return f"=[.{name(COLUMNS - 1, row - 1)}]+1" if row > 1 else "0"
 
 
+def run_within(limit, *words, **given):
+    """How `./sheet` with these words ends where the shell's `ulimit` holds for it."""
+    command = ["sh", "-c", f'ulimit {limit}; exec "$0" "$@"', SHEET, *words]
+    ran = subprocess.run(command, capture_output=True, timeout=LIMIT, **given)
+    return Ended(ran.returncode, ran.stdout, ran.stderr)
+
+
 class Stack(ProgramTest):
     def assert_replies(self, given, replies, *words):
         """A session in a stack of 2 MB has these replies."""
-        command = ["sh", "-c", f'ulimit -s {STACK_KB}; exec "$0" "$@"', SHEET, "run", *words]
-        ran = subprocess.run(command, input=given, capture_output=True, timeout=LIMIT)
-        self.assertEqual(Ended(ran.returncode, ran.stdout, ran.stderr), Ended(0, replies))
+        self.assertEqual(run_within(f"-s {STACK_KB}", "run", *words, input=given), Ended(0, replies))
 
     def test_the_deepest_formulas(self):
         for formula in (
@@ -100,6 +107,13 @@ class Memory(ProgramTest):
                 peer.send(b"x" * 65_536)
             self.assertEqual(peer.ask(""), "err 15 line")
             self.assertLess(self.most_kb(peer) - before, ENDLESS_KB)
+
+    def test_a_table_of_commas(self):
+        for kb, refusal in ((TABLE_KB, "18 csv"), (TABLE_KB // 2, "19 memory")):
+            with self.subTest(kb=kb):
+                given = self.file_of(b"," * LARGEST_TABLE)
+                ended = run_within(f"-v {kb}", "table", stdin=given)
+                self.assertEqual(ended, Ended(3, b"", lines(f"err {refusal}")))
 
     def most_kb(self, peer):
         """The most memory that the session had so far, in KB."""

@@ -3,10 +3,9 @@ import csv
 import io
 
 from program import Ended, ProgramTest, lines, run
+from sizes import COLUMNS, LARGEST_TABLE
 
-COLUMNS = 104
 ROWS = 1024
-LARGEST_TABLE = 68_157_440
 
 
 def table_of(rows, **dialect):
