@@ -1,13 +1,14 @@
 -- The one cell of a row, where no span has more than one row.
 use Rattle.std.proofs.Common.{◌≡◌, ℕ, ◌+◌, ◌-◌, ◌<◌, ◌≤◌, inl, inr, sym, ◌∙◌, ap, arith, cond, Bool, true, false, List}
-use Rattle.std.proofs.Common.{length, get_or, set, nat_eq, subst, refl, length-set, replicate, []}
+use Rattle.std.proofs.Common.{length, get_or, set, nat_eq, subst, refl, length-set, replicate, [], ◌∷◌}
 use Rattle.std.specs.List.{insert, remove}
 use Rattle.std.proofs.lemmas.Bool.Decides.{nat_tests}
-use Rattle.std.proofs.lemmas.List.{get_or-set_same, get_or-set_other, get_or-replicate, length-replicate}
+use Rattle.std.proofs.lemmas.List.{get_or_read, get_or-set_same, get_or-set_other, get_or-replicate, length-replicate}
 use Rattle.std.proofs.lemmas.List.Sums.{sum_by-insert, sum_by-remove}
 use Rattle.ps_grid.specs.declared.size.TheConstants.{CELLS, ROWS}
 use Rattle.ps_index.specs.declared.span.Span.{Span}
 use Rattle.ps_index.proofs.BoolTests.{bool_same, never_true, true_or_false}
+use Rattle.ps_index.proofs.CellsPassing.{cells_from-first, cells_from-none}
 use Rattle.ps_index.proofs.ColumnsSorted.{key_within, within_key}
 use Rattle.ps_index.proofs.KeysOnTheWay.{key_of_within}
 use Rattle.ps_index.proofs.SpansCounted.{holds_at, holds_both, is_there, one_there, refers_at-some, refers_at-true}
@@ -15,7 +16,7 @@ use Rattle.ps_index.proofs.SpansCounted.{same_span-true}
 use Rattle.ps_index.specs.Inside.Columns.{HasSoles, IsColumn, IsSole, IsSpan, key_at}
 use Rattle.ps_index.specs.Inside.Dues.{one_if}
 use Rattle.ps_index.specs.Inside.Nodes.{key_of}
-use Rattle.ps_index.specs.Spans.{cell_of, count_of, holds, refers_at, same_span}
+use Rattle.ps_index.specs.Spans.{cell_of, cells_from, count_of, holds, refers_at, same_span}
 
 -- ---- the spans of a row
 
@@ -178,3 +179,31 @@ no_soles spans sole none filled = record {
         one = λ (lt : CELLS < CELLS) (c : ℕ). absurd (omega arith);
       });
 }
+
+-- ---- the cells that pass, where it is known which do
+
+pub nobody_passes : (test : ℕ → Bool) (n : ℕ) → IsSole test n → n ≡ CELLS → cells_from test 0 CELLS ≡ []
+nobody_passes test n is e =
+    cells_from-none test 0 CELLS (omega arith) (λ (q : ℕ) (from : 0 ≤ q) (to : q < CELLS). is.none e q)
+
+pub one_passes : (test : ℕ → Bool) (n : ℕ) → IsSole test n → n < CELLS → cells_from test 0 CELLS ≡ n ∷ []
+one_passes test n is lt =
+    cells_from-first test 0 CELLS n (omega arith) lt (is.one lt n ∙ here)
+    (λ (q : ℕ) (from : 0 ≤ q) (to : q < n). is.one lt q ∙ apart q (λ (e : q ≡ n). omega arith))
+    ∙ ap (λ xs. n ∷ xs) (cells_from-none test (n + 1) CELLS (omega arith)
+    (λ (q : ℕ) (from : n + 1 ≤ q) (to : q < CELLS). is.one lt q ∙ apart q (λ (e : q ≡ n). omega arith)))
+  where
+    here : nat_eq n n ≡ true
+    here = let e : n ≡ n = refl in grind (arith, nat_tests, e)
+
+    apart : (q : ℕ) → (q ≡ n → ⊥) → nat_eq q n ≡ false
+    apart q ne = grind (arith, nat_tests, ne)
+
+-- what is noted of a row
+pub noted_at : (spans now : List Span) (sole : List ℕ) (ranges : Bool) (y n : ℕ) → HasSoles spans sole ranges
+    → ranges ≡ false → 1 ≤ y → y ≤ ROWS → n ≡ get_or sole y n → spans ≡ now → IsSole (refers_at now y) n
+noted_at spans now sole ranges y n has off some small at is =
+    let within : y < length sole = omega (arith, has.size) in
+    let read : n ≡ get_or sole y 0 = get_or_read sole y n within at 0 in
+    subst (λ (xs : List Span). IsSole (refers_at xs y) n) is
+    (subst (λ (k : ℕ). IsSole (refers_at spans y) k) (sym read) (has.noted off y some small))

@@ -5,7 +5,7 @@
 ghost use Rattle.std.specs.Prelude.{IfOk, OnOk};
 ghost use Rattle.ps_index.specs.Stands.{Puts, Stands};
 
-use crate::{Index, Span};
+use crate::{Index, Readers, Span};
 use ps_formula::Formula;
 use ps_grid::{COLUMNS, Cell, Refusal};
 use std::alloc::Global;
@@ -104,6 +104,26 @@ fn ranges_that_meet(alloc: Global) -> Result<bool, Refusal> {
                 &index,
                 "B1:A1\nB2:A1\nB3:A1\nC1:B2\nB4:\nC2:\nA1:\nD1:\nCZ1024:",
             ),
+    )
+}
+
+/// Of a cell of a column without ranges it is known whether nobody refers to it, or one cell alone.
+#[test]
+fn readers_are_known_without_a_walk(rt: HostRuntime) {
+    let found = known_readers(rt.alloc());
+    assert!(rt; found == Ok(true));
+}
+
+/// Whether the one cell that refers to A1 is known, and the two of A2 and those of a column with a range aren't.
+fn known_readers(alloc: Global) -> Result<bool, Refusal> {
+    let lines = "B1 =[.A1]\nC1 =[.A2]\nD1 =[.A2]\nE1 =SUM([.F1:.F2])";
+    let index = index_of(alloc, lines)?;
+    Ok(
+        index.readers(cell("A1")?) == Readers::One(cell("B1")?)
+            && index.readers(cell("A2")?) == Readers::Several
+            && index.readers(cell("A3")?) == Readers::Nobody
+            && index.readers(cell("F1")?) == Readers::Several
+            && index.readers(cell("CZ1024")?) == Readers::Nobody,
     )
 }
 

@@ -55,6 +55,12 @@ in-with_cell xs c q =
     (λ none. let e = any-append q xs (c ∷ []) in grind (arith, common_steps))
     (bool_cases (list_any (eqb c) xs))
 
+-- a cell that was put into a list is in it
+pub now_in : (members new : List ℕ) (e : ℕ) → new ≡ with_cell members e → list_any (eqb e) new ≡ true
+now_in members new e is =
+    rw is (in-with_cell members e e
+    ∙ (ap (λ b. list_any (eqb e) members || b) (eq-eqb e e refl) ∙ or_true (list_any (eqb e) members)))
+
 pub in-with_all : (xs cs : List ℕ) (q : ℕ)
     → list_any (eqb q) (with_all xs cs) ≡ (list_any (eqb q) xs || list_any (eqb q) cs)
 in-with_all xs [] q = grind (arith, common_steps)

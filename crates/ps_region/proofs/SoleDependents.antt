@@ -56,3 +56,13 @@ pub soles_end : (P : ℕ → ℕ → Type 0) (members sole : List ℕ) (head : �
 soles_end P members sole head le all m i =
     let p = place_of members m i in
     subst (λ x. P x (get_or sole x 0)) p.2 (all p.0 (let lt = p.1 in omega arith))
+
+-- what is noted where no cell is listed, and where one is
+pub sole_nobody : (cells : List ℕ) (n : ℕ) → [] ≡ cells → n ≡ CELLS → HasSole cells n
+sole_nobody cells n is at = record { one = λ (lt : n < CELLS). absurd (omega arith); none = λ (s : n ≡ CELLS). sym is }
+
+pub sole_one : (cells : List ℕ) (n e : ℕ) → e ∷ [] ≡ cells → n ≡ e → e < CELLS → HasSole cells n
+sole_one cells n e is at small = record {
+  one = λ (lt : n < CELLS). sym is ∙ ap (λ x. x ∷ []) (sym at);
+  none = λ (s : n ≡ CELLS). absurd (omega arith);
+}

@@ -1,19 +1,19 @@
 //! The growth of a region: its members, with the counts of their references.
 
-ghost use Rattle.std.specs.Prelude.{◌≡◌, ◌⊎◌, ◌≢◌, ◌≤◌, ◌<◌, [], length, ℕ, true, false, not, nat_eq, ◌&&◌};
+ghost use Rattle.std.specs.Prelude.{◌≡◌, ◌⊎◌, ◌≢◌, ◌≤◌, ◌<◌, [], ◌∷◌, length, ℕ, true, false, not, nat_eq, ◌&&◌};
 ghost use Rattle.std.specs.Prelude.{slice_index, slice_index_or, slice_set, ◌+◌, vec_capacity};
 ghost use Rattle.std.specs.List.{list_any};
 ghost use Rattle.ps_grid.specs.declared.size.TheConstants.{CELLS as ALL};
 ghost use Rattle.ps_grid.specs.Chains.{In, InRegion};
 ghost use Rattle.ps_region.specs.Inside.Counts.{as_one, counted_in, cells_left, is_walked};
-ghost use Rattle.ps_region.specs.Inside.Cells.{HasSole, Marked, with_all};
+ghost use Rattle.ps_region.specs.Inside.Cells.{HasSole, Marked, with_all, with_cell};
 ghost use Rattle.ps_region.specs.Inside.Touched.{IsPlain};
 ghost use Rattle.ps_region.specs.Listed.{listed};
 
 use crate::after::After;
 use crate::members::{enter, enter_all, has_formula};
 use ps_grid::{CELLS, Cell};
-use ps_index::Index;
+use ps_index::{Index, Readers};
 
 /// What is noted of a cell that no cell refers to.
 const NONE: u32 = CELLS as u32;
@@ -58,10 +58,44 @@ fn noted_with(noted: u32, e: Cell) -> u32
     if noted == NONE { place } else { SEVERAL }
 }
 
-/// Puts each cell that refers to the cell `d` into the region, counts its reference if `d` is a formula cell, and notes
-/// the one such cell where there is just one.
+/// Puts the cell `e`, which refers to the cell `d`, into the region, and counts its reference if `d` is a formula cell.
 #[allow(clippy::too_many_arguments)]
-fn enter_dependents<A: After>(
+fn enter_one<A: After>(
+    after: &A,
+    fresh: &[bool],
+    plain: &[bool],
+    marks: &mut [bool],
+    left: &mut [u32],
+    members: &mut Vec<Cell>,
+    d: Cell,
+    e: Cell,
+)
+    requires fresh_length { length fresh.now ≡ ALL }
+    requires plain_length { length plain.now ≡ ALL }
+    requires marks_length { length marks.old ≡ ALL }
+    requires left_length { length left.old ≡ ALL }
+    requires known { slice_index_or fresh.now e false ≡ false → A.refers after.now e d ≡ true }
+    requires formula { slice_index_or plain.now d false ≡ not (A.formula after.now d) }
+    requires marked { Marked marks.old members.old.items }
+    requires room { ALL ≤ vec_capacity members.old }
+    requires small { counted_in members.old.items left.old e < ALL }
+    ensures members { members.new.items ≡ with_cell members.old.items e }
+    ensures marked { Marked marks.new members.new.items }
+    ensures room { ALL ≤ vec_capacity members.new }
+    ensures counts { (q : ℕ) → counted_in members.new.items left.new q ≡ counted_in members.old.items left.old q
+        + as_one (list_any (nat_eq q) (e ∷ []) && (A.formula after.now d && A.refers after.now q d)) }
+{
+    let counted = has_formula(plain, d);
+    enter(marks, left, members, e);
+    if is_counted(after, fresh, counted, e, d) {
+        add_one(left, e);
+    }
+}
+
+/// Puts each cell that refers to the cell `d` into the region, by a walk of them, counts its reference if `d` is a
+/// formula cell, and notes the one such cell where there is just one.
+#[allow(clippy::too_many_arguments)]
+fn enter_several<A: After>(
     index: &Index,
     after: &A,
     fresh: &[bool],
@@ -101,6 +135,52 @@ fn enter_dependents<A: After>(
         noted = noted_with(noted, e);
     }
     sole[d.index()] = noted;
+}
+
+/// Puts each cell that refers to the cell `d` into the region, counts its reference if `d` is a formula cell, and notes
+/// the one such cell where there is just one. They are walked only where there may be several.
+#[allow(clippy::too_many_arguments)]
+fn enter_dependents<A: After>(
+    index: &Index,
+    after: &A,
+    fresh: &[bool],
+    plain: &[bool],
+    marks: &mut [bool],
+    left: &mut [u32],
+    members: &mut Vec<Cell>,
+    sole: &mut [u32],
+    d: Cell,
+)
+    requires fresh_length { length fresh.now ≡ ALL }
+    requires plain_length { length plain.now ≡ ALL }
+    requires marks_length { length marks.old ≡ ALL }
+    requires left_length { length left.old ≡ ALL }
+    requires sole_length { length sole.old ≡ ALL }
+    requires known { (e : ℕ) → In (listed index.now d) e → slice_index_or fresh.now e false ≡ false
+        → A.refers after.now e d ≡ true }
+    requires formula { slice_index_or plain.now d false ≡ not (A.formula after.now d) }
+    requires marked { Marked marks.old members.old.items }
+    requires room { ALL ≤ vec_capacity members.old }
+    requires small { (q : ℕ) → counted_in members.old.items left.old q < ALL }
+    ensures members { members.new.items ≡ with_all members.old.items (listed index.now d) }
+    ensures marked { Marked marks.new members.new.items }
+    ensures room { ALL ≤ vec_capacity members.new }
+    ensures counts { (q : ℕ) → counted_in members.new.items left.new q ≡ counted_in members.old.items left.old q
+        + as_one (list_any (nat_eq q) (listed index.now d) && (A.formula after.now d && A.refers after.now q d)) }
+    ensures sole { HasSole (listed index.now d) (slice_index_or sole.new d 0) }
+    ensures others { (c : ℕ) → nat_eq c d ≡ false → slice_index_or sole.new c 0 ≡ slice_index_or sole.old c 0 }
+{
+    match index.readers(d) {
+        Readers::Nobody => sole[d.index()] = NONE,
+        Readers::One(e) => {
+            enter_one(after, fresh, plain, marks, left, members, d, e);
+            // known by its contract: the cell is in the grid
+            sole[d.index()] = e.index() as u32;
+        }
+        Readers::Several => enter_several(
+            index, after, fresh, plain, marks, left, members, sole, d,
+        ),
+    }
 }
 
 /// Grows the region from the touched cells, counts for each member its references to formula cells of the region, and

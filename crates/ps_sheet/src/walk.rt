@@ -21,7 +21,7 @@ use crate::screen::Screen;
 use ps_delta::Grid;
 use ps_eval::Meter;
 use ps_grid::{CELLS, Cell};
-use ps_index::Index;
+use ps_index::{Index, Readers};
 use ps_region::Region;
 use ps_shown::Kept;
 use ps_value::Fault;
@@ -29,14 +29,27 @@ use ps_workers::Gate;
 use std::sync::ledger::Ledger;
 use std::thread::Threads;
 
-/// Flags the cells that refer to a cell.
-fn flag_dependents(index: &Index, cell: Cell, flags: &mut [bool])
+/// Flags the cells that refer to a cell, by a walk of them.
+fn flag_each(index: &Index, cell: Cell, flags: &mut [bool])
     requires whole { length flags.old ≡ CELLS }
     ensures flagged { (c : ℕ) → flag_at flags.new c
         ≡ (flag_at flags.old c || list_any (nat_eq c) (listed index.now cell)) }
 {
     for dependent in index.dependents(cell) {
         flags[dependent.index()] = true;
+    }
+}
+
+/// Flags the cells that refer to a cell. They are walked only where there may be several.
+fn flag_dependents(index: &Index, cell: Cell, flags: &mut [bool])
+    requires whole { length flags.old ≡ CELLS }
+    ensures flagged { (c : ℕ) → flag_at flags.new c
+        ≡ (flag_at flags.old c || list_any (nat_eq c) (listed index.now cell)) }
+{
+    match index.readers(cell) {
+        Readers::Nobody => {}
+        Readers::One(reader) => flags[reader.index()] = true,
+        Readers::Several => flag_each(index, cell, flags),
     }
 }
 

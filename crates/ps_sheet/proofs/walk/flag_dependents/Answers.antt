@@ -1,22 +1,30 @@
-use Rattle.std.proofs.Common.{◌||◌, ℕ, List, sym, ap, ◌∙◌, eqb}
+use Rattle.std.proofs.Common.{◌≡◌, ◌<◌, ◌||◌, ℕ, [], ◌∷◌, length, sym, ap, ◌∙◌, eqb, arith}
 use Rattle.std.specs.List.{list_any}
-use Rattle.std.proofs.lemmas.Iterator.Consumers.{YieldsList-from_first, YieldsList-end}
-use Rattle.std.proofs.lemmas.List.{map-id}
 use Rattle.ps_region.specs.Listed.{listed}
 use Rattle.ps_region.proofs.ListedLemmas.{listed_is}
 use Rattle.ps_sheet.specs.Inside.Steps.{flag_at}
+use Rattle.ps_sheet.proofs.FlagTables.{flags_pushed, flags_start}
 use Rattle.ps_sheet.proofs.walk.flag_dependents.Goals as goal
 
-pub returns : goal.returns
-returns c =
-    let all = listed c.args.index.now c.args.cell in
-    let is = c.into_iter-dependent-iterator.ensures.into_iter_gives
-    ∙ listed_is c.args.index.now c.args.cell c.dependents-dependent-items.result
-    c.dependents-dependent-items.ensures.list in
-    let end = YieldsList-end (YieldsList-from_first (λ (x : ℕ). x) (λ (rest : List ℕ). rest) all is)
-    c.loop-dependent.yielded _ c.loop-dependent.yielded_by _ _ c.in-None.is c.next.ensures.steps in
+pub returns-in-Nobody : goal.returns-in-Nobody
+returns-in-Nobody c = record {
+  flagged = λ q. flags_start (flag_at c.args.flags.now) q
+      ∙ ap (λ xs. flag_at c.args.flags.now q || list_any (eqb q) xs)
+      (listed_is c.args.index.now c.args.cell [] (sym (c.readers.ensures.nobody c.in-Nobody.is)));
+}
+
+pub returns-in-One : goal.returns-in-One
+returns-in-One c =
+    let flags = c.args.flags.now in
+    let e = c.in-One.reader in
+    let is = c.index.ensures.index in
+    let low : c.index.result < length flags =
+    (let small = c.index.ensures.in_grid in let whole = c.requires.whole in omega (arith, small, whole)) in
+    let here : c.index.result ∷ [] ≡ listed c.args.index.now c.args.cell =
+    ap (λ (q : ℕ). q ∷ []) is
+    ∙ listed_is c.args.index.now c.args.cell (e ∷ []) (sym (c.readers.ensures.one e c.in-One.is))
+    in
     record {
-      flagged = λ q. c.loop-dependent.invariant q
-          ∙ ap (λ xs. flag_at c.args.flags.now q || list_any (eqb q) xs)
-          (sym (map-id c.loop-dependent.yielded) ∙ end.0);
+      flagged = λ q. flags_pushed (flag_at flags) flags [] c.index.result low (flags_start (flag_at flags)) q
+          ∙ ap (λ xs. flag_at flags q || list_any (eqb q) xs) here;
     }

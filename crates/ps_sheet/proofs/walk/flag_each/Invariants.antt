@@ -2,7 +2,7 @@ use Rattle.std.proofs.Common.{◌≡◌, ℕ, ◌||◌}
 use Rattle.std.specs.Prelude.{nat_eq}
 use Rattle.std.specs.List.{list_any}
 use Rattle.ps_sheet.specs.Inside.Steps.{flag_at}
-use Rattle.ps_sheet.proofs.walk.flag_dependents.Given as goal
+use Rattle.ps_sheet.proofs.walk.flag_each.Given as goal
 
 -- the cells so far are flagged
 abbrev pub invariant-loop-dependent : goal.invariant-loop-dependent
