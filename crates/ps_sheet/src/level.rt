@@ -30,12 +30,12 @@ use std::mem;
 use std::sync::ledger::Ledger;
 use std::thread::Threads;
 
-/// The due cells of a level, and a place for the new value of each.
+/// The due cells of a level, and places for their new values.
 #[derive(Drop)]
 pub(crate) struct Level {
     /// the cells
     due: Vec<Cell>,
-    /// their values
+    /// as many places as the largest level had due cells; between two levels they keep nothing
     values: Vec<Kept>,
 }
 
@@ -121,17 +121,19 @@ impl Level {
     {
         list_due(cells, flags, &mut self.due);
         make_places(self.due.len(), &mut self.values);
-        evaluate(
+        settle_due(
             rt,
             workers,
             gate,
             grid,
+            index,
             &self.due,
-            shown,
+            is_last,
             &mut self.values,
+            shown,
+            flags,
             meter,
         );
-        show_due(index, &self.due, &mut self.values, is_last, shown, flags);
         self.due.len()
     }
 }
@@ -151,16 +153,45 @@ fn list_due(cells: &[Cell], flags: &[bool], due: &mut Vec<Cell>)
     }
 }
 
-/// Makes so many places.
+/// Makes places until there are so many.
 fn make_places(count: usize, values: &mut Vec<Kept>)
     requires room { count ≤ vec_capacity values.old }
-    ensures places { length values.new.items ≡ count }
+    ensures places { count ≤ length values.new.items }
     ensures room { vec_capacity values.old ≤ vec_capacity values.new }
 {
-    values.clear();
     'places: while values.len() < count {
         put(values, Kept::Empty);
     }
+}
+
+/// Evaluates the due cells of a level into the first of the places, and lets each show its value.
+#[allow(clippy::too_many_arguments)]
+fn settle_due<R: Threads + Sync, G: Gate, L: Ledger>(
+    rt: &R,
+    workers: usize,
+    gate: &G,
+    grid: &Grid,
+    index: &Index,
+    cells: &[Cell],
+    is_last: bool,
+    places: &mut [Kept],
+    shown: &mut Screen,
+    flags: &mut [bool],
+    meter: &mut Meter<L>,
+)
+    requires workers { (0 < workers) × (workers ≤ WORKERS) }
+    requires whole { length flags.old ≡ CELLS }
+    requires formulas { (c : ℕ) → In cells.now c → formula_at (state_at grid.now) c ≡ true }
+    requires places { length cells.now ≤ length places.old }
+    ensures shows { ShowsAll is_last (listed index.now) cells.now
+        (values_at (state_at grid.now) (shown_at shown.old.kept) cells.now) (shown_at shown.old.kept)
+        (shown_at shown.new.kept) (flag_at flags.old) (flag_at flags.new) }
+    ensures before { before_of shown.new ≡ before_of shown.old }
+    ensures metered { meter.new ≡ meter.old + length cells.now }
+{
+    let (values, _) = places.split_at_mut(cells.len());
+    evaluate(rt, workers, gate, grid, cells, shown, values, meter);
+    show_due(index, cells, values, is_last, shown, flags);
 }
 
 /// Evaluates the formulas of the cells into their places.
