@@ -25,6 +25,7 @@ pub mod PutFormulas
 pub mod PutValues
 pub mod Puts
 pub mod Recalculations
+pub mod RegionsStay
 pub mod ScreenLemmas
 pub mod SetsAsNumbers
 pub mod SettledChanges

@@ -111,6 +111,7 @@ module _ (x : Cells) (shown : ScreenView) (kept : shown.kept ≡ x.shown.kept) (
     off = tidy.off;
     level = tidy.level;
     workers = tidy.workers;
+    region = tidy.region;
   }
 
   pub whole_listed : IsWhole x → IsWhole (record x { shown = shown })

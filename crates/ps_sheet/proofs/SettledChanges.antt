@@ -1,5 +1,5 @@
 -- What a change of the state leaves as it was shown.
-use Rattle.std.proofs.Common.{◌≡◌, ℕ, List, ap, sym, ◌∙◌}
+use Rattle.std.proofs.Common.{ℕ, List, ap, sym, ◌∙◌}
 use Rattle.ps_value.specs.declared.value.Value.{Value}
 use Rattle.ps_value.specs.declared.value.Value.TheVariants.{Err}
 use Rattle.ps_value.specs.declared.value.Fault.{Fault}

@@ -3,7 +3,6 @@
 ghost use Rattle.std.specs.Prelude.{◌≡◌, ◌+◌, ◌<◌, ◌≤◌, ◌++◌, [], List, ℕ, true, false, filter, length, nat_eq, not};
 ghost use Rattle.std.specs.Prelude.{vec_capacity, IfOk, IfErr, OnOk, OnErr};
 ghost use Rattle.std.specs.List.{list_all, list_any};
-ghost use Rattle.ps_formula.specs.References.{mentions};
 ghost use Rattle.ps_grid.specs.declared.parties.TheConstants.{WORKERS};
 ghost use Rattle.ps_shown.specs.Shown.{shown_at};
 ghost use Rattle.ps_delta.specs.State.{State, empty_state, joined_state, state_at};
@@ -19,16 +18,16 @@ ghost use Rattle.ps_sheet.specs.Inside.Walk.{formula_at};
 ghost use Rattle.ps_region.specs.Listed.{listed};
 
 use crate::change::{Plan, begin, take_formulas};
-use crate::contents::{formula_of, holds_formula};
+use crate::contents::holds_formula;
 use crate::level::Level;
+use crate::region::find_region;
 use crate::screen::Screen;
 use crate::walk::{clear, close_all, settle_frame, show_all_first};
 use ps_delta::{CellState, Delta, Grid};
 use ps_eval::Meter;
-use ps_formula::Formula;
 use ps_grid::{CELLS, Cell, Refusal};
 use ps_index::Index;
-use ps_region::{After, Region};
+use ps_region::Region;
 use ps_shown::Kept;
 use ps_workers::{Gate, Open};
 use std::alloc::Global;
@@ -46,6 +45,8 @@ pub(crate) struct Cells {
     pub(crate) shown: Screen,
     /// the region of the last change
     region: Region,
+    /// the cell of which this is still the region, where it alone was touched
+    source: Option<Cell>,
     /// the cells that show `#CYCLE!`, each once
     cyclic: Vec<Cell>,
     /// which cells are due, while a change is made
@@ -83,54 +84,6 @@ pub(crate) struct Made {
     pub(crate) pending: Pending,
 }
 
-/// The formulas that the cells hold.
-#[derive(Drop)]
-struct Formulas<'a> {
-    grid: &'a Grid,
-}
-
-impl After for Formulas<'_> {
-    ghost use Rattle.ps_delta.specs.State.{state_at};
-    ghost use Rattle.ps_sheet.specs.Settled.{refers_to};
-    ghost use Rattle.ps_sheet.specs.Inside.Walk.{formula_at};
-    ghost use Rattle.ps_sheet.specs.Inside.Bounded.{bounded};
-    ghost use Rattle.ps_sheet.specs.Inside.BoundedLaws.{bounded_above, bounded_below, bounded_formula};
-
-    ghost refers = { λ f. bounded (refers_to (state_at f.grid.now)) };
-
-    ghost formula = { λ f. formula_at (state_at f.grid.now) };
-
-    fn refers(&self, c: Cell, d: Cell) -> bool {
-        let _ = (c.index(), d.index());
-        match formula_of(self.grid.at(c)) {
-            None => false,
-            Some(formula) => refers(formula, d),
-        }
-    }
-
-    fn is_formula(&self, c: Cell) -> bool {
-        holds_formula(self.grid.at(c))
-    }
-
-    ghost refers_formula = { λ f c d r. bounded_formula (state_at f.grid.now) c d r };
-
-    ghost refers_below = { λ f c d r. bounded_below (refers_to (state_at f.grid.now)) c d r };
-
-    ghost below = { λ f c d r. bounded_above (refers_to (state_at f.grid.now)) c d r };
-}
-
-/// Whether the formula refers to the cell.
-fn refers(formula: &Formula, cell: Cell) -> bool
-    ensures { result ≡ mentions formula.now cell }
-{
-    for rect in formula.rects() {
-        if rect.contains(cell) {
-            return true;
-        }
-    }
-    false
-}
-
 impl Cells {
     /// Cells that hold and show nothing.
     ///
@@ -149,6 +102,7 @@ impl Cells {
             index: Index::new(alloc)?,
             shown: Screen::new(alloc)?,
             region: Region::new(alloc)?,
+            source: None,
             cyclic,
             flags,
             level,
@@ -264,6 +218,7 @@ impl Cells {
         self.grid.exchange(&mut olds);
         take_formulas(&mut self.index, &olds);
         self.shown.take_back();
+        self.source = None;
         restore(&cyclic, &mut self.cyclic);
     }
 
@@ -307,6 +262,7 @@ impl Cells {
             &mut self.flags,
         );
         clear(touched, &mut self.flags);
+        self.source = None;
         Work {
             evaluated: 0,
             cyclic: 0,
@@ -328,9 +284,14 @@ impl Cells {
         ensures before { before_of self.new.shown ≡ before_of self.old.shown }
         ensures metered { meter.new ≡ meter.old + result.evaluated }
     {
-        let formulas = Formulas { grid: &self.grid };
-        self.region
-            .mark(&self.index, &formulas, touched, &self.cyclic);
+        find_region(
+            &self.grid,
+            &self.index,
+            touched,
+            &self.cyclic,
+            &mut self.region,
+            &mut self.source,
+        );
         show_all_first(
             &self.grid,
             &self.index,

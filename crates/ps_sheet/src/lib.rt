@@ -45,6 +45,7 @@ mod laws;
 mod level;
 mod made;
 mod prepared;
+mod region;
 mod room;
 mod screen;
 mod sheet;

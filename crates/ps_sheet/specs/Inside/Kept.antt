@@ -17,11 +17,12 @@ use Rattle.ps_sheet.specs.Sheet.{SheetView, IsSheet}
 use Rattle.ps_sheet.specs.Inside.Formulas.{forms_of}
 use Rattle.ps_sheet.specs.Inside.Waiting.{first_value}
 use Rattle.ps_sheet.specs.Inside.Steps.{AreListed, flag_at, HasRoom}
-use Rattle.ps_sheet.specs.Inside.Walk.{IsChange, IsCount, IsWork, InFrame, ListsCyclic, formula_at}
+use Rattle.ps_sheet.specs.Inside.Walk.{IsChange, IsCount, IsRegionOf, IsWork, InFrame, ListsCyclic, formula_at}
 use Rattle.ps_sheet.specs.declared.cells.Cells.{Cells}
 use Rattle.ps_sheet.specs.declared.sheet.Sheet.TheInside.{Inside}
 
--- the cyclic cells are listed, with room for all cells of the grid, no cell is flagged, and there are workers
+-- the cyclic cells are listed, with room for all cells of the grid, no cell is flagged, there are workers, and the
+-- region is that of a change of its source
 pub record IsTidy (s : State) (x : Cells) : Type 0 where
   pub cyclic : ListsCyclic s x.cyclic.items
   pub room : CELLS ≤ vec_capacity x.cyclic
@@ -29,6 +30,7 @@ pub record IsTidy (s : State) (x : Cells) : Type 0 where
   pub off : (c : ℕ) → flag_at x.flags.items c ≡ false
   pub level : HasRoom CELLS x.level
   pub workers : (0 < x.workers) × (x.workers ≤ WORKERS)
+  pub region : IsRegionOf s x.source x.region
 
 -- BETWEEN TWO CHANGES: what is shown is settled, and the index stands for the formulas
 pub record IsWhole (x : Cells) : Type 0 where

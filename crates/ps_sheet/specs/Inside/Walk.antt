@@ -1,5 +1,6 @@
 -- The walk of a recalculation: which cells are due, and what holds between two of its steps.
-use Rattle.std.specs.Prelude.{◌≡◌, ◌≢◌, ◌<◌, ◌≤◌, ℕ, Bool, true, false, ◌||◌, ◌⊎◌, List, nat_eq}
+use Rattle.std.specs.Prelude.{◌≡◌, ◌≢◌, ◌<◌, ◌≤◌, ℕ, Bool, true, false, ◌||◌, ◌⊎◌, List, [], ◌∷◌, nat_eq}
+use Rattle.std.specs.Prelude.{Option, IfSome}
 use Rattle.std.specs.List.{list_any, IsDistinct}
 use Rattle.ps_grid.specs.Chains.{References, In, InRegion, IsDepth}
 use Rattle.ps_value.specs.declared.value.Value.{Value}
@@ -8,7 +9,7 @@ use Rattle.ps_value.specs.declared.value.Fault.{Fault}
 use Rattle.ps_eval.specs.Items.{Assignment}
 use Rattle.ps_delta.specs.State.{State, IsInGrid}
 use Rattle.ps_sheet.specs.Settled.{refers_to, Cyclic, value_of, IsSettled}
-pub use Rattle.ps_region.specs.Found.{IsFrame, IsCount}
+pub use Rattle.ps_region.specs.Found.{Found, IsFound, IsFrame, IsCount}
 pub use Rattle.ps_sheet.specs.Recalculated.{formula_at, InFrame, Changed, IsDue, IsWork}
 
 -- QUIET: the cell is not touched, and each cell that it refers to shows the value that it showed before
@@ -64,6 +65,10 @@ pub record Walked (t : State) (v : Assignment) (touched : List ℕ) (Done : ℕ 
   pub framed : (c : ℕ) → Done c → InFrame t touched c
   pub closed : (c d : ℕ) → Done c → refers_to t c d ≡ true → InFrame t touched d → Done d
   pub counted : IsCount (λ c. Done c × IsDue t touched v u c) count
+
+-- where a source is given: it is the region of a change of that cell alone, by the formulas of the state s
+abbrev pub IsRegionOf : State → Option ℕ → Found → Type 0
+IsRegionOf s source f = IfSome source (λ c. IsFound (refers_to s) (formula_at s) (c ∷ []) f)
 
 -- the list has just the cyclic cells, each once
 pub record ListsCyclic (t : State) (cells : List ℕ) : Type 0 where

@@ -41,6 +41,30 @@ fn a_value_that_stays_stops_the_work(rt: HostRuntime) -> Result<(), Refusal> {
     play(&rt, rt.alloc(), 1, &steps)
 }
 
+/// Number after number in one cell, with other formulas that refer to it between them, and one of its own.
+#[test]
+fn a_region_follows_the_formulas(rt: HostRuntime) -> Result<(), Refusal> {
+    let steps = [
+        Enter("A1", "1", [1, 0, 0, 0]),
+        Enter("B1", "=[.A1]", [2, 1, 0, 1]),
+        Enter("A1", "2", [3, 1, 0, 1]),
+        Enter("A1", "3", [4, 1, 0, 1]),
+        Enter("C1", "=[.B1]+[.A1]", [5, 1, 0, 1]),
+        Enter("A1", "4", [6, 2, 0, 2]),
+        Enter("A1", "5", [7, 2, 0, 2]),
+        Show("C1", Value::Num(10)),
+        Enter("B1", "9", [8, 1, 0, 1]),
+        Enter("A1", "6", [9, 1, 0, 1]),
+        Show("C1", Value::Num(15)),
+        Enter("A1", "=[.C1]", [10, 0, 2, 0]),
+        Show("C1", CYCLE),
+        Enter("A1", "7", [11, 1, 0, 1]),
+        Enter("A1", "8", [12, 1, 0, 1]),
+        Show("C1", Value::Num(17)),
+    ];
+    play(&rt, rt.alloc(), 1, &steps)
+}
+
 /// A number and a text that look alike are two values: what refers to the cell is evaluated.
 #[test]
 fn values_that_look_alike_are_two(rt: HostRuntime) -> Result<(), Refusal> {

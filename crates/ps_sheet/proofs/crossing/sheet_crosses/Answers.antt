@@ -1,10 +1,12 @@
 use denote.Builtin.{bool}
+use denote.Hole.{as_row}
 use denote.RattleType.{RattleType}
 use denote.Param.Send.{IsSend, IsSync, sendable, view_send}
 use denote.Param.SendFields.{declared_send, as_row_send}
 use denote.Struct.Declared as S
 use Rattle.std.proofs.Crossing.{crosses}
 use Rattle.std.specs.contracts.vec.Vec as Vec
+use Rattle.std.specs.contracts.option.Option as Option
 use Rattle.std.specs.contracts.sync.Arc as Arc
 use Rattle.std.specs.contracts.alloc.Global as Global
 use Rattle.std.specs.contracts.impls.GlobalAllocator.TheImpl.{ghosts}
@@ -36,6 +38,9 @@ list_send = search (crosses, sendable) depth 20
 flags_send : IsSend (Vec.the_row bool Global.the_row ghosts)
 flags_send = search (crosses, sendable) depth 20
 
+source_send : IsSend (as_row (Option.the_field cell.the_row))
+source_send = search (crosses, sendable) depth 20
+
 cells_send : IsSend grid.the_row → IsSend index.the_row → IsSend screen.the_row → IsSend region.the_row
     → IsSend level.the_row → IsSend cells.the_row
 cells_send g i s r l = declared_send cells.the_type (
@@ -47,8 +52,11 @@ cells_send g i s r l = declared_send cells.the_type (
       (
         as_row_send region.the_field r,
         (
-          as_row_send (Vec.the_field cell.the_row Global.the_row ghosts) list_send,
-          (as_row_send (Vec.the_field bool Global.the_row ghosts) flags_send, (l, (search sendable, tt))),
+          source_send,
+          (
+            as_row_send (Vec.the_field cell.the_row Global.the_row ghosts) list_send,
+            (as_row_send (Vec.the_field bool Global.the_row ghosts) flags_send, (l, (search sendable, tt))),
+          ),
         ),
       ),
     ),

@@ -52,6 +52,7 @@ returns-clause-whole c =
         off = p.tidy.off;
         level = p.tidy.level;
         workers = p.tidy.workers;
+        region = tt;
       };
       still = c.take_back.ensures.still;
     }

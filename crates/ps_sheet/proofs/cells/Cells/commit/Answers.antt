@@ -36,6 +36,7 @@ returns-clause-whole c =
         off = p.tidy.off;
         level = p.tidy.level;
         workers = p.tidy.workers;
+        region = p.tidy.region;
       };
       still = c.keep.ensures.still;
     }

@@ -27,6 +27,7 @@ returns-clause-whole c =
         off = c.in_ok-flags.ensures.off;
         level = c.in_ok-level.ensures.room;
         workers = c.requires.workers;
+        region = tt;
       };
       still = c.in_ok-new-3.ensures.still;
     }

@@ -5,7 +5,7 @@ use Rattle.ps_shown.specs.Shown.{shown_at}
 use Rattle.ps_sheet.specs.Settled.{IsSettled}
 use Rattle.ps_sheet.specs.Inside.Formulas.{forms_of}
 use Rattle.ps_sheet.specs.Inside.Kept.{IsWhole}
-use Rattle.ps_sheet.specs.Inside.Walk.{ListsCyclic}
+use Rattle.ps_sheet.specs.Inside.Walk.{IsRegionOf, ListsCyclic}
 use Rattle.std.proofs.lemmas.List.{with_items_is}
 use Rattle.ps_delta.specs.Deltas.{Entries, state_of}
 use Rattle.std.specs.Vec.{with_items}
@@ -24,6 +24,7 @@ returns-in_err-change-clause-whole g c =
       index = c.begin.new.index;
       shown = c.args.self.now.shown;
       region = c.args.self.now.region;
+      source = c.args.self.now.source;
       cyclic = c.args.self.now.cyclic;
       flags = c.args.self.now.flags;
       level = c.args.self.now.level;
@@ -40,6 +41,7 @@ returns-in_err-change-clause-whole g c =
         off = w.tidy.off;
         level = w.tidy.level;
         workers = w.tidy.workers;
+        region = subst (λ (s : State). IsRegionOf s c.args.self.now.source c.args.self.now.region) same w.tidy.region;
       };
       still = w.still;
     } in
@@ -54,6 +56,7 @@ recalculate-work-requires-clause-may g c κs within =
       index = c.begin.new.index;
       shown = c.args.self.now.shown;
       region = c.args.self.now.region;
+      source = c.args.self.now.source;
       cyclic = c.args.self.now.cyclic;
       flags = c.args.self.now.flags;
       level = c.args.self.now.level;
@@ -67,6 +70,7 @@ recalculate-work-requires-clause-may g c κs within =
       off = w.tidy.off;
       level = w.tidy.level;
       workers = w.tidy.workers;
+      region = w.tidy.region;
     })
     (c.in_ok-change.ensures.put (forms_of (state_at c.args.self.now.grid)) w.stands)
     c.in_ok-change.ensures.raised
@@ -96,6 +100,7 @@ returns-clause-pending g c =
       index = c.begin.new.index;
       shown = c.args.self.now.shown;
       region = c.args.self.now.region;
+      source = c.args.self.now.source;
       cyclic = c.args.self.now.cyclic;
       flags = c.args.self.now.flags;
       level = c.args.self.now.level;
@@ -126,6 +131,7 @@ returns-clause-work g c =
       index = c.begin.new.index;
       shown = c.args.self.now.shown;
       region = c.args.self.now.region;
+      source = c.args.self.now.source;
       cyclic = c.args.self.now.cyclic;
       flags = c.args.self.now.flags;
       level = c.args.self.now.level;

@@ -13,41 +13,28 @@ use Rattle.ps_sheet.specs.Inside.Steps.{flag_at, StepsLevels}
 use Rattle.ps_sheet.specs.Inside.Walk.{formula_at, Begun, ListsCyclic, IsCount, InFrame}
 use Rattle.ps_sheet.proofs.FirstValues.{begun_start}
 use Rattle.ps_sheet.proofs.FoundLevels.{walked_flags, walked_settled, walked_counted, cyclic_counted}
-use Rattle.ps_sheet.proofs.Recalculations.{extra_bounded, outside_yes, outside_no, found_now, may_walk, levels_found}
+use Rattle.ps_sheet.proofs.Recalculations.{may_walk, levels_found}
 use Rattle.ps_sheet.proofs.Recalculations.{walked_now, cyclic_now, cyclic_room}
 use Rattle.ps_sheet.proofs.Recalculations.{deepest_now, reached_now}
 use Rattle.ps_sheet.proofs.cells.Cells.recalculate_region.Given.{Over}
 use Rattle.ps_sheet.proofs.cells.Cells.recalculate_region.Goals as goal
 use Rattle.ps_sheet.proofs.cells.Cells.recalculate_region.Goals.{After-settle_frame-arg-6-1}
 
-pub mark-requires-clause-extra : goal.mark-requires-clause-extra
-mark-requires-clause-extra g c =
-    extra_bounded c.requires.before (state_at c.args.self.now.grid) (shown_at c.args.self.now.shown.kept)
-    c.args.touched.now
-    c.requires.change c.requires.inside (listed c.args.self.now.index) c.requires.lists
+pub find_region-requires-clause-change : goal.find_region-requires-clause-change
+find_region-requires-clause-change g c = (
+  c.requires.before,
+  shown_at c.args.self.now.shown.kept,
+  c.requires.change,
+  subst (ListsCyclic c.requires.before) (sym c.deref.ensures.value) c.requires.tidy.cyclic,
+  c.requires.tidy.region,
+)
 
-pub mark-requires-clause-outside_yes : goal.mark-requires-clause-outside_yes
-mark-requires-clause-outside_yes g c = λ q out i.
-    outside_yes c.requires.before (state_at c.args.self.now.grid) (shown_at c.args.self.now.shown.kept)
-    c.args.touched.now
-    c.requires.change c.requires.inside c.args.self.now.cyclic.items c.requires.tidy.cyclic q out
-    (subst (λ xs. In xs q) c.deref.ensures.value i)
-
-pub mark-requires-clause-outside_no : goal.mark-requires-clause-outside_no
-mark-requires-clause-outside_no g c = λ q out cyc.
-    subst (λ xs. In xs q) (sym c.deref.ensures.value)
-    (outside_no c.requires.before (state_at c.args.self.now.grid) (shown_at c.args.self.now.shown.kept)
-    c.args.touched.now
-    c.requires.change c.requires.inside c.args.self.now.cyclic.items c.requires.tidy.cyclic q out cyc)
-
--- what the marking found, over all references
+-- what is known of the region
 found : (g : Over) (c : After-settle_frame-arg-6-1 g)
     → IsFound (refers_to (state_at c.args.self.now.grid)) (formula_at (state_at c.args.self.now.grid))
     c.args.touched.now
-    c.mark.new.self
-found g c =
-    found_now c.requires.before (state_at c.args.self.now.grid) (shown_at c.args.self.now.shown.kept) c.args.touched.now
-    c.requires.change c.requires.inside c.mark.new.self c.mark.ensures.found
+    c.find_region.new.region
+found g c = c.find_region.ensures.found
 
 -- the flags after the touched cells were dealt with
 flags_first : (g : Over) (c : After-settle_frame-arg-6-1 g) → c.deref_mut-2.result.now ≡ c.show_all_first.new.flags
@@ -69,7 +56,7 @@ begun_first g c =
 
 begun_all : (g : Over) (c : After-settle_frame-arg-6-1 g)
     → Begun (state_at c.args.self.now.grid) (shown_at c.args.self.now.shown.kept) c.args.touched.now
-    c.args.touched.now c.mark.new.self.cyclic (shown_at c.close_all.new.shown.kept)
+    c.args.touched.now c.find_region.new.region.cyclic (shown_at c.close_all.new.shown.kept)
     (flag_at c.deref_mut-2.result.now)
 begun_all g c =
     let t = state_at c.args.self.now.grid in
@@ -79,8 +66,8 @@ begun_all g c =
     (flag_at c.show_all_first.new.flags)
     (λ q i. let z = (found g c).cyclic_sound q (subst (λ xs. In xs q) c.cyclic.ensures i) in (z.0, z.2))
     (begun_first g c) in
-    subst (λ (xs : List Bool). Begun t v touched touched c.mark.new.self.cyclic (shown_at c.close_all.new.shown.kept)
-    (flag_at xs))
+    subst (λ (xs : List Bool). Begun t v touched touched c.find_region.new.region.cyclic
+    (shown_at c.close_all.new.shown.kept) (flag_at xs))
     (sym (flags_first g c))
     (subst (λ (xs : List ℕ). Begun t v touched touched xs (shown_at c.close_all.new.shown.kept)
     (flag_at c.show_all_first.new.flags)) c.cyclic.ensures
@@ -91,7 +78,8 @@ pub settle_frame-evaluated-requires-clause-begun :
     goal.settle_frame-evaluated-requires-clause-begun
 settle_frame-evaluated-requires-clause-begun g c κs within =
     may_walk c.requires.before (state_at c.args.self.now.grid) (shown_at c.args.self.now.shown.kept) c.args.touched.now
-    c.requires.change c.requires.inside c.mark.new.self (found g c) (listed c.args.self.now.index) c.requires.lists
+    c.requires.change c.requires.inside c.find_region.new.region (found g c) (listed c.args.self.now.index)
+    c.requires.lists
     (shown_at c.close_all.new.shown.kept) (flag_at c.deref_mut-2.result.now) (begun_all g c)
 
 pub clear-requires-clause-within : goal.clear-requires-clause-within
@@ -99,8 +87,8 @@ clear-requires-clause-within g c = λ q on.
     let t = state_at c.args.self.now.grid in
     let v = shown_at c.args.self.now.shown.kept in
     let touched = c.args.touched.now in
-    let f = c.mark.new.self in
-    let now = found_now c.requires.before t v touched c.requires.change c.requires.inside f c.mark.ensures.found in
+    let f = c.find_region.new.region in
+    let now = c.find_region.ensures.found in
     let first : c.deref_mut-2.result.now ≡ c.show_all_first.new.flags =
     c.deref_mut-2.ensures.value
     ∙ with_items_is c.args.self.now.flags c.show_all_first.new.flags
@@ -134,8 +122,8 @@ renew-requires g c =
     let t = state_at c.args.self.now.grid in
     let v = shown_at c.args.self.now.shown.kept in
     let touched = c.args.touched.now in
-    let f = c.mark.new.self in
-    let now = found_now c.requires.before t v touched c.requires.change c.requires.inside f c.mark.ensures.found in
+    let f = c.find_region.new.region in
+    let now = c.find_region.ensures.found in
     let few = cyclic_room c.requires.before t v touched c.requires.change c.requires.inside f now
     c.args.self.now.cyclic.items c.requires.tidy.cyclic in
     let room = c.requires.tidy.room in
@@ -146,8 +134,8 @@ returns-clause-done g c =
     let t = state_at c.args.self.now.grid in
     let v = shown_at c.args.self.now.shown.kept in
     let touched = c.args.touched.now in
-    let f = c.mark.new.self in
-    let now = found_now c.requires.before t v touched c.requires.change c.requires.inside f c.mark.ensures.found in
+    let f = c.find_region.new.region in
+    let now = c.find_region.ensures.found in
     let first : c.deref_mut-2.result.now ≡ c.show_all_first.new.flags =
     c.deref_mut-2.ensures.value
     ∙ with_items_is c.args.self.now.flags c.show_all_first.new.flags
@@ -197,6 +185,7 @@ returns-clause-done g c =
         off = λ p. ap (λ (xs : List Bool). flag_at xs p) clean ∙ c.clear.ensures.clear p;
         level = c.settle_frame-evaluated.ensures.room;
         workers = c.requires.tidy.workers;
+        region = c.find_region.ensures.source;
       };
       works = walked_counted c.requires.before t v touched c.requires.change (level_cells f) (level_count f) levels u3
           flags3 n

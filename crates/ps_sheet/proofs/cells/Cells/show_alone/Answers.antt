@@ -60,6 +60,7 @@ returns-clause-done c =
         off = λ p. ap (λ (xs : List Bool). flag_at xs p) clean ∙ c.clear.ensures.clear p;
         level = may.tidy.level;
         workers = may.tidy.workers;
+        region = tt;
       };
       works = counted_alone may.before t v touched may.change may.inside may.once list may.lists c.requires.alone cells
           may.cells u none flags off c.show_all_first.ensures.begun;

@@ -1,7 +1,7 @@
 use Rattle.std.proofs.Common.{◌≡◌, false, take}
 use Rattle.std.specs.List.{list_any}
 use Rattle.ps_grid.specs.Rectangle.{is_inside}
-use Rattle.ps_sheet.proofs.cells.refers.Given as goal
+use Rattle.ps_sheet.proofs.region.refers.Given as goal
 
 -- the cell is in none of the rectangles so far
 abbrev pub invariant-loop-rect : goal.invariant-loop-rect
