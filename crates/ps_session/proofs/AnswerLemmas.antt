@@ -9,7 +9,7 @@ use Rattle.ps_session.specs.Replies.{refusal_text}
 use Rattle.ps_session.specs.declared.command.Command.{Command}
 
 -- a refusal is out of memory, or it isn't
-memory_or_other : (refusal : Refusal) → (refusal ≡ refusals.Memory) ⊎ (refusal ≢ refusals.Memory)
+pub memory_or_other : (refusal : Refusal) → (refusal ≡ refusals.Memory) ⊎ (refusal ≢ refusals.Memory)
 memory_or_other refusals.Memory = inl refl
 memory_or_other _ = inr (λ is. cc)
 

@@ -5,7 +5,8 @@ mod HoldsLemmas
 mod OnePieceMore
 mod InputReadToEnd
 mod ReadLemmas
-mod AnswerLemmas
+pub mod Runs
+pub mod AnswerLemmas
 mod ReplicaAndLinesStay
 mod WordLemmas
 mod WordCounts

@@ -1,7 +1,5 @@
 -- No line changes the replica of a sheet, and none leaves a delta without a line.
-use Rattle.std.proofs.Common.{◌≡◌, ◌∙◌, ◌++◌, inl, inr, refl, sym, ap, subst, ℕ, ◌≤◌, Bool, true, false, List, [], ◌∷◌}
-use Rattle.std.proofs.Common.{Option, length, nat_le, Result, Ok, Err}
-use Rattle.std.specs.Prelude.{IfOk, MatchBool}
+use Rattle.std.proofs.Common.{◌≡◌, ◌∙◌, ◌++◌, inl, inr, refl, sym, subst, ℕ, ◌≤◌, List, [], ◌∷◌, Result, Ok, Err}
 use Rattle.std.specs.List.{All}
 use Rattle.std.proofs.lemmas.List.Elements.{All-push}
 use Rattle.ps_grid.specs.declared.parties.TheConstants.{REPLICAS}
@@ -12,14 +10,9 @@ use Rattle.ps_sheet.specs.Edits.{delta_of_edit}
 use Rattle.ps_sheet.specs.Sheet.{SheetView, Takes}
 use Rattle.ps_session.specs.declared.command.Command.{Command}
 use Rattle.ps_session.specs.declared.command.Command.TheVariants as commands
-use Rattle.ps_session.specs.declared.session.TheConstants.{LINE_LIMIT}
-use Rattle.ps_session.specs.declared.transcript.RunFault.{RunFault}
-use Rattle.ps_session.specs.declared.transcript.RunFault.TheVariants as faults
-use Rattle.ps_session.specs.Answers.{Answers, Edited, Obeys, SheetLines}
+use Rattle.ps_session.specs.Answers.{Answers, Edited, Obeys}
 use Rattle.ps_session.specs.Commands.{Read}
 use Rattle.ps_session.specs.EditLines.{HasLine}
-use Rattle.ps_session.specs.Feeding.{without_return}
-use Rattle.ps_session.specs.Transcript.{Answered, Cut, Replies, Run, Stopped, Transcribed}
 use Rattle.ps_session.proofs.AskedInRange.{AsksInRange, is_edit, line_in_range}
 use Rattle.ps_session.proofs.EditLineLemmas.{edit_lines_fit, edits_are_lawful}
 
@@ -71,13 +64,10 @@ pub record Keeps (old new : SheetView) : Type 0 where
   pub replica : new.replica ≡ old.replica
   pub lines : 1 ≤ old.replica → old.replica ≤ REPLICAS → HaveLines old.history → HaveLines new.history
 
-unchanged : (old new : SheetView) → new ≡ old → Keeps old new
-unchanged old new is = record {
-  replica = ap (λ s. s.replica) is;
-  lines = λ low high have. same_lines old.history new.history (ap (λ s. s.history) is) have;
-}
+pub keeps_itself : (sheet : SheetView) → Keeps sheet sheet
+keeps_itself sheet = record { replica = refl; lines = λ low high have. have }
 
-then_keeps : (old middle new : SheetView) → Keeps old middle → Keeps middle new → Keeps old new
+pub then_keeps : (old middle new : SheetView) → Keeps old middle → Keeps middle new → Keeps old new
 then_keeps old middle new a b = record {
   replica = b.replica ∙ a.replica;
   lines = λ low high have.
@@ -85,7 +75,7 @@ then_keeps old middle new a b = record {
       (a.lines low high have);
 }
 
-answered_keeps : (old new : SheetView) (line text : List ℕ) → Answers old line text new → Keeps old new
+pub answered_keeps : (old new : SheetView) (line text : List ℕ) → Answers old line text new → Keeps old new
 answered_keeps old new line text (inl serves) = record {
   replica = serves.replica;
   lines = λ low high have. obeyed_lines old.replica old.history new.history serves.asked text low high
@@ -95,59 +85,3 @@ answered_keeps old new line text (inr lacks) = record {
   replica = lacks.replica;
   lines = λ low high have. same_lines old.history new.history lacks.history have;
 }
-
-replied_keeps : (old new : SheetView) (line text : List ℕ) → Replies Answers old line text new → Keeps old new
-replied_keeps old new [] text replies = unchanged old new replies.1
-replied_keeps old new (b ∷ bs) text replies = answered_keeps old new (b ∷ bs) text replies
-
-handled_keeps : (old new : SheetView) (line text refused : List ℕ) (fits : Bool)
-    → MatchBool fits (Replies Answers old line text new) ((text ≡ refused) × (new ≡ old)) → Keeps old new
-handled_keeps old new line text refused true handles = replied_keeps old new line text handles
-handled_keeps old new line text refused false handles = unchanged old new handles.1
-
-line_keeps : (old new : SheetView) (line text : List ℕ) → SheetLines old line text new → Keeps old new
-line_keeps old new line text handles =
-    handled_keeps old new (without_return line) text _ (nat_le (length line) LINE_LIMIT) handles
-
-run_keeps : (old new : SheetView) (lines : List (List ℕ)) (text : List ℕ) → Run SheetLines old lines text new
-    → Keeps old new
-run_keeps old new [] text run = unchanged old new run.1
-run_keeps old new (line ∷ lines) text run =
-    then_keeps old run.1 new (line_keeps old run.1 line run.0 run.3) (run_keeps run.1 new lines run.2 run.5)
-
-module _ (first last : SheetView) (written contents : Option (List ℕ)) where
-  transcribed_keeps : (read : List ℕ) (answered : ℕ) → Transcribed SheetLines first written read last contents answered
-      → Keeps first last
-  transcribed_keeps read answered t = run_keeps first last _ _ t.run
-
-  answered_all_keeps : (read : List ℕ) → Answered SheetLines first written read last contents → Keeps first last
-  answered_all_keeps read t = run_keeps first last _ _ t.run
-
-  cut_keeps : (read : List ℕ) (ended : Type 0) → Cut SheetLines ended first written read last contents
-      → Keeps first last
-  cut_keeps read ended t =
-      then_keeps first t.middle last (run_keeps first t.middle _ _ t.run)
-      (line_keeps t.middle last t.line t.reply t.answers)
-
-  stopped_keeps : (read : List ℕ) (ended : Type 0) → Stopped SheetLines ended first written read last contents
-      → Keeps first last
-  stopped_keeps read ended (inl cut) = cut_keeps read ended cut
-  stopped_keeps read ended (inr (inl all)) = answered_all_keeps read all
-  stopped_keeps read ended (inr (inr end)) = transcribed_keeps read end.1 end.2
-
-  -- .. whatever a session came to
-  pub session_keeps : (Read : List ℕ → Type 0) (ended source sink : Type 0) (result : Result ℕ RunFault)
-      → IfOk result (λ answered. (read : List ℕ) × Read read × ended
-      × Transcribed SheetLines first written read last contents answered)
-      → (result ≡ Err faults.Sink
-      → (read : List ℕ) × Read read × Stopped SheetLines ended first written read last contents)
-      → (result ≡ Err faults.Source
-      → (read : List ℕ) × Read read × Answered SheetLines first written read last contents)
-      → (result ≡ Err faults.Memory → source × sink × (last ≡ first))
-      → Keeps first last
-  session_keeps Read ended source sink (Ok answered) all cut some none = transcribed_keeps all.0 answered all.3
-  session_keeps Read ended source sink (Err faults.Sink) all cut some none =
-      stopped_keeps (cut refl).0 ended (cut refl).2
-  session_keeps Read ended source sink (Err faults.Source) all cut some none =
-      answered_all_keeps (some refl).0 (some refl).2
-  session_keeps Read ended source sink (Err faults.Memory) all cut some none = unchanged first last (none refl).2

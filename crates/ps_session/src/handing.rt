@@ -39,8 +39,13 @@ pub(crate) fn hand_out(alloc: Global, from: u64, most: usize, sheet: &Sheet) -> 
     }
 }
 
-/// The greatest number of the deltas, at most so many, whose line isn't too long, and the line.
-fn greatest_group(
+/// The greatest number of the deltas, at most so many, whose join has a line that isn't too long, and this line.
+///
+/// Refused as `TooLong` where there is no such number, and when out of memory.
+///
+/// Cost: that of joining the deltas upward, one more at a time, for as long as one more may fit, of the line, and of
+/// what one line may hold for each greater join.
+pub fn greatest_group(
     alloc: Global,
     deltas: &[Arc<Delta>],
     most: usize,

@@ -32,6 +32,7 @@ mod words;
 
 pub use board::Board;
 pub use command::{Command, LARGEST_GROUP};
+pub use handing::greatest_group;
 pub use laws::{bytes_divide_one_way, edit_lines_fit, pulls_hand_out, transcript_is_decided};
 pub use reply::{Reply, send};
 pub use session::{Fed, LINE_LIMIT, Line, Session};
