@@ -1,6 +1,10 @@
 mod Closes
 mod Decided
 mod Receipted
+mod HandedLemmas
 mod Noted
 mod Pulled
 mod Read
+mod SeatLemmas
+pub mod SeatRuns
+mod TableLemmas

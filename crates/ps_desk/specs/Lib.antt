@@ -4,3 +4,4 @@ pub mod Opening
 pub mod Passes
 pub mod Patches
 pub mod Receipts
+pub mod Seats

@@ -1,6 +1,6 @@
 //! The desk: a lock round what its passes share.
 
-ghost use Rattle.std.specs.Prelude.{◌≡◌, ◌⊎◌, ◌+◌, ◌<◌, ◌≤◌, true, if◌then◌else◌, drop, length, map, take};
+ghost use Rattle.std.specs.Prelude.{◌≡◌, ◌⊎◌, ◌+◌, ◌<◌, ◌≤◌, ◌^◌, true, if◌then◌else◌, drop, length, map, take};
 ghost use Rattle.std.specs.Prelude.{Ok, Err, IfOk, IfErr, OnOk, OnErr};
 ghost use Rattle.std.specs.Arc.{arc_value};
 ghost use mathlib.Core.List.{IsPrefix};
@@ -152,6 +152,7 @@ impl<L: DeskName, W: Wait + Drop> Desk<L, W> {
         ensures deltas { IfOk result (λ ds. map arc_value ds.items
             ≡ take at_most (drop from (history_of L.opening pass.new.list))) }
         ensures there { IfOk result (λ _. from ≤ length (history_of L.opening pass.new.list)) }
+        ensures bound { IfOk result (λ _. length (history_of L.opening pass.new.list) < 2 ^ 64) }
         ensures refused { IfErr result (λ e. (e ≡ Memory)
             ⊎ ((e ≡ Version) × (length (history_of L.opening pass.new.list) < from))) }
         ensures same { (pass.new.appended ≡ pass.old.appended) × (pass.new.seat ≡ pass.old.seat)

@@ -1,6 +1,6 @@
 //! What lies under the lock of a desk.
 
-ghost use Rattle.std.specs.Prelude.{◌≡◌, ◌⊎◌, ◌↔◌, ◌+◌, ◌<◌, ◌≤◌, ◌++◌, ◌∷◌, [], true, if◌then◌else◌};
+ghost use Rattle.std.specs.Prelude.{◌≡◌, ◌⊎◌, ◌↔◌, ◌+◌, ◌<◌, ◌≤◌, ◌^◌, ◌++◌, ◌∷◌, [], true, if◌then◌else◌};
 ghost use Rattle.std.specs.Prelude.{drop, length, map, take, Err, IfOk, IfErr, OnErr, MatchResult};
 ghost use Rattle.std.specs.Arc.{arc_value};
 ghost use mathlib.Core.List.{IsPrefix};
@@ -150,6 +150,7 @@ impl<L: DeskName, W: Wait + Drop> Held<L, W> {
         ensures deltas { IfOk result (λ ds. map arc_value ds.items
             ≡ take at_most (drop from (history_of L.opening pass.new.list))) }
         ensures there { IfOk result (λ _. from ≤ length (history_of L.opening pass.new.list)) }
+        ensures bound { IfOk result (λ _. length (history_of L.opening pass.new.list) < 2 ^ 64) }
         ensures refused { IfErr result (λ e. (e ≡ Memory)
             ⊎ ((e ≡ Version) × (length (history_of L.opening pass.new.list) < from))) }
         ensures same { (pass.new.appended ≡ pass.old.appended) × (pass.new.seat ≡ pass.old.seat)
@@ -173,6 +174,7 @@ impl<L: DeskName, W: Wait + Drop> Held<L, W> {
             ≡ take at_most (drop from (history_of L.opening self.now))) }
         ensures above { (result ≡ Err Version) ↔ (length (history_of L.opening self.now) < from) }
         ensures other { IfErr result (λ e. (e ≡ Version) ⊎ (e ≡ Memory)) }
+        ensures bound { length (history_of L.opening self.now) < 2 ^ 64 }
     {
         let history = self.sheet.history();
         if from > history.len() as u64 {

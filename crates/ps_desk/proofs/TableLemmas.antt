@@ -1,0 +1,44 @@
+-- The table of a rectangle, made of the values of all cells in order.
+use Rattle.std.proofs.Common.{◌≡◌, ◌<◌, ℕ, List, [], map, ap, ◌∙◌, arith}
+use Rattle.std.specs.Prelude.{slice_index_or}
+use Rattle.std.specs.List.{range_with_len}
+use Rattle.std.proofs.lemmas.List.FromFn.{fill_by_all, get_or-map-range_with_len}
+use Rattle.std.proofs.lemmas.List.FromFn.{length-map-range_with_len}
+use Rattle.ps_grid.specs.declared.size.TheConstants.{CELLS}
+use Rattle.ps_grid.specs.Rectangle.{Area, LiesInGrid, cell_within}
+use Rattle.ps_value.specs.Shown.{shown_text}
+use Rattle.ps_value.specs.declared.value.Value.{Value}
+use Rattle.ps_value.specs.declared.value.Value.TheVariants.{Empty}
+use Rattle.ps_eval.specs.Items.{Assignment}
+use Rattle.ps_csv.specs.Exports.{exported, shown_record, shown_records, table_text}
+use Rattle.ps_face.specs.Values.{in_order}
+use Rattle.ps_face.proofs.Orders.{get-listed}
+
+-- functions that agree below n give one list
+map_same : {X : Type 0} (f g : ℕ → List X) (n : ℕ) → ((k : ℕ) → k < n → f k ≡ g k)
+    → map f (range_with_len 0 n) ≡ map g (range_with_len 0 n)
+map_same f g n same =
+    fill_by_all g (map f (range_with_len 0 n)) n [] (length-map-range_with_len f 0 n)
+    (λ k below. get_or-map-range_with_len f 0 n k k [] below (omega arith) ∙ same k below)
+
+-- the table of a rectangle looks at cells of the grid alone
+module _ (v w : Assignment) (a : Area) (inside : LiesInGrid a) (same : (c : ℕ) → c < CELLS → v c ≡ w c) where
+  cell_in_grid : (j k : ℕ) → j < a.width → k < a.height → cell_within a j k < CELLS
+  cell_in_grid j k across down = omega (arith, across, down, inside.within_columns, inside.within_rows)
+
+  record_same : (k : ℕ) → k < a.height → shown_record v a k ≡ shown_record w a k
+  unfolding shown_record
+  record_same k down =
+      map_same (λ j. shown_text (v (cell_within a j k))) (λ j. shown_text (w (cell_within a j k))) a.width
+      (λ j across. ap shown_text (same (cell_within a j k) (cell_in_grid j k across down)))
+
+  exported_same : exported v a ≡ exported w a
+  unfolding shown_records
+  exported_same = ap table_text (map_same (shown_record v a) (shown_record w a) a.height record_same)
+
+-- so the values in order give the table of what they are the values of
+pub table_of_values : (v : Assignment) (values : List Value) (a : Area) → LiesInGrid a → values ≡ in_order v
+    → exported (λ c. slice_index_or values c Empty) a ≡ exported v a
+table_of_values v values a inside is =
+    exported_same (λ c. slice_index_or values c Empty) v a inside
+    (λ c below. ap (λ (vs : List Value). slice_index_or vs c Empty) is ∙ get-listed v CELLS c Empty below)

@@ -1,0 +1,115 @@
+-- What a session at a desk answers a line. It is told by the replica r and the opening history h, which the name of the
+-- desk has, and by what contracts see of the session's pass before and after the line.
+use Rattle.std.specs.Prelude.{◌≡◌, ◌≢◌, ◌⊎◌, ℕ, ◌+◌, ◌≤◌, List, Ok, Err, IfErr, if◌then◌else◌, unwrap_or}
+use mathlib.Core.List.{IsPrefix}
+use Rattle.ps_grid.specs.declared.refusal.Refusal.{Refusal}
+use Rattle.ps_grid.specs.declared.refusal.Refusal.TheVariants as refusals
+use Rattle.ps_grid.specs.Rectangle.{spanned}
+use Rattle.ps_eval.specs.Items.{Assignment}
+use Rattle.ps_delta.specs.Deltas.{Entries, joined_history}
+use Rattle.ps_sheet.specs.Settled.{IsSettled}
+use Rattle.ps_sheet.specs.Edits.{delta_of_edit}
+use Rattle.ps_sheet.specs.declared.edit.Edit.{Edit as SheetEdit}
+use Rattle.ps_csv.specs.Exports.{exported}
+use Rattle.ps_face.specs.Legal.{IsLegal, history_of}
+use Rattle.ps_session.specs.Commands.{Read, ReadsLine}
+use Rattle.ps_session.specs.Handing.{HandsOut}
+use Rattle.ps_session.specs.Replies.{done_text, refusal_text, rows_text, value_text}
+use Rattle.ps_session.specs.Transcript.{Answering, Lines}
+use Rattle.ps_session.specs.declared.command.Command.{Command}
+use Rattle.ps_session.specs.declared.command.Command.TheVariants.{Edit, Get, Pull, Push, Rows}
+use Rattle.ps_desk.specs.Passes.{PassView}
+use Rattle.ps_desk.specs.Receipts.{IsAppended, Tells}
+use Rattle.ps_desk.specs.declared.receipt.Receipt.{Receipt}
+
+-- an edit was made: a patch of this seat, with the edit's delta over all that came before it, ends the list, and the
+-- reply has its number
+pub record IsEdited (r : ℕ) (h : List Entries) (edit : SheetEdit) (old : PassView) (text : List ℕ) (new : PassView) :
+    Type 0 where
+  pub receipt : Receipt
+  pub appended : IsAppended (λ s d. delta_of_edit r s edit ≡ Ok d) h old.list new.list old.seat receipt
+  pub told : text ≡ done_text receipt.number
+  pub counted : new.appended ≡ old.appended + 1
+  pub entered : new.enters ≡ old.enters
+
+-- an edit has no delta over all that is published
+pub record IsRefused (r : ℕ) (h : List Entries) (edit : SheetEdit) (old : PassView) (text : List ℕ) (new : PassView) :
+    Type 0 where
+  pub refusal : Refusal
+  pub refused : delta_of_edit r (joined_history (history_of h new.list)) edit ≡ Err refusal
+  pub told : text ≡ refusal_text refusal
+  pub counted : new.appended ≡ old.appended
+  pub entered : new.enters ≡ old.enters
+
+-- the published copies were entered once: the list is legal, and the reply is told of the settled values of the history
+-- that it stands for
+pub record IsLook (h : List Entries) (reply : Assignment → List ℕ) (old : PassView) (text : List ℕ) (new : PassView) :
+    Type 0 where
+  pub legal : IsLegal h new.list
+  pub values : Assignment
+  pub settled : IsSettled (joined_history (history_of h new.list)) values
+  pub told : text ≡ reply values
+  pub counted : new.appended ≡ old.appended
+  pub entered : new.enters ≡ old.enters + 1
+
+-- deltas were handed out, of all that is published
+pub record IsHandedOut (h : List Entries) (from most : ℕ) (old : PassView) (text : List ℕ) (new : PassView) : Type 0
+  where
+    pub hands : HandsOut (history_of h new.list) from most text
+    pub counted : new.appended ≡ old.appended
+    pub entered : new.enters ≡ old.enters
+
+-- a delta was taken in: it was appended, or is covered, and the reply has the receipt's number
+pub record IsTakenIn (h : List Entries) (delta : Entries) (old : PassView) (text : List ℕ) (new : PassView) : Type 0
+  where
+    pub receipt : Receipt
+    pub tells : Tells (λ s d. d ≡ delta) h old.list new.list old.seat receipt
+    pub told : text ≡ done_text receipt.number
+    pub counted : new.appended ≡ old.appended + (if receipt.fresh then 1 else 0)
+    pub entered : new.enters ≡ old.enters
+
+-- what a session does where a line asks for this: the reply, and its pass afterwards
+abbrev pub SeatObeys : ℕ → List Entries → Read Command → PassView → List ℕ → PassView → Type 0
+SeatObeys r h (Ok (Edit edit)) old text new = IsEdited r h edit old text new ⊎ IsRefused r h edit old text new
+SeatObeys r h (Ok (Get cell)) old text new = IsLook h (λ v. value_text (v cell)) old text new
+SeatObeys r h (Ok (Rows first last)) old text new =
+    IsLook h (λ v. rows_text ((spanned first last).height) (exported v (spanned first last))) old text new
+SeatObeys r h (Ok (Pull from most)) old text new = IsHandedOut h from (unwrap_or most 1) old text new
+SeatObeys r h (Ok (Push delta)) old text new = IsTakenIn h delta old text new
+SeatObeys r h (Err refusal) old text new = (new ≡ old) × (text ≡ refusal_text refusal)
+
+-- out of memory, nothing was appended
+pub record IsLacking (old : PassView) (text : List ℕ) (new : PassView) : Type 0 where
+  pub told : text ≡ refusal_text refusals.Memory
+  pub counted : new.appended ≡ old.appended
+
+-- GOES ON: what a pass has seen begins with what it had seen, it appended no less, and it is of the same seat
+pub record GoesOn (old new : PassView) : Type 0 where
+  pub later : IsPrefix old.list new.list
+  pub appended : old.appended ≤ new.appended
+  pub seat : new.seat ≡ old.seat
+
+-- a line does what it asks for
+pub record SeatServes (r : ℕ) (h : List Entries) (old : PassView) (line text : List ℕ) (new : PassView) : Type 0 where
+  pub asked : Read Command
+  pub reads : ReadsLine line asked
+  pub ample : asked ≢ Err refusals.Memory
+  pub obeys : SeatObeys r h asked old text new
+  pub goes_on : GoesOn old new
+
+-- out of memory, a line appends nothing: where memory was taken to read it, or by what it asks for. Copies that are
+-- gone, which no run meets, are told as out of memory too
+pub record SeatLacksMemory (old : PassView) (line text : List ℕ) (new : PassView) : Type 0 where
+  pub asked : Read Command
+  pub reads : ReadsLine line asked
+  pub takes : IfErr asked (λ e. e ≡ refusals.Memory)
+  pub lacks : IsLacking old text new
+  pub goes_on : GoesOn old new
+
+-- ANSWER: what a session at a desk answers a line that isn't empty, and its pass afterwards
+abbrev pub SeatAnswers : ℕ → List Entries → Answering PassView
+SeatAnswers r h old line text new = SeatServes r h old line text new ⊎ SeatLacksMemory old line text new
+
+-- .. and a line as it stands between line feeds
+abbrev pub SeatLines : ℕ → List Entries → Answering PassView
+SeatLines r h = Lines (SeatAnswers r h)
