@@ -11,5 +11,6 @@ pub mod LineLemmas
 pub mod NoFloatLemmas
 pub mod OneDeltaLemmas
 pub mod PartLemmas
+pub mod SharingLemmas
 pub mod ShorterLemmas
 pub mod SizeLemmas

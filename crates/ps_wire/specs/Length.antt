@@ -1,12 +1,12 @@
 -- How long the text of a delta is, how much of it stays whatever the delta is joined with, and when no line has room
 -- for that.
-use Rattle.std.specs.Prelude.{ℕ, ◌<◌, [], ◌∷◌, map as each, length}
+use Rattle.std.specs.Prelude.{◌≡◌, ℕ, ◌<◌, List, [], ◌∷◌, map as each, length}
 use Rattle.std.specs.FinMap as map
 use Rattle.serde_json.specs.Data.{Data, null, string}
 use Rattle.serde_json.specs.Written.{compact_text}
 use Rattle.ps_grid.specs.Place.{cell_name}
 use Rattle.ps_delta.specs.declared.cell_state.CellState.{CellState}
-use Rattle.ps_delta.specs.Deltas.{Entries, IsDelta, state_of}
+use Rattle.ps_delta.specs.Deltas.{Entries, IsDelta, joined_history, state_of}
 use Rattle.ps_delta.specs.State.{IsBelow}
 use Rattle.ps_wire.specs.Line.{delta_text}
 use Rattle.ps_wire.specs.Value.{array_of, count_value, pair_value}
@@ -31,3 +31,9 @@ abbrev pub OutgrowsLine : Entries → Type 0
 OutgrowsLine delta =
     (more : Entries) → IsDelta more → IsBelow (state_of delta) (state_of more)
     → DELTA_LINE_LIMIT < length (delta_text more)
+
+-- the join of the deltas has no line
+abbrev pub HasNoLine : List Entries → Type 0
+HasNoLine deltas =
+    (joint : Entries) → IsDelta joint → state_of joint ≡ joined_history deltas
+    → DELTA_LINE_LIMIT < length (delta_text joint)

@@ -10,6 +10,7 @@ ghost use Rattle.ps_content.specs.Content.{canonical_text};
 ghost use Rattle.ps_delta.specs.Deltas.{Entries, IsDelta, state_of};
 ghost use Rattle.ps_delta.specs.State.{IsBelow};
 ghost use Rattle.ps_wire.specs.Fits.{FitsLine};
+ghost use Rattle.ps_wire.specs.Inside.{unescaped_size};
 ghost use Rattle.ps_wire.specs.Length.{OutgrowsLine, bare_value, lasting_size, size};
 ghost use Rattle.ps_wire.specs.Value.{array_of, whole, register_value, count_value, pair_value, cell_value};
 
@@ -150,6 +151,36 @@ fn register_size(register: &Register<Content>) -> usize
             let stamp = digits(assignment.time) + digits(u64::from(assignment.replica));
             4 + stamp + content_size(&assignment.content)
         }
+    }
+}
+
+/// How long the value of a register is where no byte of its content is escaped.
+pub(crate) fn unescaped_size(register: &Register<Content>) -> usize
+    ensures value { result ≡ unescaped_size register.now }
+    ensures few { result ≤ 46 + LONGEST_TEXT }
+{
+    match register.parts() {
+        None => 4,
+        Some(assignment) => {
+            let stamp = digits(assignment.time) + digits(u64::from(assignment.replica));
+            6 + stamp + content_length(&assignment.content)
+        }
+    }
+}
+
+/// How long the canonical text of a content is.
+#[tactic(auto, using(crate::proofs::SizeLemmas::label_is_short))]
+fn content_length(content: &Content) -> usize
+    ensures value { result ≡ length (canonical_text content.now) }
+    ensures few { result ≤ LONGEST_TEXT }
+{
+    match content {
+        Content::Blank => 0,
+        Content::Number(number) => Buffer::new().format(*number).len(),
+        Content::Text(label) => 1 + label.label().bytes().len(),
+        Content::Formula(formula) => formula.formula().text().len(),
+        Content::Tally => 6,
+        Content::Choice => 7,
     }
 }
 
