@@ -1,28 +1,22 @@
 use Rattle.std.proofs.Common.{◌≡◌, ◌≤◌, ℕ, length, ap, ◌∙◌, refl, subst, sym, arith, set, Some}
-use Rattle.std.specs.Prelude.{map, slice_get}
+use Rattle.std.specs.Prelude.{slice_get}
 use Rattle.std.specs.Option.{option_map}
 use Rattle.std.specs.Arc.{arc_value}
 use Rattle.std.proofs.lemmas.List.{length-map}
 use Rattle.std.proofs.lemmas.Option.{slice_get-map, slice_get_read}
-use Rattle.ps_world.specs.Replicas.{WorldView}
 use Rattle.ps_world.specs.declared.event.Event.TheVariants.{Deliver}
-use Rattle.ps_world.proofs.WorldSteps.{Goes, delivered}
+use Rattle.ps_world.proofs.WorldSteps.{Goes, delivered, viewed}
 use Rattle.ps_world.proofs.world.World.deliver.Given.{Over}
 use Rattle.ps_world.proofs.world.World.deliver.Goals as goal
 use Rattle.ps_world.proofs.world.World.deliver.Goals.{In_ok-take}
 
 -- the world where the replica took the delta
 goes : (g : Over) (c : In_ok-take g) → Goes (Deliver c.args.replica c.args.number)
-    (record { deltas = map arc_value c.self.inside.deltas.items; replicas = c.self.inside.replicas.items })
-    (record {
-      deltas = map arc_value c.self.inside.deltas.items;
-      replicas = set c.self.inside.replicas.items c.in-Some.place c.take.new.self;
-    })
+    (viewed arc_value c.self.inside.deltas.items c.self.inside.replicas.items)
+    (viewed arc_value c.self.inside.deltas.items
+    (set c.self.inside.replicas.items c.in-Some.place c.take.new.self))
 goes g c =
-    let w : WorldView = record {
-      deltas = map arc_value c.self.inside.deltas.items;
-      replicas = c.self.inside.replicas.items;
-    } in
+    let w = viewed arc_value c.self.inside.deltas.items c.self.inside.replicas.items in
     let i = c.in-Some.place in
     let there = c.in-Some.ensures in
     let sent = c.in-Some-place_of.ensures in

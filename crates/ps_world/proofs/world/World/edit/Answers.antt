@@ -4,25 +4,18 @@ use Rattle.std.specs.Prelude.{map, slice_get}
 use Rattle.std.specs.Arc.{arc_value}
 use Rattle.std.proofs.lemmas.List.{length-map, map-append}
 use Rattle.std.proofs.lemmas.Option.{slice_get_read}
-use Rattle.ps_world.specs.Replicas.{WorldView}
 use Rattle.ps_world.specs.declared.event.Event.TheVariants.{Edit}
-use Rattle.ps_world.proofs.WorldSteps.{Goes, edited, refused}
+use Rattle.ps_world.proofs.WorldSteps.{Goes, edited, refused, viewed}
 use Rattle.ps_world.proofs.world.World.edit.Given.{Over}
 use Rattle.ps_world.proofs.world.World.edit.Goals as goal
 use Rattle.ps_world.proofs.world.World.edit.Goals.{In-None, In_ok-push-in-Some-2}
 
 -- the world where the replica made a delta
 made_one : (g : Over) (c : In_ok-push-in-Some-2 g) → Goes (Edit c.args.replica c.args.edit)
-    (record { deltas = map arc_value c.self.inside.deltas.items; replicas = c.self.inside.replicas.items })
-    (record {
-      deltas = map arc_value c.push.new.self.items;
-      replicas = set c.self.inside.replicas.items c.in-Some.place c.make.new.self;
-    })
+    (viewed arc_value c.self.inside.deltas.items c.self.inside.replicas.items)
+    (viewed arc_value c.push.new.self.items (set c.self.inside.replicas.items c.in-Some.place c.make.new.self))
 made_one g c =
-    let w : WorldView = record {
-      deltas = map arc_value c.self.inside.deltas.items;
-      replicas = c.self.inside.replicas.items;
-    } in
+    let w = viewed arc_value c.self.inside.deltas.items c.self.inside.replicas.items in
     let i = c.in-Some.place in
     let there = c.in-Some.ensures in
     let number : c.len-number.result + 1 ≡ length w.deltas + 1 =
@@ -47,16 +40,11 @@ returns-in_ok-push-in-Some-2-clause-follows g c = rw (← c.self.view_is) (made_
 
 -- the world where the edit was refused
 made_none : (g : Over) (c : In-None g) → Goes (Edit c.args.replica c.args.edit)
-    (record { deltas = map arc_value c.self.inside.deltas.items; replicas = c.self.inside.replicas.items })
-    (record {
-      deltas = map arc_value c.self.inside.deltas.items;
-      replicas = set c.self.inside.replicas.items c.in-Some.place c.make.new.self;
-    })
+    (viewed arc_value c.self.inside.deltas.items c.self.inside.replicas.items)
+    (viewed arc_value c.self.inside.deltas.items
+    (set c.self.inside.replicas.items c.in-Some.place c.make.new.self))
 made_none g c =
-    let w : WorldView = record {
-      deltas = map arc_value c.self.inside.deltas.items;
-      replicas = c.self.inside.replicas.items;
-    } in
+    let w = viewed arc_value c.self.inside.deltas.items c.self.inside.replicas.items in
     let i = c.in-Some.place in
     let there = c.in-Some.ensures in
     let at : slice_get w.replicas i ≡ Some c.index_mut-maker.result.now =
