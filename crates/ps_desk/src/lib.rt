@@ -45,6 +45,8 @@ mod receipt;
 mod seat;
 mod shot;
 mod table;
+#[cfg(test)]
+mod tests;
 
 pub use desk::Desk;
 pub use name::DeskName;

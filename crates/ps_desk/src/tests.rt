@@ -1,0 +1,4 @@
+//! Desks as sessions use them, by turns in one thread.
+
+mod desks;
+mod turns;
