@@ -2,7 +2,7 @@
 use Rattle.std.proofs.Common.{◌≡◌, ◌≢◌, ◌⊎◌, ◌∙◌, ◌+◌, ◌-◌, ◌<◌, ◌≤◌, inl, inr, refl, sym, ap, ap₂, subst}
 use Rattle.std.proofs.Common.{arith, ℕ, List}
 use Rattle.std.proofs.Common.{[], ◌∷◌, length, take, map, drop}
-use Rattle.std.proofs.lemmas.List.{take_rest}
+use Rattle.std.proofs.lemmas.List.{length-map, take_rest}
 use Rattle.std.specs.List.{All, drop-map}
 use Rattle.std.proofs.lemmas.Bool.{cases_lt, cases_order}
 use Rattle.std.proofs.lemmas.List.Elements.{All-head, All-tail}
@@ -12,6 +12,7 @@ use Rattle.ps_delta.specs.Deltas.{Entries, cells_of, state_of}
 use Rattle.ps_delta.specs.Order.{Rising}
 use Rattle.ps_delta.proofs.EntryLemmas.{state_of-here, state_of-rising, state_of-there}
 use Rattle.ps_delta.proofs.WalkLemmas.{rising_of}
+use Rattle.ps_wire.specs.Length.{HasNoLine}
 use Rattle.ps_wire.specs.Line.{delta_text}
 use Rattle.ps_wire.specs.declared.TheConstants.{DELTA_LINE_LIMIT}
 use Rattle.ps_session.specs.Handing.{HandsGroup, HandsOut, HasNone, IsGreatest, IsGroupLine, IsJoint}
@@ -70,6 +71,18 @@ module _ {X : Type 0} (f : X → Entries) (xs : List X) (most : ℕ) where
   -- no number above this one has a line
   abbrev pub NoneAbove : ℕ → Type 0
   NoneAbove count = (k : ℕ) (line : List ℕ) → count < k → k ≤ most → ¬ IsGroupLine (map f xs) k line
+
+  -- none above those that may share a line has one
+  pub none_above_all : (count reach : ℕ)
+      → ((k : ℕ) → reach < k → k ≤ most → k ≤ length xs → HasNoLine (take k (map f xs)))
+      → ((k : ℕ) (line : List ℕ) → count < k → k ≤ reach → ¬ IsGroupLine (map f xs) k line) → NoneAbove count
+  none_above_all count reach none few k line above within grouped = elim (cases_lt reach k) [
+    | inl lt ↦
+        let long = none k lt within (omega (arith, grouped.within, length-map xs f)) grouped.delta
+        grouped.joint.lawful grouped.joint.joined in
+        omega (arith, long, grouped.fits, ap length grouped.is)
+    | inr le ↦ few k line above le grouped
+  ]
 
   pub none_above_next : (count : ℕ) (joint : Entries) → IsJoint (take count (map f xs)) joint
       → DELTA_LINE_LIMIT < length (delta_text joint) → NoneAbove count → NoneAbove (count - 1)

@@ -13,7 +13,7 @@ use crate::reply::Reply;
 use ps_delta::Delta;
 use ps_grid::Refusal;
 use ps_sheet::Sheet;
-use ps_wire::{encode, outgrows_line};
+use ps_wire::{encode, may_share_line, outgrows_line};
 use std::alloc::Global;
 use std::sync::Arc;
 
@@ -54,7 +54,8 @@ pub fn greatest_group(
     ensures none { result ≡ Err Refusal.TooLong → HasNone (map arc_value deltas.now) most }
     ensures refused { IfErr result (λ e. (e ≡ Refusal.TooLong) ⊎ (e ≡ Refusal.Memory)) }
 {
-    let joints = joined_upward(alloc, deltas, most)?;
+    let reach = may_share_line(alloc, deltas, most)?;
+    let joints = joined_upward(alloc, deltas, reach)?;
     let mut count = joints.len();
     'counts: while count > 0 {
         match joint_line(alloc, &joints[count - 1]) {
@@ -80,7 +81,8 @@ fn joined_upward(
     let mut joints = Vec::new(alloc);
     'joints: while joints.len() < count {
         let joint = next_joint(alloc, &joints, deltas)?;
-        if outgrows_line(&joint) {
+        // (a delta alone mostly has a line, and is asked for it anyway)
+        if !joints.is_empty() && outgrows_line(&joint) {
             return Ok(joints);
         }
         joints.push(joint)?;

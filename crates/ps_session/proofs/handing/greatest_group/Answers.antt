@@ -3,7 +3,7 @@ use Rattle.std.proofs.lemmas.List.{length-map}
 use Rattle.std.specs.Arc.{arc_value}
 use Rattle.ps_wire.specs.Line.{delta_text}
 use Rattle.ps_wire.specs.declared.TheConstants.{DELTA_LINE_LIMIT}
-use Rattle.ps_session.proofs.HandingLemmas.{greatest_found, none_above_next, none_found}
+use Rattle.ps_session.proofs.HandingLemmas.{greatest_found, none_above_all, none_above_next, none_found}
 use Rattle.ps_session.proofs.JointLemmas.{joint_at}
 use Rattle.ps_session.proofs.handing.greatest_group.Goals as goal
 
@@ -11,8 +11,9 @@ pub counts-init : goal.counts-init
 counts-init c =
     let joints = c.in_ok-joints.joints.items in (
       omega (arith, c.len-count.ensures),
-      λ k line above within. c.in_ok-joints.ensures.joints.last k line
-          (omega (arith, above, c.len-count.ensures, length-map joints arc_value)) within,
+      none_above_all arc_value c.args.deltas.now c.args.most _ c.in_ok-reach.reach c.in_ok-reach.ensures.more
+          (λ k line above. c.in_ok-joints.ensures.joints.last k line
+          (omega (arith, above, c.len-count.ensures, length-map joints arc_value))),
     )
 
 pub returns-in-Ok-clause-found : goal.returns-in-Ok-clause-found
@@ -24,7 +25,8 @@ returns-in-Ok-clause-found c =
     c.counts.invariant.0 upward.first c.index.ensures in
     let long = length-map joints arc_value in
     greatest_found arc_value c.args.deltas.now c.args.most c.counts.count (arc_value c.index.result.now)
-    c.in-Ok.line.items (omega (arith, c.counts-test.true)) (omega (arith, c.counts.invariant.0, long, upward.few))
+    c.in-Ok.line.items (omega (arith, c.counts-test.true))
+    (omega (arith, c.counts.invariant.0, long, upward.few, c.in_ok-reach.ensures.most))
     (omega (arith, c.counts.invariant.0, long, upward.within)) joint
     (c.in-Ok.ensures.line ∙ ap delta_text c.deref.ensures) c.in-Ok.ensures.fits c.counts.invariant.1
 

@@ -11,7 +11,7 @@ returns-then-outgrows_line-clause-joints c =
     (ap length c.deref.ensures.value) c.joints.invariant.first c.in_ok-joint.ensures.joint c.args.most
     (omega (arith, c.joints.invariant.few, c.min-count.ensures))
     (omega (arith, c.joints.invariant.few, c.min-count.ensures, length-map c.args.deltas.now arc_value))
-    (subst OutgrowsLine c.deref-in-joints.ensures c.if-outgrows_line.ensures.outgrows)
+    (subst OutgrowsLine c.deref-then-not-is_empty.ensures c.if-outgrows_line.ensures.outgrows)
 
 pub joints-preserved : goal.joints-preserved
 joints-preserved c = record {
