@@ -4,9 +4,13 @@
 The forms: `pairs`, no two deltas with a pair in common; `near`, pairs of which nearly all are common, so that no join
 fits a line and each is only a little too long; `counts`, counters like that; `texts`, other cells in each delta;
 `again`, the same cells in each delta but the first.
+
+`bench/pulls.py FORM REPEATS` takes processor time; with `count` as a third word, instructions by `valgrind`, of the
+program that `./sheet` has built.
 """
 import itertools
 import pathlib
+import re
 import resource
 import subprocess
 import sys
@@ -84,26 +88,40 @@ def deltas(form):
     return [first] + [of_cells(list(itertools.islice(all_texts(k + 2), size, 2 * size))) for k in range(15)]
 
 
-def seconds(program, lines, pulls, repeats):
+def last_reply(done):
+    """The last reply's word and version."""
+    return b" ".join(done.stdout[done.stdout.rstrip().rfind(b"\n") + 1:].split()[:2]).decode()
+
+
+def milliseconds(text):
     """Processor time of the user of a run, the least of three, and the last reply's version."""
-    text = "".join(f"push {line}\n" for line in lines) + pulls * repeats
     best = None
     for _ in range(3):
         before = resource.getrusage(resource.RUSAGE_CHILDREN).ru_utime
-        done = subprocess.run([program, "run"], input=text.encode(), stdout=subprocess.PIPE, check=True)
-        took = resource.getrusage(resource.RUSAGE_CHILDREN).ru_utime - before
+        done = subprocess.run([TOP / "sheet", "run"], input=text.encode(), stdout=subprocess.PIPE, check=True)
+        took = (resource.getrusage(resource.RUSAGE_CHILDREN).ru_utime - before) * 1e3
         best = took if best is None else min(best, took)
-    return best, b" ".join(done.stdout[done.stdout.rstrip().rfind(b"\n") + 1:].split()[:2]).decode()
+    return best, last_reply(done)
 
 
+def millions(text):
+    """Millions of instructions of a run, and the last reply's version."""
+    counting = ["valgrind", "--tool=callgrind", "--callgrind-out-file=/dev/null"]
+    done = subprocess.run([*counting, TOP / "crates/sheet/out/sheet", "run"], input=text.encode(), capture_output=True,
+                          check=True)
+    return int(re.search(rb"Collected : (\d+)", done.stderr)[1]) / 1e6, last_reply(done)
+
+
+TOP = pathlib.Path(__file__).resolve().parent.parent
 form = sys.argv[1] if len(sys.argv) > 1 else "near"
 repeats = int(sys.argv[2]) if len(sys.argv) > 2 else 200
-program = sys.argv[3] if len(sys.argv) > 3 else pathlib.Path(__file__).resolve().parent.parent / "sheet"
+measure, unit = (millions, "million instructions") if sys.argv[3:] == ["count"] else (milliseconds, "ms")
 lines = deltas(form)
-empty, reply = seconds(program, lines, "", 0)
+pushed = "".join(f"push {line}\n" for line in lines)
+empty, reply = measure(pushed)
 assert reply == "ok 16", reply
-one, first = seconds(program, lines, "pull 0\n", repeats)
-group, last = seconds(program, lines, "pull 0 16\n", repeats)
+one, first = measure(pushed + "pull 0\n" * repeats)
+group, last = measure(pushed + "pull 0 16\n" * repeats)
 one, group = (one - empty) / repeats, (group - empty) / repeats
-print(f"{form}: {len(lines[0])} bytes; pull 0 ({first}) {one * 1e3:.2f} ms, pull 0 16 ({last}) {group * 1e3:.2f} ms, "
-      f"{group / one:.1f} times")
+print(f"{form}: {len(lines[0])} bytes; pull 0 ({first}) {one:.2f} {unit}, pull 0 16 ({last}) {group:.2f} {unit}, "
+      f"{group / one:.2f} times")
