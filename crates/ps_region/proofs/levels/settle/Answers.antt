@@ -1,5 +1,5 @@
-use Rattle.std.proofs.Common.{◌≡◌, ◌<◌, ◌+◌, ◌-◌, arith, sym, ◌∙◌, false, subst, length}
-use Rattle.std.proofs.Common.{get_or}
+use Rattle.std.proofs.Common.{◌≡◌, ◌<◌, ◌≤◌, ◌+◌, ◌-◌, arith, sym, ◌∙◌, false, subst, length}
+use Rattle.std.proofs.Common.{ℕ, List, get_or}
 use Rattle.std.proofs.lemmas.List.{get_or_read, get_or_push, length_push}
 use Rattle.ps_grid.specs.declared.size.TheConstants.{CELLS}
 use Rattle.ps_region.specs.Listed.{listed}
@@ -11,28 +11,35 @@ use Rattle.ps_region.proofs.SettlingLemmas.{few_levels, Queued-le, frame_pending
 use Rattle.ps_region.specs.Inside.Settles.{Settling, is_frame, is_pending}
 use Rattle.ps_region.proofs.levels.settle.Goals as goal
 
+-- what stands first in a queue
+record IsFront (order : List ℕ) (head d : ℕ) : Type 0 where
+  there : head < length order
+  is : d ≡ get_or order head 0
+
+front_of : (order : List ℕ) (head «end» d : ℕ) → head < «end» → «end» ≤ length order → d ≡ get_or order head d
+    → IsFront order head d
+front_of order head «end» d before within is =
+    let there : head < length order = omega (arith, before, within) in
+    record { there = there; is = get_or_read order head d there is 0 }
+
 pub release-requires-clause-sole : goal.release-requires-clause-sole
 release-requires-clause-sole g c =
     let order = c.walk.order.items in
     let s = c.walk.invariant.state in
-    let w = s.within in
-    let t = c.walk-test.true in
-    let lt : c.walk.head < length order = omega (arith, w, t) in
-    let at = get_or_read order c.walk.head c.index-d.result.now lt c.index-d.ensures 0 in
+    let front = front_of order c.walk.head c.levels.«end» c.index-d.result.now c.walk-test.true s.within
+    c.index-d.ensures in
     let h = get_or order c.walk.head 0 in
-    rw at (c.requires.sole h
+    rw front.is (c.requires.sole h
     (and_true_left (get_or c.args.marks.now h false) (g.A.After.formula c.args.after.now h)
-    (s.framed h (in-get_or order c.walk.head 0 lt))))
+    (s.framed h (in-get_or order c.walk.head 0 front.there))))
 
 pub release-requires-clause-some : goal.release-requires-clause-some
 release-requires-clause-some g c =
     let order = c.walk.order.items in
     let s = c.walk.invariant.state in
-    let w = s.within in
-    let t = c.walk-test.true in
-    let lt : c.walk.head < length order = omega (arith, w, t) in
-    let at = get_or_read order c.walk.head c.index-d.result.now lt c.index-d.ensures 0 in
-    rw at (Settling-lowers (g.A.After.refers c.args.after.now)
+    let front = front_of order c.walk.head c.levels.«end» c.index-d.result.now c.walk-test.true s.within
+    c.index-d.ensures in
+    rw front.is (Settling-lowers (g.A.After.refers c.args.after.now)
     (is_pending (g.A.After.formula c.args.after.now) (is_in c.args._outside.now) c.args.marks.now)
     (is_frame (g.A.After.formula c.args.after.now) c.args.marks.now)
     CELLS
@@ -40,17 +47,15 @@ release-requires-clause-some g c =
     (frame_pending (g.A.After.formula c.args.after.now) (is_in c.args._outside.now) c.args.marks.now)
     (frame_back (g.A.After.refers c.args.after.now) (g.A.After.formula c.args.after.now) c.args.marks.now
     c.requires.closed (g.met.A.After.refers_formula c.args.after.now))
-    c.levels.head c.walk.head c.levels.«end» c.levels.k c.walk.left c.walk.level order s t)
+    c.levels.head c.walk.head c.levels.«end» c.levels.k c.walk.left c.walk.level order s c.walk-test.true)
 
 pub walk-preserved : goal.walk-preserved
 walk-preserved g c =
     let order = c.walk.order.items in
     let s = c.walk.invariant.state in
-    let w = s.within in
-    let t = c.walk-test.true in
-    let lt : c.walk.head < length order = omega (arith, w, t) in
-    let at = get_or_read order c.walk.head c.index-d.result.now lt c.index-d.ensures 0 in
-    let rel = rw at at c.release.ensures.released in
+    let front = front_of order c.walk.head c.levels.«end» c.index-d.result.now c.walk-test.true s.within
+    c.index-d.ensures in
+    let rel = rw front.is at c.release.ensures.released in
     let long = c.walk.auto.left in
     let long0 = c.levels.auto.left in
     record {
@@ -64,7 +69,8 @@ walk-preserved g c =
           c.requires.closed (g.met.A.After.refers_formula c.args.after.now))
           (listed c.args.index.now (get_or order c.walk.head 0))
           c.levels.head c.walk.head c.levels.«end» c.levels.k c.walk.left c.walk.level order
-          c.release.new.left c.release.new.level c.release.new.order.items s t (omega (arith, long, long0))
+          c.release.new.left c.release.new.level c.release.new.order.items s c.walk-test.true
+          (omega (arith, long, long0))
           (λ x r. c.requires.lists_all x (get_or order c.walk.head 0) r) rel;
       levels = Levels-keep (g.A.After.refers c.args.after.now) (get_or order c.walk.head 0) (c.levels.k + 1)
           (listed c.args.index.now (get_or order c.walk.head 0))
@@ -157,10 +163,8 @@ pub release-requires-clause-known : goal.release-requires-clause-known
 release-requires-clause-known g c = λ e.
     let order = c.walk.order.items in
     let s = c.walk.invariant.state in
-    let w = s.within in
-    let t = c.walk-test.true in
-    let lt : c.walk.head < length order = omega (arith, w, t) in
-    let at = get_or_read order c.walk.head c.index-d.result.now lt c.index-d.ensures 0 in
-    let b = s.queued.below (get_or order c.walk.head 0) (in-get_or order c.walk.head 0 lt) in
+    let front = front_of order c.walk.head c.levels.«end» c.index-d.result.now c.walk-test.true s.within
+    c.index-d.ensures in
+    let b = s.queued.below (get_or order c.walk.head 0) (in-get_or order c.walk.head 0 front.there) in
     c.requires.known c.index-d.result.now e
-    (omega (arith, at, b, c.walk.auto.left, c.levels.auto.left, c.requires.left_length))
+    (omega (arith, front.is, b, c.walk.auto.left, c.levels.auto.left, c.requires.left_length))
