@@ -1,5 +1,6 @@
-use Rattle.std.proofs.Common.{◌≡◌, get_or, arith, length, sym, ◌∙◌, ◌==◌, not}
+use Rattle.std.proofs.Common.{◌≡◌, ◌≤◌, ℕ, Bool, List, get_or, arith, length, sym, ◌∙◌, ◌==◌, not}
 use Rattle.ps_grid.specs.declared.size.TheConstants.{CELLS}
+use Rattle.ps_region.specs.Inside.Cells.{Marked}
 use Rattle.ps_region.specs.Inside.Counts.{is_in}
 use Rattle.ps_region.specs.Listed.{listed}
 use Rattle.ps_region.proofs.CellListLemmas.{marked_le}
@@ -7,6 +8,11 @@ use Rattle.ps_region.proofs.QueueStart.{marks_closed, starting}
 use Rattle.ps_region.proofs.GrowthCounts.{counts_by_marks}
 use Rattle.ps_region.proofs.TouchedLemmas.{fresh_known, formula_cells}
 use Rattle.ps_region.proofs.mark.mark_parts.Goals as goal
+
+-- there are no more members than cells
+few_members : (marks : List Bool) (members : List ℕ) → Marked marks members → length marks ≡ CELLS
+    → length members ≤ CELLS
+few_members marks members marked long = omega (arith, marked_le marks members marked, long)
 
 pub grow-requires-clause-known : goal.grow-requires-clause-known
 grow-requires-clause-known g c =
@@ -22,17 +28,9 @@ count_outside-requires-clause-counted g c =
 
 pub first_level-requires-clause-room : goal.first_level-requires-clause-room
 first_level-requires-clause-room g c =
-    let le = marked_le c.grow.new.marks c.grow.new.members.items c.grow.ensures.marked in
-    rw c.deref.ensures.value
-    (omega (
-      arith,
-      le,
-      c.grow.auto.marks,
-      c.clear.auto.marks,
-      c.requires.marks_length,
-      c.clear-2.ensures.capacity,
-      c.requires.order_room,
-    ))
+    let few = few_members c.grow.new.marks c.grow.new.members.items c.grow.ensures.marked
+    (omega (arith, c.grow.auto.marks, c.clear.auto.marks, c.requires.marks_length)) in
+    rw c.deref.ensures.value (omega (arith, few, c.clear-2.ensures.capacity, c.requires.order_room))
 
 pub settle-requires-clause-closed : goal.settle-requires-clause-closed
 settle-requires-clause-closed g c =
@@ -69,17 +67,9 @@ settle-requires-clause-starting g c =
 
 pub list_held-requires-clause-room : goal.list_held-requires-clause-room
 list_held-requires-clause-room g c =
-    let le = marked_le c.grow.new.marks c.grow.new.members.items c.grow.ensures.marked in
-    rw c.deref-2.ensures.value
-    (omega (
-      arith,
-      le,
-      c.grow.auto.marks,
-      c.clear.auto.marks,
-      c.requires.marks_length,
-      c.clear-4.ensures.capacity,
-      c.requires.cyclic_room,
-    ))
+    let few = few_members c.grow.new.marks c.grow.new.members.items c.grow.ensures.marked
+    (omega (arith, c.grow.auto.marks, c.clear.auto.marks, c.requires.marks_length)) in
+    rw c.deref-2.ensures.value (omega (arith, few, c.clear-4.ensures.capacity, c.requires.cyclic_room))
 
 pub returns-clause-cyclic : goal.returns-clause-cyclic
 returns-clause-cyclic g c =
