@@ -19,8 +19,9 @@ use std::sync::Arc;
 
 /// The reply to one who has the first `from` deltas of a sheet, and takes at most so many at once.
 ///
-/// Cost: that of joining the deltas upward, one more at a time, for as long as one more may fit, of the line that is
-/// handed out, and of what one line may hold for each greater join; the deltas before `from` aren't looked at.
+/// Cost: the cells of the deltas, and of the grid where these are many; joining the deltas upward, one more at a time,
+/// for as long as one more may fit; the line that is handed out, and what one line may hold for each greater join. The
+/// deltas before `from` aren't looked at.
 pub(crate) fn hand_out(alloc: Global, from: u64, most: usize, sheet: &Sheet) -> Reply
     ensures { HandsOut sheet.now.history from most (reply_text result)
         ⊎ ((from < length sheet.now.history) × (reply_text result ≡ refusal_text Refusal.Memory)) }
