@@ -206,7 +206,7 @@ impl<L: DeskName, W: Wait + Drop, V: Wait> Seat<'_, L, W, V> {
             .desk
             .receive(rt, self.wait, alloc, &mut self.pass, pushed, meter)
         {
-            Ok(receipt) => Reply::Done(receipt.number),
+            Ok(taken) => Reply::Done(taken.number),
             Err(refusal) => Reply::Refused(refusal),
         }
     }
