@@ -211,8 +211,18 @@ fn forget(olds: &mut Vec<(Cell, Kept)>, is_put: &mut [bool])
     ensures off { (c : ℕ) → flag_at is_put.new c ≡ false }
     ensures room { vec_capacity olds.old ≤ vec_capacity olds.new }
 {
-    'olds: while let Some((cell, _old)) = olds.pop() {
-        is_put[cell.index()] = false;
+    clear_put(olds, is_put);
+    olds.clear();
+}
+
+/// Takes away the flags of the cells of old values.
+fn clear_put(olds: &[(Cell, Kept)], is_put: &mut [bool])
+    requires whole { length is_put.old ≡ CELLS }
+    requires noted { (c : ℕ) → flag_at is_put.old c ≡ true → In (cells_in olds.now) c }
+    ensures off { (c : ℕ) → flag_at is_put.new c ≡ false }
+{
+    for entry in olds {
+        is_put[entry.0.index()] = false;
     }
 }
 
