@@ -92,51 +92,6 @@ fn enter_one<A: After>(
     }
 }
 
-/// Puts each cell that refers to the cell `d` into the region, by a walk of them, counts its reference if `d` is a
-/// formula cell, and notes the one such cell where there is just one.
-#[allow(clippy::too_many_arguments)]
-fn enter_several<A: After>(
-    index: &Index,
-    after: &A,
-    fresh: &[bool],
-    plain: &[bool],
-    marks: &mut [bool],
-    left: &mut [u32],
-    members: &mut Vec<Cell>,
-    sole: &mut [u32],
-    d: Cell,
-)
-    requires fresh_length { length fresh.now ≡ ALL }
-    requires plain_length { length plain.now ≡ ALL }
-    requires marks_length { length marks.old ≡ ALL }
-    requires left_length { length left.old ≡ ALL }
-    requires sole_length { length sole.old ≡ ALL }
-    requires known { (e : ℕ) → In (listed index.now d) e → slice_index_or fresh.now e false ≡ false
-        → A.refers after.now e d ≡ true }
-    requires formula { slice_index_or plain.now d false ≡ not (A.formula after.now d) }
-    requires marked { Marked marks.old members.old.items }
-    requires room { ALL ≤ vec_capacity members.old }
-    requires small { (q : ℕ) → counted_in members.old.items left.old q < ALL }
-    ensures members { members.new.items ≡ with_all members.old.items (listed index.now d) }
-    ensures marked { Marked marks.new members.new.items }
-    ensures room { ALL ≤ vec_capacity members.new }
-    ensures counts { (q : ℕ) → counted_in members.new.items left.new q ≡ counted_in members.old.items left.old q
-        + as_one (list_any (nat_eq q) (listed index.now d) && (A.formula after.now d && A.refers after.now q d)) }
-    ensures sole { HasSole (listed index.now d) (slice_index_or sole.new d 0) }
-    ensures others { (c : ℕ) → nat_eq c d ≡ false → slice_index_or sole.new c 0 ≡ slice_index_or sole.old c 0 }
-{
-    let counted = has_formula(plain, d);
-    let mut noted = NONE;
-    for e in index.dependents(d) {
-        enter(marks, left, members, e);
-        if is_counted(after, fresh, counted, e, d) {
-            add_one(left, e);
-        }
-        noted = noted_with(noted, e);
-    }
-    sole[d.index()] = noted;
-}
-
 /// Puts each cell that refers to the cell `d` into the region, counts its reference if `d` is a formula cell, and notes
 /// the one such cell where there is just one. They are walked only where there may be several.
 #[allow(clippy::too_many_arguments)]
@@ -177,9 +132,18 @@ fn enter_dependents<A: After>(
             // known by its contract: the cell is in the grid
             sole[d.index()] = e.index() as u32;
         }
-        Readers::Several => enter_several(
-            index, after, fresh, plain, marks, left, members, sole, d,
-        ),
+        Readers::Several => {
+            let counted = has_formula(plain, d);
+            let mut noted = NONE;
+            for e in index.dependents(d) {
+                enter(marks, left, members, e);
+                if is_counted(after, fresh, counted, e, d) {
+                    add_one(left, e);
+                }
+                noted = noted_with(noted, e);
+            }
+            sole[d.index()] = noted;
+        }
     }
 }
 
