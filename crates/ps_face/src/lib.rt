@@ -25,6 +25,7 @@
 //! patch that changes every cell.
 #![tactic(auto)]
 
+mod crossing;
 mod face;
 mod front;
 mod name;
@@ -35,6 +36,7 @@ mod rule;
 mod tests;
 mod writer;
 
+pub use crossing::{patch_crosses, writer_crosses};
 pub use front::{Front, Opened};
 pub use name::Named;
 pub use patch::{Note, Patch};

@@ -1,0 +1,34 @@
+use denote.RattleType.{RattleType}
+use denote.Param.Send.{IsSend, IsSync, sendable, view_send}
+use denote.Param.SendFields.{declared_send, as_row_send}
+use denote.Struct.Declared as S
+use Rattle.std.proofs.Crossing.{crosses}
+use Rattle.std.specs.contracts.sync.Arc as Arc
+use Rattle.std.specs.contracts.alloc.Global as Global
+use Rattle.std.specs.contracts.impls.GlobalAllocator.TheImpl.{ghosts}
+use Rattle.ps_delta.specs.contracts.delta.Delta as delta
+use Rattle.ps_face.specs.contracts.patch.Patch.TheInside as patch_inside
+use Rattle.ps_face.proofs.crossing.patch_crosses.Goals as goal
+
+abbrev shared_delta : RattleType
+shared_delta = Arc.the_row delta.the_row Global.the_row ghosts
+
+-- from what the bounds say of the delta that the whole may go to another thread
+
+shared_send : IsSend delta.the_row → IsSync delta.the_row → IsSend shared_delta
+shared_send d e = search (crosses, sendable, d, e) depth 60 fits 100000
+
+patch_send : IsSend delta.the_row → IsSync delta.the_row → IsSend (S.row patch_inside.the_type)
+patch_send d e = declared_send patch_inside.the_type (
+  search sendable,
+  (
+    as_row_send (Arc.the_field delta.the_row Global.the_row ghosts) (shared_send d e),
+    (search (crosses, sendable) depth 60 fits 100000, (search sendable, tt)),
+  ),
+)
+
+pub returns : goal.returns
+returns c =
+    let d : IsSend delta.the_row = record { owned = c.crosses.ensures.send.owned; leaving = λ k x w. tt } in
+    let e : IsSync delta.the_row = record { shared = c.crosses.ensures.sync.shared } in
+    view_send _ _ _ _ _ (patch_send d e)
