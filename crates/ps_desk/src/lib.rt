@@ -34,6 +34,7 @@
 #![tactic(auto)]
 
 mod close;
+mod crossing;
 mod desk;
 mod held;
 mod name;
@@ -48,6 +49,7 @@ mod table;
 #[cfg(test)]
 mod tests;
 
+pub use crossing::desk_crosses;
 pub use desk::Desk;
 pub use name::DeskName;
 pub use parts::Parts;

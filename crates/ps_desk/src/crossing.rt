@@ -1,0 +1,37 @@
+//! That a desk may be shared by threads.
+//!
+//! The search for this finds no proof over the whole desk at once, so its parts are taken one after another.
+ghost use denote.Param.Send.{IsSend, IsSync};
+ghost use Rattle.ps_desk.specs.contracts.desk.Desk as desk;
+ghost use Rattle.ps_desk.specs.contracts.held.Held as held;
+
+use crate::name::DeskName;
+use ps_face::writer_crosses;
+use ps_sheet::sheet_crosses;
+use std::sync::Wait;
+use std::sync::ledger::Book;
+
+/// What the bound says of a type.
+fn goes<T: Send>()
+    ensures { IsSend T.row }
+{}
+
+/// What lies under the lock of a desk may go to another thread.
+fn held_crosses<L: DeskName, W: Wait + Drop + Send>()
+    ensures { IsSend (held.the_row L.row W.row (record { replica = L.replica })
+        (record { book = L.book; opening = L.opening }) L.Ledger) }
+{
+    sheet_crosses();
+    writer_crosses::<L, W>();
+    goes::<Book<L>>();
+}
+
+/// A desk may be shared by threads. Who shares one between threads calls this first.
+///
+/// Cost: none.
+pub fn desk_crosses<L: DeskName, W: Wait + Drop + Send>()
+    ensures { IsSync (desk.the_row L.row W.row (record { replica = L.replica })
+        (record { book = L.book; opening = L.opening }) L.Ledger) }
+{
+    held_crosses::<L, W>();
+}
