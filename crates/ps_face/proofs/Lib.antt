@@ -1,7 +1,8 @@
 mod Adding
 pub mod Beginnings
-mod ComparedValues
+mod Decided
 mod Followed
 mod Kept
+pub mod Noted
 pub mod Orders
 mod Turned
