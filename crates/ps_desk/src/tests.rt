@@ -1,4 +1,5 @@
-//! Desks as sessions use them, by turns in one thread.
+//! Desks as sessions use them: by turns in one thread, and in sixteen threads at once.
 
 mod desks;
+mod threads;
 mod turns;
