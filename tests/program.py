@@ -24,9 +24,9 @@ class Ended(NamedTuple):
 
 
 @contextlib.contextmanager
-def started(*words, **files):
+def started(*words, program=SHEET, **files):
     """`./sheet` with these words and standard files, of which nothing runs on once the block is left."""
-    session = subprocess.Popen([SHEET, *words], stderr=subprocess.PIPE, start_new_session=True, **files)
+    session = subprocess.Popen([program, *words], stderr=subprocess.PIPE, start_new_session=True, **files)
     try:
         yield session
     finally:

@@ -15,9 +15,9 @@ sed -n 's/^delta [0-9]* /push /p' one two > lines
 TABLE_EXAMPLE = r"""printf '2,=[.A1]*3\n"x,y",@tally\n' | ./sheet table"""
 
 
-def shell(command, folder=TOP):
+def shell(command, folder=TOP, environment=None):
     """Runs a command of the shell in this folder to its end."""
-    how = {"cwd": folder, "stdin": subprocess.DEVNULL, "capture_output": True, "timeout": LIMIT}
+    how = {"cwd": folder, "env": environment, "stdin": subprocess.DEVNULL, "capture_output": True, "timeout": LIMIT}
     ran = subprocess.run(["sh", "-c", command], **how)
     return Ended(ran.returncode, ran.stdout, ran.stderr)
 
@@ -78,7 +78,7 @@ class Help(ProgramTest):
             self.assertIn(text, ended.output.decode())
 
     def test_help_names_the_commands(self):
-        self.assert_tells(["--help"], "Usage: sheet <COMMAND>", "run", "table")
+        self.assert_tells(["--help"], "Usage: sheet <COMMAND>", "run", "table", "serve", "sync")
 
     def test_help_of_run_names_its_options_and_each_line(self):
         verbs = ["set", "add", "sub", "get", "choose", "unchoose", "rows", "pull", "push"]
@@ -91,7 +91,7 @@ class Help(ProgramTest):
         self.assertEqual(run("--version"), Ended(0, b"sheet 0.1.0\n"))
 
     def test_the_short_option_and_the_command_help_tell_the_same(self):
-        for words in ([], ["run"], ["table"]):
+        for words in ([], ["run"], ["table"], ["serve"], ["sync"]):
             with self.subTest(words=words):
                 told = run(*words, "--help").output
                 self.assertEqual(run(*words, "-h"), Ended(0, told))

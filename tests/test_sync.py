@@ -4,6 +4,7 @@ import socket
 import threading
 
 from program import DEVICE_FAILED, LIMIT, Ended, ProgramTest, lines, run
+from servers import free_port
 
 UNEXPECTED = Ended(3, b"", b"err 15 line\n")
 
@@ -50,12 +51,6 @@ def in_turn(*replies):
     """Gives these replies one after another, and then none."""
     left = list(replies)
     return lambda line: left.pop(0) if left else None
-
-
-def free_port():
-    """A port on which nothing listens."""
-    with socket.create_server(("127.0.0.1", 0)) as listener:
-        return listener.getsockname()[1]
 
 
 class Syncing(ProgramTest):

@@ -43,6 +43,18 @@ IsCauseOf old new (Refused e) = TableFault (joined_history []) old new e
 IsCauseOf old new (ReaderFailed error) = WholeTable old new (λ bytes. ReaderFails (joined_history []) bytes error)
 IsCauseOf old new (PeerRefused reply) = ⊥
 
+-- a line of a word, with its space, and a number
+abbrev pub notice : List ℕ → ℕ → List ℕ
+notice word number = word ++ decimal number ++ 10 ∷ []
+
 -- what `sync` writes at the end: how many lines it pushed
 abbrev pub synced_text : ℕ → List ℕ
-synced_text lines = codes "synced " ++ decimal lines ++ 10 ∷ []
+synced_text lines = notice (codes "synced ") lines
+
+-- what `serve` writes once it listens on a port ..
+abbrev pub listening_text : ℕ → List ℕ
+listening_text port = notice (codes "listening ") port
+
+-- .. and once all sessions have ended, which leave a history of so many deltas
+abbrev pub closed_text : ℕ → List ℕ
+closed_text version = notice (codes "closed ") version

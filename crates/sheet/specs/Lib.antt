@@ -1,3 +1,4 @@
 pub mod Commands
+pub mod Sessions
 pub mod Status
 pub mod Words

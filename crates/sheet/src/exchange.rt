@@ -7,9 +7,9 @@ ghost use Rattle.sheet.specs.Commands.{synced_text};
 ghost use Rattle.sheet.specs.declared.fault.ProgramFault.TheVariants.{Refused};
 
 use crate::fault::ProgramFault;
+use crate::notice::tell;
 use crate::peer::Peer;
-use itoa::Buffer;
-use ps_device::{ConsoleOutput, Failed, Reading, Sink, Source, hand_on, put_all};
+use ps_device::{ConsoleOutput, Reading, Sink, Source};
 use ps_grid::Refusal;
 use ps_session::LARGEST_GROUP;
 use std::alloc::Global;
@@ -190,20 +190,6 @@ fn sync_between<I: Ledger, O: Ledger, J: Ledger, P: Ledger>(
     sync(alloc, &mut from, &mut to)
 }
 
-/// Writes `synced` and the number of lines.
-fn tell<K: Sink>(lines: u64, out: &mut K) -> Result<(), Failed>
-    ensures told { OnOk result (Appends (K.contents out.old) (K.contents out.new) (synced_text lines)) }
-    ensures settled { OnOk result (K.waiting out.new ≡ []) }
-    ensures calm { OnOk result (K.failures out.new ≡ K.failures out.old) }
-{
-    let mut digits = Buffer::new();
-    put_all(out, b"synced ")?;
-    put_all(out, digits.format(lines).as_bytes())?;
-    put_all(out, b"\n")?;
-    hand_on(out)?;
-    Ok(())
-}
-
 /// Connects to two ports of this machine, first to `p` and then to `q`, hands all that the replica at `p` has to the
 /// one at `q`, and writes `synced` and the number of lines that were pushed.
 ///
@@ -240,7 +226,7 @@ pub fn sync_on<R: Net<Stream = TcpStream>, K: Sink>(
         Blank::new(1),
     );
     match synced {
-        Ok(lines) => match tell(lines, out) {
+        Ok(lines) => match tell(b"synced ", lines, out) {
             Ok(()) => Ok(()),
             Err(_) => Err(ProgramFault::Refused(Refusal::Device)),
         },

@@ -7,6 +7,12 @@ pub const WORKERS_HELP: &str =
 /// What `--replica` means, with the range 1 to `REPLICAS`.
 pub const REPLICA_HELP: &str = "the number of this replica, 1 to 32";
 
+/// What `--port` means.
+pub const PORT_HELP: &str = "the port of this machine to listen on, 1 to 65535";
+
+/// What `--sessions` means, with the range 1 to `SEATS`.
+pub const SESSIONS_HELP: &str = "how many sessions to serve before it ends, 1 to 16";
+
 /// What `--from` means.
 pub const FROM_HELP: &str = "the port of the replica whose deltas are pulled, 1 to 65535";
 
@@ -53,6 +59,26 @@ writes
 
   2,6
   \"x,y\",0";
+
+/// What stands below the options of `sheet serve --help`.
+pub const SERVE_HELP: &str = "\
+It opens an empty sheet, listens on this machine, 127.0.0.1, and writes `listening`
+and the port. Each connection is a session: its lines are commands, as in `run`,
+and all sessions change and read the one sheet side by side. Once so many sessions
+have ended it writes `closed` and the number of changes, and ends. The sheet ends
+with it: `pull` or `sync` carries it elsewhere before.
+
+Example:
+
+  sheet serve --port 7001 --sessions 2 --replica 1
+
+writes
+
+  listening 7001
+
+and once two connections have come, each of them with a `set`, and have ended
+
+  closed 2";
 
 /// What stands below the options of `sheet sync --help`.
 pub const SYNC_HELP: &str = "\

@@ -21,12 +21,16 @@
 ghost use Rattle.std.specs.Prelude.{◌≡◌, ◌<◌};
 ghost use Rattle.ps_grid.specs.Blanks.{IsBlankOf};
 
+mod connection;
 mod exchange;
 mod fault;
 mod help;
+mod notice;
 mod options;
 mod peer;
+mod server;
 mod session;
+mod sessions;
 mod table;
 mod words;
 
@@ -34,16 +38,18 @@ use clap::Error;
 use clap::error::ErrorKind;
 pub use exchange::{sync, sync_on};
 pub use fault::{ProgramFault, status_of};
-pub use options::{Options, RunOptions, SyncOptions, TableOptions};
+pub use options::{Options, RunOptions, ServeOptions, SyncOptions, TableOptions};
 pub use peer::Peer;
 use ps_device::{ConsoleOutput, Reading, Writing};
 use ps_eval::Meter;
 use ps_grid::Refusal;
+pub use server::{serve, serve_on};
 pub use session::{answer_lines, open_sheet};
 use std::io;
 use std::marker::Brand;
-use std::net::{Net, TcpStream};
+use std::net::{Net, TcpListener, TcpStream};
 use std::process::ExitCode;
+use std::sync::Wait;
 use std::sync::ledger::{Blank, Ledger};
 use std::thread::Threads;
 pub use table::table_on;
@@ -61,7 +67,7 @@ fn main(rt: HostRuntime) -> ExitCode {
 }
 
 /// Reads the words and runs their command.
-fn start<R: Net<Stream = TcpStream> + Threads + Sync>(
+fn start<R: Net<Listener = TcpListener, Stream = TcpStream> + Threads + Wait + Sync>(
     rt: &HostRuntime,
     threads: &R,
 ) -> Result<ExitCode, ProgramFault> {
@@ -102,7 +108,7 @@ fn tell(rt: &HostRuntime, error: &Error) -> Result<ExitCode, ProgramFault> {
 }
 
 /// Runs a command on standard input and output.
-fn run_command<R: Net<Stream = TcpStream> + Threads + Sync>(
+fn run_command<R: Net<Listener = TcpListener, Stream = TcpStream> + Threads + Wait + Sync>(
     rt: &HostRuntime,
     threads: &R,
     options: Options,
@@ -122,7 +128,12 @@ fn run_command<R: Net<Stream = TcpStream> + Threads + Sync>(
 ///
 /// The replies of `run` wait in memory and are written before the next read, so a batch of lines costs one write a
 /// piece of the input, and a peer that waits for a reply has it. A table waits nowhere.
-fn on_standard<R: Net<Stream = TcpStream> + Threads + Sync, I: Ledger, O: Ledger, M: Ledger>(
+fn on_standard<
+    R: Net<Listener = TcpListener, Stream = TcpStream> + Threads + Wait + Sync,
+    I: Ledger,
+    O: Ledger,
+    M: Ledger,
+>(
     rt: &HostRuntime,
     threads: &R,
     input: Blank,
@@ -158,6 +169,10 @@ fn on_standard<R: Net<Stream = TcpStream> + Threads + Sync, I: Ledger, O: Ledger
                 &mut meter,
                 options.workers,
             )
+        }
+        Options::Serve(options) => {
+            let mut sink = ConsoleOutput::<_, O>::new(rt.alloc(), rt.stdout(), output)?;
+            serve(threads, rt.alloc(), options, &mut sink)
         }
         Options::Sync(options) => {
             let mut sink = ConsoleOutput::<_, O>::new(rt.alloc(), rt.stdout(), output)?;

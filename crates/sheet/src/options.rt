@@ -1,6 +1,6 @@
 //! The words that the program is started with.
 ghost use Rattle.std.specs.Prelude.{◌≤◌};
-ghost use Rattle.ps_grid.specs.declared.parties.TheConstants.{REPLICAS, WORKERS};
+ghost use Rattle.ps_grid.specs.declared.parties.TheConstants.{REPLICAS, SEATS, WORKERS};
 
 /// What `sheet run` is asked for.
 #[derive(Debug, Clone, Copy, PartialEq, Eq)]
@@ -21,6 +21,23 @@ pub struct TableOptions {
     ghost workers_in_range: { (1 ≤ workers) × (workers ≤ WORKERS) },
 }
 
+/// What `sheet serve` is asked for.
+#[derive(Debug, Clone, Copy, PartialEq, Eq)]
+pub struct ServeOptions {
+    /// The port to listen on, 1 or more.
+    pub port: u16,
+    /// How many sessions to serve, 1 to `SEATS`.
+    pub sessions: u8,
+    /// How many workers may evaluate a level, 1 to `WORKERS`.
+    pub workers: u8,
+    /// The replica's number, 1 to `REPLICAS`.
+    pub replica: u8,
+    ghost port_in_range: { 1 ≤ port },
+    ghost sessions_in_range: { (1 ≤ sessions) × (sessions ≤ SEATS) },
+    ghost workers_in_range: { (1 ≤ workers) × (workers ≤ WORKERS) },
+    ghost replica_in_range: { (1 ≤ replica) × (replica ≤ REPLICAS) },
+}
+
 /// What `sheet sync` is asked for.
 #[derive(Debug, Clone, Copy, PartialEq, Eq)]
 pub struct SyncOptions {
@@ -39,6 +56,8 @@ pub enum Options {
     Run(RunOptions),
     /// Reads a table and writes its settled values.
     Table(TableOptions),
+    /// Answers the lines of several sessions over TCP.
+    Serve(ServeOptions),
     /// Hands all that one replica has to another.
     Sync(SyncOptions),
 }

@@ -8,6 +8,7 @@ mod help;
 mod limits;
 mod lines;
 mod replicas;
+mod serving;
 mod session;
 mod table;
 mod words;

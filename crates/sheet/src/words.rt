@@ -7,21 +7,24 @@ ghost use Rattle.sheet.specs.Words.{
   GivesNumbers,
   GivesOptions,
   name_of,
+  needed_option,
   number_option,
-  port_option,
   run_app,
+  serve_app,
   sheet_app,
   sync_app,
   table_app,
+  with_sheet_options,
 };
 
 use crate::help::{
-    FROM_HELP, REPLICA_HELP, RUN_HELP, SYNC_HELP, TABLE_HELP, TO_HELP, WORKERS_HELP,
+    FROM_HELP, PORT_HELP, REPLICA_HELP, RUN_HELP, SERVE_HELP, SESSIONS_HELP, SYNC_HELP, TABLE_HELP,
+    TO_HELP, WORKERS_HELP,
 };
-use crate::options::{Options, RunOptions, SyncOptions, TableOptions};
+use crate::options::{Options, RunOptions, ServeOptions, SyncOptions, TableOptions};
 use clap::builder::ValueParser;
 use clap::{Arg, ArgAction, ArgMatches, Command, Error};
-use ps_grid::{REPLICAS, WORKERS};
+use ps_grid::{REPLICAS, SEATS, WORKERS};
 use std::alloc::{AllocError, Global};
 
 /// What `--version` prints after the program's name.
@@ -39,16 +42,27 @@ fn number_option<'a>(alloc: Global, id: &'a str, most: u8) -> Arg<'a>
         .default_value("1")
 }
 
-/// An option with the number of a port, which has to be given.
-fn port_option<'a>(alloc: Global, id: &'a str) -> Arg<'a>
-    ensures rule { rule_of result ≡ port_option id.now }
+/// An option with a number from 1 to `most`, which has to be given.
+fn needed_option<'a>(alloc: Global, id: &'a str, most: u16) -> Arg<'a>
+    ensures rule { rule_of result ≡ needed_option id.now most }
     ensures local { result.global ≡ false }
 {
     Arg::new(alloc, id)
         .long(id)
         .action(ArgAction::Set)
-        .value_parser(ValueParser::Signed(1, i64::from(u16::MAX)))
+        .value_parser(ValueParser::Signed(1, i64::from(most)))
         .required(true)
+}
+
+/// The options of a command that opens a sheet, added to it.
+fn with_sheet_options<'a>(alloc: Global, command: Command<'a>) -> Result<Command<'a>, AllocError>
+    ensures app { IfOk result (λ new. app_of new ≡ with_sheet_options (app_of command.entry)) }
+    ensures local { (fields_of command.entry).has_globals ≡ false
+        → IfOk result (λ new. (fields_of new).has_globals ≡ false) }
+{
+    let workers = number_option(alloc, "workers", WORKERS as u8).help(WORKERS_HELP);
+    let replica = number_option(alloc, "replica", REPLICAS).help(REPLICA_HELP);
+    command.arg(workers)?.arg(replica)
 }
 
 /// The command `run`.
@@ -56,13 +70,10 @@ fn run_command<'a>(alloc: Global) -> Result<Command<'a>, AllocError>
     ensures app { IfOk result (λ command. app_of command ≡ run_app) }
     ensures local { IfOk result (λ command. (fields_of command).has_globals ≡ false) }
 {
-    let workers = number_option(alloc, "workers", WORKERS as u8).help(WORKERS_HELP);
-    let replica = number_option(alloc, "replica", REPLICAS).help(REPLICA_HELP);
-    Command::new(alloc, "run")
+    let command = Command::new(alloc, "run")
         .about("answers each line of standard input on standard output")
-        .after_help(RUN_HELP)
-        .arg(workers)?
-        .arg(replica)
+        .after_help(RUN_HELP);
+    with_sheet_options(alloc, command)
 }
 
 /// The command `table`.
@@ -77,13 +88,28 @@ fn table_command<'a>(alloc: Global) -> Result<Command<'a>, AllocError>
         .arg(workers)
 }
 
+/// The command `serve`.
+fn serve_command<'a>(alloc: Global) -> Result<Command<'a>, AllocError>
+    ensures app { IfOk result (λ command. app_of command ≡ serve_app) }
+    ensures local { IfOk result (λ command. (fields_of command).has_globals ≡ false) }
+{
+    let port = needed_option(alloc, "port", u16::MAX).help(PORT_HELP);
+    let sessions = needed_option(alloc, "sessions", SEATS as u16).help(SESSIONS_HELP);
+    let command = Command::new(alloc, "serve")
+        .about("answers the lines of several sessions over TCP")
+        .after_help(SERVE_HELP)
+        .arg(port)?
+        .arg(sessions)?;
+    with_sheet_options(alloc, command)
+}
+
 /// The command `sync`.
 fn sync_command<'a>(alloc: Global) -> Result<Command<'a>, AllocError>
     ensures app { IfOk result (λ command. app_of command ≡ sync_app) }
     ensures local { IfOk result (λ command. (fields_of command).has_globals ≡ false) }
 {
-    let from = port_option(alloc, "from").help(FROM_HELP);
-    let to = port_option(alloc, "to").help(TO_HELP);
+    let from = needed_option(alloc, "from", u16::MAX).help(FROM_HELP);
+    let to = needed_option(alloc, "to", u16::MAX).help(TO_HELP);
     Command::new(alloc, "sync")
         .about("hands all that one replica has to another")
         .after_help(SYNC_HELP)
@@ -101,6 +127,7 @@ fn sheet_command<'a>(alloc: Global) -> Result<Command<'a>, AllocError>
         .version(VERSION)
         .subcommand(run_command(alloc)?)?
         .subcommand(table_command(alloc)?)?
+        .subcommand(serve_command(alloc)?)?
         .subcommand(sync_command(alloc)?)
 }
 
@@ -145,6 +172,23 @@ fn table_options(matches: &ArgMatches<'_>) -> Option<Options>
     Some(Options::Table(TableOptions { workers }))
 }
 
+/// The numbers of `serve`.
+fn serve_options(matches: &ArgMatches<'_>) -> Option<Options>
+    ensures { IfSome result (λ options. (name_of options ≡ codes "serve")
+        × GivesNumbers (rows_of (found_of matches.now)) options) }
+{
+    let port = port_of(matches, "port")?;
+    let sessions = number_of(matches, "sessions", SEATS as u8)?;
+    let workers = number_of(matches, "workers", WORKERS as u8)?;
+    let replica = number_of(matches, "replica", REPLICAS)?;
+    Some(Options::Serve(ServeOptions {
+        port,
+        sessions,
+        workers,
+        replica,
+    }))
+}
+
 /// The numbers of `sync`.
 fn sync_options(matches: &ArgMatches<'_>) -> Option<Options>
     ensures { IfSome result (λ options. (name_of options ≡ codes "sync")
@@ -163,6 +207,7 @@ fn options_of(name: &str, matches: &ArgMatches<'_>) -> Option<Options>
     match name {
         "run" => run_options(matches),
         "table" => table_options(matches),
+        "serve" => serve_options(matches),
         "sync" => sync_options(matches),
         _ => None,
     }

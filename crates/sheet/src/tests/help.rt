@@ -1,7 +1,7 @@
 //! The sizes that the help spells out, compared with the constants.
 
-use crate::help::{REPLICA_HELP, RUN_HELP, WORKERS_HELP};
-use ps_grid::{CELLS, Cell, NAME_BYTES, REPLICAS, WORKERS};
+use crate::help::{REPLICA_HELP, RUN_HELP, SESSIONS_HELP, WORKERS_HELP};
+use ps_grid::{CELLS, Cell, NAME_BYTES, REPLICAS, SEATS, WORKERS};
 use ps_session::LARGEST_GROUP;
 use std::alloc::{AllocError, Global};
 use std::str;
@@ -19,6 +19,12 @@ fn names_replicas(alloc: Global) -> Result<bool, AllocError> {
     Ok(REPLICA_HELP.ends_with(phrase.as_str()))
 }
 
+/// Whether the help of `--sessions` names the most sessions.
+fn names_sessions(alloc: Global) -> Result<bool, AllocError> {
+    let phrase = format!(in alloc; ", 1 to {SEATS}")?;
+    Ok(SESSIONS_HELP.ends_with(phrase.as_str()))
+}
+
 /// Whether the help of `run` names this text as the last cell.
 fn names_last_cell(alloc: Global, name: &str) -> Result<bool, AllocError> {
     let phrase = format!(in alloc; "Cells are A1 to {name}. ")?;
@@ -31,12 +37,13 @@ fn names_group(alloc: Global) -> Result<bool, AllocError> {
     Ok(RUN_HELP.contains(phrase.as_str()))
 }
 
-/// The most workers and replicas, the last cell and the largest group of a pull.
+/// The most workers, replicas and sessions, the last cell and the largest group of a pull.
 #[test]
 fn help_names_the_sizes(rt: HostRuntime) -> Result<(), Fail> {
     let alloc = rt.alloc();
     assert!(rt; names_workers(alloc)?);
     assert!(rt; names_replicas(alloc)?);
+    assert!(rt; names_sessions(alloc)?);
     assert!(rt; names_group(alloc)?);
     let last = Cell::from_index(CELLS - 1).ok_or("a last cell")?;
     let mut name = [0; NAME_BYTES];

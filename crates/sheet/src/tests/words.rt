@@ -11,12 +11,13 @@ fn words(alloc: Global, given: &[&str]) -> Result<Vec<String>, AllocError> {
     Ok(words)
 }
 
-/// The numbers of `run` or of `sync`, or that of `table` and 0, or the exit status that `clap` gives.
+/// Two numbers of `run`, `serve` or `sync`, or that of `table` and 0, or the exit status that `clap` gives.
 fn numbers(alloc: Global, given: &[&str]) -> Result<Result<(u16, u16), i32>, AllocError> {
     let words = words(alloc, given)?;
     Ok(match read_words(alloc, words.as_slice()) {
         Ok(Options::Run(options)) => Ok((u16::from(options.workers), u16::from(options.replica))),
         Ok(Options::Table(options)) => Ok((u16::from(options.workers), 0)),
+        Ok(Options::Serve(options)) => Ok((options.port, u16::from(options.sessions))),
         Ok(Options::Sync(options)) => Ok((options.from, options.to)),
         Err(error) => Err(error.exit_code()),
     })
@@ -31,6 +32,15 @@ fn options_are_read(rt: HostRuntime) -> Result<(), Fail> {
     assert!(rt;
         numbers(alloc, &["sheet", "run", "--workers", "16", "--replica=32"])? == Ok((16, 32))
     );
+    let served = [
+        "sheet",
+        "serve",
+        "--sessions=16",
+        "--port",
+        "65535",
+        "--replica=2",
+    ];
+    assert!(rt; numbers(alloc, &served)? == Ok((65535, 16)));
     assert!(rt; numbers(alloc, &["sheet", "sync", "--to=65535", "--from", "1"])? == Ok((1, 65535)));
     Ok(())
 }
@@ -46,6 +56,9 @@ fn other_words_are_refused(rt: HostRuntime) -> Result<(), Fail> {
     assert!(rt; numbers(alloc, &["sheet", "run", "--workers", "17"])? == Err(2));
     assert!(rt; numbers(alloc, &["sheet", "run", "--replica", "33"])? == Err(2));
     assert!(rt; numbers(alloc, &["sheet", "run", "--replica", "x"])? == Err(2));
+    assert!(rt; numbers(alloc, &["sheet", "serve", "--port", "1"])? == Err(2));
+    assert!(rt; numbers(alloc, &["sheet", "serve", "--port=1", "--sessions=0"])? == Err(2));
+    assert!(rt; numbers(alloc, &["sheet", "serve", "--port=1", "--sessions=17"])? == Err(2));
     assert!(rt; numbers(alloc, &["sheet", "sync", "--from", "1"])? == Err(2));
     assert!(rt; numbers(alloc, &["sheet", "sync", "--from=0", "--to=1"])? == Err(2));
     assert!(rt; numbers(alloc, &["sheet", "sync", "--from=1", "--to=65536"])? == Err(2));

@@ -26,7 +26,9 @@ returns c =
     c.in_ok-run_command.ensures.app) in
     let with_table = c.in_ok-subcommand-2.ensures.shape c.in_ok-table_command.ensures.local
     ∙ ap₂ with_subcommand with_run (ap (λ (a : App). a.top) c.in_ok-table_command.ensures.app) in
-    IfOk-weaker c.subcommand-3.result _ _
+    let with_serve = c.in_ok-subcommand-3.ensures.shape c.in_ok-serve_command.ensures.local
+    ∙ ap₂ with_subcommand with_table (ap (λ (a : App). a.top) c.in_ok-serve_command.ensures.app) in
+    IfOk-weaker c.subcommand-4.result _ _
     (λ command h. h.shape c.in_ok-sync_command.ensures.local
-    ∙ ap₂ with_subcommand with_table (ap (λ (a : App). a.top) c.in_ok-sync_command.ensures.app))
-    c.subcommand-3.ensures
+    ∙ ap₂ with_subcommand with_serve (ap (λ (a : App). a.top) c.in_ok-sync_command.ensures.app))
+    c.subcommand-4.ensures

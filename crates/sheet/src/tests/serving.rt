@@ -1,0 +1,251 @@
+//! Servers with their clients, over TCP.
+ghost use Rattle.std.specs.Prelude.{◌≤◌};
+ghost use Rattle.ps_grid.specs.Blanks.{IsBlankOf};
+ghost use Rattle.ps_grid.specs.declared.parties.TheConstants.{REPLICAS, SEATS};
+
+use crate::{serve_on, sync_on};
+use ps_device::MemorySink;
+use ps_sheet::Sheet;
+use std::alloc::Global;
+use std::io::{Read, Write};
+use std::marker::Brand;
+use std::net::{Ipv4Addr, Net, Shutdown, TcpListener, TcpStream};
+use std::sync::Wait;
+use std::sync::atomic::{AtomicBool, Ordering};
+use std::sync::ledger::{Blank, Ledger};
+use std::test::Fail;
+use std::thread::Threads;
+use std::{io, thread};
+
+/// The longest reply that is read.
+const LONGEST: usize = 1_000;
+
+/// How often a client looks for a flag before it gives up.
+const TURNS: usize = 1_000_000;
+
+/// A listener on a port of its own, and the port.
+fn listen<R: Net<Listener = TcpListener, Stream = TcpStream>>(
+    rt: &R,
+) -> io::Result<(TcpListener, u16)> {
+    let listener = TcpListener::bind(rt, (Ipv4Addr::LOCALHOST, 0))?;
+    let port = listener.local_addr()?.port();
+    Ok((listener, port))
+}
+
+/// What a server of so many sessions on the empty sheet of a replica writes; none where it fails.
+fn served<R: Threads + Wait + Sync>(
+    rt: &R,
+    alloc: Global,
+    listener: &TcpListener,
+    sessions: usize,
+    replica: u8,
+) -> Option<Vec<u8>>
+    requires sessions { (1 ≤ sessions) × (sessions ≤ SEATS) }
+    requires replica { (1 ≤ replica) × (replica ≤ REPLICAS) }
+{
+    served_on::<R, Brand>(rt, alloc, listener, sessions, replica, Blank::new(1))
+}
+
+fn served_on<R: Threads + Wait + Sync, O: Ledger>(
+    rt: &R,
+    alloc: Global,
+    listener: &TcpListener,
+    sessions: usize,
+    replica: u8,
+    output: Blank,
+) -> Option<Vec<u8>>
+    requires sessions { (1 ≤ sessions) × (sessions ≤ SEATS) }
+    requires replica { (1 ≤ replica) × (replica ≤ REPLICAS) }
+    requires output { IsBlankOf output O.name O.parts }
+{
+    let mut out = MemorySink::<O>::new(alloc, output);
+    let sheet = Sheet::open(alloc, replica, 1).ok()?;
+    serve_on(rt, alloc, listener, sessions, sheet, &mut out).ok()?;
+    let MemorySink { bytes, failed } = out;
+    drop(failed);
+    Some(bytes)
+}
+
+/// What a sync from one port to another writes; none where it fails.
+fn synced<R: Net<Stream = TcpStream>>(
+    rt: &R,
+    alloc: Global,
+    from: u16,
+    to: u16,
+) -> Option<Vec<u8>> {
+    synced_on::<R, Brand>(rt, alloc, from, to, Blank::new(1))
+}
+
+fn synced_on<R: Net<Stream = TcpStream>, O: Ledger>(
+    rt: &R,
+    alloc: Global,
+    from: u16,
+    to: u16,
+    output: Blank,
+) -> Option<Vec<u8>>
+    requires output { IsBlankOf output O.name O.parts }
+{
+    let mut out = MemorySink::<O>::new(alloc, output);
+    sync_on(rt, alloc, from, to, &mut out).ok()?;
+    let MemorySink { bytes, failed } = out;
+    drop(failed);
+    Some(bytes)
+}
+
+/// Sends a line, and waits for the line that replies to it.
+fn ask(alloc: Global, mut stream: &TcpStream, line: &[u8]) -> io::Result<Vec<u8>> {
+    stream.write_all(line)?;
+    let mut reply = Vec::new(alloc);
+    let mut byte = [0u8; 1];
+    for _ in 0..LONGEST {
+        if stream.read(&mut byte)? == 0 || byte[0] == b'\n' {
+            return Ok(reply);
+        }
+        reply.push(byte[0])?;
+    }
+    Ok(reply)
+}
+
+/// The replies to these lines in a session of its own; none where the connection fails.
+fn replies<R: Net<Stream = TcpStream>>(
+    rt: &R,
+    alloc: Global,
+    port: u16,
+    script: &[u8],
+) -> io::Result<Vec<u8>> {
+    let mut stream = TcpStream::connect(rt, (Ipv4Addr::LOCALHOST, port))?;
+    stream.write_all(script)?;
+    stream.shutdown(Shutdown::Write)?;
+    let mut replies = Vec::new(alloc);
+    stream.read_to_end(&mut replies)?;
+    Ok(replies)
+}
+
+/// What two servers wrote, what a sync from the first to the second wrote, and what the second shows then.
+#[derive(Drop)]
+struct Met {
+    closed: (Option<Vec<u8>>, Option<Vec<u8>>),
+    synced: Option<Vec<u8>>,
+    shown: io::Result<Vec<u8>>,
+}
+
+/// Two replicas of two sessions each: lines are sent to the first, all that it has is handed to the second, and lines
+/// are sent to that.
+fn meet<R: Net<Listener = TcpListener, Stream = TcpStream> + Threads + Wait + Sync>(
+    rt: &R,
+    alloc: Global,
+    edits: &[u8],
+    looks: &[u8],
+) -> io::Result<Met> {
+    let (first, p) = listen(rt)?;
+    let (second, q) = listen(rt)?;
+    let (closed, (synced, shown)) = thread::join(
+        rt,
+        || {
+            thread::join(
+                rt,
+                || served(rt, alloc, &first, 2, 1),
+                || served(rt, alloc, &second, 2, 2),
+            )
+        },
+        || {
+            let _ = replies(rt, alloc, p, edits);
+            (synced(rt, alloc, p, q), replies(rt, alloc, q, looks))
+        },
+    );
+    Ok(Met {
+        closed,
+        synced,
+        shown,
+    })
+}
+
+/// A cell and a formula over it, which come to the second replica in one line.
+#[test]
+fn sync_two_servers(rt: HostRuntime) -> Result<(), Fail> {
+    let met = meet(&rt, rt.alloc(), b"set A1 5\nset B1 =[.A1]*2\n", b"get B1\n")?;
+    let Met {
+        closed: (first, second),
+        synced,
+        shown,
+    } = met;
+    assert!(rt; synced.ok_or("a sync")?.as_slice() == b"synced 1\n".as_slice());
+    assert!(rt; shown?.as_slice() == b"val 10\n".as_slice());
+    assert!(rt; first.ok_or("a first server")?.as_slice() == b"closed 2\n".as_slice());
+    assert!(rt; second.ok_or("a second server")?.as_slice() == b"closed 1\n".as_slice());
+    Ok(())
+}
+
+/// Sends an edit, and raises the flag once it has its reply.
+fn go_ahead(alloc: Global, stream: TcpStream, flag: &AtomicBool) {
+    if let Ok(reply) = ask(alloc, &stream, b"set A1 1\n") {
+        flag.store(reply.as_slice() == b"ok 1".as_slice(), Ordering::SeqCst);
+    }
+}
+
+/// Whether the flag is raised within the turns.
+fn is_raised(flag: &AtomicBool) -> bool {
+    for _ in 0..TURNS {
+        if flag.load(Ordering::SeqCst) {
+            return true;
+        }
+        thread::yield_now();
+    }
+    false
+}
+
+/// Waits for the flag, and then asks: whether it was raised, and the three replies.
+fn go_after(
+    alloc: Global,
+    stream: TcpStream,
+    flag: &AtomicBool,
+) -> io::Result<(bool, [Vec<u8>; 3])> {
+    let raised = is_raised(flag);
+    let shown = ask(alloc, &stream, b"get A1\n")?;
+    let done = ask(alloc, &stream, b"set B1 2\n")?;
+    let own = ask(alloc, &stream, b"get B1\n")?;
+    Ok((raised, [shown, done, own]))
+}
+
+/// What a server of two sessions wrote, and what its first client saw, which waits for the second.
+#[derive(Drop)]
+struct Overlapped {
+    closed: Option<Vec<u8>>,
+    seen: io::Result<(bool, [Vec<u8>; 3])>,
+}
+
+/// Two clients that are connected, of which the first sends nothing until the second has its reply.
+fn overlap<R: Net<Listener = TcpListener, Stream = TcpStream> + Threads + Wait + Sync>(
+    rt: &R,
+    alloc: Global,
+) -> io::Result<Overlapped> {
+    let (listener, port) = listen(rt)?;
+    let first = TcpStream::connect(rt, (Ipv4Addr::LOCALHOST, port))?;
+    let second = TcpStream::connect(rt, (Ipv4Addr::LOCALHOST, port))?;
+    let flag = AtomicBool::new(false);
+    let (closed, ((), seen)) = thread::join(
+        rt,
+        || served(rt, alloc, &listener, 2, 1),
+        || {
+            thread::join(
+                rt,
+                || go_ahead(alloc, second, &flag),
+                || go_after(alloc, first, &flag),
+            )
+        },
+    );
+    Ok(Overlapped { closed, seen })
+}
+
+/// The session of the second client is answered while the first one's is under way.
+#[test]
+fn sessions_overlap(rt: HostRuntime) -> Result<(), Fail> {
+    let Overlapped { closed, seen } = overlap(&rt, rt.alloc())?;
+    let (raised, [shown, done, own]) = seen?;
+    assert!(rt; raised);
+    assert!(rt; shown.as_slice() == b"val 1".as_slice());
+    assert!(rt; done.as_slice() == b"ok 2".as_slice());
+    assert!(rt; own.as_slice() == b"val 2".as_slice());
+    assert!(rt; closed.ok_or("a server")?.as_slice() == b"closed 2\n".as_slice());
+    Ok(())
+}

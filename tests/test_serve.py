@@ -1,0 +1,322 @@
+"""`sheet serve` with real sockets: sessions side by side, clients that misbehave, and replicas that meet."""
+import resource
+import signal
+import socket
+import subprocess
+import threading
+
+from program import DEVICE_FAILED, LIMIT, Ended, ProgramTest, lines, run
+from servers import HERE, free_port, serving, sync
+from shortage import PROGRAM
+
+
+class Sessions(ProgramTest):
+    def test_one_session(self):
+        with serving(1) as server:
+            client = server.client()
+            self.assertEqual(client.ask("set A1 5"), "ok 1")
+            self.assertEqual(client.ask("set B1 =[.A1]*2"), "ok 2")
+            client.send(b"get B1\nrows A1:B1\npull 0 16\nwalk\n\nget A1")
+            self.assertEqual(client.leave(), lines(
+                "val 10", "rows 1", "5,10", 'delta 2 [["A1",[1,1,"5"],[],[]],["B1",[1,1,"=[.A1]*2"],[],[]]]',
+                "err 16 command", "val 5",
+            ))
+            self.assertEqual(server.ended(), Ended(0, lines("closed 2")))
+
+    def test_a_session_without_lines(self):
+        with serving(1) as server:
+            self.assertEqual(server.client().leave(), b"")
+            self.assertEqual(server.ended(), Ended(0, lines("closed 0")))
+
+    def test_each_session_sees_what_it_set(self):
+        with serving(2) as server:
+            first, second = server.client(), server.client()
+            self.assertEqual(first.ask("set A1 1"), "ok 1")
+            self.assertEqual(second.ask("set B1 2"), "ok 2")
+            self.assertEqual(first.ask("get A1"), "val 1")
+            self.assertEqual(second.ask("get B1"), "val 2")
+            self.assertEqual((first.leave(), second.leave()), (b"", b""))
+            self.assertEqual(server.ended(), Ended(0, lines("closed 2")))
+
+    def test_sessions_overlap(self):
+        with serving(2) as server:
+            first, second = server.client(), server.client()
+            self.assertEqual(second.ask("set A1 1"), "ok 1")
+            self.assertEqual(first.ask("get A1"), "val 1")
+            self.assertEqual(first.ask("set B1 2"), "ok 2")
+            self.assertEqual(first.ask("get B1"), "val 2")
+            first.leave()
+            self.assertTrue(server.is_running())
+            second.leave()
+            self.assertEqual(server.ended(), Ended(0, lines("closed 2")))
+
+    def test_the_most_sessions_at_once(self):
+        with serving(16) as server:
+            clients = [server.client() for _ in range(16)]
+            for number, client in enumerate(clients, 1):
+                self.assertEqual(client.ask(f"set A{number} {number}"), f"ok {number}")
+            for client in clients:
+                self.assertEqual(client.ask("get A16"), "val 16")
+            for client in clients:
+                self.assertEqual(client.leave(), b"")
+            self.assertEqual(server.ended(), Ended(0, lines("closed 16")))
+
+    def test_sessions_that_edit_at_the_same_time_lose_nothing(self):
+        edits = 200
+        with serving(5, "--workers", "2") as server:
+            first = server.client()
+            self.assertEqual(first.ask("set A1 @tally"), "ok 1")
+            numbers = [[] for _ in range(4)]
+
+            def add(client, found):
+                for _ in range(edits):
+                    found.append(int(client.ask("add A1 1").removeprefix("ok ")))
+                client.leave()
+
+            threads = [threading.Thread(target=add, args=(server.client(), found)) for found in numbers]
+            for thread in threads:
+                thread.start()
+            for thread in threads:
+                thread.join(LIMIT)
+            # each edit has a version of its own, and a session's versions rise
+            self.assertEqual(sorted(sum(numbers, [])), list(range(2, 4 * edits + 2)))
+            for found in numbers:
+                self.assertEqual(found, sorted(found))
+            self.assertEqual(first.ask("get A1"), f"val {4 * edits}")
+            first.leave()
+            self.assertEqual(server.ended(), Ended(0, lines(f"closed {4 * edits + 1}")))
+
+
+class Misbehaviour(ProgramTest):
+    def assert_goes_on(self, server, edits):
+        """Another session is answered, and then the server ends well, with so many edits before."""
+        client = server.client()
+        self.assertEqual(client.ask("set CZ1024 7"), f"ok {edits + 1}")
+        self.assertEqual(client.ask("get CZ1024"), "val 7")
+        client.leave()
+        self.assertEqual(server.ended(), Ended(0, lines(f"closed {edits + 1}")))
+
+    def test_a_client_that_breaks_off_amid_a_line(self):
+        with serving(2) as server:
+            client = server.client()
+            self.assertEqual(client.ask("set A1 5"), "ok 1")
+            client.send(b"set B1 9")
+            client.reset()
+            self.assert_goes_on(server, 1)
+
+    def test_a_client_that_is_killed_amid_a_line(self):
+        with serving(2) as server:
+            script = (
+                "import socket, time\n"
+                f"connection = socket.create_connection(('{HERE}', {server.port}))\n"
+                "connection.sendall(b'set A1 5\\nset B1 =[.A1')\n"
+                "print(flush=True)\n"
+                "time.sleep(600)\n"
+            )
+            with subprocess.Popen(["python3", "-c", script], stdout=subprocess.PIPE) as killed:
+                self.assertEqual(killed.stdout.readline(), b"\n")
+                killed.kill()
+            # what the system sends on for it is at most a last line that is refused
+            self.assert_goes_on(server, 1)
+
+    def test_a_client_that_never_reads(self):
+        with serving(2) as server:
+            client = server.client()
+            client.connection.settimeout(1)
+            # far more replies than the system keeps for a reader
+            with self.assertRaises(TimeoutError):
+                client.connection.sendall(b"rows A1:CZ1024\n" * 1_000_000)
+            other = server.client()
+            for version in range(1, 100):
+                self.assertEqual(other.ask(f"set A1 {version}"), f"ok {version}")
+                self.assertEqual(other.ask("get A1"), f"val {version}")
+            other.leave()
+            self.assertTrue(server.is_running())
+            client.reset()
+            self.assertEqual(server.ended(), Ended(0, lines("closed 99")))
+
+    def test_a_client_that_sends_nothing(self):
+        with serving(2) as server:
+            silent, other = server.client(), server.client()
+            self.assertEqual(other.ask("set A1 5"), "ok 1")
+            other.leave()
+            self.assertTrue(server.is_running())
+            self.assertEqual(silent.leave(), b"")
+            self.assertEqual(server.ended(), Ended(0, lines("closed 1")))
+
+    def test_a_burst_of_10_mb_whose_replies_are_read_late(self):
+        with serving(2) as server:
+            client, other = server.client(), server.client()
+            block = lines("set A1 7", *["get A1"] * 1_400)
+            count = 10_000_000 // len(block) + 1
+            sender = threading.Thread(target=client.connection.sendall, args=(block * count,), daemon=True)
+            sender.start()
+            for _ in range(100):
+                self.assertEqual(other.ask("get B1"), "val ")
+            other.leave()
+            for version in range(1, count + 1):
+                self.assertEqual(client.reply(), f"ok {version}")
+                self.assertEqual({client.reply() for _ in range(1_400)}, {"val 7"})
+            sender.join(LIMIT)
+            self.assertEqual(client.leave(), b"")
+            self.assertEqual(server.ended(), Ended(0, lines(f"closed {count}")))
+
+    def test_a_line_that_is_too_long(self):
+        with serving(2) as server:
+            client = server.client()
+            client.send(b"push ")
+            client.connection.sendall(b"x" * 1_000_000 + b"\n")
+            self.assertEqual(client.reply(), "err 15 line")
+            self.assertEqual(client.ask("get A1"), "val ")
+            client.leave()
+            self.assert_goes_on(server, 0)
+
+
+class Replicas(ProgramTest):
+    def test_two_servers_and_three_clients(self):
+        with serving(3) as first, serving(2, "--replica", "2") as second:
+            one, two, three = first.client(), first.client(), second.client()
+            self.assertEqual(one.ask("set A1 5"), "ok 1")
+            self.assertEqual(two.ask("set B1 =[.A1]*2"), "ok 2")
+            self.assertEqual(sync(first, second), Ended(0, lines("synced 1")))
+            self.assertEqual(three.ask("get B1"), "val 10")
+            for client in (one, two, three):
+                self.assertEqual(client.leave(), b"")
+            self.assertEqual(first.ended(), Ended(0, lines("closed 2")))
+            self.assertEqual(second.ended(), Ended(0, lines("closed 1")))
+
+    def test_more_deltas_than_one_group(self):
+        with serving(2) as first, serving(2, "--replica", "2") as second:
+            one, two = first.client(), second.client()
+            for version in range(1, 41):
+                self.assertEqual(one.ask(f"set A{version} {version}"), f"ok {version}")
+            self.assertEqual(sync(first, second), Ended(0, lines("synced 3")))
+            self.assertEqual(two.ask("set B1 =SUM([.A1:.A40])"), "ok 4")
+            self.assertEqual(two.ask("get B1"), "val 820")
+            one.leave()
+            two.leave()
+            self.assertEqual(first.ended(), Ended(0, lines("closed 40")))
+            self.assertEqual(second.ended(), Ended(0, lines("closed 4")))
+
+    def test_a_ring_of_three_replicas_comes_to_show_the_same(self):
+        rounds, edits = 3, 60
+        with serving(16) as one, serving(16, "--replica", "2") as two, serving(16, "--replica", "3") as three:
+            ring = (one, two, three)
+            clients = [server.client() for server in ring]
+            for client in clients:
+                client.ask("set A1 @tally")
+                client.ask("set B1 @choice")
+                client.ask("set C1 =[.A1]*2+[.B1]")
+
+            def edit(number, client):
+                for step in range(1, edits + 1):
+                    client.ask("add A1 2")
+                    client.ask(f"choose B1 {(number * edits + step) % 64}")
+                    client.ask(f"unchoose B1 {(number * edits + step - 1) % 64}")
+                    client.ask(f"set D{step} {number} {step}")
+
+            threads = [threading.Thread(target=edit, args=pair) for pair in enumerate(clients)]
+            for thread in threads:
+                thread.start()
+            synced = 0
+            for around in range(rounds):
+                if around == rounds - 1:
+                    for thread in threads:
+                        thread.join(LIMIT)
+                for first, second in ((one, two), (two, three), (three, one), (two, one), (one, three), (three, two)):
+                    ended = sync(first, second)
+                    self.assertEqual((ended.status, ended.error), (0, b""))
+                    self.assertTrue(ended.output.startswith(b"synced "))
+                    synced += 1
+            self.assertEqual(synced, 6 * rounds)
+            shown = []
+            for client in clients:
+                client.send(lines("get A1", "get C1", f"rows A1:D{edits}"))
+                self.assertEqual(client.reply(), f"val {3 * 2 * edits}")
+                shown.append(client.leave())
+            self.assertEqual(shown[1:], shown[:-1])
+            # the sessions that are left, for each server ends only then
+            for server in ring:
+                for _ in range(16 - 1 - 4 * rounds):
+                    server.client().leave()
+                ended = server.ended()
+                self.assertEqual((ended.status, ended.error), (0, b""))
+                self.assertTrue(ended.output.startswith(b"closed "))
+
+
+class Ends(ProgramTest):
+    def test_a_port_that_is_taken(self):
+        with socket.create_server((HERE, 0)) as listener:
+            port = str(listener.getsockname()[1])
+            self.assertEqual(run("serve", "--port", port, "--sessions", "1"), Ended(1, b"", DEVICE_FAILED))
+
+    def test_an_output_that_fails(self):
+        with open("/dev/full", "wb") as full:
+            ended = run("serve", "--port", str(free_port()), "--sessions", "1", stdout=full)
+        self.assertEqual(ended, Ended(1, b"", DEVICE_FAILED))
+
+    def test_a_signal_to_end_it(self):
+        with serving(2) as server:
+            client = server.client()
+            self.assertEqual(client.ask("set A1 5"), "ok 1")
+            server.session.terminate()
+            self.assertEqual(server.ended(), Ended(-signal.SIGTERM))
+            with self.assertRaises((EOFError, ConnectionResetError)):
+                client.reply()
+            client.close()
+            # the port is free again at once, and the sheet is an empty one
+            with serving(1, port=server.port) as again:
+                client = again.client()
+                self.assertEqual(client.ask("get A1"), "val ")
+                client.leave()
+                self.assertEqual(again.ended(), Ended(0, lines("closed 0")))
+
+    def test_where_no_thread_can_be_started_a_session_is_served_all_the_same(self):
+        # a thread's room is then more than the program may have
+        def bound():
+            resource.setrlimit(resource.RLIMIT_STACK, (1 << 36, resource.getrlimit(resource.RLIMIT_STACK)[1]))
+            resource.setrlimit(resource.RLIMIT_AS, (1 << 35, 1 << 35))
+
+        with serving(2, program=PROGRAM, preexec_fn=bound) as server:
+            first, second = server.client(), server.client()
+            self.assertEqual(first.ask("set A1 5"), "ok 1")
+            second.send(b"get A1\n")
+            first.leave()
+            self.assertEqual(second.reply(), "val 5")
+            second.leave()
+            self.assertEqual(server.ended(), Ended(0, lines("closed 1")))
+
+    def test_a_connection_that_cannot_be_accepted(self):
+        # one more connection than the program may have open files
+        def bound():
+            resource.setrlimit(resource.RLIMIT_NOFILE, (5, 5))
+
+        with serving(3, program=PROGRAM, preexec_fn=bound) as server:
+            first = server.client()
+            self.assertEqual(first.ask("set A1 5"), "ok 1")
+            server.client()
+            # the session that runs goes on
+            self.assertEqual(first.ask("get A1"), "val 5")
+            self.assertTrue(server.is_running())
+            first.leave()
+            self.assertEqual(server.ended(), Ended(1, b"", DEVICE_FAILED))
+
+
+class CommandLine(ProgramTest):
+    def test_numbers_that_are_missing_or_out_of_range(self):
+        for words in ([], ["--port", "7001"], ["--sessions", "1"], ["--port", "0", "--sessions", "1"],
+                      ["--port", "65536", "--sessions", "1"], ["--port", "7001", "--sessions", "0"],
+                      ["--port", "7001", "--sessions", "17"], ["--port", "x", "--sessions", "1"],
+                      ["--port", "7001", "--sessions", "1", "--replica", "33"],
+                      ["--port", "7001", "--sessions", "1", "--workers", "17"]):
+            with self.subTest(words=words):
+                ended = run("serve", *words)
+                self.assertEqual((ended.status, ended.output), (2, b""))
+                self.assertIn(b"For more information, try '--help'.", ended.error)
+
+    def test_the_help_has_an_example(self):
+        ended = run("serve", "--help")
+        self.assertEqual(ended.status, 0)
+        self.assertIn(b"  sheet serve --port 7001 --sessions 2 --replica 1\n", ended.output)
+        for word in (b"--port", b"--sessions", b"--workers", b"--replica", b"1 to 65535", b"1 to 16", b"1 to 32"):
+            self.assertIn(word, ended.output)
