@@ -1,29 +1,76 @@
 """Servers, and clients that speak to them over TCP."""
 import contextlib
+import itertools
+import os
 import select
 import socket
 import struct
 import subprocess
+import time
 
 import peers
 from program import LIMIT, Ended, lines, run, started
 
 HERE = "127.0.0.1"
+# The ports for servers, each once. They are below those that connections are given, one of which could take a port
+# between the look at it and its use.
+PORTS = itertools.count(10_000 + os.getpid() % 20_000)
+# The pause between two tries, in seconds.
+PAUSE = 0.01
 
 
 def free_port():
     """A port on which nothing listens."""
-    with socket.create_server((HERE, 0)) as listener:
-        return listener.getsockname()[1]
+    for port in PORTS:
+        with contextlib.suppress(OSError), socket.create_server((HERE, port)):
+            return port
 
 
 class Client(peers.Peer):
     """Sends lines over a connection, and reads its replies one by one."""
 
-    def __init__(self, port):
-        self.connection = socket.create_connection((HERE, port), LIMIT)
+    def __init__(self, port, room=None):
+        """Connects to a port of this machine; the system keeps some `room` bytes of replies that aren't read yet."""
+        self.connection = socket.socket()
+        if room is not None:
+            self.connection.setsockopt(socket.SOL_SOCKET, socket.SO_RCVBUF, room)
+        self.connection.settimeout(LIMIT)
+        self.connection.connect((HERE, port))
         self.connection.setsockopt(socket.IPPROTO_TCP, socket.TCP_NODELAY, 1)
         super().__init__(None, self.connection.fileno(), self.connection.fileno())
+
+    def send_to_the_brim(self, block, most):
+        """Sends this block again and again, at most so often, until nothing more is taken for a second.
+
+        Returns whether that came.
+        """
+        self.connection.settimeout(1)
+        try:
+            for _ in range(most):
+                self.connection.sendall(block)
+        except TimeoutError:
+            return True
+        finally:
+            self.connection.settimeout(LIMIT)
+        return False
+
+    def is_answered_within(self, seconds):
+        """Whether some reply comes in this time."""
+        return bool(self.received or select.select([self.connection], [], [], seconds)[0])
+
+    def wait_for(self, line, reply):
+        """Asks by this line until it has this reply."""
+        deadline = time.monotonic() + LIMIT
+        found = self.ask(line)
+        while found != reply:
+            if time.monotonic() > deadline:
+                raise TimeoutError(f"within {LIMIT} seconds the reply to {line!r} is {found!r}")
+            time.sleep(PAUSE)
+            found = self.ask(line)
+
+    def send(self, given):
+        """Sends these bytes."""
+        self.connection.sendall(given)
 
     def stop_sending(self):
         """Ends the input of the session."""
@@ -31,14 +78,11 @@ class Client(peers.Peer):
 
     def rest(self):
         """All replies from here on, to the end of the session."""
-        while True:
-            ready, _, _ = select.select([self.connection], [], [], LIMIT)
-            piece = self.connection.recv(65_536) if ready else None
-            if piece is None:
-                raise TimeoutError(f"the session didn't end within {LIMIT} seconds")
-            if not piece:
-                return self.received
-            self.received += piece
+        pieces = [self.received]
+        while piece := self.connection.recv(65_536):
+            pieces.append(piece)
+        self.received = b""
+        return b"".join(pieces)
 
     def leave(self):
         """Ends the session well, and returns the replies that weren't read yet."""
@@ -65,9 +109,9 @@ class Server:
         self.port = port
         self.clients = []
 
-    def client(self):
+    def client(self, **how):
         """A connection to it, which is closed after the server's block at the latest."""
-        client = Client(self.port)
+        client = Client(self.port, **how)
         self.clients.append(client)
         return client
 

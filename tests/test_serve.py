@@ -6,7 +6,7 @@ import subprocess
 import threading
 
 from program import DEVICE_FAILED, LIMIT, Ended, ProgramTest, lines, run
-from servers import HERE, free_port, serving, sync
+from servers import HERE, PAUSE, free_port, serving, sync
 from shortage import PROGRAM
 
 
@@ -61,6 +61,48 @@ class Sessions(ProgramTest):
                 self.assertEqual(client.leave(), b"")
             self.assertEqual(server.ended(), Ended(0, lines("closed 16")))
 
+    def test_what_one_session_pushes_and_what_another_pushes_again(self):
+        with serving(2) as server:
+            first, second = server.client(), server.client()
+            delta = '[["A1",[7,2,"5"],[],[]]]'
+            self.assertEqual(first.ask(f"push {delta}"), "ok 1")
+            self.assertEqual(second.ask("set B1 =[.A1]*2"), "ok 2")
+            # it adds nothing, so its version is that of the sheet
+            self.assertEqual(second.ask(f"push {delta}"), "ok 2")
+            self.assertEqual(second.ask("pull 0"), f"delta 1 {delta}")
+            self.assertEqual(first.ask("pull 1 16"), 'delta 2 [["B1",[1,1,"=[.A1]*2"],[],[]]]')
+            self.assertEqual(first.ask("pull 2 16"), "end 2")
+            self.assertEqual(first.ask("get B1"), "val 10")
+            self.assertEqual((first.leave(), second.leave()), (b"", b""))
+            self.assertEqual(server.ended(), Ended(0, lines("closed 2")))
+
+    def test_rows_are_of_one_version_while_another_session_changes_them(self):
+        changes = 1_000
+        with serving(2) as server:
+            reader, writer = server.client(), server.client()
+            self.assertEqual(writer.ask("set A3 =[.A1]"), "ok 1")
+
+            def change():
+                for number in range(1, changes + 1):
+                    cells = (f'["{name}",[{number},2,"{number}"],[],[]]' for name in ("A1", "B1", "B3"))
+                    writer.ask(f"push [{','.join(cells)}]")
+                writer.leave()
+
+            thread = threading.Thread(target=change)
+            thread.start()
+            numbers, is_over = [], False
+            while not is_over:
+                is_over = not thread.is_alive()
+                self.assertEqual(reader.ask("rows A1:B3"), "rows 3")
+                rows = [reader.reply() for _ in range(3)]
+                number = rows[0].partition(",")[0]
+                self.assertEqual(rows, [f"{number},{number}", ",", f"{number or 0},{number}"])
+                numbers.append(int(number or 0))
+            self.assertEqual(numbers, sorted(numbers))
+            self.assertEqual(numbers[-1], changes)
+            reader.leave()
+            self.assertEqual(server.ended(), Ended(0, lines(f"closed {changes + 1}")))
+
     def test_sessions_that_edit_at_the_same_time_lose_nothing(self):
         edits = 200
         with serving(5, "--workers", "2") as server:
@@ -104,36 +146,45 @@ class Misbehaviour(ProgramTest):
             client.reset()
             self.assert_goes_on(server, 1)
 
+    def test_the_whole_lines_of_a_client_that_breaks_off_unanswered(self):
+        with serving(2) as server:
+            client, other = server.client(), server.client()
+            client.send(b"set A1 5\nset A2 6\nset A3 7")
+            client.reset()
+            other.wait_for("get A2", "val 6")
+            self.assertEqual(other.ask("rows A1:A3"), "rows 3")
+            self.assertEqual([other.reply() for _ in range(3)], ["5", "6", '""'])
+            other.leave()
+            self.assertEqual(server.ended(), Ended(0, lines("closed 2")))
+
     def test_a_client_that_is_killed_amid_a_line(self):
         with serving(2) as server:
             script = (
                 "import socket, time\n"
                 f"connection = socket.create_connection(('{HERE}', {server.port}))\n"
                 "connection.sendall(b'set A1 5\\nset B1 =[.A1')\n"
-                "print(flush=True)\n"
-                "time.sleep(600)\n"
+                "print(connection.recv(100), flush=True)\n"
+                f"time.sleep({LIMIT})\n"
             )
             with subprocess.Popen(["python3", "-c", script], stdout=subprocess.PIPE) as killed:
-                self.assertEqual(killed.stdout.readline(), b"\n")
+                self.assertEqual(killed.stdout.readline(), b"b'ok 1\\n'\n")
                 killed.kill()
-            # what the system sends on for it is at most a last line that is refused
+            # the system ends its input, and so what it had begun is a last line, which is refused
             self.assert_goes_on(server, 1)
 
     def test_a_client_that_never_reads(self):
         with serving(2) as server:
-            client = server.client()
-            client.connection.settimeout(1)
-            # far more replies than the system keeps for a reader
-            with self.assertRaises(TimeoutError):
-                client.connection.sendall(b"rows A1:CZ1024\n" * 1_000_000)
-            other = server.client()
-            for version in range(1, 100):
+            client, other = server.client(room=10_000), server.client()
+            self.assertEqual(client.ask(f"set A2 {'x' * 64}"), "ok 1")
+            # ten times as many bytes of replies as of lines, far more than the system keeps for a reader
+            self.assertTrue(client.send_to_the_brim(b"get A2\n" * 10_000, most=1_000))
+            for version in range(2, 101):
                 self.assertEqual(other.ask(f"set A1 {version}"), f"ok {version}")
                 self.assertEqual(other.ask("get A1"), f"val {version}")
             other.leave()
             self.assertTrue(server.is_running())
             client.reset()
-            self.assertEqual(server.ended(), Ended(0, lines("closed 99")))
+            self.assertEqual(server.ended(), Ended(0, lines("closed 100")))
 
     def test_a_client_that_sends_nothing(self):
         with serving(2) as server:
@@ -145,21 +196,29 @@ class Misbehaviour(ProgramTest):
             self.assertEqual(server.ended(), Ended(0, lines("closed 1")))
 
     def test_a_burst_of_10_mb_whose_replies_are_read_late(self):
+        label = "x" * 64
+        blocks = 1_000
+        # 6.9 MB of replies to 0.7 MB of lines, and few to 9.3 MB of other lines
+        given = [f"set A1 {label}", *["get A1"] * 100, *["y" * 1_032] * 9]
         with serving(2) as server:
-            client, other = server.client(), server.client()
-            block = lines("set A1 7", *["get A1"] * 1_400)
-            count = 10_000_000 // len(block) + 1
-            sender = threading.Thread(target=client.connection.sendall, args=(block * count,), daemon=True)
-            sender.start()
+            client, other = server.client(room=10_000), server.client()
+            block = lines(*given)
+            self.assertGreater(len(block), 10_000)
+
+            def send():
+                client.send(block * blocks)
+                client.stop_sending()
+
+            threading.Thread(target=send, daemon=True).start()
             for _ in range(100):
                 self.assertEqual(other.ask("get B1"), "val ")
             other.leave()
-            for version in range(1, count + 1):
-                self.assertEqual(client.reply(), f"ok {version}")
-                self.assertEqual({client.reply() for _ in range(1_400)}, {"val 7"})
-            sender.join(LIMIT)
-            self.assertEqual(client.leave(), b"")
-            self.assertEqual(server.ended(), Ended(0, lines(f"closed {count}")))
+            self.assertTrue(server.is_running())
+            found = client.rest()
+            self.assertEqual(server.ended(), Ended(0, lines(f"closed {blocks}")))
+        replies = [*[f"val {label}"] * 100, *["err 16 command"] * 9]
+        expected = b"".join(lines(f"ok {version}", *replies) for version in range(1, blocks + 1))
+        self.assertTrue(found == expected, (len(found), len(expected), found[-200:]))
 
     def test_a_line_that_is_too_long(self):
         with serving(2) as server:
@@ -198,50 +257,56 @@ class Replicas(ProgramTest):
             self.assertEqual(first.ended(), Ended(0, lines("closed 40")))
             self.assertEqual(second.ended(), Ended(0, lines("closed 4")))
 
-    def test_a_ring_of_three_replicas_comes_to_show_the_same(self):
-        rounds, edits = 3, 60
-        with serving(16) as one, serving(16, "--replica", "2") as two, serving(16, "--replica", "3") as three:
+    def test_a_ring_of_three_replicas_that_are_edited_meanwhile_comes_to_show_the_same(self):
+        sessions, steps, rounds = 16, 200, 3
+        with serving(sessions) as one, serving(sessions, "--replica", "2") as two, \
+                serving(sessions, "--replica", "3") as three:
             ring = (one, two, three)
             clients = [server.client() for server in ring]
             for client in clients:
                 client.ask("set A1 @tally")
                 client.ask("set B1 @choice")
-                client.ask("set C1 =[.A1]*2+[.B1]")
+                client.ask("set C1 =[.A1]*2")
+            is_over = threading.Event()
+            added = []
 
             def edit(number, client):
-                for step in range(1, edits + 1):
-                    client.ask("add A1 2")
-                    client.ask(f"choose B1 {(number * edits + step) % 64}")
-                    client.ask(f"unchoose B1 {(number * edits + step - 1) % 64}")
-                    client.ask(f"set D{step} {number} {step}")
+                for step in range(1, steps + 1):
+                    if is_over.wait(PAUSE):
+                        break
+                    added.append(client.ask("add A1 2"))
+                    client.ask(f"choose B1 {(number + step) % 64}")
+                    client.ask(f"unchoose B1 {(number + step - 1) % 64}")
+                    client.ask(f"set D{step % 60 + 1} {number} {step}")
 
             threads = [threading.Thread(target=edit, args=pair) for pair in enumerate(clients)]
             for thread in threads:
                 thread.start()
-            synced = 0
             for around in range(rounds):
+                # before the last round all edits are made
                 if around == rounds - 1:
+                    is_over.set()
                     for thread in threads:
                         thread.join(LIMIT)
                 for first, second in ((one, two), (two, three), (three, one), (two, one), (one, three), (three, two)):
                     ended = sync(first, second)
                     self.assertEqual((ended.status, ended.error), (0, b""))
-                    self.assertTrue(ended.output.startswith(b"synced "))
-                    synced += 1
-            self.assertEqual(synced, 6 * rounds)
+                    self.assertRegex(ended.output, rb"\Asynced [0-9]+\n\Z")
+            self.assertEqual({reply[:3] for reply in added}, {"ok "})
             shown = []
             for client in clients:
-                client.send(lines("get A1", "get C1", f"rows A1:D{edits}"))
-                self.assertEqual(client.reply(), f"val {3 * 2 * edits}")
+                client.send(lines("get A1", "get C1", "rows A1:D61"))
+                self.assertEqual(client.reply(), f"val {2 * len(added)}")
+                self.assertEqual(client.reply(), f"val {4 * len(added)}")
                 shown.append(client.leave())
             self.assertEqual(shown[1:], shown[:-1])
             # the sessions that are left, for each server ends only then
             for server in ring:
-                for _ in range(16 - 1 - 4 * rounds):
+                for _ in range(sessions - 1 - 4 * rounds):
                     server.client().leave()
                 ended = server.ended()
                 self.assertEqual((ended.status, ended.error), (0, b""))
-                self.assertTrue(ended.output.startswith(b"closed "))
+                self.assertRegex(ended.output, rb"\Aclosed [0-9]+\n\Z")
 
 
 class Ends(ProgramTest):
@@ -281,10 +346,12 @@ class Ends(ProgramTest):
             first, second = server.client(), server.client()
             self.assertEqual(first.ask("set A1 5"), "ok 1")
             second.send(b"get A1\n")
+            self.assertFalse(second.is_answered_within(0.5))
+            self.assertEqual(first.ask("set A1 6"), "ok 2")
             first.leave()
-            self.assertEqual(second.reply(), "val 5")
+            self.assertEqual(second.reply(), "val 6")
             second.leave()
-            self.assertEqual(server.ended(), Ended(0, lines("closed 1")))
+            self.assertEqual(server.ended(), Ended(0, lines("closed 2")))
 
     def test_a_connection_that_cannot_be_accepted(self):
         # one more connection than the program may have open files
