@@ -31,11 +31,13 @@ class Client(peers.Peer):
 
     def __init__(self, port, room=None):
         """Connects to a port of this machine; the system keeps some `room` bytes of replies that aren't read yet."""
-        self.connection = socket.socket()
-        if room is not None:
-            self.connection.setsockopt(socket.SOL_SOCKET, socket.SO_RCVBUF, room)
-        self.connection.settimeout(LIMIT)
-        self.connection.connect((HERE, port))
+        with contextlib.ExitStack() as undo:
+            self.connection = undo.enter_context(socket.socket())
+            if room is not None:
+                self.connection.setsockopt(socket.SOL_SOCKET, socket.SO_RCVBUF, room)
+            self.connection.settimeout(LIMIT)
+            self.connection.connect((HERE, port))
+            undo.pop_all()
         self.connection.setsockopt(socket.IPPROTO_TCP, socket.TCP_NODELAY, 1)
         super().__init__(None, self.connection.fileno(), self.connection.fileno())
 

@@ -1,11 +1,13 @@
 """A program that is refused memory: it is started with the library of `refuse.c`, which counts its requests."""
+import contextlib
 import os
 import subprocess
 import sys
 from concurrent.futures import ThreadPoolExecutor
 from typing import NamedTuple
 
-from program import LIMIT, TOP, Ended
+from program import LIMIT, TOP, Ended, lines, started
+from servers import Client, free_port
 
 # Started without the launcher, whose own requests aren't meant; `./test` has it built.
 PROGRAM = TOP / "crates/sheet/out/sheet"
@@ -30,19 +32,58 @@ def build(folder):
     return library
 
 
-def run_short(library, words, given, first, last):
-    """Runs the program with these words on a file to its end, and refuses the requests from the first to the last."""
-    with open(given, "rb") as stdin, open(os.memfd_create("requests"), "r+b") as count:
+class ShortServer(NamedTuple):
+    """What each session replied, how the server of them ended, and how many requests for memory it made."""
+
+    replies: list
+    ended: Ended
+    requests: int
+
+
+@contextlib.contextmanager
+def refusing(library, first, last):
+    """How a program is started that is refused the requests from the first to the last, and the file that counts."""
+    with open(os.memfd_create("requests"), "r+b") as count:
         count.truncate(8)
         refused = {"REFUSE_FIRST": str(first), "REFUSE_LAST": str(last), "REFUSE_COUNT": str(count.fileno())}
-        environment = {**os.environ, **refused, "LD_PRELOAD": str(library)}
-        how = {"stdin": stdin, "capture_output": True, "env": environment, "pass_fds": [count.fileno()]}
-        ran = subprocess.run([PROGRAM, *words], timeout=LIMIT, **how)
-        requests = int.from_bytes(count.read(8), sys.byteorder)
-        return Short(Ended(ran.returncode, ran.stdout, ran.stderr), requests)
+        yield {"env": {**os.environ, **refused, "LD_PRELOAD": str(library)}, "pass_fds": [count.fileno()]}, count
 
 
-def run_each(library, words, given, spans):
-    """Runs the program once for each span of refused requests; what it gives is in the order of the spans."""
+def requests_in(count):
+    """How many requests this file has counted."""
+    return int.from_bytes(count.read(8), sys.byteorder)
+
+
+def run_short(library, words, given, first, last):
+    """Runs the program with these words on a file to its end, and refuses the requests from the first to the last."""
+    with open(given, "rb") as stdin, refusing(library, first, last) as (how, count):
+        ran = subprocess.run([PROGRAM, *words], stdin=stdin, capture_output=True, timeout=LIMIT, **how)
+        return Short(Ended(ran.returncode, ran.stdout, ran.stderr), requests_in(count))
+
+
+def talk(port, given):
+    """What a session replies to these bytes; nothing where its connection is refused, or closed before it was read."""
+    with contextlib.suppress(ConnectionError), contextlib.closing(Client(port)) as client:
+        client.send(given)
+        return client.leave()
+    return b""
+
+
+def serve_short(library, scripts, first, last):
+    """Has a server answer each of these bytes in a session of its own, one after another, and refuses the requests from
+    the first to the last. The output is what comes after `listening`."""
+    port = free_port()
+    words = ["serve", "--port", str(port), "--sessions", str(len(scripts))]
+    with refusing(library, first, last) as (how, count):
+        files = {"stdin": subprocess.DEVNULL, "stdout": subprocess.PIPE}
+        with started(*words, program=PROGRAM, **files, **how) as server:
+            is_listening = server.stdout.readline() == lines(f"listening {port}")
+            replies = [talk(port, given) if is_listening else b"" for given in scripts]
+            output, error = server.communicate(timeout=LIMIT)
+            return ShortServer(replies, Ended(server.returncode, output, error), requests_in(count))
+
+
+def each(start, spans):
+    """Starts a program for each span of refused requests; what it gives is in the order of the spans."""
     with ThreadPoolExecutor(AT_ONCE) as pool:
-        yield from pool.map(lambda span: run_short(library, words, given, *span), spans)
+        yield from pool.map(lambda span: start(*span), spans)

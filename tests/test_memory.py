@@ -1,11 +1,14 @@
-"""Memory that is refused: the line says so, nothing half done stays, and the session goes on.
+"""Memory that is refused: the line says so, nothing half done stays, and the session goes on, alone or at a server.
 
 Each single request for memory is refused in turn; then all requests from some of them on, at which the program has none
 left for anything. What comes is compared with what comes where memory is ample.
 """
+import os
+
 from program import Ended, ProgramTest, lines
-from shortage import ALL, build, run_each, run_short
+from shortage import ALL, build, each, run_short, serve_short
 from sizes import COLUMNS, LONGEST_LINE, name, pushes
+from test_sync import FakePeer, in_turn
 
 OUT_OF_MEMORY = b"err 19 memory\n"
 FAILED = Ended(3, b"", OUT_OF_MEMORY)
@@ -69,7 +72,29 @@ def looks():
     yield from ("pull 0", "pull 3", "pull 80 3", "get AN20", "get A20")
 
 
+def shared():
+    """Lines of each kind for a shared sheet. Each that changes it comes again, and after each some cells are shown."""
+    wide = ",".join(f'["{name(column, 5)}",[9,2,"=[.A{column % 4 + 1}]+1"],[],[]]' for column in range(12))
+    changing = (
+        "set A1 5", "set A2 item", f"set A3 {'t' * 64}", "set B1 =[.A1]*2", "set B2 =SUM([.A1:.B1])", "set A2 ",
+        "set C1 @tally", "add C1 5", "sub C1 2", "set D1 @choice", "choose D1 7", "unchoose D1 7", "set B1 =[.B2]",
+        """push [["A4",[9,2,"'theirs"],[],[]]]""", f"push [{wide}]",
+        'push [["C1",null,[[2,5,1]],[]],["D1",null,[],[[3,2,1,0],[7,1,1,1]]]]',
+    )
+    for line in changing:
+        for _ in range(2):
+            yield from (line, *(f"get {shown}" for shown in ("A1", "A2", "A3", "A4", "B1", "B2", "C1", "D1", "L5")))
+    yield from ("rows A1:E5", "rows A1:CZ2")
+    yield from ("walk", "get A0", "set A1 =bad", "add A1 5", "choose C1 5", "push []", "pull 999", "rows A1")
+    yield from ("get A1", "get B1", "get D1", "pull 0", "pull 0 16", "pull 16 16", "pull 999 16")
+
+
 SCRIPT = tuple(line.encode() for line in (*edits(), *deltas(), *refusals(), *changes(), *looks()))
+# Two sessions, one after the other.
+SESSIONS = (
+    tuple(line.encode() for line in shared()),
+    tuple(line.encode() for line in ("rows A1:E5", "set E1 =[.B2]", "get C1", "pull 0 16", "pull 16 16", "get E1")),
+)
 TABLE = lines(
     "name,price,count,total",
     '"tea, green",7,3,=[.B2]*[.C2]',
@@ -124,14 +149,24 @@ class Refused(ProgramTest):
 
         Hands `check` the first and the last request that is refused, and how the program ended.
         """
-        last = self.ample(words, given).requests
-        self.assertGreaterEqual(last, first)
-        spans = [(number, number) for number in range(first, last + 1)]
-        spans += [(number, ALL) for number in range(first, last + 1, APART)]
-        for span, short in zip(spans, run_each(self.library, words, self.file(given), spans)):
+        file = self.file(given)
+
+        def start(*span):
+            return run_short(self.library, words, file, *span)
+
+        for span, short in self.each(start, first):
             with self.subTest(words=words, span=span):
                 self.assertGreaterEqual(short.requests, span[0])
                 check(*span, short.ended)
+
+    def each(self, start, first=1):
+        """Starts a program again and again, and refuses each request from this one on: first it alone, then with all
+        after it. Gives each span of refused requests, and what it came to."""
+        last = start(ALL, ALL).requests
+        self.assertGreaterEqual(last, first)
+        spans = [(number, number) for number in range(first, last + 1)]
+        spans += [(number, ALL) for number in range(first, last + 1, APART)]
+        return zip(spans, each(start, spans))
 
     def replies_of(self, script, ended):
         """The replies to these lines, one for each, of a program that ended well."""
@@ -148,7 +183,10 @@ class Refused(ProgramTest):
 
     def refused_of(self, script, ended):
         """The places of the lines that were refused memory. The others have the replies of a script without these."""
-        replies = self.replies_of(script, ended)
+        return self.refused_in(script, self.replies_of(script, ended))
+
+    def refused_in(self, script, replies):
+        """The places of the lines that these replies refuse memory. The others are those to a script without these."""
         refused = [place for place, reply in enumerate(replies) if reply == OUT_OF_MEMORY]
         others = tuple(line for place, line in enumerate(script) if place not in refused)
         self.assertEqual([reply for reply in replies if reply != OUT_OF_MEMORY], self.replies(others))
@@ -184,6 +222,63 @@ class Refused(ProgramTest):
         # the part of a thread that isn't there is done all the same
         self.assertIn([], refused)
         self.assertIn([len(sheet)], refused)
+
+    def check_server(self, last, short):
+        """Checks a server that was refused requests up to the last, and tells where that met it first."""
+        if short.ended.status != 0:
+            self.assertEqual((short.replies, short.ended), ([b""] * len(SESSIONS), FAILED))
+            return "opening"
+        # a session that finds no memory at its start is closed unread, and the others go on
+        read = [place for place, replies in enumerate(short.replies) if replies]
+        script = tuple(line for place in read for line in SESSIONS[place])
+        replies = [reply for place in read for reply in split(short.replies[place])]
+        self.assertEqual(len(replies), len(script))
+        refused = self.refused_in(script, replies)
+        versions = [int(reply.split()[1]) for reply in replies if reply.startswith(b"ok ")]
+        self.assertEqual(short.ended, Ended(0, lines(f"closed {max(versions, default=0)}")))
+        if last == ALL:
+            self.assertNotIn(b"get", [script[place].split()[0] for place in refused])
+        else:
+            ample = self.replies(script)
+            self.assertLessEqual(len(SESSIONS) - len(read) + len(refused), 1)
+            self.assertTrue(all(takes_memory(script[place], ample[place]) for place in refused))
+        if not short.replies[0]:
+            return "start"
+        return "line" if refused else "nowhere"
+
+    def test_the_sessions_of_a_server(self):
+        scripts = [text(script) for script in SESSIONS]
+        met = {}
+        for span, short in self.each(lambda *span: serve_short(self.library, scripts, *span)):
+            with self.subTest(span=span):
+                self.assertGreaterEqual(short.requests, span[0])
+                where = self.check_server(span[1], short)
+                if span[1] != ALL:
+                    met.setdefault(where, []).append(span[0])
+        self.assertLess(max(met["opening"]), min(met["start"]))
+        self.assertLess(max(met["start"]), min(met["line"]))
+
+    def test_a_sync(self):
+        deltas = [f'[["A{row}",[{row},1,"{row}"],[],[]]]' for row in (1, 2)]
+        pulled = [lines(f"delta {version} {delta}") for version, delta in enumerate(deltas, 1)]
+        ends = {b"end 2\n": Ended(0, b"synced 2\n"), b"err 17 version\n": Ended(3, b"", b"err 17 version\n")}
+        for last_reply, said in ends.items():
+            pushed = {}
+
+            def start(*span):
+                peers = (FakePeer(in_turn(*pulled, last_reply)), FakePeer(lambda _: b"ok 1\n"))
+                words = ["sync", "--from", str(peers[0].port), "--to", str(peers[1].port)]
+                short = run_short(self.library, words, os.devnull, *span)
+                for peer in peers:
+                    peer.close()
+                pushed[span] = peers[1].asked
+                return short
+
+            for span, short in self.each(start):
+                with self.subTest(said=said, span=span):
+                    self.assertIn(short.ended, (said, FAILED))
+                    done = len(deltas) if short.ended == said else len(pushed[span])
+                    self.assertEqual(pushed[span], [f"push {delta}" for delta in deltas[:done]])
 
     def test_a_table(self):
         shown = self.ample(["table"], TABLE).ended
