@@ -14,7 +14,7 @@ from program import LIMIT, Ended, lines, run, started
 HERE = "127.0.0.1"
 # The ports for servers, each once. They are below those that connections are given, one of which could take a port
 # between the look at it and its use.
-PORTS = itertools.count(10_000 + os.getpid() % 20_000)
+PORTS = itertools.count(10_000 + os.getpid() % 18_000)
 # The pause between two tries, in seconds.
 PAUSE = 0.01
 

@@ -257,6 +257,48 @@ class Replicas(ProgramTest):
             self.assertEqual(first.ended(), Ended(0, lines("closed 40")))
             self.assertEqual(second.ended(), Ended(0, lines("closed 4")))
 
+    def test_each_kind_of_content_is_handed_on(self):
+        with serving(2) as first, serving(2, "--replica", "2") as second:
+            one, two = first.client(), second.client()
+            for version, line in enumerate((
+                "set A1 -9223372036854775808", 'set A2 "tea", \\n', "set A3 äöü 漢字", "set A4 '=[.A1]", "set A5 gone",
+                "set A5 ", "set B1 =IF([.B2]<5;[.B2]*2;[.A3])", "set B2 @tally", "add B2 7", "sub B2 3",
+                "set B3 @choice", "choose B3 63", "choose B3 0", "choose B3 5", "unchoose B3 5", "set B4 =[.B4]",
+            ), 1):
+                self.assertEqual(one.ask(line), f"ok {version}")
+            self.assertEqual(sync(first, second), Ended(0, lines("synced 1")))
+            self.assertEqual(two.ask("rows A1:B5"), "rows 5")
+            self.assertEqual([two.reply() for _ in range(5)], [
+                "-9223372036854775808,8", '"""tea"", \\n",4', 'äöü 漢字,"{0,63}"', "=[.A1],#CYCLE!", ",",
+            ])
+            self.assertEqual((one.leave(), two.leave()), (b"", b""))
+            self.assertEqual(first.ended(), Ended(0, lines("closed 16")))
+            self.assertEqual(second.ended(), Ended(0, lines("closed 1")))
+
+    def test_of_two_contents_of_one_time_that_of_the_greater_replica_stays(self):
+        with serving(4) as first, serving(4, "--replica", "2") as second:
+            one, two = first.client(), second.client()
+            self.assertEqual(one.ask("set A1 apples"), "ok 1")
+            self.assertEqual(two.ask("set A1 pears"), "ok 1")
+            self.assertEqual(sync(second, first), Ended(0, lines("synced 1")))
+            self.assertEqual(sync(first, second), Ended(0, lines("synced 1")))
+            self.assertEqual((one.ask("get A1"), two.ask("get A1")), ("val pears", "val pears"))
+            self.assertEqual(one.ask("set A1 plums"), "ok 3")
+            self.assertEqual(sync(first, second), Ended(0, lines("synced 1")))
+            self.assertEqual(two.ask("get A1"), "val plums")
+            self.assertEqual((one.leave(), two.leave()), (b"", b""))
+            self.assertEqual(first.ended(), Ended(0, lines("closed 3")))
+            self.assertEqual(second.ended(), Ended(0, lines("closed 2")))
+
+    def test_a_replica_is_handed_to_itself(self):
+        with serving(3) as server:
+            client = server.client()
+            self.assertEqual(client.ask("set A1 5"), "ok 1")
+            self.assertEqual(sync(server, server), Ended(0, lines("synced 1")))
+            self.assertEqual(client.ask("pull 1 16"), "end 1")
+            client.leave()
+            self.assertEqual(server.ended(), Ended(0, lines("closed 1")))
+
     def test_a_ring_of_three_replicas_that_are_edited_meanwhile_comes_to_show_the_same(self):
         sessions, steps, rounds = 16, 200, 3
         with serving(sessions) as one, serving(sessions, "--replica", "2") as two, \
@@ -319,6 +361,14 @@ class Ends(ProgramTest):
         with open("/dev/full", "wb") as full:
             ended = run("serve", "--port", str(free_port()), "--sessions", "1", stdout=full)
         self.assertEqual(ended, Ended(1, b"", DEVICE_FAILED))
+
+    def test_an_output_whose_reader_has_gone_before_the_end(self):
+        with serving(1) as server:
+            server.session.stdout.close()
+            client = server.client()
+            self.assertEqual(client.ask("set A1 5"), "ok 1")
+            client.leave()
+            self.assertEqual(server.ended(), Ended(1, b"", DEVICE_FAILED))
 
     def test_a_signal_to_end_it(self):
         with serving(2) as server:
