@@ -75,8 +75,9 @@ class Client(peers.Peer):
         self.connection.sendall(given)
 
     def stop_sending(self):
-        """Ends the input of the session."""
-        self.connection.shutdown(socket.SHUT_WR)
+        """Ends the input of the session. That the connection was reset meanwhile, the next read tells."""
+        with contextlib.suppress(OSError):
+            self.connection.shutdown(socket.SHUT_WR)
 
     def rest(self):
         """All replies from here on, to the end of the session."""
