@@ -22,7 +22,10 @@ PAUSE = 0.01
 def free_port():
     """A port on which nothing listens."""
     for port in PORTS:
-        with contextlib.suppress(OSError), socket.create_server((HERE, port)):
+        with contextlib.suppress(OSError), socket.socket() as look:
+            # it doesn't listen, so it hinders nobody where a program that is just being started still holds it
+            look.setsockopt(socket.SOL_SOCKET, socket.SO_REUSEADDR, 1)
+            look.bind((HERE, port))
             return port
 
 

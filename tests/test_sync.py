@@ -42,9 +42,9 @@ class FakePeer:
     def close(self):
         """Ends it, whether it was asked or not."""
         with contextlib.suppress(OSError):
-            self.listener.shutdown(socket.SHUT_RDWR)
-        self.listener.close()
+            socket.create_connection(("127.0.0.1", self.port), LIMIT).close()
         self.thread.join(LIMIT)
+        self.listener.close()
 
 
 def in_turn(*replies):
