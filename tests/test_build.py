@@ -32,7 +32,7 @@ echo "rt: chose --jobs 2 for middle" >&2
 echo "fn middle::first: not proved"
 exit 1
 """
-BEGINS = b"sheet: building, which proves what changed; the first time this takes ten to fifteen minutes\n"
+BEGINS = b"sheet: building, which proves what changed; the first time this takes about half an hour\n"
 
 
 class Build(ProgramTest):
