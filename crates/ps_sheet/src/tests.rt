@@ -3,6 +3,7 @@
 mod cycles;
 mod edits;
 mod gates;
+mod jobs;
 mod long;
 mod orders;
 mod prepared;

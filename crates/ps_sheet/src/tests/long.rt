@@ -2,12 +2,15 @@
 //! numbers are worked by hand from the rules.
 
 ghost use Rattle.std.specs.Prelude.{◌≤◌};
-ghost use Rattle.ps_grid.specs.declared.size.TheConstants.{CELLS, COLUMNS};
+ghost use Rattle.ps_grid.specs.declared.size.TheConstants.{CELLS};
 
-use crate::tests::script::Step::{Enter, Show};
-use crate::tests::script::{CYCLE, Figures, apply, figures_of, go_on};
-use crate::{Batch, Edit, Sheet};
-use ps_content::{Content, read_entry};
+use crate::tests::jobs::{Job, at_sheet};
+use crate::tests::script::Seen::Num;
+use crate::tests::script::Step::{self, Alike, Chain, Enter, Fan, Put, Sequence, Show};
+use crate::tests::script::{CYCLE, Figures, apply, check_figures, play, read_pieces};
+use crate::{Batch, Edit, Report, Sheet};
+use Many::{Halves, SecondRow, Wide};
+use ps_content::Content;
 use ps_grid::{COLUMNS, Cell, NAME_BYTES, Refusal};
 use ps_value::Value;
 use ps_workers::workers_worth;
@@ -24,166 +27,109 @@ fn at(rt: &impl Abort, place: usize) -> Cell {
 fn one_more(alloc: Global, cell: Cell) -> Result<Content, Refusal> {
     let mut name = [0; NAME_BYTES];
     let length = cell.write(&mut name);
-    let mut entry = Vec::new(alloc);
-    entry.extend_from_slice(b"=[.")?;
-    entry.extend_from_slice(&name[..length])?;
-    entry.extend_from_slice(b"]+1")?;
-    read_entry(alloc, &entry)
+    read_pieces(alloc, &[b"=[.", &name[..length], b"]+1"])
 }
 
-/// The cell at a place gets a content, with this report.
-fn put<R: Abort + Threads + Sync>(
+/// The cell at a place becomes one more than another one.
+fn link<R: Abort + Threads + Sync>(
     rt: &R,
     alloc: Global,
     sheet: &mut Sheet,
     place: usize,
-    content: Content,
-    figures: Figures,
-) -> Result<(), Refusal> {
-    let report = apply(rt, alloc, sheet, Edit::Set(at(rt, place), content))?;
-    assert_eq!(rt; figures_of(report), figures, "{place}");
-    Ok(())
+    other: usize,
+) -> Result<Report, Refusal> {
+    let content = one_more(alloc, at(rt, other))?;
+    apply(rt, alloc, sheet, Edit::Set(at(rt, place), content))
 }
 
-/// So many cells in order, the first of which is 0 and each other one more than the cell before it.
-fn chain<R: Abort + Threads + Sync>(
+/// The first cells in order, each but the first one more than the cell before it.
+pub(crate) fn chain<R: Abort + Threads + Sync>(
     rt: &R,
     alloc: Global,
     sheet: &mut Sheet,
     cells: usize,
-) -> Result<(), Refusal>
-    requires { cells ≤ CELLS }
-{
-    put(rt, alloc, sheet, 0, Content::Number(0), [1, 0, 0, 0])?;
+) {
     for place in 1..cells {
-        let content = one_more(alloc, at(rt, place - 1))?;
-        put(
-            rt,
-            alloc,
-            sheet,
-            place,
-            content,
-            [place as u64 + 1, 1, 0, 1],
-        )?;
+        let figures = [place as u64 + 1, 1, 0, 1];
+        let ended = link(rt, alloc, sheet, place, place - 1);
+        check_figures(rt, ended, figures, "a chain");
     }
-    Ok(())
+}
+
+/// The cells in order from `A2` to before a place, each one more than `A1`.
+pub(crate) fn fan<R: Abort + Threads + Sync>(rt: &R, alloc: Global, sheet: &mut Sheet, end: usize) {
+    for place in COLUMNS..end {
+        let figures = [(place - COLUMNS) as u64 + 1, 1, 0, 1];
+        check_figures(rt, link(rt, alloc, sheet, place, 0), figures, "a fan");
+    }
 }
 
 /// The cells from one place to before another show numbers in sequence.
-fn show_sequence(rt: &impl Abort, sheet: &Sheet, from: usize, to: usize, first: usize)
-    requires { (to ≤ CELLS) × (first ≤ CELLS) }
-{
+pub(crate) fn show_sequence(rt: &impl Abort, sheet: &Sheet, from: usize, to: usize, first: i64) {
+    let mut number = first;
     for place in from..to {
-        let value = Value::Num((first + (place - from)) as i64);
-        assert!(rt; sheet.shown(at(rt, place)) == value, "{place}");
+        assert!(rt; sheet.shown(at(rt, place)) == Value::Num(number), "{place}");
+        number = number.wrapping_add(1);
     }
 }
 
 /// The cells from one place to before another show the same.
-fn show_alike(rt: &impl Abort, sheet: &Sheet, from: usize, to: usize, value: Value) {
+pub(crate) fn show_alike(rt: &impl Abort, sheet: &Sheet, from: usize, to: usize, value: Value) {
     for place in from..to {
         assert!(rt; sheet.shown(at(rt, place)) == value, "{place}");
     }
 }
 
 /// A chain is changed at its first cell, closed on its last one, and opened again.
-fn close_and_open<R: Abort + Threads + Sync>(
-    rt: &R,
-    alloc: Global,
-    sheet: &mut Sheet,
-) -> Result<(), Refusal> {
-    chain(rt, alloc, sheet, 6_656)?;
-    let changed = [
-        Enter("A1", "5", [6_657, 6_655, 0, 6_655]),
-        Show("CZ64", Value::Num(6_660)),
-        Enter("A1", "=[.CZ64]", [6_658, 0, 6_656, 0]),
-    ];
-    go_on(rt, alloc, sheet, &changed)?;
-    show_alike(rt, sheet, 0, 6_656, CYCLE);
-    let opened = [Enter("A1", "5", [6_659, 6_655, 0, 6_655])];
-    go_on(rt, alloc, sheet, &opened)?;
-    show_sequence(rt, sheet, 0, 6_656, 5);
-    Ok(())
-}
+static CLOSED_AND_OPENED: [Step; 8] = [
+    Enter("A1", "0", [1, 0, 0, 0]),
+    Chain(6_656),
+    Enter("A1", "5", [6_657, 6_655, 0, 6_655]),
+    Show("CZ64", Num(6_660)),
+    Enter("A1", "=[.CZ64]", [6_658, 0, 6_656, 0]),
+    Alike(0, 6_656, CYCLE),
+    Enter("A1", "5", [6_659, 6_655, 0, 6_655]),
+    Sequence(0, 6_656, 5),
+];
 
 /// A change of the first cell of a chain goes through all 6,655 formulas; closed on its last cell, the chain is a
 /// cycle, and a number opens it again.
 #[test]
 fn a_chain_of_6656_cells_closes_and_opens(rt: HostRuntime) -> Result<(), Refusal> {
-    let mut sheet = Sheet::open(rt.alloc(), 1, 1)?;
-    close_and_open(&rt, rt.alloc(), &mut sheet)
+    play(&rt, rt.alloc(), 1, &CLOSED_AND_OPENED)
 }
 
 /// A chain is closed on its last cell, and opened in its middle.
-fn open_in_the_middle<R: Abort + Threads + Sync>(
-    rt: &R,
-    alloc: Global,
-    sheet: &mut Sheet,
-) -> Result<(), Refusal> {
-    chain(rt, alloc, sheet, 1_000)?;
-    let closed = [Enter("A1", "=[.BL10]+1", [1_001, 0, 1_000, 0])];
-    go_on(rt, alloc, sheet, &closed)?;
-    show_alike(rt, sheet, 0, 1_000, CYCLE);
-    let opened = [Enter("CF5", "7", [1_002, 999, 0, 999])];
-    go_on(rt, alloc, sheet, &opened)?;
-    show_sequence(rt, sheet, 499, 1_000, 7);
-    show_sequence(rt, sheet, 0, 499, 508);
-    Ok(())
-}
+static OPENED_IN_THE_MIDDLE: [Step; 7] = [
+    Enter("A1", "0", [1, 0, 0, 0]),
+    Chain(1_000),
+    Enter("A1", "=[.BL10]+1", [1_001, 0, 1_000, 0]),
+    Alike(0, 1_000, CYCLE),
+    Enter("CF5", "7", [1_002, 999, 0, 999]),
+    Sequence(499, 1_000, 7),
+    Sequence(0, 499, 508),
+];
 
 /// A cycle of 1,000 cells, from `A1` to `BL10`; a number in `CF5`, the 500th, ends it for all of them.
 #[test]
 fn a_cycle_of_1000_cells_opens_in_its_middle(rt: HostRuntime) -> Result<(), Refusal> {
-    let mut sheet = Sheet::open(rt.alloc(), 1, 1)?;
-    open_in_the_middle(&rt, rt.alloc(), &mut sheet)
-}
-
-/// The first cells in order from `A2` on, each one more than `A1`.
-pub(crate) fn fan<R: Abort + Threads + Sync>(
-    rt: &R,
-    alloc: Global,
-    sheet: &mut Sheet,
-    cells: usize,
-) -> Result<(), Refusal>
-    requires { cells ≤ CELLS }
-{
-    for before in 0..cells {
-        let content = one_more(alloc, at(rt, 0))?;
-        put(
-            rt,
-            alloc,
-            sheet,
-            COLUMNS + before,
-            content,
-            [before as u64 + 1, 1, 0, 1],
-        )?;
-    }
-    Ok(())
+    play(&rt, rt.alloc(), 1, &OPENED_IN_THE_MIDDLE)
 }
 
 /// A cell to which 6,000 others refer is changed, and then one to which none refers.
-fn reach_all<R: Abort + Threads + Sync>(
-    rt: &R,
-    alloc: Global,
-    sheet: &mut Sheet,
-) -> Result<(), Refusal> {
-    fan(rt, alloc, sheet, 6_000)?;
-    let changed = [
-        Enter("A1", "5", [6_001, 6_000, 0, 1]),
-        Enter("B1", "9", [6_002, 0, 0, 0]),
-    ];
-    go_on(rt, alloc, sheet, &changed)?;
-    show_alike(rt, sheet, COLUMNS, COLUMNS + 6_000, Value::Num(6));
-    Ok(())
-}
+static ALL_REACHED: [Step; 4] = [
+    Fan(COLUMNS + 6_000),
+    Enter("A1", "5", [6_001, 6_000, 0, 1]),
+    Enter("B1", "9", [6_002, 0, 0, 0]),
+    Alike(COLUMNS, COLUMNS + 6_000, Num(6)),
+];
 
 /// Six thousand formulas that refer to one cell are evaluated when it changes, and not when another one does, with the
 /// same values and the same report for each number of workers.
 #[test]
 fn a_change_reaches_6000_cells_at_once(rt: HostRuntime) -> Result<(), Refusal> {
     for workers in [1, 2, 16] {
-        let mut sheet = Sheet::open(rt.alloc(), 1, workers)?;
-        reach_all(&rt, rt.alloc(), &mut sheet)?;
+        at_sheet(&rt, rt.alloc(), 1, workers, Job::Steps(&ALL_REACHED))?;
     }
     Ok(())
 }
@@ -191,40 +137,22 @@ fn a_change_reaches_6000_cells_at_once(rt: HostRuntime) -> Result<(), Refusal> {
 /// So many cells are worth sixteen workers: 640 rows.
 const WIDE: usize = 640 * COLUMNS;
 
-/// The first cells in order from `A2` on, each one more than `A1`, as one batch.
-fn wide(rt: &impl Abort, alloc: Global) -> Result<Batch, Refusal> {
-    let mut cells = Vec::new(alloc);
-    for before in 0..WIDE {
-        cells.push((at(rt, COLUMNS + before), one_more(alloc, at(rt, 0))?))?;
-    }
-    Ok(Batch::new(cells).expect(rt, "a batch"))
-}
-
 /// A cell to which so many others refer that their level is divided among workers is changed, and then one to which
 /// none refers.
-fn reach_wide<R: Abort + Threads + Sync>(
-    rt: &R,
-    alloc: Global,
-    sheet: &mut Sheet,
-) -> Result<(), Refusal> {
-    put_all(rt, alloc, sheet, wide(rt, alloc)?, [1, WIDE as u64, 0, 1])?;
-    show_alike(rt, sheet, COLUMNS, COLUMNS + WIDE, Value::Num(1));
-    let changed = [
-        Enter("A1", "5", [2, WIDE as u64, 0, 1]),
-        Enter("B1", "9", [3, 0, 0, 0]),
-    ];
-    go_on(rt, alloc, sheet, &changed)?;
-    show_alike(rt, sheet, COLUMNS, COLUMNS + WIDE, Value::Num(6));
-    Ok(())
-}
+static WIDE_REACHED: [Step; 5] = [
+    Put(Wide, [1, WIDE as u64, 0, 1]),
+    Alike(COLUMNS, COLUMNS + WIDE, Num(1)),
+    Enter("A1", "5", [2, WIDE as u64, 0, 1]),
+    Enter("B1", "9", [3, 0, 0, 0]),
+    Alike(COLUMNS, COLUMNS + WIDE, Num(6)),
+];
 
 /// A level of 66,560 formulas is divided among 1, 2 and 16 workers, with the same values and the same report.
 #[test]
 fn a_level_is_divided_among_workers(rt: HostRuntime) -> Result<(), Refusal> {
     for workers in [1, 2, 16] {
         assert_eq!(rt; workers_worth(WIDE, workers), workers);
-        let mut sheet = Sheet::open(rt.alloc(), 1, workers)?;
-        reach_wide(&rt, rt.alloc(), &mut sheet)?;
+        at_sheet(&rt, rt.alloc(), 1, workers, Job::Steps(&WIDE_REACHED))?;
     }
     Ok(())
 }
@@ -232,114 +160,156 @@ fn a_level_is_divided_among_workers(rt: HostRuntime) -> Result<(), Refusal> {
 /// How many columns one half of a row has.
 const HALF: usize = COLUMNS / 2;
 
-/// What a cell of a half holds. Where the half is closed, each cell is one more than the next one, and the last one is
-/// one more than the first; else the first cell is 1, and each other one more than the cell before it.
-fn linked(
+/// Many cells that are entered as one batch.
+#[derive(Clone, Copy)]
+pub(crate) enum Many {
+    /// The first cells in order from `A2` on, each one more than `A1`.
+    Wide,
+    /// The second row, each cell of which is one more than the cell above it.
+    SecondRow,
+    /// The first row, of which the left half is closed, or else the right one.
+    Halves(bool),
+}
+
+type Entries = Vec<(Cell, Content)>;
+
+/// Adds a cell that is one more than another one.
+fn add_link(
     rt: &impl Abort,
     alloc: Global,
+    cells: &mut Entries,
+    place: usize,
+    other: usize,
+) -> Result<(), Refusal> {
+    let content = one_more(alloc, at(rt, other))?;
+    Ok(cells.push((at(rt, place), content))?)
+}
+
+/// Adds so many cells in order from `A2` on, each one more than the cell as far from `A1`, or than `A1` itself.
+fn add_links(
+    rt: &impl Abort,
+    alloc: Global,
+    cells: &mut Entries,
+    count: usize,
+    are_from_first: bool,
+) -> Result<(), Refusal>
+    requires { count ≤ CELLS }
+{
+    for before in 0..count {
+        let other = if are_from_first { 0 } else { before };
+        add_link(rt, alloc, cells, COLUMNS + before, other)?;
+    }
+    Ok(())
+}
+
+/// Adds a cell of the half that begins at a place. Where the half is closed, each cell is one more than the next one,
+/// and the last one is one more than the first; else the first cell is 1, and each other one more than the cell before
+/// it.
+fn add_linked(
+    rt: &impl Abort,
+    alloc: Global,
+    cells: &mut Entries,
     first: usize,
     across: usize,
     is_closed: bool,
-) -> Result<Content, Refusal>
+) -> Result<(), Refusal>
     requires { (first ≤ CELLS) × (across ≤ CELLS) }
 {
     if is_closed {
-        return one_more(alloc, at(rt, first + (across + 1) % HALF));
+        return add_link(
+            rt,
+            alloc,
+            cells,
+            first + across,
+            first + (across + 1) % HALF,
+        );
     }
     if across == 0 {
-        return Ok(Content::Number(1));
+        return Ok(cells.push((at(rt, first), Content::Number(1)))?);
     }
-    one_more(alloc, at(rt, first + across - 1))
+    add_link(rt, alloc, cells, first + across, first + across - 1)
 }
 
 /// Adds the cells of the half that begins at a place.
 fn add_half(
     rt: &impl Abort,
     alloc: Global,
-    cells: &mut Vec<(Cell, Content)>,
+    cells: &mut Entries,
     first: usize,
     is_closed: bool,
 ) -> Result<(), Refusal>
     requires { first ≤ CELLS }
 {
     for across in 0..HALF {
-        let content = linked(rt, alloc, first, across, is_closed)?;
-        cells.push((at(rt, first + across), content))?;
+        add_linked(rt, alloc, cells, first, across, is_closed)?;
     }
     Ok(())
 }
 
-/// The first row, of which the left half is closed, or else the right one.
-fn halves(rt: &impl Abort, alloc: Global, is_left_closed: bool) -> Result<Batch, Refusal> {
-    let mut cells = Vec::new(alloc);
-    add_half(rt, alloc, &mut cells, 0, is_left_closed)?;
-    add_half(rt, alloc, &mut cells, HALF, !is_left_closed)?;
-    Ok(Batch::new(cells).expect(rt, "a batch"))
-}
-
-/// The second row, each cell of which is one more than the cell above it.
-fn second_row(rt: &impl Abort, alloc: Global) -> Result<Batch, Refusal> {
-    let mut cells = Vec::new(alloc);
-    for across in 0..COLUMNS {
-        let content = one_more(alloc, at(rt, across))?;
-        cells.push((at(rt, COLUMNS + across), content))?;
+fn add_many(
+    rt: &impl Abort,
+    alloc: Global,
+    cells: &mut Entries,
+    many: Many,
+) -> Result<(), Refusal> {
+    match many {
+        Wide => add_links(rt, alloc, cells, WIDE, true),
+        SecondRow => add_links(rt, alloc, cells, COLUMNS, false),
+        Halves(is_left_closed) => {
+            add_half(rt, alloc, cells, 0, is_left_closed)?;
+            add_half(rt, alloc, cells, HALF, !is_left_closed)
+        }
     }
+}
+
+fn many_of(rt: &impl Abort, alloc: Global, many: Many) -> Result<Batch, Refusal> {
+    let mut cells = Vec::new(alloc);
+    add_many(rt, alloc, &mut cells, many)?;
     Ok(Batch::new(cells).expect(rt, "a batch"))
 }
 
-/// A batch of cells, with this report.
-fn put_all<R: Abort + Threads + Sync>(
+/// Enters many cells as one batch.
+pub(crate) fn put_many<R: Abort + Threads + Sync>(
     rt: &R,
     alloc: Global,
     sheet: &mut Sheet,
-    batch: Batch,
-    figures: Figures,
-) -> Result<(), Refusal> {
-    let report = apply(rt, alloc, sheet, Edit::SetAll(batch))?;
-    assert_eq!(rt; figures_of(report), figures);
-    Ok(())
+    many: Many,
+) -> Result<Report, Refusal> {
+    let batch = many_of(rt, alloc, many)?;
+    apply(rt, alloc, sheet, Edit::SetAll(batch))
 }
 
-/// The left half of the first row is closed, or else the right one, with this report. Of the first two rows, the half
-/// that is closed then shows cycles, and the other one numbers in sequence.
-fn turn<R: Abort + Threads + Sync>(
-    rt: &R,
-    alloc: Global,
-    sheet: &mut Sheet,
-    is_left_closed: bool,
-    figures: Figures,
-) -> Result<(), Refusal> {
-    put_all(
-        rt,
-        alloc,
-        sheet,
-        halves(rt, alloc, is_left_closed)?,
-        figures,
-    )?;
-    let (closed, opened) = if is_left_closed { (0, HALF) } else { (HALF, 0) };
-    show_alike(rt, sheet, closed, closed + HALF, CYCLE);
-    show_alike(rt, sheet, COLUMNS + closed, COLUMNS + closed + HALF, CYCLE);
-    show_sequence(rt, sheet, opened, opened + HALF, 1);
-    show_sequence(rt, sheet, COLUMNS + opened, COLUMNS + opened + HALF, 2);
-    Ok(())
-}
+/// The places of the halves of the first row, and of those of the second one.
+const RIGHT: usize = HALF;
 
-/// The first row is entered after the second one, and then turned twice.
-fn turn_twice<R: Abort + Threads + Sync>(
-    rt: &R,
-    alloc: Global,
-    sheet: &mut Sheet,
-) -> Result<(), Refusal> {
-    put_all(rt, alloc, sheet, second_row(rt, alloc)?, [1, 104, 0, 1])?;
-    turn(rt, alloc, sheet, true, [2, 103, 104, 52])?;
-    turn(rt, alloc, sheet, false, [3, 103, 104, 52])?;
-    turn(rt, alloc, sheet, true, [4, 103, 104, 52])
-}
+const UNDER: usize = COLUMNS;
+
+const UNDER_RIGHT: usize = COLUMNS + HALF;
+
+/// The first row is entered after the second one, its left half closed, and then turned twice. Of the first two rows,
+/// the half that is closed shows cycles, and the other one numbers in sequence.
+static TURNED_TWICE: [Step; 16] = [
+    Put(SecondRow, [1, 104, 0, 1]),
+    Put(Halves(true), [2, 103, 104, 52]),
+    Alike(0, RIGHT, CYCLE),
+    Alike(UNDER, UNDER_RIGHT, CYCLE),
+    Sequence(RIGHT, UNDER, 1),
+    Sequence(UNDER_RIGHT, UNDER + COLUMNS, 2),
+    Put(Halves(false), [3, 103, 104, 52]),
+    Alike(RIGHT, UNDER, CYCLE),
+    Alike(UNDER_RIGHT, UNDER + COLUMNS, CYCLE),
+    Sequence(0, RIGHT, 1),
+    Sequence(UNDER, UNDER_RIGHT, 2),
+    Put(Halves(true), [4, 103, 104, 52]),
+    Alike(0, RIGHT, CYCLE),
+    Alike(UNDER, UNDER_RIGHT, CYCLE),
+    Sequence(RIGHT, UNDER, 1),
+    Sequence(UNDER_RIGHT, UNDER + COLUMNS, 2),
+];
 
 /// One delta of 104 cells ends a cycle of 52 cells and begins another, and the next one the other way round. What
 /// refers to either cycle follows.
 #[test]
 fn a_delta_of_104_cells_ends_a_cycle_and_begins_another(rt: HostRuntime) -> Result<(), Refusal> {
-    let mut sheet = Sheet::open(rt.alloc(), 1, 1)?;
-    turn_twice(&rt, rt.alloc(), &mut sheet)
+    play(&rt, rt.alloc(), 1, &TURNED_TWICE)
 }

@@ -1,46 +1,53 @@
 //! Deltas of several replicas, in one order and another. The expected values are worked by hand from the rules.
 
 use crate::Sheet;
+use crate::tests::jobs::{Job, at_sheet};
 use crate::tests::script::Asked::Set;
 use crate::tests::script::Part::{self, Assigned, Counted};
-use crate::tests::script::Step::{Ask, Get, Show, ShowText};
-use crate::tests::script::{cell, delta_of, play, take};
-use ps_eval::Look;
+use crate::tests::script::Seen::{Num, Text};
+use crate::tests::script::Step::{self, Ask, Get, Show};
+use crate::tests::script::{get_all, go_on, play};
 use ps_grid::Refusal;
-use ps_value::Value;
 use std::alloc::Global;
 use std::process::Abort;
 use std::thread::Threads;
 
+static AT_ONE: [Step; 3] = [
+    Ask("A1", Set("x"), Ok(1)),
+    Get("A1", Assigned(1, 2, "y"), Ok(2)),
+    Show("A1", Text("y")),
+];
+
+static AT_TWO: [Step; 3] = [
+    Ask("A1", Set("y"), Ok(1)),
+    Get("A1", Assigned(1, 1, "x"), Ok(1)),
+    Show("A1", Text("y")),
+];
+
 /// Of two assignments at one time the greater replica's is shown at both sheets; the other one is below the state.
 #[test]
 fn equal_times_show_the_greater_replica(rt: HostRuntime) -> Result<(), Refusal> {
-    let at_one = [
-        Ask("A1", Set("x"), Ok(1)),
-        Get("A1", Assigned(1, 2, "y"), Ok(2)),
-        ShowText("A1", "y"),
-    ];
-    play(&rt, rt.alloc(), 1, &at_one)?;
-    let at_two = [
-        Ask("A1", Set("y"), Ok(1)),
-        Get("A1", Assigned(1, 1, "x"), Ok(1)),
-        ShowText("A1", "y"),
-    ];
-    play(&rt, rt.alloc(), 2, &at_two)
+    play(&rt, rt.alloc(), 1, &AT_ONE)?;
+    play(&rt, rt.alloc(), 2, &AT_TWO)
 }
+
+static GREATER_LAST: [Step; 3] = [
+    Get("A1", Assigned(1, 1, "3"), Ok(1)),
+    Get("A1", Assigned(1, 1, "4"), Ok(2)),
+    Show("A1", Num(4)),
+];
+
+static GREATER_FIRST: [Step; 3] = [
+    Get("A1", Assigned(1, 1, "4"), Ok(1)),
+    Get("A1", Assigned(1, 1, "3"), Ok(1)),
+    Show("A1", Num(4)),
+];
 
 /// Of two contents at one stamp the greater one is shown, in whichever order they come.
 #[test]
 fn equal_stamps_show_the_greater_content(rt: HostRuntime) -> Result<(), Refusal> {
-    for (first, second, version) in [("3", "4", 2), ("4", "3", 1)] {
-        let steps = [
-            Get("A1", Assigned(1, 1, first), Ok(1)),
-            Get("A1", Assigned(1, 1, second), Ok(version)),
-            Show("A1", Value::Num(4)),
-        ];
-        play(&rt, rt.alloc(), 1, &steps)?;
-    }
-    Ok(())
+    play(&rt, rt.alloc(), 1, &GREATER_LAST)?;
+    play(&rt, rt.alloc(), 1, &GREATER_FIRST)
 }
 
 /// Six deltas of three replicas, honest and not.
@@ -56,8 +63,16 @@ static SIX: [&[(&str, Part)]; 6] = [
     &[("D1", Assigned(9, 3, "=SUM([.A1:.C1])"))],
 ];
 
-/// Takes the six deltas in the n-th of the 720 orders, and the first of them again.
-fn take_in_order<R: Abort + Threads + Sync>(
+/// What each sheet shows that has taken them.
+static PICTURE: [Step; 4] = [
+    Show("A1", Num(2)),
+    Show("B1", Num(2)),
+    Show("C1", Num(3)),
+    Show("D1", Num(7)),
+];
+
+/// Takes the six deltas in the n-th of the 720 orders, and the first of them again, and shows the picture.
+pub(crate) fn take_in_order<R: Abort + Threads + Sync>(
     rt: &R,
     alloc: Global,
     sheet: &mut Sheet,
@@ -72,8 +87,9 @@ fn take_in_order<R: Abort + Threads + Sync>(
     order[6] = order[0];
     for k in order {
         let parts = SIX.get(k).expect(rt, "one of six");
-        take(rt, alloc, sheet, delta_of(rt, alloc, parts)?)?;
+        get_all(rt, alloc, sheet, parts)?;
     }
+    go_on(rt, alloc, sheet, &PICTURE);
     Ok(())
 }
 
@@ -82,11 +98,7 @@ fn take_in_order<R: Abort + Threads + Sync>(
 #[test]
 fn orders_show_the_same(rt: HostRuntime) -> Result<(), Refusal> {
     for n in 0..720usize {
-        let mut sheet = Sheet::open(rt.alloc(), 1, 16)?;
-        take_in_order(&rt, rt.alloc(), &mut sheet, n)?;
-        for (name, number) in [("A1", 2), ("B1", 2), ("C1", 3), ("D1", 7)] {
-            assert!(rt; sheet.at(cell(&rt, name)) == Value::Num(number), "{name}");
-        }
+        at_sheet(&rt, rt.alloc(), 1, 16, Job::Order(n))?;
     }
     Ok(())
 }

@@ -3,12 +3,13 @@
 
 ghost use Rattle.std.specs.Prelude.{◌<◌};
 
-use crate::tests::script::{CYCLE, apply, cell};
+use crate::tests::jobs::{Job, at_sheet};
+use crate::tests::script::{apply, cell, read_pieces};
 use crate::tests::slots::give_up;
 use crate::{Batch, Change, Edit, Sheet};
 use Entry::{Blank, Branch, Count, Greater, Number, Rest, Sum, Total};
 use ps_content::{Content, read_entry};
-use ps_grid::Refusal;
+use ps_grid::{Cell, Refusal};
 use ps_value::{Fault, Value};
 use std::alloc::Global;
 use std::process::Abort;
@@ -144,10 +145,12 @@ fn value_of(shown: &Settled, entry: Entry) -> Value {
 
 /// Whether all that an entry refers to has its value.
 fn is_ready(shown: &Settled, entry: Entry) -> bool {
-    shown
-        .iter()
-        .enumerate()
-        .all(|(place, value)| value.is_some() || !refers(entry, place))
+    for place in 0..PLACES {
+        if shown[place].is_none() && refers(entry, place) {
+            return false;
+        }
+    }
+    true
 }
 
 /// As many rounds as there are cells.
@@ -170,18 +173,49 @@ fn name(place: usize) -> &'static str {
     }
 }
 
+/// What is typed for a number that isn't negative, of one digit.
+fn digit(number: i64) -> &'static str {
+    match number {
+        0 => "0",
+        1 => "1",
+        2 => "2",
+        3 => "3",
+        4 => "4",
+        5 => "5",
+        6 => "6",
+        7 => "7",
+        8 => "8",
+        9 => "9",
+        _ => "",
+    }
+}
+
+/// What is typed for an entry, in pieces.
+fn pieces(entry: Entry) -> [&'static str; 5] {
+    match entry {
+        Blank => ["", "", "", "", ""],
+        Number(number) => ["", digit(number), "", "", ""],
+        Sum(a, b) => ["=[.", name(a), "]+[.", name(b), "]"],
+        Greater(a, b) => ["=[.", name(a), "]>[.", name(b), "]"],
+        Rest(a) => ["=MOD(9;[.", name(a), "])", "", ""],
+        Branch(a, b) => ["=IF([.", name(a), "];[.", name(b), "];3)"],
+        Count(a, b) => ["=COUNT([.", name(a), ":.", name(b), "])"],
+        Total(a, b) => ["=SUM([.", name(a), ":.", name(b), "])"],
+    }
+}
+
 fn content_of(alloc: Global, entry: Entry) -> Result<Content, Refusal> {
-    let text = match entry {
-        Blank => String::new(alloc),
-        Number(number) => format!(in alloc; "{number}")?,
-        Sum(a, b) => format!(in alloc; "=[.{}]+[.{}]", name(a), name(b))?,
-        Greater(a, b) => format!(in alloc; "=[.{}]>[.{}]", name(a), name(b))?,
-        Rest(a) => format!(in alloc; "=MOD(9;[.{}])", name(a))?,
-        Branch(a, b) => format!(in alloc; "=IF([.{}];[.{}];3)", name(a), name(b))?,
-        Count(a, b) => format!(in alloc; "=COUNT([.{}:.{}])", name(a), name(b))?,
-        Total(a, b) => format!(in alloc; "=SUM([.{}:.{}])", name(a), name(b))?,
-    };
-    read_entry(alloc, text.as_bytes())
+    let [begin, first, middle, second, end] = pieces(entry);
+    read_pieces(
+        alloc,
+        &[
+            begin.as_bytes(),
+            first.as_bytes(),
+            middle.as_bytes(),
+            second.as_bytes(),
+            end.as_bytes(),
+        ],
+    )
 }
 
 /// Pseudo-random numbers: Knuth's linear congruential generator of 64 bits.
@@ -221,6 +255,35 @@ impl Random {
     }
 }
 
+/// Adds a cell of the block with what an entry says.
+fn add(
+    rt: &impl Abort,
+    alloc: Global,
+    cells: &mut Vec<(Cell, Content)>,
+    place: usize,
+    entry: Entry,
+) -> Result<(), Refusal> {
+    let content = content_of(alloc, entry)?;
+    Ok(cells.push((cell(rt, name(place)), content))?)
+}
+
+/// Adds new entries for one to six cells.
+fn add_new(
+    rt: &impl Abort,
+    alloc: Global,
+    cells: &mut Vec<(Cell, Content)>,
+    entries: &mut [Entry; PLACES],
+    random: &mut Random,
+) -> Result<(), Refusal> {
+    let first = random.below(PLACES);
+    let end = (first + 1 + random.below(6)).min(PLACES);
+    for place in first..end {
+        entries[place] = random.entry();
+        add(rt, alloc, cells, place, entries[place])?;
+    }
+    Ok(())
+}
+
 /// New entries for one to six cells.
 fn new_entries(
     rt: &impl Abort,
@@ -228,13 +291,8 @@ fn new_entries(
     entries: &mut [Entry; PLACES],
     random: &mut Random,
 ) -> Result<Edit, Refusal> {
-    let first = random.below(PLACES);
-    let end = (first + 1 + random.below(6)).min(PLACES);
     let mut cells = Vec::new(alloc);
-    for place in first..end {
-        entries[place] = random.entry();
-        cells.push((cell(rt, name(place)), content_of(alloc, entries[place])?))?;
-    }
+    add_new(rt, alloc, &mut cells, entries, random)?;
     Ok(Edit::SetAll(Batch::new(cells).expect(rt, "a batch")))
 }
 
@@ -257,14 +315,14 @@ fn compare(rt: &impl Abort, sheet: &Sheet, entries: &[Entry; PLACES]) {
     for (place, value) in shown.iter().enumerate() {
         let name = name(place);
         assert!(rt;
-            sheet.shown(cell(rt, name)) == value.unwrap_or(CYCLE),
+            sheet.shown(cell(rt, name)) == value.unwrap_or(Value::Err(Fault::Cycle)),
             "{name}"
         );
     }
 }
 
 /// Two hundred changes, after each of which the sheet is compared.
-fn change_often<R: Abort + Threads + Sync>(
+pub(crate) fn change_often<R: Abort + Threads + Sync>(
     rt: &R,
     alloc: Global,
     sheet: &mut Sheet,
@@ -281,8 +339,7 @@ fn change_often<R: Abort + Threads + Sync>(
 /// Two hundred changes with cycles that begin, grow and end: after each of them all cells show what rounds give.
 #[test]
 fn a_random_script_shows_what_rounds_give(rt: HostRuntime) -> Result<(), Refusal> {
-    let mut sheet = Sheet::open(rt.alloc(), 1, 1)?;
-    change_often(&rt, rt.alloc(), &mut sheet)
+    at_sheet(&rt, rt.alloc(), 1, 1, Job::Random)
 }
 
 /// A change that is given up, and one that is made; the sheet is compared after both.
@@ -303,15 +360,22 @@ fn give_up_and_change<R: Abort + Threads + Sync>(
     Ok(())
 }
 
-/// A hundred changes that are given up leave no trace in what later ones show.
-#[test]
-fn a_random_script_gives_changes_up(rt: HostRuntime) -> Result<(), Refusal> {
-    let sheet = Sheet::open(rt.alloc(), 1, 1)?;
-    let mut slot = Some(sheet);
+/// A hundred changes that are given up, each before one that is made.
+pub(crate) fn give_up_often<R: Abort + Threads + Sync>(
+    rt: &R,
+    alloc: Global,
+    slot: &mut Option<Sheet>,
+) -> Result<(), Refusal> {
     let mut entries = [Blank; PLACES];
     let mut random = Random { state: 2 };
     for _ in 0..100 {
-        give_up_and_change(&rt, rt.alloc(), &mut slot, &mut entries, &mut random)?;
+        give_up_and_change(rt, alloc, slot, &mut entries, &mut random)?;
     }
     Ok(())
+}
+
+/// A hundred changes that are given up leave no trace in what later ones show.
+#[test]
+fn a_random_script_gives_changes_up(rt: HostRuntime) -> Result<(), Refusal> {
+    at_sheet(&rt, rt.alloc(), 1, 1, Job::GiveUps)
 }

@@ -3,11 +3,14 @@
 ghost use Rattle.std.specs.Prelude.{◌≡◌, ◌<◌};
 ghost use Rattle.ps_grid.specs.Blanks.{IsBlankOf};
 
+use crate::tests::jobs::{Job, at_sheet};
+use crate::tests::long::{Many, chain, fan, put_many, show_alike, show_sequence};
 use crate::{Batch, Edit, Report, Sheet};
 use Asked::{Add, Choose, Set, Sub, Unchoose};
 use Part::{Assigned, Counted, Paired};
-use Step::{Ask, Enter, Get, GetAll, Receive, Show, ShowText, Type};
-use ps_content::read_entry;
+use Seen::{Empty, Failed, Num, Options, Text};
+use Step::{Alike, Ask, Chain, Enter, Fan, Get, GetAll, Put, Receive, Sequence, Show, Type};
+use ps_content::{Content, read_entry};
 use ps_delta::{CellState, Delta};
 use ps_eval::Meter;
 use ps_grid::{Cell, Refusal};
@@ -20,7 +23,7 @@ use std::sync::Arc;
 use std::sync::ledger::{Blank, Ledger};
 use std::thread::Threads;
 
-pub(crate) const CYCLE: Value = Value::Err(Fault::Cycle);
+pub(crate) const CYCLE: Seen = Failed(Fault::Cycle);
 
 /// What a change reports: the version, and how many formulas were evaluated, cells are cyclic and levels there are.
 pub(crate) type Figures = [u64; 4];
@@ -47,6 +50,17 @@ pub(crate) enum Part {
     Paired(u8, u8, u16),
 }
 
+/// What a cell shows.
+#[derive(Clone, Copy)]
+pub(crate) enum Seen {
+    Empty,
+    Num(i64),
+    Text(&'static str),
+    /// A set of options, each of which is a bit.
+    Options(u64),
+    Failed(Fault),
+}
+
 /// A step of a script.
 #[derive(Clone, Copy)]
 pub(crate) enum Step {
@@ -63,10 +77,33 @@ pub(crate) enum Step {
     /// Receives a delta of several cells, and has this report.
     Receive(&'static [(&'static str, Part)], Figures),
     /// Looks at a cell.
-    Show(&'static str, Value),
-    /// Looks at a cell that shows a text.
-    ShowText(&'static str, &'static str),
+    Show(&'static str, Seen),
+    /// Enters a chain of so many cells.
+    Chain(usize),
+    /// Enters cells from `A2` to before a place, to each of which `A1` leads.
+    Fan(usize),
+    /// Types many entries as one batch, and has this report.
+    Put(Many, Figures),
+    /// Looks at the cells from one place to before another, which show the same.
+    Alike(usize, usize, Seen),
+    /// Looks at the cells from one place to before another, which show numbers in sequence.
+    Sequence(usize, usize, i64),
 }
+
+/// `D1` closes a cycle and `B1` ends one.
+pub(crate) const OVER: &[(&str, Part)] = &[
+    ("B1", Assigned(2, 2, "4")),
+    ("D1", Assigned(2, 2, "=[.C1]")),
+];
+
+/// The other way round.
+pub(crate) const BACK: &[(&str, Part)] = &[
+    ("B1", Assigned(3, 2, "=[.A1]")),
+    ("D1", Assigned(3, 2, "7")),
+];
+
+/// A number in `A1`.
+pub(crate) static FIVE: [Step; 1] = [Ask("A1", Set("5"), Ok(1))];
 
 pub(crate) fn cell(rt: &impl Abort, name: &str) -> Cell {
     Cell::read(name.as_bytes()).expect(rt, "a cell")
@@ -132,6 +169,11 @@ pub(crate) fn figures_of(report: Report) -> Figures {
     ]
 }
 
+/// The figures that a change ends with.
+fn ended_with(answer: Result<Report, Refusal>) -> Result<Figures, Refusal> {
+    Ok(figures_of(answer?))
+}
+
 fn edit_of(alloc: Global, cell: Cell, asked: &Asked) -> Result<Edit, Refusal> {
     match asked {
         Set(entry) => Ok(Edit::Set(cell, read_entry(alloc, entry.as_bytes())?)),
@@ -142,11 +184,42 @@ fn edit_of(alloc: Global, cell: Cell, asked: &Asked) -> Result<Edit, Refusal> {
     }
 }
 
+/// What an entry of these pieces says.
+pub(crate) fn read_pieces(alloc: Global, pieces: &[&[u8]]) -> Result<Content, Refusal> {
+    let mut entry = Vec::new(alloc);
+    for piece in pieces {
+        entry.extend_from_slice(piece)?;
+    }
+    read_entry(alloc, &entry)
+}
+
+/// Adds a cell with what an entry says.
+fn add_entry(
+    rt: &impl Abort,
+    alloc: Global,
+    cells: &mut Vec<(Cell, Content)>,
+    name: &str,
+    entry: &str,
+) -> Result<(), Refusal> {
+    let content = read_entry(alloc, entry.as_bytes())?;
+    Ok(cells.push((cell(rt, name), content))?)
+}
+
+fn add_entries(
+    rt: &impl Abort,
+    alloc: Global,
+    cells: &mut Vec<(Cell, Content)>,
+    entries: &[(&str, &str)],
+) -> Result<(), Refusal> {
+    for (name, entry) in entries {
+        add_entry(rt, alloc, cells, name, entry)?;
+    }
+    Ok(())
+}
+
 fn batch_of(rt: &impl Abort, alloc: Global, entries: &[(&str, &str)]) -> Result<Batch, Refusal> {
     let mut cells = Vec::new(alloc);
-    for (name, entry) in entries {
-        cells.push((cell(rt, name), read_entry(alloc, entry.as_bytes())?))?;
-    }
+    add_entries(rt, alloc, &mut cells, entries)?;
     Ok(Batch::new(cells).expect(rt, "a batch"))
 }
 
@@ -179,21 +252,15 @@ fn tally(
 ) -> Result<CellState, Refusal> {
     let mut counts = Vec::new(alloc);
     counts.push((replica, Count { added, subtracted }))?;
-    Ok(CellState::from_parts(
-        Register::empty(),
-        Tally::from_parts(alloc, counts)?.expect(rt, "counts"),
-        Choice::empty(alloc),
-    ))
+    let tally = Tally::from_parts(alloc, counts)?.expect(rt, "counts");
+    Ok(CellState::from_parts(Register::empty(), tally, Choice::empty(alloc)))
 }
 
 fn choice(rt: &impl Abort, alloc: Global, pair: Pair) -> Result<CellState, Refusal> {
     let mut pairs = Vec::new(alloc);
     pairs.push((pair, false))?;
-    Ok(CellState::from_parts(
-        Register::empty(),
-        Tally::empty(alloc),
-        Choice::from_parts(alloc, pairs)?.expect(rt, "pairs"),
-    ))
+    let choice = Choice::from_parts(alloc, pairs)?.expect(rt, "pairs");
+    Ok(CellState::from_parts(Register::empty(), Tally::empty(alloc), choice))
 }
 
 fn state_of(rt: &impl Abort, alloc: Global, part: &Part) -> Result<CellState, Refusal> {
@@ -211,74 +278,140 @@ fn state_of(rt: &impl Abort, alloc: Global, part: &Part) -> Result<CellState, Re
     }
 }
 
+/// Adds a cell with what a part says.
+fn add_part(
+    rt: &impl Abort,
+    alloc: Global,
+    cells: &mut Vec<(Cell, CellState)>,
+    name: &str,
+    part: &Part,
+) -> Result<(), Refusal> {
+    let state = state_of(rt, alloc, part)?;
+    Ok(cells.push((cell(rt, name), state))?)
+}
+
+fn add_parts(
+    rt: &impl Abort,
+    alloc: Global,
+    cells: &mut Vec<(Cell, CellState)>,
+    parts: &[(&str, Part)],
+) -> Result<(), Refusal> {
+    for (name, part) in parts {
+        add_part(rt, alloc, cells, name, part)?;
+    }
+    Ok(())
+}
+
 pub(crate) fn delta_of(
     rt: &impl Abort,
     alloc: Global,
     parts: &[(&str, Part)],
 ) -> Result<Arc<Delta>, Refusal> {
     let mut cells = Vec::new(alloc);
-    for (name, part) in parts {
-        cells.push((cell(rt, name), state_of(rt, alloc, part)?))?;
-    }
+    add_parts(rt, alloc, &mut cells, parts)?;
     Ok(Arc::new(alloc, Delta::new(cells).expect(rt, "a delta"))?)
 }
 
-pub(crate) fn text(rt: &impl Abort, text: &str) -> Value {
-    Value::Text(Label::new(text.as_bytes()).expect(rt, "a text"))
+/// The value that is seen.
+pub(crate) fn value(rt: &impl Abort, seen: &Seen) -> Value {
+    match seen {
+        Empty => Value::Empty,
+        Num(number) => Value::Num(*number),
+        Text(text) => Value::Text(Label::new(text.as_bytes()).expect(rt, "a text")),
+        Options(options) => Value::Choice(*options),
+        Failed(fault) => Value::Err(*fault),
+    }
 }
 
-fn take_step<R: Abort + Threads + Sync>(
+/// Asks for a change of a cell.
+pub(crate) fn ask<R: Abort + Threads + Sync>(
     rt: &R,
     alloc: Global,
     sheet: &mut Sheet,
-    step: &Step,
-) -> Result<(), Refusal> {
+    name: &str,
+    asked: &Asked,
+) -> Result<Report, Refusal> {
+    let edit = edit_of(alloc, cell(rt, name), asked)?;
+    apply(rt, alloc, sheet, edit)
+}
+
+/// Types entries into cells as one batch.
+fn type_all<R: Abort + Threads + Sync>(
+    rt: &R,
+    alloc: Global,
+    sheet: &mut Sheet,
+    entries: &[(&str, &str)],
+) -> Result<Report, Refusal> {
+    let batch = batch_of(rt, alloc, entries)?;
+    apply(rt, alloc, sheet, Edit::SetAll(batch))
+}
+
+/// Receives a delta of these cells.
+pub(crate) fn get_all<R: Abort + Threads + Sync>(
+    rt: &R,
+    alloc: Global,
+    sheet: &mut Sheet,
+    parts: &[(&str, Part)],
+) -> Result<Report, Refusal> {
+    let delta = delta_of(rt, alloc, parts)?;
+    take(rt, alloc, sheet, delta)
+}
+
+/// A change ended with this version, or with this refusal.
+fn check_version(
+    rt: &impl Abort,
+    ended: Result<Report, Refusal>,
+    answer: Result<u64, Refusal>,
+    name: &str,
+) {
+    assert_eq!(rt; version_of(ended), answer, "{name}");
+}
+
+/// A change had this report.
+pub(crate) fn check_figures(
+    rt: &impl Abort,
+    ended: Result<Report, Refusal>,
+    figures: Figures,
+    name: &str,
+) {
+    assert_eq!(rt; ended_with(ended), Ok(figures), "{name}");
+}
+
+/// A cell shows this value.
+fn check_shown(rt: &impl Abort, sheet: &Sheet, name: &str, seen: &Seen) {
+    assert!(rt; sheet.shown(cell(rt, name)) == value(rt, seen), "{name}");
+}
+
+fn take_step<R: Abort + Threads + Sync>(rt: &R, alloc: Global, sheet: &mut Sheet, step: &Step) {
     match step {
         Ask(name, asked, answer) => {
-            let edit = edit_of(alloc, cell(rt, name), asked)?;
-            assert_eq!(rt;
-                version_of(apply(rt, alloc, sheet, edit)),
-                *answer,
-                "{name}"
-            );
+            check_version(rt, ask(rt, alloc, sheet, name, asked), *answer, name)
         }
         Enter(name, entry, figures) => {
-            let edit = edit_of(alloc, cell(rt, name), &Set(entry))?;
-            let report = apply(rt, alloc, sheet, edit)?;
-            assert_eq!(rt; figures_of(report), *figures, "{name}");
+            check_figures(rt, ask(rt, alloc, sheet, name, &Set(entry)), *figures, name)
         }
         Type(entries, answer) => {
-            let batch = batch_of(rt, alloc, entries)?;
-            assert_eq!(rt;
-                version_of(apply(rt, alloc, sheet, Edit::SetAll(batch))),
-                *answer
-            );
+            check_version(rt, type_all(rt, alloc, sheet, entries), *answer, "a batch")
         }
         Get(name, part, answer) => {
-            let delta = delta_of(rt, alloc, &[(*name, *part)])?;
-            assert_eq!(rt;
-                version_of(take(rt, alloc, sheet, delta)),
-                *answer,
-                "{name}"
-            );
+            let ended = get_all(rt, alloc, sheet, &[(*name, *part)]);
+            check_version(rt, ended, *answer, name)
         }
         GetAll(parts, answer) => {
-            let delta = delta_of(rt, alloc, parts)?;
-            assert_eq!(rt; version_of(take(rt, alloc, sheet, delta)), *answer);
+            check_version(rt, get_all(rt, alloc, sheet, parts), *answer, "a delta")
         }
         Receive(parts, figures) => {
-            let delta = delta_of(rt, alloc, parts)?;
-            let report = take(rt, alloc, sheet, delta)?;
-            assert_eq!(rt; figures_of(report), *figures);
+            check_figures(rt, get_all(rt, alloc, sheet, parts), *figures, "a delta")
         }
-        Show(name, value) => {
-            assert!(rt; sheet.shown(cell(rt, name)) == *value, "{name}");
+        Show(name, seen) => check_shown(rt, sheet, name, seen),
+        Chain(cells) => chain(rt, alloc, sheet, *cells),
+        Fan(end) => fan(rt, alloc, sheet, *end),
+        Put(many, figures) => {
+            check_figures(rt, put_many(rt, alloc, sheet, *many), *figures, "a batch")
         }
-        ShowText(name, shown) => {
-            assert!(rt; sheet.shown(cell(rt, name)) == text(rt, shown), "{name}");
-        }
+        Alike(from, to, seen) => show_alike(rt, sheet, *from, *to, value(rt, seen)),
+        Sequence(from, to, first) => show_sequence(rt, sheet, *from, *to, *first),
     }
-    Ok(())
 }
 
 /// The steps, one after another.
@@ -287,11 +420,10 @@ pub(crate) fn go_on<R: Abort + Threads + Sync>(
     alloc: Global,
     sheet: &mut Sheet,
     steps: &[Step],
-) -> Result<(), Refusal> {
+) {
     for step in steps {
-        take_step(rt, alloc, sheet, step)?;
+        take_step(rt, alloc, sheet, step);
     }
-    Ok(())
 }
 
 /// The steps, one after another, at the empty sheet of a replica.
@@ -299,8 +431,7 @@ pub(crate) fn play<R: Abort + Threads + Sync>(
     rt: &R,
     alloc: Global,
     replica: u8,
-    steps: &[Step],
+    steps: &'static [Step],
 ) -> Result<(), Refusal> {
-    let mut sheet = Sheet::open(alloc, replica, 1)?;
-    go_on(rt, alloc, &mut sheet, steps)
+    at_sheet(rt, alloc, replica, 1, Job::Steps(steps))
 }

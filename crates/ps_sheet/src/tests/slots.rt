@@ -1,12 +1,10 @@
 //! A sheet in a slot, which is empty while a change of it is prepared: so a test owns no sheet across an early return.
 
-ghost use Rattle.std.specs.Prelude.{◌≤◌};
 ghost use Rattle.ps_grid.specs.Blanks.{IsBlankOf};
-ghost use Rattle.ps_grid.specs.declared.parties.TheConstants.{WORKERS};
 
 use crate::tests::script::Asked::Set;
-use crate::tests::script::Step::Ask;
-use crate::tests::script::{cell, go_on};
+use crate::tests::script::Step::{self, Ask};
+use crate::tests::script::cell;
 use crate::{Change, Edit, Prepared, Report, Sheet};
 use ps_content::read_entry;
 use ps_eval::Meter;
@@ -71,16 +69,21 @@ pub(crate) fn ready<R: Abort + Threads + Sync, G: Gate>(
     prepared.expect(rt, "a change that isn't refused")
 }
 
+/// Puts a sheet into the slot.
+pub(crate) fn put_back(slot: &mut Option<Sheet>, sheet: Sheet) {
+    *slot = Some(sheet);
+}
+
 /// Puts the sheet back with the change, and tells the report.
 pub(crate) fn commit(slot: &mut Option<Sheet>, prepared: Prepared) -> Report {
     let (sheet, report) = prepared.commit();
-    *slot = Some(sheet);
+    put_back(slot, sheet);
     report
 }
 
 /// Puts the sheet back without the change.
 pub(crate) fn cancel(slot: &mut Option<Sheet>, prepared: Prepared) {
-    *slot = Some(prepared.cancel());
+    put_back(slot, prepared.cancel());
 }
 
 /// Gives a change up.
@@ -99,32 +102,12 @@ pub(crate) fn version(rt: &impl Abort, slot: &Option<Sheet>) -> u64 {
     slot.as_ref().expect(rt, "a sheet").version()
 }
 
-/// A sheet in a slot.
-pub(crate) fn opened(alloc: Global, replica: u8, workers: usize) -> Result<Option<Sheet>, Refusal>
-    requires { (1 ≤ workers) × (workers ≤ WORKERS) }
-{
-    let sheet = Sheet::open(alloc, replica, workers)?;
-    Ok(Some(sheet))
-}
-
-pub(crate) static TWO_CYCLES: [(&str, &str); 6] = [
-    ("A1", "=[.B1]"),
-    ("B1", "=[.A1]"),
-    ("C1", "=[.D1]"),
-    ("D1", "7"),
-    ("E1", "=[.A1]+1"),
-    ("F1", "=[.C1]+1"),
+/// `A1` and `B1` are a cycle, and a number in `D1` keeps `C1` and `D1` from one.
+pub(crate) const TWO_CYCLES: &[Step] = &[
+    Ask("A1", Set("=[.B1]"), Ok(1)),
+    Ask("B1", Set("=[.A1]"), Ok(2)),
+    Ask("C1", Set("=[.D1]"), Ok(3)),
+    Ask("D1", Set("7"), Ok(4)),
+    Ask("E1", Set("=[.A1]+1"), Ok(5)),
+    Ask("F1", Set("=[.C1]+1"), Ok(6)),
 ];
-
-pub(crate) fn enter_all<R: Abort + Threads + Sync>(
-    rt: &R,
-    alloc: Global,
-    slot: &mut Option<Sheet>,
-    entries: &'static [(&'static str, &'static str)],
-) -> Result<(), Refusal> {
-    for (i, (name, entry)) in entries.iter().enumerate() {
-        let step = [Ask(*name, Set(*entry), Ok(i as u64 + 1))];
-        go_on(rt, alloc, slot.as_mut().expect(rt, "a sheet"), &step)?;
-    }
-    Ok(())
-}

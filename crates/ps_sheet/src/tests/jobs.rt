@@ -1,0 +1,85 @@
+//! Jobs: what tests do at a sheet of its own. One function alone owns the sheet.
+
+ghost use Rattle.std.specs.Prelude.{◌≤◌};
+ghost use Rattle.ps_grid.specs.declared.parties.TheConstants.{WORKERS};
+
+use crate::Sheet;
+use crate::tests::edits::grow;
+use crate::tests::gates::{Counts, count_all};
+use crate::tests::orders::take_in_order;
+use crate::tests::prepared::{stay_alike, stay_refused, stay_whole};
+use crate::tests::rounds::{change_often, give_up_often};
+use crate::tests::script::{Step, go_on};
+use Job::{Alike, Count, GiveUps, Growth, Order, Random, RefusedEdit, RefusedGrowth, Steps};
+use ps_grid::Refusal;
+use std::alloc::Global;
+use std::process::Abort;
+use std::thread::Threads;
+
+/// What is done at a sheet.
+#[derive(Clone, Copy)]
+pub(crate) enum Job {
+    /// These steps, one after another.
+    Steps(&'static [Step]),
+    /// Six deltas, in the n-th of their orders.
+    Order(usize),
+    /// An edit, of which a growth may be refused.
+    Growth,
+    /// Changes at random.
+    Random,
+    /// Changes at random, each after one that is given up.
+    GiveUps,
+    /// Changes through a gate that counts.
+    Count(&'static Counts),
+    /// A change that is given up and made beside a twin.
+    Alike,
+    /// A prepared edit that is refused.
+    RefusedEdit,
+    /// A prepared edit, of which a growth may be refused.
+    RefusedGrowth,
+}
+
+fn do_job<R: Abort + Threads + Sync>(
+    rt: &R,
+    alloc: Global,
+    slot: &mut Option<Sheet>,
+    job: Job,
+) -> Result<(), Refusal> {
+    match job {
+        Steps(steps) => {
+            go_on(rt, alloc, slot.as_mut().expect(rt, "a sheet"), steps);
+            Ok(())
+        }
+        Order(n) => take_in_order(rt, alloc, slot.as_mut().expect(rt, "a sheet"), n),
+        Growth => {
+            grow(rt, alloc, slot.as_mut().expect(rt, "a sheet"));
+            Ok(())
+        }
+        Random => change_often(rt, alloc, slot.as_mut().expect(rt, "a sheet")),
+        GiveUps => give_up_often(rt, alloc, slot),
+        Count(counts) => count_all(rt, alloc, slot, counts),
+        Alike => stay_alike(rt, alloc, slot),
+        RefusedEdit => {
+            stay_refused(rt, alloc, slot);
+            Ok(())
+        }
+        RefusedGrowth => {
+            stay_whole(rt, alloc, slot);
+            Ok(())
+        }
+    }
+}
+
+/// A job at the empty sheet of a replica, in a slot.
+pub(crate) fn at_sheet<R: Abort + Threads + Sync>(
+    rt: &R,
+    alloc: Global,
+    replica: u8,
+    workers: usize,
+    job: Job,
+) -> Result<(), Refusal>
+    requires { (1 ≤ workers) × (workers ≤ WORKERS) }
+{
+    let mut slot = Some(Sheet::open(alloc, replica, workers)?);
+    do_job(rt, alloc, &mut slot, job)
+}
