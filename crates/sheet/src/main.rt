@@ -1,21 +1,23 @@
 //! A replicated spreadsheet on the command line.
 //!
 //! `sheet run` opens an empty sheet and answers each line of standard input on standard output; `sheet table` reads a
-//! table of CSV and writes the table of its settled values. `sheet sync` hands what one replica has to another, both of
-//! which listen on this machine. It keeps nothing from one start to the next: the lines `pull` and `push` carry deltas,
-//! and who starts the programs keeps them.
+//! table of CSV and writes the table of its settled values. `sheet serve` answers the lines of several connections,
+//! side by side and on one sheet, and `sheet sync` hands what one replica has to another, both of which listen on
+//! this machine. It keeps nothing from one start to the next: the lines `pull` and `push` carry deltas, and who
+//! starts the programs keeps them.
 //!
 //! The contracts to use: [`read_words`] ties the command and the numbers that it returns to the matches that `clap`
-//! finds in the words. [`answer_lines`] makes what was read and written the transcript of an empty sheet, [`table_on`]
-//! what was written the table of what an empty sheet shows once it has taken the table in. [`sync`] ends whatever its
-//! peers reply, and fails as a device only where a connection did. A [`ProgramFault`] is what
-//! ends the program early, and [`status_of`] its exit status: 0 where all went well, 1 where a device failed, 2 for a
-//! command line that is none, 3 for any other refusal.
+//! finds in the words. [`answer_lines`] makes what was read and written the transcript of an empty sheet,
+//! [`table_on`] what was written the table of what an empty sheet shows once it has taken the table in. [`serve_on`]
+//! closes the sheet that it was given with what its sessions' passes appended, and writes the version. [`sync`] ends
+//! whatever its peers reply, and fails as a device only where a connection did. A [`ProgramFault`] is what ends the
+//! program early, and [`status_of`] its exit status: 0 where all went well, 1 where a device failed, 2 for a command
+//! line that is none, 3 for any other refusal.
 //!
 //! With `set A1 5` and `get A1` on standard input, `sheet run` writes `ok 1` and `val 5`; with `2,=[.A1]*3`,
 //! `sheet table` writes `2,6`.
 //!
-//! Cost: that of a session, or of an import and an export.
+//! Cost: that of the sessions, or of an import and an export.
 #![tactic(auto)]
 
 ghost use Rattle.std.specs.Prelude.{◌≡◌, ◌<◌};
