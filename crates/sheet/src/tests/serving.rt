@@ -11,17 +11,17 @@ use std::io::{Read, Write};
 use std::marker::Brand;
 use std::net::{Ipv4Addr, Net, Shutdown, TcpListener, TcpStream};
 use std::sync::Wait;
-use std::sync::atomic::{AtomicBool, Ordering};
 use std::sync::ledger::{Blank, Ledger};
 use std::test::Fail;
 use std::thread::Threads;
+use std::time::Duration;
 use std::{io, thread};
 
 /// The longest reply that is read.
 const LONGEST: usize = 1_000;
 
-/// How often a client looks for a flag before it gives up.
-const TURNS: usize = 1_000_000;
+/// How many seconds a client waits for a reply that may never come.
+const PATIENCE: u64 = 20;
 
 /// A listener on a port of its own, and the port.
 fn listen<R: Net<Listener = TcpListener, Stream = TcpStream>>(
@@ -176,42 +176,21 @@ fn sync_two_servers(rt: HostRuntime) -> Result<(), Fail> {
     Ok(())
 }
 
-/// Sends an edit, and raises the flag once it has its reply.
-fn go_ahead(alloc: Global, stream: TcpStream, flag: &AtomicBool) {
-    if let Ok(reply) = ask(alloc, &stream, b"set A1 1\n") {
-        flag.store(reply.as_slice() == b"ok 1".as_slice(), Ordering::SeqCst);
-    }
-}
-
-/// Whether the flag is raised within the turns.
-fn is_raised(flag: &AtomicBool) -> bool {
-    for _ in 0..TURNS {
-        if flag.load(Ordering::SeqCst) {
-            return true;
-        }
-        thread::yield_now();
-    }
-    false
-}
-
-/// Waits for the flag, and then asks: whether it was raised, and the three replies.
-fn go_after(
-    alloc: Global,
-    stream: TcpStream,
-    flag: &AtomicBool,
-) -> io::Result<(bool, [Vec<u8>; 3])> {
-    let raised = is_raised(flag);
-    let shown = ask(alloc, &stream, b"get A1\n")?;
-    let done = ask(alloc, &stream, b"set B1 2\n")?;
-    let own = ask(alloc, &stream, b"get B1\n")?;
-    Ok((raised, [shown, done, own]))
-}
-
-/// What a server of two sessions wrote, and what its first client saw, which waits for the second.
+/// What a server of two sessions wrote, and the replies that its clients had.
 #[derive(Drop)]
 struct Overlapped {
     closed: Option<Vec<u8>>,
-    seen: io::Result<(bool, [Vec<u8>; 3])>,
+    seen: io::Result<[Vec<u8>; 4]>,
+}
+
+/// The second client asks before the first does, and then the first asks three times.
+fn ask_in_turn(alloc: Global, first: TcpStream, second: TcpStream) -> io::Result<[Vec<u8>; 4]> {
+    second.set_read_timeout(Some(Duration::from_secs(PATIENCE)))?;
+    let entered = ask(alloc, &second, b"set A1 1\n")?;
+    let shown = ask(alloc, &first, b"get A1\n")?;
+    let done = ask(alloc, &first, b"set B1 2\n")?;
+    let own = ask(alloc, &first, b"get B1\n")?;
+    Ok([entered, shown, done, own])
 }
 
 /// Two clients that are connected, of which the first sends nothing until the second has its reply.
@@ -222,17 +201,10 @@ fn overlap<R: Net<Listener = TcpListener, Stream = TcpStream> + Threads + Wait +
     let (listener, port) = listen(rt)?;
     let first = TcpStream::connect(rt, (Ipv4Addr::LOCALHOST, port))?;
     let second = TcpStream::connect(rt, (Ipv4Addr::LOCALHOST, port))?;
-    let flag = AtomicBool::new(false);
-    let (closed, ((), seen)) = thread::join(
+    let (closed, seen) = thread::join(
         rt,
         || served(rt, alloc, &listener, 2, 1),
-        || {
-            thread::join(
-                rt,
-                || go_ahead(alloc, second, &flag),
-                || go_after(alloc, first, &flag),
-            )
-        },
+        || ask_in_turn(alloc, first, second),
     );
     Ok(Overlapped { closed, seen })
 }
@@ -241,8 +213,8 @@ fn overlap<R: Net<Listener = TcpListener, Stream = TcpStream> + Threads + Wait +
 #[test]
 fn sessions_overlap(rt: HostRuntime) -> Result<(), Fail> {
     let Overlapped { closed, seen } = overlap(&rt, rt.alloc())?;
-    let (raised, [shown, done, own]) = seen?;
-    assert!(rt; raised);
+    let [entered, shown, done, own] = seen?;
+    assert!(rt; entered.as_slice() == b"ok 1".as_slice());
     assert!(rt; shown.as_slice() == b"val 1".as_slice());
     assert!(rt; done.as_slice() == b"ok 2".as_slice());
     assert!(rt; own.as_slice() == b"val 2".as_slice());
