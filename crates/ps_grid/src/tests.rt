@@ -102,6 +102,7 @@ fn rectangles_are_walked_row_by_row(rt: HostRuntime) -> Result<(), Fail> {
     }
     assert_eq!(rt; walked, [0, 1, 104, 105, 208, 209, CELLS, CELLS]);
     assert!(rt; rect.contains(right));
+    assert!(rt; rect.contains(lower));
     let outside = Cell::read(b"C1").ok_or("a cell")?;
     assert!(rt; !rect.contains(outside));
     let below = Cell::read(b"A4").ok_or("a cell")?;
@@ -114,6 +115,7 @@ fn rectangles_are_walked_row_by_row(rt: HostRuntime) -> Result<(), Fail> {
 fn refusals_have_numbers_and_names(rt: HostRuntime) {
     assert_eq!(rt; Refusal::Cell.number(), 1);
     assert_eq!(rt; Refusal::Cell.name(), "cell");
+    assert_eq!(rt; Refusal::Text.number(), 2);
     assert_eq!(rt; Refusal::OptionRange.number(), 8);
     assert_eq!(rt; Refusal::OptionRange.name(), "option");
     assert_eq!(rt; Refusal::ChoiceFull.name(), "choice-full");

@@ -229,11 +229,26 @@ fn a_removal_holds_its_pair(alloc: Global) -> Result<bool, Refusal> {
     Ok(is_alone && !removal.is_empty() && options_are_refused(alloc, &chosen))
 }
 
+// An option that is chosen, removed and chosen again.
+fn chosen_again(alloc: Global) -> Result<Choice, Refusal> {
+    let mut choice = Choice::empty(alloc);
+    take_in(choice.choose(alloc, 1, 7), &mut choice, alloc)?;
+    take_in(choice.unchoose(alloc, 7), &mut choice, alloc)?;
+    take_in(choice.choose(alloc, 1, 7), &mut choice, alloc)?;
+    Ok(choice)
+}
+
+fn the_next_removal_holds_the_new_pair(alloc: Global) -> Result<bool, Refusal> {
+    let removal = chosen_again(alloc)?.unchoose(alloc, 7)?;
+    Ok(removal.parts() == [(pair(7, 1, 2), true)].as_slice())
+}
+
 /// An option that is removed comes back with a pair that the removal didn't see.
 #[test]
 fn a_removal_keeps_what_it_did_not_see(rt: HostRuntime) {
     assert!(rt; options_shown(rt.alloc()) == Ok((1 << 7, 0, 1 << 7)));
     assert!(rt; a_removal_holds_its_pair(rt.alloc()) == Ok(true));
+    assert!(rt; the_next_removal_holds_the_new_pair(rt.alloc()) == Ok(true));
 }
 
 fn chosen_256_times(alloc: Global) -> Result<bool, Refusal> {
