@@ -243,6 +243,7 @@ fn touch(
 ) -> Result<(), Refusal> {
     let delta = delta_of(rt, alloc, parts)?;
     grid.touched(&delta, touched);
+    assert_eq!(rt; grid.covers(&delta), expected.is_empty());
     assert_eq!(rt; touched.cells().len(), expected.len());
     for (cell, index) in touched.cells().iter().zip(expected) {
         assert_eq!(rt; cell.index(), *index);
@@ -263,6 +264,8 @@ fn hidden_parts_are_touched(rt: HostRuntime) -> Result<(), Refusal> {
     join(&rt, rt.alloc(), &mut grid, &late)?;
     touch(&rt, rt.alloc(), &grid, &mut touched, &late, &[])?;
     assert_eq!(rt; number_at(&grid, cell(&rt, 3)), Some(8));
+    join(&rt, rt.alloc(), &mut grid, &[(4, Assigned(3, 1, 6))])?;
+    assert_eq!(rt; grid.at(cell(&rt, 4)).choice.parts().len(), 1);
     Ok(())
 }
 
