@@ -50,25 +50,45 @@ pub fn table_on<R: Threads + Sync, S: Source, K: Sink, L: Ledger>(
         × IsTableOf bytes text × Appends (K.contents sink.old) (K.contents sink.new) (take count text)) }
     ensures unwritten { IfErr result (λ f. f ≢ Refused Refusal.Device → sink.new ≡ sink.old) }
 {
+    let (sheet, imported) = match taken_in(rt, alloc, source, meter, workers) {
+        Ok(taken) => taken,
+        Err(fault) => return Err(fault),
+    };
+    match put_table(alloc, &sheet, imported, sink) {
+        Ok(()) => Ok(()),
+        Err(refusal) => Err(ProgramFault::Refused(refusal)),
+    }
+}
+
+/// An empty sheet of replica 1 that took in a table of entries, with the table's records and fields.
+fn taken_in<R: Threads + Sync, S: Source, L: Ledger>(
+    rt: &R,
+    alloc: Global,
+    source: &mut S,
+    meter: &mut Meter<L>,
+    workers: u8,
+) -> Result<(Sheet, Imported), ProgramFault>
+    requires workers { (1 ≤ workers) × (workers ≤ WORKERS) }
+    ensures taken { IfOk result (λ t. (bytes : List ℕ)
+        × Consumes (S.remaining source.old) (S.remaining source.new) bytes × IsAtEnd (S.remaining source.new)
+        × IsTableOf bytes (table_of t.1.records t.1.fields t.0)) }
+    ensures extent { IfOk result (λ t. (t.1.records ≤ ROWS) × (t.1.fields ≤ COLUMNS)
+        × (0 < t.1.records → 0 < t.1.fields)) }
+    ensures calm { OnOk result (S.failures source.new ≡ S.failures source.old) }
+    ensures refused { IfErr result (λ f. IsCauseOf (S.remaining source.old) (S.remaining source.new) f) }
+    ensures device { result ≡ Err (Refused Refusal.Device) → S.failures source.old < S.failures source.new }
+{
     let mut sheet = match Sheet::open(alloc, 1, usize::from(workers)) {
         Ok(sheet) => sheet,
         Err(refusal) => return Err(ProgramFault::Refused(refusal)),
     };
-    let imported = match import(rt, alloc, source, &mut sheet, meter) {
-        Ok(imported) => imported,
-        Err(fault) => return Err(fault_of_import(fault)),
-    };
-    match put_table(alloc, &sheet, imported, sink) {
-        Ok(()) => {}
-        Err(refusal) => return Err(ProgramFault::Refused(refusal)),
-    }
-    match hand_on(sink) {
-        Ok(()) => Ok(()),
-        Err(_) => Err(ProgramFault::Refused(Refusal::Device)),
+    match import(rt, alloc, source, &mut sheet, meter) {
+        Ok(imported) => Ok((sheet, imported)),
+        Err(fault) => Err(fault_of_import(fault)),
     }
 }
 
-/// Writes the table of what the sheet shows from A1 to the last record and the most fields.
+/// Writes the table of what the sheet shows from A1 to the last record and the most fields, and hands it on.
 fn put_table<K: Sink>(
     alloc: Global,
     sheet: &Sheet,
@@ -80,6 +100,7 @@ fn put_table<K: Sink>(
     requires some { 0 < imported.records → 0 < imported.fields }
     ensures written { OnOk result (Appends (K.contents sink.old) (K.contents sink.new)
         (table_of imported.records imported.fields sheet.now)) }
+    ensures settled { OnOk result (K.waiting sink.new ≡ []) }
     ensures calm { OnOk result (K.failures sink.new ≡ K.failures sink.old) }
     ensures device { IfErr result (λ e. e ≡ Refusal.Device → (count : ℕ)
         × Appends (K.contents sink.old) (K.contents sink.new)
@@ -89,8 +110,12 @@ fn put_table<K: Sink>(
     ensures refused { IfErr result (λ e. (e ≡ Refusal.Memory) ⊎ (e ≡ Refusal.Device)) }
 {
     match extent(imported) {
-        Some(rect) => export(alloc, sheet, rect, sink),
-        None => Ok(()),
+        Some(rect) => export(alloc, sheet, rect, sink)?,
+        None => {}
+    }
+    match hand_on(sink) {
+        Ok(()) => Ok(()),
+        Err(_) => Err(Refusal::Device),
     }
 }
 
