@@ -19,7 +19,8 @@ use Rattle.ps_delta.specs.State.{State}
 use Rattle.ps_sheet.specs.Settled.{refers_to, Cyclic, IsSettled}
 use Rattle.ps_sheet.specs.Inside.Steps.{AreListed, BeginsAll}
 use Rattle.ps_sheet.specs.Inside.Walk.{formula_at, AreLevels, InFrame, IsChange, IsCount, IsPassed, IsWork}
-use Rattle.ps_sheet.specs.Inside.Walk.{ListsCyclic, Walked}
+use Rattle.ps_sheet.specs.Inside.Walk.{Begun, ListsCyclic, Walked}
+use Rattle.ps_sheet.proofs.FirstValues.{begun_start}
 use Rattle.ps_sheet.proofs.FoundLevels.{walked_flags, walked_settled, walked_counted, cyclic_counted}
 use Rattle.ps_sheet.proofs.Recalculations.{cyclic_now, deepest_now, levels_found, walked_now}
 use Rattle.ps_sheet.proofs.WalkSteps.{frame_none}
@@ -150,8 +151,12 @@ module _ (s t : State) (v : Assignment) (touched : List ℕ) (change : IsChange 
         (off : (c : ℕ) → flags0 c ≡ false) (begins : BeginsAll t list cells v u flags0 flags1) where
       walked : Walked t v touched (IsPassed (level_cells (found_alone touched)) 1 []) u flags1 0
       walked =
-          walked_now s t v touched change inside (found_alone touched) found list lists cells [] u u u flags0 flags1
-          flags1 0 begins cells_are off (λ t2 v2 touched2 walked2 flags2 h begun. begun) refl
+          let begun : Begun t v touched touched [] u flags1 =
+          subst (λ (xs : List ℕ). Begun t v touched xs [] u flags1) cells_are
+          (begins v touched lists
+          (λ c i. let j : In touched c = subst (λ xs. In xs c) cells_are i in (j, inside c j))
+          (begun_start t v touched v flags0 (λ c. refl) off)) in
+          walked_now s t v touched change inside (found_alone touched) found list lists u u flags1 flags1 0 begun
           (frame_none t list (level_cells (found_alone touched)) 0 u flags1)
 
       pub flags_alone : (c : ℕ) → flags1 c ≡ true → In touched c

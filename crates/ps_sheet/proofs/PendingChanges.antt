@@ -96,6 +96,19 @@ pending_of s d v es olds x y cyclic touched evaluated closed levels in_grid sett
       tidy = subst (λ (q : State). IsTidy q y) (sym (ap state_at did.grid)) did.tidy;
     }
 
+-- tidy is what it is with another grid, index and screen too
+pub tidy_with : (s : State) (x : Cells) (grid : Blocks) (index : List (List Span)) (shown : ScreenView) → IsTidy s x
+    → IsTidy s (record x { grid = grid; index = index; shown = shown })
+tidy_with s x grid index shown tidy = record {
+  cyclic = tidy.cyclic;
+  room = tidy.room;
+  length = tidy.length;
+  off = tidy.off;
+  level = tidy.level;
+  workers = tidy.workers;
+  region = tidy.region;
+}
+
 -- what is shown may be listed: nothing else changes
 module _ (x : Cells) (shown : ScreenView) (kept : shown.kept ≡ x.shown.kept) (olds : shown.olds ≡ x.shown.olds) where
   pub before_listed : before_of shown ≡ before_of x.shown
@@ -103,23 +116,12 @@ module _ (x : Cells) (shown : ScreenView) (kept : shown.kept ≡ x.shown.kept) (
       ap (λ (es : List (ℕ × Kept)). put_back es (shown_at shown.kept)) olds
       ∙ ap (λ (ks : List Kept). put_back x.shown.olds (shown_at ks)) kept
 
-  tidy_listed : (s : State) → IsTidy s x → IsTidy s (record x { shown = shown })
-  tidy_listed s tidy = record {
-    cyclic = tidy.cyclic;
-    room = tidy.room;
-    length = tidy.length;
-    off = tidy.off;
-    level = tidy.level;
-    workers = tidy.workers;
-    region = tidy.region;
-  }
-
   pub whole_listed : IsWhole x → IsWhole (record x { shown = shown })
   whole_listed whole = record {
     in_grid = whole.in_grid;
     settled = subst (λ (ks : List Kept). IsSettled (state_at x.grid) (shown_at ks)) (sym kept) whole.settled;
     stands = whole.stands;
-    tidy = tidy_listed (state_at x.grid) whole.tidy;
+    tidy = tidy_with (state_at x.grid) x x.grid x.index shown whole.tidy;
     still = olds ∙ whole.still;
   }
 
@@ -137,5 +139,5 @@ module _ (x : Cells) (shown : ScreenView) (kept : shown.kept ≡ x.shown.kept) (
     in_grid = p.in_grid;
     settled = subst (λ (ks : List Kept). IsSettled (state_at x.grid) (shown_at ks)) (sym kept) p.settled;
     stands = p.stands;
-    tidy = tidy_listed (state_at x.grid) p.tidy;
+    tidy = tidy_with (state_at x.grid) x x.grid x.index shown p.tidy;
   }

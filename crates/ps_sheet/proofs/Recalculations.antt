@@ -1,5 +1,5 @@
 -- What a recalculation hands to the marking of the region, and what it takes from it.
-use Rattle.std.proofs.Common.{◌≡◌, ◌&&◌, ℕ, ◌<◌, ◌≤◌, ◌+◌, Bool, true, false, ◌⊎◌, inl, inr, List, [], refl, subst}
+use Rattle.std.proofs.Common.{◌≡◌, ◌&&◌, ℕ, ◌<◌, ◌≤◌, ◌+◌, Bool, true, false, ◌⊎◌, inl, inr, List, [], refl}
 use Rattle.std.proofs.Common.{⊎_elim}
 use Rattle.std.proofs.Common.{lt-ltb, arith, ◌++◌, ◌≢◌, length, length-append, filter, not, eqb, get_or}
 use Rattle.std.specs.List.{list_any}
@@ -15,13 +15,13 @@ use Rattle.ps_eval.specs.Items.{Assignment}
 use Rattle.ps_delta.specs.State.{State}
 use Rattle.ps_sheet.specs.Settled.{content_of, refers_to}
 use Rattle.ps_sheet.specs.Inside.Bounded.{bounded}
-use Rattle.ps_sheet.specs.Inside.Steps.{AreListed, Road, MayWalk, BeginsAll, ClosesAll, StepsLevels}
+use Rattle.ps_sheet.specs.Inside.Steps.{AreListed, Road, MayWalk, StepsLevels}
 use Rattle.ps_sheet.specs.Inside.Walk.{formula_at, InFrame, IsChange, ListsCyclic, Begun, Walked, AreLevels, IsPassed}
 use Rattle.ps_sheet.proofs.SettledValues.{formula_below, refers_formula}
 use Rattle.ps_sheet.proofs.ChangedStates.{same_cyclic, cyclic_formula}
 use Rattle.ps_sheet.proofs.Bounded.{region_bounded, cyclic_bounded, found_bounded}
 use Rattle.ps_sheet.proofs.FoundLevels.{levels_by_depth}
-use Rattle.ps_sheet.proofs.FirstValues.{begun_start, start}
+use Rattle.ps_sheet.proofs.FirstValues.{start}
 
 kept : (a x y : Bool) → a ≡ true → x ≡ true → y ≡ true → (a && (x && y)) ≡ true
 kept a x y h i j = rw (h, i, j) refl
@@ -86,23 +86,11 @@ module _ (s t : State) (v : Assignment) (touched : List ℕ) (change : IsChange 
 
     -- after the last level
     pub walked_now : (list : ℕ → List ℕ) → AreListed (refers_to t) touched list
-        → (cells closed : List ℕ) (u1 u2 u3 : Assignment) (flags0 flags1 flags3 : ℕ → Bool) (n : ℕ)
-        → BeginsAll t list cells v u1 flags0 flags1 → cells ≡ touched → ((c : ℕ) → flags0 c ≡ false)
-        → ClosesAll closed u1 u2 → closed ≡ f.cyclic
-        → StepsLevels t list (level_cells f) (level_count f) (level_count f + 1) u2 u3 flags1 flags3 n
-        → Walked t v touched (IsPassed (level_cells f) (level_count f + 1) []) u3 flags3 n
-    walked_now list lists cells closed u1 u2 u3 flags0 flags1 flags3 n begins cells_are off closes closed_are steps =
-        let first : Begun t v touched cells [] u1 flags1 =
-        begins v touched lists
-        (λ c i. let j : In touched c = subst (λ xs. In xs c) cells_are i in (j, inside c j))
-        (begun_start t v touched v flags0 (λ c. refl) off) in
-        let both : Begun t v touched cells closed u2 flags1 =
-        closes t v touched cells flags1
-        (λ c i. let z = found.cyclic_sound c (subst (λ xs. In xs c) closed_are i) in (z.0, z.2)) first in
-        let all : Begun t v touched touched f.cyclic u2 flags1 =
-        subst (λ (xs : List ℕ). Begun t v touched touched xs u2 flags1) closed_are
-        (subst (λ (xs : List ℕ). Begun t v touched xs closed u2 flags1) cells_are both) in
-        steps v touched (road_found list lists) (start t v touched touched f.cyclic u2 flags1 all (λ c i. i)
+        → (u w : Assignment) (flags last : ℕ → Bool) (n : ℕ) → Begun t v touched touched f.cyclic u flags
+        → StepsLevels t list (level_cells f) (level_count f) (level_count f + 1) u w flags last n
+        → Walked t v touched (IsPassed (level_cells f) (level_count f + 1) []) w last n
+    walked_now list lists u w flags last n begun steps =
+        steps v touched (road_found list lists) (start t v touched touched f.cyclic u flags begun (λ c i. i)
         (λ c r cyc. found.cyclic_complete c r (cyclic_formula t c cyc) cyc))
 
     -- the cells that are cyclic now

@@ -1,11 +1,13 @@
 -- Old values that are kept aside, and put back.
 use Rattle.std.proofs.Common.{◌≡◌, ◌≢◌, ℕ, ◌+◌, ◌<◌, ◌≤◌, Bool, true, false, List, [], ◌∷◌, ◌++◌, length, set}
-use Rattle.std.proofs.Common.{refl, sym, ap, ◌∙◌, arith, ⊎_elim, eqb, eq-eqb, subst, get_or, drop}
+use Rattle.std.proofs.Common.{Vec, refl, sym, ap, ◌∙◌, arith, ⊎_elim, eqb, eq-eqb, subst, get_or, drop}
 use Rattle.std.specs.Prelude.{if◌then◌else◌}
+use Rattle.std.specs.Vec.{with_items}
 use Rattle.std.specs.List.{IsDistinct}
 use Rattle.std.proofs.Math.Path.{fun_ext}
 use Rattle.std.proofs.lemmas.Bool.{cases_eq, cases_lt}
 use Rattle.std.proofs.lemmas.List.{get_or_past, map-append, length-map, length-append, length-set, drop_more, drop_all}
+use Rattle.std.proofs.lemmas.List.{with_items_is}
 use Rattle.ps_grid.specs.Chains.{In}
 use Rattle.ps_grid.specs.declared.size.TheConstants.{CELLS}
 use Rattle.ps_grid.proofs.ChainLemmas.{bool_cases, In-one, In-cases}
@@ -91,6 +93,15 @@ noted_none olds flags none whole off =
       flagged = λ c i. absurd (let f : false ≡ true = i in cc);
       noted = λ c on. absurd (true_not_false (flag_at flags c) on (off c));
     })
+
+-- nor does a table all of whose flags were taken away
+pub noted_none_in : {Z : Type 0} (table : Vec Bool Z) (olds : List (ℕ × Kept)) (flags : List Bool) → olds ≡ []
+    → length flags ≡ table.len → length table.items ≡ CELLS → ((c : ℕ) → flag_at flags c ≡ false)
+    → IsNoted olds (with_items table flags).items
+noted_none_in table olds flags none same whole off =
+    let is = with_items_is table flags same in
+    subst (λ (xs : List Bool). IsNoted olds xs) (sym is)
+    (noted_none olds flags none (same ∙ (table.ok.0 ∙ whole)) off)
 
 -- a flag is one of a cell of the grid
 flag_below : (flags : List Bool) (c : ℕ) → flag_at flags c ≡ true → c < length flags

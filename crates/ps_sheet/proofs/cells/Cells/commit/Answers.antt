@@ -7,6 +7,7 @@ use Rattle.ps_shown.specs.Shown.{shown_at}
 use Rattle.std.proofs.Common.{List}
 use Rattle.ps_sheet.specs.Settled.{IsSettled}
 use Rattle.ps_sheet.specs.Inside.Formulas.{forms_of, with_puts}
+use Rattle.ps_sheet.proofs.PendingChanges.{tidy_with}
 use Rattle.ps_sheet.proofs.cells.Cells.commit.Goals as goal
 
 pub take_formulas-requires : goal.take_formulas-requires
@@ -29,14 +30,6 @@ returns-clause-whole c =
           (subst (λ (xs : Entries). Stands c.args.self.now.index (with_puts xs (forms_of t)))
           (sym c.deref.ensures.value)
           p.stands);
-      tidy = record {
-        cyclic = p.tidy.cyclic;
-        room = p.tidy.room;
-        length = p.tidy.length;
-        off = p.tidy.off;
-        level = p.tidy.level;
-        workers = p.tidy.workers;
-        region = p.tidy.region;
-      };
+      tidy = tidy_with t c.args.self.now c.args.self.now.grid c.take_formulas.new.index c.keep.new.self p.tidy;
       still = c.keep.ensures.still;
     }

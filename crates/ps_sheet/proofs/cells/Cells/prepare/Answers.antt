@@ -4,14 +4,14 @@ use Rattle.ps_delta.specs.State.{State, IsInGrid, state_at}
 use Rattle.ps_shown.specs.Shown.{shown_at}
 use Rattle.ps_sheet.specs.Settled.{IsSettled}
 use Rattle.ps_sheet.specs.Inside.Formulas.{forms_of}
-use Rattle.ps_sheet.specs.Inside.Kept.{IsWhole}
-use Rattle.ps_sheet.specs.Inside.Walk.{IsRegionOf, ListsCyclic}
+use Rattle.ps_sheet.specs.Inside.Kept.{IsTidy, IsWhole}
+use Rattle.ps_sheet.specs.Inside.Walk.{ListsCyclic}
 use Rattle.std.proofs.lemmas.List.{with_items_is}
 use Rattle.ps_delta.specs.Deltas.{Entries, state_of}
 use Rattle.std.specs.Vec.{with_items}
 use Rattle.ps_delta.specs.Raised.{HasRoomFor, entries_from}
 use Rattle.ps_sheet.proofs.ScreenLemmas.{still_before}
-use Rattle.ps_sheet.proofs.PendingChanges.{pending_of}
+use Rattle.ps_sheet.proofs.PendingChanges.{pending_of, tidy_with}
 use Rattle.ps_sheet.proofs.TakenIn.{after_in_grid, given_of, may_recalculate, recalculated}
 use Rattle.ps_sheet.proofs.cells.Cells.prepare.Goals as goal
 
@@ -19,30 +19,15 @@ pub returns-in_err-change-clause-whole : goal.returns-in_err-change-clause-whole
 returns-in_err-change-clause-whole g c =
     let w = c.requires.whole in
     let same = sym c.begin.ensures.same in
-    let whole : IsWhole (record {
-      grid = c.begin.new.grid;
-      index = c.begin.new.index;
-      shown = c.args.self.now.shown;
-      region = c.args.self.now.region;
-      source = c.args.self.now.source;
-      cyclic = c.args.self.now.cyclic;
-      flags = c.args.self.now.flags;
-      level = c.args.self.now.level;
-      workers = c.args.self.now.workers;
-    }) = record {
+    let whole : IsWhole (record c.args.self.now { grid = c.begin.new.grid; index = c.begin.new.index }) = record {
       in_grid = subst IsInGrid same w.in_grid;
       settled = subst (λ (s : State). IsSettled s (shown_at c.args.self.now.shown.kept)) same w.settled;
       stands = subst (λ (s : State). Stands c.begin.new.index (forms_of s)) same
           (c.in_err-change.ensures.undone (forms_of (state_at c.args.self.now.grid)) w.stands);
-      tidy = record {
-        cyclic = subst (λ (s : State). ListsCyclic s c.args.self.now.cyclic.items) same w.tidy.cyclic;
-        room = w.tidy.room;
-        length = w.tidy.length;
-        off = w.tidy.off;
-        level = w.tidy.level;
-        workers = w.tidy.workers;
-        region = subst (λ (s : State). IsRegionOf s c.args.self.now.source c.args.self.now.region) same w.tidy.region;
-      };
+      tidy = subst
+          (λ (s : State). IsTidy s (record c.args.self.now { grid = c.begin.new.grid; index = c.begin.new.index })) same
+          (tidy_with (state_at c.args.self.now.grid) c.args.self.now c.begin.new.grid c.begin.new.index
+          c.args.self.now.shown w.tidy);
       still = w.still;
     } in
     search rules
@@ -51,27 +36,10 @@ pub recalculate-work-requires-clause-may : goal.recalculate-work-requires-clause
 recalculate-work-requires-clause-may g c κs within =
     let w = c.requires.whole in
     may_recalculate (state_at c.args.self.now.grid) (state_of c.args.delta.now) c.in_ok-change.change.raised.items
-    (record {
-      grid = c.exchange.new.self;
-      index = c.begin.new.index;
-      shown = c.args.self.now.shown;
-      region = c.args.self.now.region;
-      source = c.args.self.now.source;
-      cyclic = c.args.self.now.cyclic;
-      flags = c.args.self.now.flags;
-      level = c.args.self.now.level;
-      workers = c.args.self.now.workers;
-    })
+    (record c.args.self.now { grid = c.exchange.new.self; index = c.begin.new.index })
     c.deref-2.result.now c.in_ok-change.change.first.items w.in_grid w.settled
-    (record {
-      cyclic = w.tidy.cyclic;
-      room = w.tidy.room;
-      length = w.tidy.length;
-      off = w.tidy.off;
-      level = w.tidy.level;
-      workers = w.tidy.workers;
-      region = w.tidy.region;
-    })
+    (tidy_with (state_at c.args.self.now.grid) c.args.self.now c.exchange.new.self c.begin.new.index
+    c.args.self.now.shown w.tidy)
     (c.in_ok-change.ensures.put (forms_of (state_at c.args.self.now.grid)) w.stands)
     c.in_ok-change.ensures.raised
     (given_of (state_at c.args.self.now.grid) (state_at c.begin.new.grid) (state_at c.exchange.new.self)
@@ -95,17 +63,7 @@ returns-clause-pending g c =
     ∙ ap (entries_from s) c.deref_mut.ensures.value) in
     pending_of s (state_of c.args.delta.now) (shown_at c.args.self.now.shown.kept) es
     (with_items c.in_ok-change.change.raised c.exchange.new.cells).items
-    (record {
-      grid = c.exchange.new.self;
-      index = c.begin.new.index;
-      shown = c.args.self.now.shown;
-      region = c.args.self.now.region;
-      source = c.args.self.now.source;
-      cyclic = c.args.self.now.cyclic;
-      flags = c.args.self.now.flags;
-      level = c.args.self.now.level;
-      workers = c.args.self.now.workers;
-    })
+    (record c.args.self.now { grid = c.exchange.new.self; index = c.begin.new.index })
     c.recalculate-work.new.self c.in_ok-cyclic.cyclic.items c.deref-2.result.now c.recalculate-work.result.evaluated
     c.recalculate-work.result.cyclic c.recalculate-work.result.levels w.in_grid w.settled
     (c.recalculate-work.ensures.before ∙ still_before c.args.self.now.shown w.still)
@@ -126,17 +84,7 @@ returns-clause-before g c =
 pub returns-clause-work : goal.returns-clause-work
 returns-clause-work g c =
     recalculated (state_at c.args.self.now.grid) (state_of c.args.delta.now) c.in_ok-change.change.raised.items
-    (record {
-      grid = c.exchange.new.self;
-      index = c.begin.new.index;
-      shown = c.args.self.now.shown;
-      region = c.args.self.now.region;
-      source = c.args.self.now.source;
-      cyclic = c.args.self.now.cyclic;
-      flags = c.args.self.now.flags;
-      level = c.args.self.now.level;
-      workers = c.args.self.now.workers;
-    })
+    (record c.args.self.now { grid = c.exchange.new.self; index = c.begin.new.index })
     c.recalculate-work.new.self c.deref-2.result.now c.recalculate-work.result.evaluated
     c.recalculate-work.result.cyclic
     c.recalculate-work.result.levels c.in_ok-change.ensures.raised

@@ -9,8 +9,8 @@ use Rattle.ps_region.specs.Listed.{listed}
 use Rattle.ps_shown.specs.declared.kept.Kept.{Kept}
 use Rattle.ps_shown.specs.Shown.{shown_at}
 use Rattle.ps_sheet.specs.Settled.{refers_to, Cyclic}
-use Rattle.ps_sheet.specs.Inside.Steps.{flag_at, StepsLevels}
-use Rattle.ps_sheet.specs.Inside.Walk.{formula_at, Begun, ListsCyclic, IsCount, InFrame}
+use Rattle.ps_sheet.specs.Inside.Steps.{flag_at}
+use Rattle.ps_sheet.specs.Inside.Walk.{formula_at, Begun, ListsCyclic, IsCount, InFrame, IsPassed, Walked}
 use Rattle.ps_sheet.proofs.FirstValues.{begun_start}
 use Rattle.ps_sheet.proofs.FoundLevels.{walked_flags, walked_settled, walked_counted, cyclic_counted}
 use Rattle.ps_sheet.proofs.Recalculations.{may_walk, levels_found}
@@ -18,7 +18,7 @@ use Rattle.ps_sheet.proofs.Recalculations.{walked_now, cyclic_now, cyclic_room}
 use Rattle.ps_sheet.proofs.Recalculations.{deepest_now, reached_now}
 use Rattle.ps_sheet.proofs.cells.Cells.recalculate_region.Given.{Over}
 use Rattle.ps_sheet.proofs.cells.Cells.recalculate_region.Goals as goal
-use Rattle.ps_sheet.proofs.cells.Cells.recalculate_region.Goals.{After-settle_frame-arg-6-1}
+use Rattle.ps_sheet.proofs.cells.Cells.recalculate_region.Goals.{After-deref_mut-3, After-settle_frame-arg-6-1}
 
 pub find_region-requires-clause-change : goal.find_region-requires-clause-change
 find_region-requires-clause-change g c = (
@@ -82,40 +82,40 @@ settle_frame-evaluated-requires-clause-begun g c κs within =
     c.requires.lists
     (shown_at c.close_all.new.shown.kept) (flag_at c.deref_mut-2.result.now) (begun_all g c)
 
-pub clear-requires-clause-within : goal.clear-requires-clause-within
-clear-requires-clause-within g c = λ q on.
-    let t = state_at c.args.self.now.grid in
-    let v = shown_at c.args.self.now.shown.kept in
-    let touched = c.args.touched.now in
-    let f = c.find_region.new.region in
-    let now = c.find_region.ensures.found in
-    let first : c.deref_mut-2.result.now ≡ c.show_all_first.new.flags =
-    c.deref_mut-2.ensures.value
-    ∙ with_items_is c.args.self.now.flags c.show_all_first.new.flags
-    (c.show_all_first.auto.flags ∙ c.deref_mut.ensures.len) in
-    let last : c.deref_mut-3.result.now ≡ c.settle_frame-evaluated.new.flags =
+-- what was done after the last level
+walked : (g : Over) (c : After-deref_mut-3 g)
+    → Walked (state_at c.args.self.now.grid) (shown_at c.args.self.now.shown.kept) c.args.touched.now
+    (IsPassed (level_cells c.find_region.new.region) (level_count c.find_region.new.region + 1) [])
+    (shown_at c.settle_frame-evaluated.new.shown.kept) (flag_at c.settle_frame-evaluated.new.flags)
+    c.settle_frame-evaluated.result
+walked g c =
+    walked_now c.requires.before (state_at c.args.self.now.grid) (shown_at c.args.self.now.shown.kept)
+    c.args.touched.now c.requires.change c.requires.inside c.find_region.new.region c.find_region.ensures.found
+    (listed c.args.self.now.index) c.requires.lists (shown_at c.close_all.new.shown.kept)
+    (shown_at c.settle_frame-evaluated.new.shown.kept) (flag_at c.deref_mut-2.result.now)
+    (flag_at c.settle_frame-evaluated.new.flags) c.settle_frame-evaluated.result
+    (begun_all g (goal.at.clear-requires-clause-within g c).After-settle_frame-arg-6-1)
+    c.settle_frame-evaluated.ensures.settled
+
+-- the flags after the last level
+flags_last : (g : Over) (c : After-deref_mut-3 g) → c.deref_mut-3.result.now ≡ c.settle_frame-evaluated.new.flags
+flags_last g c =
     c.deref_mut-3.ensures.value
     ∙ with_items_is (with_items c.args.self.now.flags c.show_all_first.new.flags) c.settle_frame-evaluated.new.flags
-    (c.settle_frame-evaluated.auto.flags ∙ c.deref_mut-2.ensures.len) in
-    let w = walked_now c.requires.before t v touched c.requires.change c.requires.inside f now
-    (listed c.args.self.now.index) c.requires.lists (map (λ (e : ℕ × Kept). e.0) c.args.first.items) c.cyclic.result.now
-    (shown_at c.show_all_first.new.shown.kept) (shown_at c.close_all.new.shown.kept)
-    (shown_at c.settle_frame-evaluated.new.shown.kept)
-    (flag_at c.deref_mut.result.now) (flag_at c.show_all_first.new.flags) (flag_at c.settle_frame-evaluated.new.flags)
-    c.settle_frame-evaluated.result c.show_all_first.ensures.begun c.requires.cells
-    (λ p. ap (λ (xs : List Bool). flag_at xs p) c.deref_mut.ensures.value ∙ c.requires.tidy.off p)
-    c.close_all.ensures.closed c.cyclic.ensures
-    (subst (λ (xs : List Bool). StepsLevels t (listed c.args.self.now.index) (level_cells f) (level_count f)
-    (level_count f + 1) (shown_at c.close_all.new.shown.kept) (shown_at c.settle_frame-evaluated.new.shown.kept)
-    (flag_at xs)
-    (flag_at c.settle_frame-evaluated.new.flags) c.settle_frame-evaluated.result) first
-    c.settle_frame-evaluated.ensures.settled) in
+    (c.settle_frame-evaluated.auto.flags ∙ c.deref_mut-2.ensures.len)
+
+pub clear-requires-clause-within : goal.clear-requires-clause-within
+clear-requires-clause-within g c = λ q on.
+    let f = c.find_region.new.region in
+    let now = c.find_region.ensures.found in
     subst (λ xs. In xs q) (sym c.members.ensures)
-    (walked_flags c.requires.before t v touched c.requires.change (level_cells f) (level_count f)
-    (levels_found c.requires.before t v touched c.requires.change c.requires.inside f now)
+    (walked_flags c.requires.before (state_at c.args.self.now.grid) (shown_at c.args.self.now.shown.kept)
+    c.args.touched.now c.requires.change (level_cells f) (level_count f)
+    (levels_found c.requires.before (state_at c.args.self.now.grid) (shown_at c.args.self.now.shown.kept)
+    c.args.touched.now c.requires.change c.requires.inside f now)
     (shown_at c.settle_frame-evaluated.new.shown.kept) (flag_at c.settle_frame-evaluated.new.flags)
-    c.settle_frame-evaluated.result w f.members now.region_sound now.region_complete q
-    (subst (λ (xs : List Bool). flag_at xs q ≡ true) last on))
+    c.settle_frame-evaluated.result (walked g c) f.members now.region_sound now.region_complete q
+    (subst (λ (xs : List Bool). flag_at xs q ≡ true) (flags_last g c) on))
 
 pub renew-requires : goal.renew-requires
 renew-requires g c =
@@ -136,27 +136,10 @@ returns-clause-done g c =
     let touched = c.args.touched.now in
     let f = c.find_region.new.region in
     let now = c.find_region.ensures.found in
-    let first : c.deref_mut-2.result.now ≡ c.show_all_first.new.flags =
-    c.deref_mut-2.ensures.value
-    ∙ with_items_is c.args.self.now.flags c.show_all_first.new.flags
-    (c.show_all_first.auto.flags ∙ c.deref_mut.ensures.len) in
-    let last : c.deref_mut-3.result.now ≡ c.settle_frame-evaluated.new.flags =
-    c.deref_mut-3.ensures.value
-    ∙ with_items_is (with_items c.args.self.now.flags c.show_all_first.new.flags) c.settle_frame-evaluated.new.flags
-    (c.settle_frame-evaluated.auto.flags ∙ c.deref_mut-2.ensures.len) in
-    let w = walked_now c.requires.before t v touched c.requires.change c.requires.inside f now
-    (listed c.args.self.now.index) c.requires.lists (map (λ (e : ℕ × Kept). e.0) c.args.first.items) c.cyclic.result.now
-    (shown_at c.show_all_first.new.shown.kept) (shown_at c.close_all.new.shown.kept)
-    (shown_at c.settle_frame-evaluated.new.shown.kept)
-    (flag_at c.deref_mut.result.now) (flag_at c.show_all_first.new.flags) (flag_at c.settle_frame-evaluated.new.flags)
-    c.settle_frame-evaluated.result c.show_all_first.ensures.begun c.requires.cells
-    (λ p. ap (λ (xs : List Bool). flag_at xs p) c.deref_mut.ensures.value ∙ c.requires.tidy.off p)
-    c.close_all.ensures.closed c.cyclic.ensures
-    (subst (λ (xs : List Bool). StepsLevels t (listed c.args.self.now.index) (level_cells f) (level_count f)
-    (level_count f + 1) (shown_at c.close_all.new.shown.kept) (shown_at c.settle_frame-evaluated.new.shown.kept)
-    (flag_at xs)
-    (flag_at c.settle_frame-evaluated.new.flags) c.settle_frame-evaluated.result) first
-    c.settle_frame-evaluated.ensures.settled) in
+    let at = goal.at.returns-clause-done g c in
+    let first = flags_first g at.After-settle_frame-arg-6-1 in
+    let last = flags_last g at.After-deref_mut-3 in
+    let w = walked g at.After-deref_mut-3 in
     let w2 = with_items (with_items c.args.self.now.flags c.show_all_first.new.flags)
     c.settle_frame-evaluated.new.flags in
     let clean : (with_items w2 c.clear.new.flags).items ≡ c.clear.new.flags =
