@@ -5,7 +5,7 @@ use crate::tests::script::Asked::{Add, Choose, Set, Sub, Unchoose};
 use crate::tests::script::Part::{self, Assigned, Counted, Paired};
 use crate::tests::script::Seen::{Num, Options};
 use crate::tests::script::Step::{self, Ask, Get, GetAll, Show, Type};
-use crate::tests::script::{FIVE, ask, cell, go_on, play, version_of};
+use crate::tests::script::{FIVE, ask, cell, check, check_count, go_on, play, version_of};
 use crate::{Batch, Sheet};
 use ps_content::Content;
 use ps_eval::Look;
@@ -98,7 +98,11 @@ fn each_refusal_changes_nothing(rt: HostRuntime) -> Result<(), Refusal> {
 pub(crate) fn grow<R: Abort + Threads + Sync>(rt: &R, alloc: Global, sheet: &mut Sheet) {
     go_on(rt, alloc, sheet, &FIVE);
     let answer = version_of(ask(rt, alloc, sheet, "A1", &Set("7")));
-    assert!(rt; answer == Ok(2) || answer == Err(Refusal::Memory));
+    check(
+        rt,
+        answer == Ok(2) || answer == Err(Refusal::Memory),
+        "an edit",
+    );
     if answer.is_ok() {
         check_first(rt, sheet, 2, 7);
     } else {
@@ -107,11 +111,11 @@ pub(crate) fn grow<R: Abort + Threads + Sync>(rt: &R, alloc: Global, sheet: &mut
 }
 
 /// The sheet of replica 3 has so many deltas, and shows a number in `A1`.
-fn check_first(rt: &impl Abort, sheet: &Sheet, version: u64, number: i64) {
-    assert_eq!(rt; sheet.version(), version);
-    assert_eq!(rt; sheet.history().len() as u64, version);
-    assert!(rt; sheet.at(cell(rt, "A1")) == Value::Num(number));
-    assert_eq!(rt; sheet.replica(), 3);
+pub(crate) fn check_first(rt: &impl Abort, sheet: &Sheet, version: u64, number: i64) {
+    check_count(rt, u64::from(sheet.replica()), 3, "the replica");
+    check_count(rt, sheet.version(), version, "the version");
+    check_count(rt, sheet.history().len() as u64, version, "the history");
+    check(rt, sheet.at(cell(rt, "A1")) == Value::Num(number), "A1");
 }
 
 /// After a refused growth the sheet is as it was, and the refusal says so; a sheet returns its replica and its history.

@@ -3,7 +3,7 @@
 use crate::tests::jobs::{Job, at_sheet};
 use crate::tests::script::Asked::Set;
 use crate::tests::script::Step::{self, Ask, Fan};
-use crate::tests::script::{BACK, OVER, Part, delta_of, go_on};
+use crate::tests::script::{BACK, OVER, Part, check_count, delta_of, go_on};
 use crate::tests::slots::{TWO_CYCLES, commit, entered, ready, version};
 use crate::{Change, Sheet};
 use Counted::{Delta, Entry};
@@ -59,9 +59,9 @@ fn count<R: Abort + Threads + Sync>(
     let prepared = ready(rt, alloc, slot, change, &gate);
     let prepared_passes = prepared.report().evaluated;
     let report = commit(slot, prepared);
-    assert_eq!(rt; gate.passes.load(Ordering::SeqCst), passes);
-    assert_eq!(rt; prepared_passes, passes);
-    assert_eq!(rt; report.evaluated, passes);
+    check_count(rt, gate.passes.load(Ordering::SeqCst), passes, "passes");
+    check_count(rt, prepared_passes, passes, "prepared");
+    check_count(rt, report.evaluated, passes, "made");
 }
 
 fn change_of(rt: &impl Abort, alloc: Global, counted: &Counted) -> Result<Change, Refusal> {
@@ -77,6 +77,18 @@ fn passes_of(counted: &Counted) -> u64 {
     }
 }
 
+/// Makes a change that is counted.
+fn count_one<R: Abort + Threads + Sync>(
+    rt: &R,
+    alloc: Global,
+    slot: &mut Option<Sheet>,
+    counted: &Counted,
+) -> Result<(), Refusal> {
+    let change = change_of(rt, alloc, counted)?;
+    count(rt, alloc, slot, change, passes_of(counted));
+    Ok(())
+}
+
 /// The steps, and then the changes, one after another.
 pub(crate) fn count_all<R: Abort + Threads + Sync>(
     rt: &R,
@@ -86,10 +98,9 @@ pub(crate) fn count_all<R: Abort + Threads + Sync>(
 ) -> Result<(), Refusal> {
     go_on(rt, alloc, slot.as_mut().expect(rt, "a sheet"), counts.begun);
     for counted in counts.changes {
-        let change = change_of(rt, alloc, counted)?;
-        count(rt, alloc, slot, change, passes_of(counted));
+        count_one(rt, alloc, slot, counted)?;
     }
-    assert_eq!(rt; version(rt, slot), counts.version);
+    check_count(rt, version(rt, slot), counts.version, "deltas");
     Ok(())
 }
 

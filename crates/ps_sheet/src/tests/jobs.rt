@@ -7,10 +7,10 @@ use crate::Sheet;
 use crate::tests::edits::grow;
 use crate::tests::gates::{Counts, count_all};
 use crate::tests::orders::take_in_order;
-use crate::tests::prepared::{stay_alike, stay_refused, stay_whole};
+use crate::tests::prepared::{stay_alike, stay_whole};
 use crate::tests::rounds::{change_often, give_up_often};
 use crate::tests::script::{Step, go_on};
-use Job::{Alike, Count, GiveUps, Growth, Order, Random, RefusedEdit, RefusedGrowth, Steps};
+use Job::{Alike, Count, GiveUps, Growth, Order, Random, Refusals, Steps};
 use ps_grid::Refusal;
 use std::alloc::Global;
 use std::process::Abort;
@@ -33,10 +33,8 @@ pub(crate) enum Job {
     Count(&'static Counts),
     /// A change that is given up and made beside a twin.
     Alike,
-    /// A prepared edit that is refused.
-    RefusedEdit,
-    /// A prepared edit, of which a growth may be refused.
-    RefusedGrowth,
+    /// A prepared edit that is refused, and one of which a growth may be.
+    Refusals,
 }
 
 fn do_job<R: Abort + Threads + Sync>(
@@ -59,18 +57,25 @@ fn do_job<R: Abort + Threads + Sync>(
         GiveUps => give_up_often(rt, alloc, slot),
         Count(counts) => count_all(rt, alloc, slot, counts),
         Alike => stay_alike(rt, alloc, slot),
-        RefusedEdit => {
-            stay_refused(rt, alloc, slot);
-            Ok(())
-        }
-        RefusedGrowth => {
+        Refusals => {
             stay_whole(rt, alloc, slot);
             Ok(())
         }
     }
 }
 
-/// A job at the empty sheet of a replica, in a slot.
+/// A job at a sheet, in a slot.
+fn at_own<R: Abort + Threads + Sync>(
+    rt: &R,
+    alloc: Global,
+    sheet: Sheet,
+    job: Job,
+) -> Result<(), Refusal> {
+    let mut slot = Some(sheet);
+    do_job(rt, alloc, &mut slot, job)
+}
+
+/// A job at the empty sheet of a replica.
 pub(crate) fn at_sheet<R: Abort + Threads + Sync>(
     rt: &R,
     alloc: Global,
@@ -80,6 +85,5 @@ pub(crate) fn at_sheet<R: Abort + Threads + Sync>(
 ) -> Result<(), Refusal>
     requires { (1 ≤ workers) × (workers ≤ WORKERS) }
 {
-    let mut slot = Some(Sheet::open(alloc, replica, workers)?);
-    do_job(rt, alloc, &mut slot, job)
+    at_own(rt, alloc, Sheet::open(alloc, replica, workers)?, job)
 }

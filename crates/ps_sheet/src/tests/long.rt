@@ -7,7 +7,7 @@ ghost use Rattle.ps_grid.specs.declared.size.TheConstants.{CELLS};
 use crate::tests::jobs::{Job, at_sheet};
 use crate::tests::script::Seen::Num;
 use crate::tests::script::Step::{self, Alike, Chain, Enter, Fan, Put, Sequence, Show};
-use crate::tests::script::{CYCLE, Figures, apply, check_figures, play, read_pieces};
+use crate::tests::script::{CYCLE, Figures, apply, check_figures, check_place, play, read_pieces};
 use crate::{Batch, Edit, Report, Sheet};
 use Many::{Halves, SecondRow, Wide};
 use ps_content::Content;
@@ -19,7 +19,7 @@ use std::process::Abort;
 use std::thread::Threads;
 
 /// The cell at a place in the order of the grid, row by row.
-fn at(rt: &impl Abort, place: usize) -> Cell {
+pub(crate) fn at(rt: &impl Abort, place: usize) -> Cell {
     Cell::from_index(place).expect(rt, "a cell")
 }
 
@@ -68,7 +68,7 @@ pub(crate) fn fan<R: Abort + Threads + Sync>(rt: &R, alloc: Global, sheet: &mut 
 pub(crate) fn show_sequence(rt: &impl Abort, sheet: &Sheet, from: usize, to: usize, first: i64) {
     let mut number = first;
     for place in from..to {
-        assert!(rt; sheet.shown(at(rt, place)) == Value::Num(number), "{place}");
+        check_place(rt, sheet.shown(at(rt, place)) == Value::Num(number), place);
         number = number.wrapping_add(1);
     }
 }
@@ -76,7 +76,7 @@ pub(crate) fn show_sequence(rt: &impl Abort, sheet: &Sheet, from: usize, to: usi
 /// The cells from one place to before another show the same.
 pub(crate) fn show_alike(rt: &impl Abort, sheet: &Sheet, from: usize, to: usize, value: Value) {
     for place in from..to {
-        assert!(rt; sheet.shown(at(rt, place)) == value, "{place}");
+        check_place(rt, sheet.shown(at(rt, place)) == value, place);
     }
 }
 
@@ -215,19 +215,13 @@ fn add_linked(
 ) -> Result<(), Refusal>
     requires { (first ≤ CELLS) × (across ≤ CELLS) }
 {
-    if is_closed {
-        return add_link(
-            rt,
-            alloc,
-            cells,
-            first + across,
-            first + (across + 1) % HALF,
-        );
-    }
-    if across == 0 {
-        return Ok(cells.push((at(rt, first), Content::Number(1)))?);
-    }
-    add_link(rt, alloc, cells, first + across, first + across - 1)
+    let content = if is_closed || across > 0 {
+        let ahead = if is_closed { 1 } else { HALF - 1 };
+        one_more(alloc, at(rt, first + (across + ahead) % HALF))?
+    } else {
+        Content::Number(1)
+    };
+    Ok(cells.push((at(rt, first + across), content))?)
 }
 
 /// Adds the cells of the half that begins at a place.

@@ -71,13 +71,8 @@ static PICTURE: [Step; 4] = [
     Show("D1", Num(7)),
 ];
 
-/// Takes the six deltas in the n-th of the 720 orders, and the first of them again, and shows the picture.
-pub(crate) fn take_in_order<R: Abort + Threads + Sync>(
-    rt: &R,
-    alloc: Global,
-    sheet: &mut Sheet,
-    n: usize,
-) -> Result<(), Refusal> {
+/// The n-th of the 720 orders of six, and the first of them again.
+fn order_of(n: usize) -> [usize; 7] {
     let mut order = [0, 1, 2, 3, 4, 5, 0];
     let mut rest = n;
     for k in 0..6 {
@@ -85,8 +80,18 @@ pub(crate) fn take_in_order<R: Abort + Threads + Sync>(
         rest /= 6 - k;
     }
     order[6] = order[0];
-    for k in order {
-        let parts = SIX.get(k).expect(rt, "one of six");
+    order
+}
+
+/// Takes the six deltas in the n-th of the 720 orders, and the first of them again, and shows the picture.
+pub(crate) fn take_in_order<R: Abort + Threads + Sync>(
+    rt: &R,
+    alloc: Global,
+    sheet: &mut Sheet,
+    n: usize,
+) -> Result<(), Refusal> {
+    for k in &order_of(n) {
+        let parts = SIX.get(*k).expect(rt, "one of six");
         get_all(rt, alloc, sheet, parts)?;
     }
     go_on(rt, alloc, sheet, &PICTURE);

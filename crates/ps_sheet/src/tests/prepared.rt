@@ -1,40 +1,58 @@
 //! Changes that are prepared, and then committed or given up. The expected values are worked by hand from the rules.
 
+use crate::tests::edits::check_first;
 use crate::tests::jobs::{Job, at_sheet};
+use crate::tests::long::at;
 use crate::tests::script::Asked::{Choose, Set};
 use crate::tests::script::Part::{self, Assigned};
 use crate::tests::script::Seen::{self, Empty, Failed, Num, Text};
 use crate::tests::script::Step::{self, Ask};
 use crate::tests::script::{
-    CYCLE, FIVE, ask, cell, check_figures, delta_of, figures_of, get_all, go_on, value,
+    CYCLE, FIVE, ask, cell, check, check_count, check_figures, check_place, delta_of, figures_of,
+    get_all, go_on, value,
 };
-use crate::tests::slots::{TWO_CYCLES, cancel, commit, prepare, put_back, ready, taken, version};
+use crate::tests::slots::{TWO_CYCLES, cancel, commit, prepare, put_back, ready, taken};
 use crate::{Change, Edit, Prepared, Report, Sheet};
 use ps_content::Content;
+use ps_delta::Delta;
 use ps_grid::{CELLS, Cell, Refusal};
 use ps_value::{Fault, Value};
 use ps_workers::Open;
 use std::alloc::Global;
 use std::process::Abort;
+use std::sync::Arc;
 use std::thread::Threads;
 
-/// Compares what two sheets answer about a cell.
-fn compare_cell(rt: &impl Abort, sheet: &Sheet, twin: &Sheet, cell: Cell, place: usize) {
+/// Whether two sheets answer the same about a cell.
+fn is_alike(sheet: &Sheet, twin: &Sheet, cell: Cell) -> bool {
     let shown = twin.shown(cell);
-    let is_alike = sheet.shown(cell) == shown && sheet.all_shown().at(cell) == shown;
-    assert!(rt; is_alike, "{place}");
-    let is_full = sheet.is_clock_full(cell);
-    assert!(rt; is_full == twin.is_clock_full(cell), "{place}");
+    sheet.shown(cell) == shown
+        && sheet.all_shown().at(cell) == shown
+        && sheet.is_clock_full(cell) == twin.is_clock_full(cell)
+}
+
+/// Compares what two sheets answer about themselves.
+fn compare_counts(rt: &impl Abort, sheet: &Sheet, twin: &Sheet) {
+    check_count(
+        rt,
+        u64::from(sheet.replica()),
+        u64::from(twin.replica()),
+        "the replica",
+    );
+    check_count(rt, sheet.version(), twin.version(), "the version");
+    check_count(
+        rt,
+        sheet.history().len() as u64,
+        twin.history().len() as u64,
+        "the history",
+    );
 }
 
 /// Compares all that two sheets answer.
 fn compare(rt: &impl Abort, sheet: &Sheet, twin: &Sheet) {
-    assert_eq!(rt; sheet.replica(), twin.replica());
-    assert_eq!(rt; sheet.version(), twin.version());
-    assert_eq!(rt; sheet.history().len(), twin.history().len());
+    compare_counts(rt, sheet, twin);
     for place in 0..CELLS {
-        let cell = Cell::from_index(place).expect(rt, "a cell");
-        compare_cell(rt, sheet, twin, cell, place);
+        check_place(rt, is_alike(sheet, twin, at(rt, place)), place);
     }
 }
 
@@ -51,20 +69,16 @@ static ALL: [(&str, Part); 7] = [
 ];
 
 /// Cells of each kind, beside those of `TWO_CYCLES`; `G1` has a text, and `H1` a set.
-static BEGUN: [&[Step]; 2] = [
-    TWO_CYCLES,
-    &[
-        Ask("G1", Set("x"), Ok(7)),
-        Ask("H1", Set("@choice"), Ok(8)),
-        Ask("H1", Choose(7), Ok(9)),
-        Ask("I1", Set("=COUNT([.G1:.H1])"), Ok(10)),
-    ],
+static KINDS: [Step; 4] = [
+    Ask("G1", Set("x"), Ok(7)),
+    Ask("H1", Set("@choice"), Ok(8)),
+    Ask("H1", Choose(7), Ok(9)),
+    Ask("I1", Set("=COUNT([.G1:.H1])"), Ok(10)),
 ];
 
 fn begin<R: Abort + Threads + Sync>(rt: &R, alloc: Global, sheet: &mut Sheet) {
-    for steps in &BEGUN {
-        go_on(rt, alloc, sheet, steps);
-    }
+    go_on(rt, alloc, sheet, TWO_CYCLES);
+    go_on(rt, alloc, sheet, &KINDS);
 }
 
 /// What the delta changes: each cell that shows another value, in order, with that value.
@@ -79,31 +93,38 @@ static CHANGES: [(&str, Seen); 8] = [
     ("CZ1024", Text("z")),
 ];
 
-fn check_change(
-    rt: &impl Abort,
-    prepared: &Prepared,
-    at: Cell,
-    shown: Value,
-    name: &str,
-    other: Value,
-) {
-    assert!(rt; at == cell(rt, name) && shown == other, "{name}");
-    assert!(rt; prepared.shown_after().at(at) == other, "{name}");
+/// The change at a place is that of a cell to a value, which the cell shows afterwards.
+fn check_change(rt: &impl Abort, prepared: &Prepared, place: usize, name: &str, value: Value) {
+    let change = prepared.changes().get(place).expect(rt, name);
+    let cell = cell(rt, name);
+    check(rt, change.0 == cell && change.1 == value, name);
+    check(rt, prepared.shown_after().at(cell) == value, name);
 }
 
+/// Each change is as expected, and no more are there.
 fn check_changes(rt: &impl Abort, prepared: &Prepared) {
-    assert!(rt; prepared.fresh());
-    assert_eq!(rt; figures_of(prepared.report()), [11, 2, 4, 2]);
-    assert_eq!(rt; prepared.changes().len(), CHANGES.len());
-    for ((at, shown), (name, seen)) in prepared.changes().iter().zip(&CHANGES) {
-        check_change(rt, prepared, *at, *shown, name, value(rt, seen));
+    check_count(
+        rt,
+        prepared.changes().len() as u64,
+        CHANGES.len() as u64,
+        "changes",
+    );
+    for (place, (name, seen)) in CHANGES.iter().enumerate() {
+        check_change(rt, prepared, place, name, value(rt, seen));
     }
 }
 
-/// A delta below the state changes nothing.
-fn check_idle(rt: &impl Abort, prepared: &Prepared) {
-    assert!(rt; !prepared.fresh() && prepared.changes().is_empty());
-    assert_eq!(rt; figures_of(prepared.report()), [11, 0, 0, 0]);
+/// The delta changes what is expected, or nothing where it is below the state.
+fn check_prepared(rt: &impl Abort, prepared: &Prepared, is_fresh: bool) {
+    check(rt, prepared.fresh() == is_fresh, "fresh");
+    let report = prepared.report();
+    if is_fresh {
+        check_figures(rt, Ok(report), [11, 2, 4, 2], "a delta");
+        check_changes(rt, prepared);
+    } else {
+        check_figures(rt, Ok(report), [11, 0, 0, 0], "a delta below");
+        check(rt, prepared.changes().is_empty(), "no change");
+    }
 }
 
 /// Makes a change, or gives it up, and tells its report.
@@ -117,21 +138,17 @@ fn end(slot: &mut Option<Sheet>, prepared: Prepared, is_made: bool) -> Report {
 }
 
 /// The delta is prepared, what it changes is compared, and it is made or given up.
-fn try_all<R: Abort + Threads + Sync>(
+fn try_delta<R: Abort + Threads + Sync>(
     rt: &R,
     alloc: Global,
     slot: &mut Option<Sheet>,
+    delta: Arc<Delta>,
     is_fresh: bool,
     is_made: bool,
-) -> Result<Report, Refusal> {
-    let delta = delta_of(rt, alloc, &ALL)?;
+) -> Report {
     let prepared = ready(rt, alloc, slot, Change::Delta(delta), &Open);
-    if is_fresh {
-        check_changes(rt, &prepared);
-    } else {
-        check_idle(rt, &prepared);
-    }
-    Ok(end(slot, prepared, is_made))
+    check_prepared(rt, &prepared, is_fresh);
+    end(slot, prepared, is_made)
 }
 
 static NEXT: [(&str, &str); 4] = [
@@ -141,6 +158,25 @@ static NEXT: [(&str, &str); 4] = [
     ("A1", "x"),
 ];
 
+/// Two sheets enter the same entry, with the same report.
+fn enter_alike<R: Abort + Threads + Sync>(
+    rt: &R,
+    alloc: Global,
+    sheet: &mut Sheet,
+    twin: &mut Sheet,
+    name: &str,
+    entry: &'static str,
+) -> Result<(), Refusal> {
+    let report = ask(rt, alloc, sheet, name, &Set(entry))?;
+    check_figures(
+        rt,
+        ask(rt, alloc, twin, name, &Set(entry)),
+        figures_of(report),
+        name,
+    );
+    Ok(())
+}
+
 /// A sheet and one that has taken the same deltas, and nothing else, go on alike.
 fn go_on_alike<R: Abort + Threads + Sync>(
     rt: &R,
@@ -149,9 +185,7 @@ fn go_on_alike<R: Abort + Threads + Sync>(
     twin: &mut Sheet,
 ) -> Result<(), Refusal> {
     for (name, entry) in &NEXT {
-        let report = ask(rt, alloc, sheet, name, &Set(entry))?;
-        let other = ask(rt, alloc, twin, name, &Set(entry));
-        check_figures(rt, other, figures_of(report), name);
+        enter_alike(rt, alloc, sheet, twin, name, entry)?;
     }
     compare(rt, sheet, twin);
     Ok(())
@@ -166,7 +200,8 @@ fn try_beside<R: Abort + Threads + Sync>(
     is_fresh: bool,
     is_made: bool,
 ) -> Result<(), Refusal> {
-    let report = try_all(rt, alloc, slot, is_fresh, is_made)?;
+    let delta = delta_of(rt, alloc, &ALL)?;
+    let report = try_delta(rt, alloc, slot, delta, is_fresh, is_made);
     if is_made {
         let other = get_all(rt, alloc, twin, &ALL);
         check_figures(rt, other, figures_of(report), "a delta");
@@ -196,14 +231,23 @@ fn go_beside<R: Abort + Threads + Sync>(
     go_on_alike(rt, alloc, slot.as_mut().expect(rt, "a sheet"), twin)
 }
 
+/// The same beside a twin that is given.
+fn go_beside_own<R: Abort + Threads + Sync>(
+    rt: &R,
+    alloc: Global,
+    slot: &mut Option<Sheet>,
+    mut twin: Sheet,
+) -> Result<(), Refusal> {
+    go_beside(rt, alloc, slot, &mut twin)
+}
+
 /// The same beside a twin of its own.
 pub(crate) fn stay_alike<R: Abort + Threads + Sync>(
     rt: &R,
     alloc: Global,
     slot: &mut Option<Sheet>,
 ) -> Result<(), Refusal> {
-    let mut twin = Sheet::open(alloc, 3, 1)?;
-    go_beside(rt, alloc, slot, &mut twin)
+    go_beside_own(rt, alloc, slot, Sheet::open(alloc, 3, 1)?)
 }
 
 /// After a change that was given up every answer is as before, and what comes then is as if it hadn't been; the same
@@ -233,50 +277,43 @@ fn refusal_of<R: Abort + Threads + Sync>(
 }
 
 /// The sheet of a slot has so many deltas, and shows a number in `A1`.
-fn check_first(rt: &impl Abort, slot: &Option<Sheet>, deltas: u64, number: i64) {
-    assert_eq!(rt; version(rt, slot), deltas);
-    let shown = slot.as_ref().expect(rt, "a sheet").shown(cell(rt, "A1"));
-    assert!(rt; shown == Value::Num(number));
+fn check_slot(rt: &impl Abort, slot: &Option<Sheet>, deltas: u64, number: i64) {
+    check_first(rt, slot.as_ref().expect(rt, "a sheet"), deltas, number);
 }
 
 /// An edit is refused.
-pub(crate) fn stay_refused<R: Abort + Threads + Sync>(
-    rt: &R,
-    alloc: Global,
-    slot: &mut Option<Sheet>,
-) {
-    go_on(rt, alloc, slot.as_mut().expect(rt, "a sheet"), &FIVE);
+fn stay_refused<R: Abort + Threads + Sync>(rt: &R, alloc: Global, slot: &mut Option<Sheet>) {
     let add = Change::Edit(Edit::Add(cell(rt, "A1"), 1));
     let refusal = refusal_of(rt, alloc, slot, add);
-    assert!(rt; refusal == Some(Refusal::NotTally));
-    check_first(rt, slot, 1, 5);
+    check(rt, refusal == Some(Refusal::NotTally), "an edit");
+    check_slot(rt, slot, 1, 5);
 }
 
-/// A refused edit is no change: the sheet comes back.
-#[test]
-fn a_refused_edit_gives_the_sheet_back(rt: HostRuntime) -> Result<(), Refusal> {
-    at_sheet(&rt, rt.alloc(), 3, 1, Job::RefusedEdit)
-}
-
-/// An edit is made, or a growth of it refused.
+/// An edit is refused, and another one made, or a growth of it refused.
 pub(crate) fn stay_whole<R: Abort + Threads + Sync>(
     rt: &R,
     alloc: Global,
     slot: &mut Option<Sheet>,
 ) {
     go_on(rt, alloc, slot.as_mut().expect(rt, "a sheet"), &FIVE);
+    stay_refused(rt, alloc, slot);
     let seven = Change::Edit(Edit::Set(cell(rt, "A1"), Content::Number(7)));
     let refusal = refusal_of(rt, alloc, slot, seven);
-    assert!(rt; refusal.is_none() || refusal == Some(Refusal::Memory));
+    check(
+        rt,
+        refusal.is_none() || refusal == Some(Refusal::Memory),
+        "an edit",
+    );
     if refusal.is_none() {
-        check_first(rt, slot, 2, 7);
+        check_slot(rt, slot, 2, 7);
     } else {
-        check_first(rt, slot, 1, 5);
+        check_slot(rt, slot, 1, 5);
     }
 }
 
-/// After a refused growth the sheet comes back as it was, and the refusal says so.
+/// A refused edit is no change, and neither is one of which a growth was refused: the sheet comes back as it was, and
+/// the refusal says why.
 #[test]
-fn a_refused_growth_gives_the_sheet_back(rt: HostRuntime) -> Result<(), Refusal> {
-    at_sheet(&rt, rt.alloc(), 3, 1, Job::RefusedGrowth)
+fn a_refused_change_gives_the_sheet_back(rt: HostRuntime) -> Result<(), Refusal> {
+    at_sheet(&rt, rt.alloc(), 3, 1, Job::Refusals)
 }

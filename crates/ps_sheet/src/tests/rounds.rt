@@ -4,7 +4,7 @@
 ghost use Rattle.std.specs.Prelude.{◌<◌};
 
 use crate::tests::jobs::{Job, at_sheet};
-use crate::tests::script::{apply, cell, read_pieces};
+use crate::tests::script::{apply, cell, check, read_pieces};
 use crate::tests::slots::give_up;
 use crate::{Batch, Change, Edit, Sheet};
 use Entry::{Blank, Branch, Count, Greater, Number, Rest, Sum, Total};
@@ -314,10 +314,8 @@ fn compare(rt: &impl Abort, sheet: &Sheet, entries: &[Entry; PLACES]) {
     let shown = settle(entries);
     for (place, value) in shown.iter().enumerate() {
         let name = name(place);
-        assert!(rt;
-            sheet.shown(cell(rt, name)) == value.unwrap_or(Value::Err(Fault::Cycle)),
-            "{name}"
-        );
+        let value = value.unwrap_or(Value::Err(Fault::Cycle));
+        check(rt, sheet.shown(cell(rt, name)) == value, name);
     }
 }
 

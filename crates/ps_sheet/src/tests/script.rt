@@ -323,6 +323,21 @@ pub(crate) fn value(rt: &impl Abort, seen: &Seen) -> Value {
     }
 }
 
+/// What is said of a name holds.
+pub(crate) fn check(rt: &impl Abort, holds: bool, name: &str) {
+    assert!(rt; holds, "{name}");
+}
+
+/// What is said of a place holds.
+pub(crate) fn check_place(rt: &impl Abort, holds: bool, place: usize) {
+    assert!(rt; holds, "{place}");
+}
+
+/// There are as many as expected.
+pub(crate) fn check_count(rt: &impl Abort, count: u64, expected: u64, name: &str) {
+    assert_eq!(rt; count, expected, "{name}");
+}
+
 /// Asks for a change of a cell.
 pub(crate) fn ask<R: Abort + Threads + Sync>(
     rt: &R,
@@ -379,7 +394,7 @@ pub(crate) fn check_figures(
 
 /// A cell shows this value.
 fn check_shown(rt: &impl Abort, sheet: &Sheet, name: &str, seen: &Seen) {
-    assert!(rt; sheet.shown(cell(rt, name)) == value(rt, seen), "{name}");
+    check(rt, sheet.shown(cell(rt, name)) == value(rt, seen), name);
 }
 
 fn take_step<R: Abort + Threads + Sync>(rt: &R, alloc: Global, sheet: &mut Sheet, step: &Step) {
