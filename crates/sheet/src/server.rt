@@ -1,5 +1,5 @@
 //! The command `serve`: the lines of several sessions in, the replies of one sheet out.
-ghost use Rattle.std.specs.Prelude.{◌≡◌, ◌⊎◌, ◌<◌, ◌≤◌, ◌++◌, [], ℕ, IfErr, OnOk, length};
+ghost use Rattle.std.specs.Prelude.{◌≡◌, ◌⊎◌, ◌<◌, ◌≤◌, ◌++◌, [], ℕ, IfErr, IfOk, OnOk, length};
 ghost use Rattle.std.specs.Io.KnownBytes.{Appends};
 ghost use Rattle.ps_grid.specs.declared.parties.TheConstants.{SEATS as MOST};
 ghost use Rattle.ps_grid.specs.declared.refusal.Refusal.TheVariants.{Device, Memory, Seat};
@@ -48,38 +48,34 @@ pub fn serve_on<R: Threads + Wait + Sync, K: Sink>(
         ⊎ ((f ≡ Refused Device) × (K.failures out.old < K.failures out.new))) }
     ensures refused { IfErr result (λ f. (f ≡ Refused Memory) ⊎ (f ≡ Refused Seat) ⊎ (f ≡ Refused Device)) }
 {
-    serve_parts::<Brand, R, K>(rt, alloc, listener, Parts::new(sheet, sessions), out)
+    let last = match serve_parts::<Brand, R>(rt, alloc, listener, Parts::new(sheet, sessions)) {
+        Ok(last) => last,
+        Err(refusal) => return Err(ProgramFault::Refused(refusal)),
+    };
+    match tell(b"closed ", last.version(), out) {
+        Ok(()) => Ok(()),
+        Err(_) => Err(ProgramFault::Refused(Refusal::Device)),
+    }
 }
 
-/// Serves the sessions of a desk that is made from these parts.
-fn serve_parts<L: DeskName + Send + Sync, R: Threads + Wait + Sync, K: Sink>(
+/// Serves the sessions of a desk that is made from these parts, and gives its sheet back.
+fn serve_parts<L: DeskName + Send + Sync, R: Threads + Wait + Sync>(
     rt: &R,
     alloc: Global,
     listener: &TcpListener,
     parts: Parts,
-    out: &mut K,
-) -> Result<(), ProgramFault>
+) -> Result<Sheet, Refusal>
     requires named { IsNamed L.name L.parts L.book L.opening L.replica parts }
-    ensures served { OnOk result ((last : SheetView) × IsServed parts.seats parts.sheet last
-        × Appends (K.contents out.old) (K.contents out.new) (closed_text (length last.history))) }
-    ensures settled { OnOk result (K.waiting out.new ≡ []) }
-    ensures calm { OnOk result (K.failures out.new ≡ K.failures out.old) }
-    ensures untold { IfErr result (λ f. (out.new ≡ out.old)
-        ⊎ ((f ≡ Refused Device) × (K.failures out.old < K.failures out.new))) }
-    ensures refused { IfErr result (λ f. (f ≡ Refused Memory) ⊎ (f ≡ Refused Seat) ⊎ (f ≡ Refused Device)) }
+    ensures served { IfOk result (λ last. IsServed parts.seats parts.sheet last) }
+    ensures refused { IfErr result (λ e. (e ≡ Memory) ⊎ (e ≡ Seat) ⊎ (e ≡ Device)) }
 {
     let (desk, passes) = match Desk::<L, &R>::open(rt, alloc, parts) {
         Ok(opened) => opened,
-        Err((_, refusal)) => return Err(ProgramFault::Refused(refusal)),
+        Err((_, refusal)) => return Err(refusal),
     };
-    let back = match serve_all(rt, alloc, &desk, listener, passes) {
-        Ok(back) => back,
-        Err(refusal) => return Err(ProgramFault::Refused(refusal)),
-    };
-    let sheet = desk.close(rt, back);
-    match tell(b"closed ", sheet.version(), out) {
-        Ok(()) => Ok(()),
-        Err(_) => Err(ProgramFault::Refused(Refusal::Device)),
+    match serve_all(rt, alloc, &desk, listener, passes) {
+        Ok(back) => Ok(desk.close(rt, back)),
+        Err(refusal) => Err(refusal),
     }
 }
 
