@@ -47,6 +47,14 @@ def lines(*texts):
     return "".join(f"{text}\n" for text in texts).encode()
 
 
+def cuts(given):
+    """Places amid these bytes: in the first line, one about the middle and the last, and beside their line feeds."""
+    ends = [place for place, byte in enumerate(given) if byte == ord("\n")]
+    for end in {ends[0], ends[len(ends) // 2], ends[-1]} if ends else ():
+        begin = given.rfind(b"\n", 0, end) + 1
+        yield from ((begin + end) // 2, end, end + 1)
+
+
 class ProgramTest(unittest.TestCase):
     """A test of the program."""
 
@@ -69,6 +77,31 @@ class ProgramTest(unittest.TestCase):
     def assert_session(self, given, replies, *words):
         """`./sheet run` with these further words answers these lines by these replies, and ends well."""
         self.assertEqual(run("run", *words, given=given), Ended(0, replies))
+
+    def assert_pieces(self, pieces, replies, *words):
+        """A session that reads these pieces, of at most 4,096 bytes, one at a time has these replies, and ends well."""
+        # what is written at once into a pipe of this kind is read by itself
+        reads, writes = os.pipe2(os.O_DIRECT)
+        files = {"stdin": reads, "stdout": subprocess.PIPE}
+        with started("run", *words, **files) as session, open(writes, "wb", buffering=0) as pipe:
+            os.close(reads)
+            for piece in pieces:
+                pipe.write(piece)
+            pipe.close()
+            output, error = session.communicate(timeout=LIMIT)
+            self.assertEqual(Ended(session.returncode, output, error), Ended(0, replies))
+
+    def assert_bytewise(self, given, replies, *words):
+        """A session that reads these bytes one at a time has these replies, and ends well."""
+        self.assert_pieces((bytes([byte]) for byte in given), replies, *words)
+
+    def assert_however_cut(self, given, replies, *words):
+        """These bytes have these replies read whole, byte by byte, and cut into two pieces."""
+        self.assert_session(given, replies, *words)
+        self.assert_bytewise(given, replies, *words)
+        for cut in cuts(given):
+            with self.subTest(cut=cut):
+                self.assert_pieces((given[:cut], given[cut:]), replies, *words)
 
     def assert_table(self, given, shown, *words):
         """`./sheet table` with these further words writes this table for the given one, and ends well."""

@@ -1,8 +1,5 @@
 """Lines at and past their limits, and bytes that are no line, byte by byte: each read finds a single byte."""
-import os
-import subprocess
-
-from program import LIMIT, Ended, ProgramTest, lines, started
+from program import ProgramTest, lines
 from sizes import LONGEST_DELTA, LONGEST_LINE
 
 DELTA = '[["A1",[1,2,"5"],[],[]]]'
@@ -14,18 +11,6 @@ CYCLES = (
 
 
 class Bytewise(ProgramTest):
-    def assert_bytewise(self, given, replies):
-        """A session that reads these bytes one at a time has these replies, and ends well."""
-        # what is written at once into a pipe of this kind is read by itself
-        reads, writes = os.pipe2(os.O_DIRECT)
-        with started("run", stdin=reads, stdout=subprocess.PIPE) as session, open(writes, "wb", buffering=0) as pipe:
-            os.close(reads)
-            for byte in given:
-                pipe.write(bytes([byte]))
-            pipe.close()
-            output, error = session.communicate(timeout=LIMIT)
-            self.assertEqual(Ended(session.returncode, output, error), Ended(0, replies))
-
     def test_a_delta_line_padded_to_the_limit_and_past_it(self):
         given = lines(f"push {DELTA:{LONGEST_DELTA + 1}}", "get A1", f"push {DELTA:{LONGEST_DELTA}}", "get A1")
         self.assert_bytewise(given, lines("err 14 delta", "val ", "ok 1", "val 5"))

@@ -1,9 +1,8 @@
 """The command `run`: lines in, replies out."""
 from program import Ended, ProgramTest, lines, run
+from sizes import COLUMNS, LONGEST_LINE
 
-COLUMNS = 104
 ROWS = 1024
-LONGEST_LINE = 262_208
 
 
 class Lines(ProgramTest):
@@ -19,10 +18,48 @@ class Lines(ProgramTest):
     def test_empty_lines_have_no_reply(self):
         self.assert_session(b"\n\nset A1 5\n\r\n\nget A1\n\n", lines("ok 1", "val 5"))
 
+    def test_ends_of_lines_however_they_are_cut(self):
+        given = b"set A1 5\r\n\n\r\nget A1\r\nget A1\r"
+        self.assert_however_cut(given, lines("ok 1", "val 5", "val 5"))
+
+    def test_one_more_blank_makes_an_empty_word(self):
+        given = [
+            (b"get  A1", "err 16 command"),
+            (b"get ", "err 1 cell"),
+            (b"get", "err 16 command"),
+            (b" get A1", "err 16 command"),
+            (b"get A1 ", "err 16 command"),
+            (b"set A1  5", "ok 1"),
+            (b"set B1 =COUNT([.A1])", "ok 2"),
+            (b"get B1", "val 0"),
+            (b"set A1", "ok 3"),
+            (b"get A1", "val "),
+            (b"add A1 1 1", "err 16 command"),
+            (b"add A1", "err 16 command"),
+            (b"set A1 \xff", "err 2 text"),
+            (b"GET A1", "err 16 command"),
+        ]
+        self.assert_however_cut(b"".join(line + b"\n" for line, _ in given), lines(*(reply for _, reply in given)))
+
+
+class Limits(ProgramTest):
     def test_a_line_at_the_limit_is_read_and_a_longer_one_is_dropped(self):
         longest = b"push [" + b" " * (LONGEST_LINE - len(b"push [")) + b"\n"
         self.assert_session(longest + b"get A1\n", lines("err 14 delta", "val "))
         self.assert_session(b" " + longest + b"get A1\n", lines("err 15 line", "val "))
+
+    def test_nothing_of_a_longer_line_is_carried_out(self):
+        longest, longer = "x" * LONGEST_LINE, f"set A1 {'x' * (LONGEST_LINE - 6)}"
+        self.assert_session(lines(longest, "get A1"), lines("err 16 command", "val "))
+        self.assert_session(lines(longer, "get A1"), lines("err 15 line", "val "))
+
+    def test_a_text_has_up_to_64_bytes_and_an_entry_up_to_512(self):
+        self.assert_session(lines(f"set A1 {'x' * 65}", "get A1"), lines("err 2 text", "val "))
+        self.assert_session(lines(f"set A1 {'x' * 513}", "get A1"), lines("err 4 too-long", "val "))
+
+    def test_one_replica_chooses_256_times_in_a_cell(self):
+        given = lines("set A1 @choice", *["choose A1 0"] * 257)
+        self.assert_session(given, lines(*(f"ok {version}" for version in range(1, 258)), "err 11 choice-full"))
 
 
 class Refusals(ProgramTest):

@@ -19,6 +19,9 @@ class Shown(ProgramTest):
     def test_formulas_show_their_values(self):
         self.assert_table(b'2,=[.A1]*3\n"x,y",@tally\n', b'2,6\n"x,y",0\n')
 
+    def test_a_record_of_empty_fields_is_a_row(self):
+        self.assert_table(b"1,,3\n,,\n=[.A1]+[.C1]\n", b"1,,3\n,,\n4,,\n")
+
     def test_what_python_writes_is_read_and_written_back_as_python_writes_it(self):
         entries = [
             ["name", "price", "count", "total"],
@@ -95,6 +98,7 @@ class Refused(ProgramTest):
         for formula in (b"=", b"=bad", b"=SUM()", b"=[.A0]", b"=1+", b"=[.A1:.A2]"):
             with self.subTest(formula=formula):
                 self.assert_refused_table(b"1," + formula + b"\n", "3 formula")
+        self.assert_refused_table(b"1,2\n=bad,3\n", "3 formula")
 
     def test_an_entry_that_is_too_long(self):
         self.assert_refused_table(b"1" * 513, "4 too-long")

@@ -1,14 +1,6 @@
-mod cells;
-mod cycles;
-mod deltas;
 mod devices;
 mod exchange;
-mod formulas;
 mod help;
-mod limits;
-mod lines;
-mod replicas;
 mod serving;
 mod session;
-mod table;
 mod words;

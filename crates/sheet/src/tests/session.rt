@@ -1,4 +1,4 @@
-//! Scripts from bytes to bytes: what a session on an empty sheet writes.
+//! A script from bytes to bytes: what a session on an empty sheet writes, however its input is cut.
 ghost use Rattle.std.specs.Prelude.{◌≡◌, ◌<◌};
 ghost use Rattle.ps_grid.specs.Blanks.{IsBlankOf};
 
@@ -12,14 +12,15 @@ use std::io;
 use std::io::Read;
 use std::marker::Brand;
 use std::sync::ledger::{Blank, Ledger};
+use std::test::Fail;
 use std::thread::Threads;
 
 /// A reader whose bytes come in two parts, and each part in pieces of at most so many bytes.
 #[derive(Drop)]
-pub(super) struct Parts<'a> {
-    pub first: &'a [u8],
-    pub second: &'a [u8],
-    pub most: usize,
+struct Parts<'a> {
+    first: &'a [u8],
+    second: &'a [u8],
+    most: usize,
 }
 
 impl Read for Parts<'_> {
@@ -38,7 +39,6 @@ impl Read for Parts<'_> {
 fn written<R: Threads + Sync, I: Ledger, O: Ledger, M: Ledger>(
     rt: &R,
     alloc: Global,
-    replica: u8,
     parts: Parts,
     input: Blank,
     output: Blank,
@@ -51,7 +51,7 @@ fn written<R: Threads + Sync, I: Ledger, O: Ledger, M: Ledger>(
     let mut source = Reading::<Parts, I>::new(parts, input);
     let mut sink = MemorySink::<O>::new(alloc, output);
     let mut meter = Meter::<M>::new(count);
-    let mut sheet = Sheet::open(alloc, replica, 1)?;
+    let mut sheet = Sheet::open(alloc, 1, 1)?;
     if run(rt, alloc, &mut source, &mut sink, &mut sheet, &mut meter).is_err() {
         return Err(Refusal::Device);
     }
@@ -60,17 +60,11 @@ fn written<R: Threads + Sync, I: Ledger, O: Ledger, M: Ledger>(
     Ok(bytes)
 }
 
-/// What a session on the empty sheet of a replica writes, where its input comes in these parts.
-pub(super) fn replies<R: Threads + Sync>(
-    rt: &R,
-    alloc: Global,
-    replica: u8,
-    parts: Parts,
-) -> Result<Vec<u8>, Refusal> {
+/// What a session on an empty sheet writes, where its input comes in these parts.
+fn replies<R: Threads + Sync>(rt: &R, alloc: Global, parts: Parts) -> Result<Vec<u8>, Refusal> {
     written::<R, Brand, Brand, Brand>(
         rt,
         alloc,
-        replica,
         parts,
         Blank::new(1),
         Blank::new(1),
@@ -78,11 +72,10 @@ pub(super) fn replies<R: Threads + Sync>(
     )
 }
 
-/// Whether the script at the replica has these replies: whole, byte by byte, and in each cut into two pieces.
-pub(super) fn has_replies_at<R: Threads + Sync>(
+/// Whether the script has these replies: byte by byte, whole, and in each cut into two pieces.
+fn has_replies<R: Threads + Sync>(
     rt: &R,
     alloc: Global,
-    replica: u8,
     script: &[u8],
     expected: &[u8],
 ) -> Result<bool, Refusal> {
@@ -91,7 +84,7 @@ pub(super) fn has_replies_at<R: Threads + Sync>(
         second: b"",
         most: 1,
     };
-    if replies(rt, alloc, replica, bytewise)?.as_slice() != expected {
+    if replies(rt, alloc, bytewise)?.as_slice() != expected {
         return Ok(false);
     }
     for cut in 0..=script.len() {
@@ -100,19 +93,62 @@ pub(super) fn has_replies_at<R: Threads + Sync>(
             second: &script[cut..],
             most: usize::MAX,
         };
-        if replies(rt, alloc, replica, parts)?.as_slice() != expected {
+        if replies(rt, alloc, parts)?.as_slice() != expected {
             return Ok(false);
         }
     }
     Ok(true)
 }
 
-/// Whether the script at replica 1 has these replies, in whatever pieces it comes.
-pub(super) fn has_replies<R: Threads + Sync>(
-    rt: &R,
-    alloc: Global,
-    script: &[u8],
-    expected: &[u8],
-) -> Result<bool, Refusal> {
-    has_replies_at(rt, alloc, 1, script, expected)
+/// Each command and some refusals, empty lines, carriage returns, a byte that is no UTF-8, and a last line without line
+/// feed.
+#[test]
+fn a_script_however_it_is_cut(rt: HostRuntime) -> Result<(), Fail> {
+    let script = b"set A1 5\r\n\
+        \n\
+        set B1 =[.A1]*2\n\
+        get B1\n\
+        \r\n\
+        get A1025\n\
+        set C1 @tally\n\
+        add C1 4\n\
+        sub C1 1\n\
+        add C1 0\n\
+        set D1 @choice\n\
+        choose D1 7\n\
+        unchoose D1 7\n\
+        unchoose D1 9\n\
+        push [[\"E1\",[1,2,\"'x,y\"],[],[]]]\n\
+        push [[\"E1\",[1,2,\"'x,y\"],[],[]]\n\
+        rows A1:E1\n\
+        pull 0 2\n\
+        pull 9\n\
+        pull 10\n\
+        set A1 \xff\n\
+        walk A1\n\
+        get A1\r";
+    let expected = b"ok 1\n\
+        ok 2\n\
+        val 10\n\
+        err 1 cell\n\
+        ok 3\n\
+        ok 4\n\
+        ok 5\n\
+        err 7 amount\n\
+        ok 6\n\
+        ok 7\n\
+        ok 8\n\
+        err 12 not-chosen\n\
+        ok 9\n\
+        err 14 delta\n\
+        rows 1\n\
+        5,10,3,{},\"x,y\"\n\
+        delta 2 [[\"A1\",[1,1,\"5\"],[],[]],[\"B1\",[1,1,\"=[.A1]*2\"],[],[]]]\n\
+        end 9\n\
+        err 17 version\n\
+        err 2 text\n\
+        err 16 command\n\
+        val 5\n";
+    assert!(rt; has_replies(&rt, rt.alloc(), script, expected)?);
+    Ok(())
 }
