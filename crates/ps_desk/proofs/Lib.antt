@@ -1,5 +1,4 @@
 mod Closes
-mod Decided
 mod Receipted
 mod HandedLemmas
 mod Noted

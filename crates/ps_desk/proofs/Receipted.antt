@@ -1,17 +1,18 @@
 -- What a receipt tells stays told of a list that was seen earlier.
 use Rattle.std.proofs.Common.{◌≡◌, ℕ, ◌+◌, Bool, true, false, List, [], ◌∷◌, ◌++◌, length, refl, sym, ap, ◌∙◌}
 use Rattle.std.proofs.Common.{subst, length-append, Result, Ok, Err}
-use Rattle.std.specs.Prelude.{if◌then◌else◌, MatchBool, IfOk, OnErr, ◌<◌}
+use Rattle.std.specs.Prelude.{MatchBool, IfOk, OnErr, ◌<◌}
 use Rattle.std.specs.Arc.{arc_value}
 use mathlib.Core.List.{IsPrefix}
 use Rattle.ps_grid.specs.declared.refusal.Refusal.{Refusal}
 use Rattle.ps_delta.specs.State.{State}
 use Rattle.ps_delta.specs.Deltas.{Entries, joined_history}
 use Rattle.ps_sheet.specs.declared.edit.Change.{Change}
-use Rattle.ps_sheet.specs.Prepared.{IsDeltaOf, IsPrepared, PreparedView, history_after}
+use Rattle.ps_sheet.specs.Prepared.{IsDeltaOf, IsPrepared, PreparedView}
 use Rattle.ps_face.specs.declared.patch.Note.{Note}
 use Rattle.ps_face.specs.Legal.{history_of}
 use Rattle.ps_face.proofs.Beginnings.{begins_itself, begins_trans}
+use Rattle.ps_face.proofs.Noted.{after_fresh}
 use Rattle.ps_desk.specs.declared.receipt.Receipt.{Receipt}
 use Rattle.ps_desk.specs.Passes.{PassView}
 use Rattle.ps_desk.specs.Patches.{note_of}
@@ -46,9 +47,6 @@ tells_more M N h seen mid now seat r weaker later t =
     })
     t
 
-fresh_history : (p : PreparedView) → p.fresh ≡ true → history_after p ≡ p.history ++ p.delta ∷ []
-fresh_history p is = ap (λ b. if b then (p.history ++ p.delta ∷ []) else p.history) is
-
 -- what a fresh receipt tells
 tells_fresh : (h : List Entries) (p : PreparedView) (seen now : List Note) (seat : ℕ) (r : Receipt)
     → IsPrepared p → p.fresh ≡ true → p.history ≡ history_of h seen → now ≡ seen ++ note_of p seat ∷ []
@@ -61,8 +59,8 @@ tells_fresh h p seen now seat r is fresh history last number delta new =
       patch = note_of p seat;
       last = last;
       later = begins_itself seen;
-      number = number ∙ is.version ∙ ap length (fresh_history p fresh) ∙ length-append p.history (p.delta ∷ [])
-          ∙ ap (λ (ds : List Entries). length ds + 1) history;
+      number = number ∙ is.version ∙ ap length (after_fresh p p.delta fresh refl)
+          ∙ length-append p.history (p.delta ∷ []) ∙ ap (λ (ds : List Entries). length ds + 1) history;
       numbered = sym number;
       delta = sym delta;
       owner = refl;

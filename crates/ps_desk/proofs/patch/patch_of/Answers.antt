@@ -1,8 +1,9 @@
-use Rattle.std.proofs.Common.{◌∙◌, map, subst, sym}
+use Rattle.std.proofs.Common.{◌∙◌, map, refl, subst, sym}
 use Rattle.ps_sheet.specs.Prepared.{PreparedView, shown_after}
 use Rattle.ps_face.specs.Legal.{Follows}
-use Rattle.ps_desk.specs.Patches.{shown_of}
-use Rattle.ps_desk.proofs.Noted.{prepared_follows, shown_same}
+use Rattle.ps_face.proofs.Noted.{prepared_follows}
+use Rattle.ps_desk.specs.Patches.{note_of, shown_of}
+use Rattle.ps_desk.proofs.Noted.{shown_same}
 use Rattle.ps_desk.proofs.patch.patch_of.Goals as goal
 
 pub returns-clause-patch : goal.returns-clause-patch
@@ -23,4 +24,4 @@ pub returns-clause-follows : goal.returns-clause-follows
 returns-clause-follows c =
     let p : PreparedView = c.args.prepared.now in
     subst (Follows p.history) (sym (returns-clause-patch c))
-    (prepared_follows p c.args.owner c.report.ensures.prepared c.requires.fresh)
+    (prepared_follows p (note_of p c.args.owner) c.report.ensures.prepared c.requires.fresh refl refl refl)
