@@ -19,39 +19,33 @@ fn index_read(text: &str) -> Option<usize> {
 /// The first and the last columns with one letter and with two, and the corners of the grid.
 #[test]
 fn names_are_read(rt: HostRuntime) {
-    assert_eq!(rt; index_read("A1"), Some(0));
-    assert_eq!(rt; index_read("B1"), Some(1));
-    assert_eq!(rt; index_read("Z1"), Some(25));
-    assert_eq!(rt; index_read("AA1"), Some(26));
-    assert_eq!(rt; index_read("AZ1"), Some(51));
-    assert_eq!(rt; index_read("BA1"), Some(52));
-    assert_eq!(rt; index_read("BZ1"), Some(77));
-    assert_eq!(rt; index_read("CA1"), Some(78));
-    assert_eq!(rt; index_read("CZ1"), Some(103));
-    assert_eq!(rt; index_read("A2"), Some(104));
-    assert_eq!(rt; index_read("A10"), Some(936));
-    assert_eq!(rt; index_read("CZ1024"), Some(106_495));
+    for (text, index) in [
+        ("A1", 0),
+        ("B1", 1),
+        ("Z1", 25),
+        ("AA1", 26),
+        ("AZ1", 51),
+        ("BA1", 52),
+        ("BZ1", 77),
+        ("CA1", 78),
+        ("CZ1", 103),
+        ("A2", 104),
+        ("A10", 936),
+        ("CZ1024", 106_495),
+    ] {
+        assert_eq!(rt; index_read(text), Some(index));
+    }
 }
 
 /// Texts that are close to a name and name no cell.
 #[test]
 fn other_texts_name_no_cell(rt: HostRuntime) {
-    assert_eq!(rt; index_read(""), None);
-    assert_eq!(rt; index_read("A"), None);
-    assert_eq!(rt; index_read("1"), None);
-    assert_eq!(rt; index_read("A0"), None);
-    assert_eq!(rt; index_read("A01"), None);
-    assert_eq!(rt; index_read("A+1"), None);
-    assert_eq!(rt; index_read("a1"), None);
-    assert_eq!(rt; index_read("A1025"), None);
-    assert_eq!(rt; index_read("A65537"), None);
-    assert_eq!(rt; index_read("DA1"), None);
-    assert_eq!(rt; index_read("AAA1"), None);
-    assert_eq!(rt; index_read("A1 "), None);
-    assert_eq!(rt; index_read(" A1"), None);
-    assert_eq!(rt; index_read("$A$1"), None);
-    assert_eq!(rt; index_read("A1:B2"), None);
-    assert_eq!(rt; index_read("Ä1"), None);
+    for text in [
+        "", "A", "1", "A0", "A01", "A+1", "a1", "A1025", "A65537", "DA1", "AAA1", "A1 ", " A1",
+        "$A$1", "A1:B2", "Ä1",
+    ] {
+        assert_eq!(rt; index_read(text), None);
+    }
     assert_eq!(rt; Cell::read(&[65, 255]), None);
 }
 
