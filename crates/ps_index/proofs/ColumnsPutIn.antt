@@ -6,7 +6,7 @@ use Rattle.std.proofs.lemmas.Bool.{cases_lt}
 use Rattle.std.proofs.lemmas.List.Edits.{length-insert, get_or-insert_below, get_or-insert_at, get_or-insert_above}
 use Rattle.ps_grid.specs.declared.size.TheConstants.{ROWS}
 use Rattle.ps_index.specs.declared.span.Span.{Span}
-use Rattle.ps_index.proofs.ColumnsSorted.{InBucket, beside, placed_le, placed_lt, same_tests, within_key}
+use Rattle.ps_index.proofs.ColumnsSorted.{beside, placed_le, placed_lt, same_tests, within_key}
 use Rattle.ps_index.specs.Inside.Columns.{IsColumn, IsSpan, key_at}
 use Rattle.ps_index.specs.Inside.Nodes.{key_of}
 use Rattle.ps_index.specs.Spans.{cell_of}
@@ -158,20 +158,3 @@ module _ (spans : List Span) (ends ends' : List ℕ) (ranges ranges' : Bool) (co
         each = put_each;
         narrow = put_narrow;
       }
-
--- the column after a span was put in, as the code has it
-pub put_in_column : (spans : List Span) (ends ends' : List ℕ) (ranges ranges' : Bool) → IsColumn spans ends ranges
-    → (x : Span) → IsSpan x → (k lo hi p : ℕ) → k ≡ key_of x.from x.to → 1 ≤ k → k ≤ ROWS → InBucket spans ends k lo hi
-    → lo ≤ p → p ≤ hi
-    → ((i : ℕ) (d : Span) → lo ≤ i → i < p → cell_of spans i d < x.cell)
-    → ((i : ℕ) (d : Span) → p ≤ i → i < hi → x.cell ≤ cell_of spans i d)
-    → length ends' ≡ length ends
-    → ((j : ℕ) → j < length ends → get_or ends' j 0 ≡ get_or ends j 0 + cond (nat_le k j) 1 0)
-    → (ranges' ≡ false → (ranges ≡ false) × (x.from ≡ x.to))
-    → IsColumn (insert spans p x) ends' ranges'
-put_in_column spans ends ends' ranges ranges' col x is k lo hi p key some small b from to below above len raised
-    narrow =
-    IsColumn-insert spans ends ends' ranges ranges' col x is k p (sym key) some small (omega arith) (omega arith)
-    (λ (i : ℕ) (d : Span) (l : get_or ends (k - 1) 0 ≤ i) (h : i < p). below i d (omega arith) h)
-    (λ (i : ℕ) (d : Span) (l : p ≤ i) (h : i < get_or ends k 0). above i d l (omega arith))
-    len raised narrow

@@ -2,7 +2,7 @@
 use Rattle.std.proofs.Common.{◌≡◌, ℕ, ◌+◌, ◌-◌, ◌<◌, ◌≤◌, ◌⊎◌, inl, inr, sym, ◌∙◌, ap, arith, nat_le, nat_lt, Bool}
 use Rattle.std.proofs.Common.{true, false, List, [], length, get_or, replicate}
 use Rattle.std.proofs.lemmas.Bool.{cases_lt}
-use Rattle.std.proofs.lemmas.List.{get_or_read, get_or-replicate, get_or_past, length-replicate}
+use Rattle.std.proofs.lemmas.List.{get_or-replicate, get_or_past, length-replicate}
 use Rattle.std.proofs.lemmas.Bool.Decides.{nat_tests}
 use Rattle.ps_grid.specs.declared.size.TheConstants.{ROWS}
 use Rattle.ps_index.specs.declared.span.Span.{Span}
@@ -71,10 +71,9 @@ module _ (spans : List Span) (ends : List ℕ) (ranges : Bool) (col : IsColumn s
     placed_lt (key_at spans i d) k i (get_or ends k 0) (col.placed i k d within small) (omega arith),
   )
 
-  pub by_cell_within : (k i j : ℕ) (d : Span) → 1 ≤ k → k ≤ ROWS → get_or ends (k - 1) 0 ≤ i → i ≤ j
-      → j < get_or ends k 0
-      → cell_of spans i d ≤ cell_of spans j d
-  by_cell_within k i j d some small from le to =
+  pub by_cell_within : (k : ℕ) → 1 ≤ k → k ≤ ROWS → (i j : ℕ) (d : Span) → get_or ends (k - 1) 0 ≤ i → i ≤ j
+      → j < get_or ends k 0 → cell_of spans i d ≤ cell_of spans j d
+  by_cell_within k some small i j d from le to =
       col.by_cell i j d le (omega (arith, col.within k small))
       (key_within k i d some small from (omega arith) ∙ sym (key_within k j d some small (omega arith) to))
 
@@ -86,29 +85,6 @@ module _ (spans : List Span) (ends : List ℕ) (ranges : Bool) (col : IsColumn s
     | inr le ↦ inl (le, grind (arith, nat_tests, le), ends_rise k j d le in_rows)
     | inl lt ↦ inr (lt, grind (arith, nat_tests, lt), ends_rise j (k - 1) d (omega arith) (omega arith))
   ]
-
--- where a span is put in or taken out: among those that are kept at its row
-pub record InBucket (spans : List Span) (ends : List ℕ) (k lo hi : ℕ) : Type 0 where
-  pub lo_is : lo ≡ get_or ends (k - 1) 0
-  pub hi_is : hi ≡ get_or ends k 0
-  pub rising : lo ≤ hi
-  pub within : hi ≤ length spans
-  pub by_cell : (i j : ℕ) (d : Span) → lo ≤ i → i ≤ j → j < hi → cell_of spans i d ≤ cell_of spans j d
-
-pub in_bucket : (spans : List Span) (ends : List ℕ) (ranges : Bool) → IsColumn spans ends ranges
-    → (x : Span) (k lo hi : ℕ)
-    → 1 ≤ k → k ≤ ROWS → lo ≡ get_or ends (k - 1) lo → hi ≡ get_or ends k hi → InBucket spans ends k lo hi
-in_bucket spans ends ranges col x k lo hi some small low high =
-    let l : lo ≡ get_or ends (k - 1) 0 = get_or_read ends (k - 1) lo (omega (arith, col.size)) low 0 in
-    let h : hi ≡ get_or ends k 0 = get_or_read ends k hi (omega (arith, col.size)) high 0 in
-    record {
-      lo_is = l;
-      hi_is = h;
-      rising = omega (arith, ends_rise spans ends ranges col (k - 1) k x (omega arith) small);
-      within = omega (arith, col.within k small);
-      by_cell = λ (i j : ℕ) (d : Span) (from : lo ≤ i) (le : i ≤ j) (to : j < hi).
-          by_cell_within spans ends ranges col k i j d some small (omega arith) le (omega arith);
-    }
 
 pub all_zeros : (xs : List ℕ) (n : ℕ) → xs ≡ replicate n 0 → (j : ℕ) → get_or xs j 0 ≡ 0
 all_zeros xs n e j = rw e (elim (cases_lt j n) [

@@ -7,7 +7,7 @@ use Rattle.std.proofs.lemmas.List.Edits.{length-remove, get_or-remove_below, get
 use Rattle.ps_grid.specs.declared.size.TheConstants.{ROWS}
 use Rattle.ps_index.specs.declared.span.Span.{Span}
 use Rattle.ps_index.proofs.ColumnsPutIn.{key_is}
-use Rattle.ps_index.proofs.ColumnsSorted.{InBucket, beside, ends_rise, placed_le, placed_lt, same_tests, within_key}
+use Rattle.ps_index.proofs.ColumnsSorted.{beside, ends_rise, placed_le, placed_lt, same_tests, within_key}
 use Rattle.ps_index.specs.Inside.Columns.{IsColumn, IsSpan, key_at}
 use Rattle.ps_index.specs.Inside.Nodes.{key_of}
 use Rattle.ps_index.specs.Spans.{cell_of, count_of}
@@ -127,10 +127,10 @@ module _ (spans : List Span) (ends ends' : List ℕ) (ranges : Bool) (col : IsCo
 
 -- a span that is counted stands at the place that was found for it or after it
 pub there_from : (spans : List Span) (ends : List ℕ) (ranges : Bool) → IsColumn spans ends ranges
-    → (x : Span) (k lo hi p : ℕ) → k ≡ key_of x.from x.to → 1 ≤ k → k ≤ ROWS → InBucket spans ends k lo hi
-    → ((i : ℕ) (d : Span) → lo ≤ i → i < p → cell_of spans i d < x.cell) → 0 < count_of x spans
+    → (x : Span) (k p : ℕ) → k ≡ key_of x.from x.to → 1 ≤ k → k ≤ ROWS
+    → ((i : ℕ) (d : Span) → get_or ends (k - 1) 0 ≤ i → i < p → cell_of spans i d < x.cell) → 0 < count_of x spans
     → (i : ℕ) × (d : Span) × (p ≤ i) × (i < length spans) × (get_or spans i d ≡ x)
-there_from spans ends ranges col x k lo hi p key some small b below counted =
+there_from spans ends ranges col x k p key some small below counted =
     let found : (i : ℕ) × (i < length spans) × ((d : Span) → get_or spans i d ≡ x) = is_there x spans counted in
     let at : (get_or ends (k - 1) 0 ≤ found.0) × (found.0 < get_or ends k 0) =
     within_key spans ends ranges col k found.0 x some small found.1 (ap key_is (found.2 x) ∙ sym key) in (
@@ -155,7 +155,11 @@ found_within spans ends ranges col x k p key some small within found =
 
 -- at the row of a span and after it there is one to count
 pub some_counted : (spans : List Span) (ends : List ℕ) (ranges : Bool) → IsColumn spans ends ranges
-    → (x : Span) (k p : ℕ) → 1 ≤ k → k ≤ ROWS → p < get_or ends k 0 → (j : ℕ) → k ≤ j → j < length ends
-    → 0 < get_or ends j 0
-some_counted spans ends ranges col x k p some small to j le within =
-    omega (arith, ends_rise spans ends ranges col k j x le (omega (arith, col.size)))
+    → (x : Span) (k p : ℕ) → k ≡ key_of x.from x.to → 1 ≤ k → k ≤ ROWS → p < length spans
+    → ((d : Span) → get_or spans p d ≡ x) → (j : ℕ) → k ≤ j → j < length ends → 0 < get_or ends j 0
+some_counted spans ends ranges col x k p key some small within found j le lt =
+    omega (
+      arith,
+      ends_rise spans ends ranges col k j x le (omega (arith, col.size)),
+      (found_within spans ends ranges col x k p key some small within found).1,
+    )

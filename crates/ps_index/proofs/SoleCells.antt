@@ -145,29 +145,36 @@ noted_again before after x sole ranges ranges' k n has is key small narrow elsew
       ];
 }
 
-pub soles_put_in : (spans : List Span) (x : Span) (p : ℕ) (sole : List ℕ) (ranges ranges' : Bool) (k n : ℕ)
+-- what a column without ranges notes, where there are none
+noted_where : (spans : List Span) (ends : List ℕ) (ranges : Bool) (k n : ℕ) → IsColumn spans ends ranges
+    → (IsColumn spans ends false → IsSole (refers_at spans k) n) → ranges ≡ false → IsSole (refers_at spans k) n
+noted_where spans ends ranges k n col noted off = noted (subst (λ (b : Bool). IsColumn spans ends b) off col)
+
+pub soles_put_in : (spans : List Span) (x : Span) (p : ℕ) (ends' sole : List ℕ) (ranges ranges' : Bool) (k n : ℕ)
     → HasSoles spans sole ranges → IsSpan x → k ≡ key_of x.from x.to → k ≤ ROWS
     → (ranges' ≡ false → (ranges ≡ false) × (x.from ≡ x.to))
-    → (ranges' ≡ false → IsSole (refers_at (insert spans p x) k) n)
+    → IsColumn (insert spans p x) ends' ranges'
+    → (IsColumn (insert spans p x) ends' false → IsSole (refers_at (insert spans p x) k) n)
     → HasSoles (insert spans p x) (set sole k n) ranges'
-soles_put_in spans x p sole ranges ranges' k n has is key small narrow here =
+soles_put_in spans x p ends' sole ranges ranges' k n has is key small narrow col noted =
     noted_again spans (insert spans p x) x sole ranges ranges' k n has is key small narrow
     (λ (y : ℕ) (never : holds x y ≡ false). with_as_without spans (insert spans p x) x y never
     (λ (s : Span). sum_by-insert (λ z. cond (same_span s z) 1 0) spans p x))
-    here
+    (noted_where (insert spans p x) ends' ranges' k n col noted)
 
-pub soles_taken_out : (spans : List Span) (x : Span) (p : ℕ) (sole : List ℕ) (ranges : Bool) (k n : ℕ)
+pub soles_taken_out : (spans : List Span) (x : Span) (p : ℕ) (ends' sole : List ℕ) (ranges : Bool) (k n : ℕ)
     → HasSoles spans sole ranges → IsSpan x → k ≡ key_of x.from x.to → k ≤ ROWS → p < length spans
     → ((d : Span) → get_or spans p d ≡ x) → (ranges ≡ false → x.from ≡ x.to)
-    → (ranges ≡ false → IsSole (refers_at (remove spans p) k) n)
+    → IsColumn (remove spans p) ends' ranges
+    → (IsColumn (remove spans p) ends' false → IsSole (refers_at (remove spans p) k) n)
     → HasSoles (remove spans p) (set sole k n) ranges
-soles_taken_out spans x p sole ranges k n has is key small within at narrow here =
+soles_taken_out spans x p ends' sole ranges k n has is key small within at narrow col noted =
     noted_again spans (remove spans p) x sole ranges ranges k n has is key small
     (λ (off : ranges ≡ false). (off, narrow off))
     (λ (y : ℕ) (never : holds x y ≡ false) (c : ℕ). sym (with_as_without (remove spans p) spans x y never
     (λ (s : Span). sym (ap (λ z. count_of s (remove spans p) + one_if (same_span s z)) (sym (at x))
     ∙ sum_by-remove (λ z. cond (same_span s z) 1 0) spans p x within)) c))
-    here
+    (noted_where (remove spans p) ends' ranges k n col noted)
 
 pub no_soles : (spans : List Span) (sole : List ℕ) → spans ≡ [] → sole ≡ replicate (ROWS + 1) CELLS
     → HasSoles spans sole false

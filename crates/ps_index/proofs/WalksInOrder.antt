@@ -305,7 +305,7 @@ IsWalk-start spans column ranges y starts ends runs col is = record {
   within = λ (r : ℕ) (lt : r < runs). let s = is.sound r lt in omega (arith, s.4, col.within s.0 s.2);
   by_cell = λ (r i j : ℕ) (d : Span) (lt : r < runs) (from : get_or starts r 0 ≤ i) (le : i ≤ j)
       (to : j < get_or ends r 0).
-      let s = is.sound r lt in by_cell_within spans column ranges col s.0 i j d s.1 s.2 (omega (arith, s.3)) le
+      let s = is.sound r lt in by_cell_within spans column ranges col s.0 s.1 s.2 i j d (omega (arith, s.3)) le
       (omega (arith, s.4));
   whole = λ (i : ℕ) (d : Span) (within : i < length spans) (has : holds (get_or spans i d) y ≡ true)
       (le : 0 ≤ cell_of spans i d).
