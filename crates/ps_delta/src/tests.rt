@@ -264,6 +264,14 @@ fn hidden_parts_are_touched(rt: HostRuntime) -> Result<(), Refusal> {
     join(&rt, rt.alloc(), &mut grid, &late)?;
     touch(&rt, rt.alloc(), &grid, &mut touched, &late, &[])?;
     assert_eq!(rt; number_at(&grid, cell(&rt, 3)), Some(8));
+    Ok(())
+}
+
+/// A register that comes to a cell leaves the set that it has.
+#[test]
+fn a_set_stays_beside_a_register(rt: HostRuntime) -> Result<(), Refusal> {
+    let mut grid = Grid::new(rt.alloc())?;
+    join(&rt, rt.alloc(), &mut grid, &[(4, Chosen(1, true))])?;
     join(&rt, rt.alloc(), &mut grid, &[(4, Assigned(3, 1, 6))])?;
     assert_eq!(rt; grid.at(cell(&rt, 4)).choice.parts().len(), 1);
     Ok(())
