@@ -78,29 +78,6 @@ impl Patch {
         }
     }
 
-    /// The same of a delta and of changes that are lent. Refused only when out of memory.
-    ///
-    /// Cost: the number of changes.
-    pub fn of(
-        alloc: Global,
-        number: u64,
-        delta: &Arc<Delta>,
-        changes: &[(Cell, Kept)],
-        owner: u64,
-    ) -> Result<Patch, Refusal>
-        ensures patch { IfOk result (λ p. p ≡ record {
-          number = number;
-          delta = arc_value delta.now;
-          changes = map valued changes.now;
-          owner = owner;
-        }) }
-        ensures memory { IfErr result (λ e. e ≡ Memory) }
-    {
-        let mut copied = Vec::with_capacity(alloc, changes.len())?;
-        copy_all(alloc, changes, &mut copied)?;
-        Ok(Patch::new(number, delta.clone()?, copied, owner))
-    }
-
     /// The version that the patch leads to.
     ///
     /// Cost: constant.

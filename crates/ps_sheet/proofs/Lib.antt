@@ -31,6 +31,7 @@ pub mod SetsAsNumbers
 pub mod SettledChanges
 pub mod SettledExists
 pub mod SettledValues
+pub mod SharedDeltas
 pub mod TakenIn
 pub mod WalkEnds
 pub mod WalkLevels

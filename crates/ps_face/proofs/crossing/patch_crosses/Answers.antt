@@ -1,4 +1,3 @@
-use denote.RattleType.{RattleType}
 use denote.Param.Send.{IsSend, IsSync, sendable, view_send}
 use denote.Param.SendFields.{declared_send, as_row_send}
 use denote.Struct.Declared as S
@@ -8,15 +7,10 @@ use Rattle.std.specs.contracts.alloc.Global as Global
 use Rattle.std.specs.contracts.impls.GlobalAllocator.TheImpl.{ghosts}
 use Rattle.ps_delta.specs.contracts.delta.Delta as delta
 use Rattle.ps_face.specs.contracts.patch.Patch.TheInside as patch_inside
+use Rattle.ps_sheet.proofs.SharedDeltas.{shared_send}
 use Rattle.ps_face.proofs.crossing.patch_crosses.Goals as goal
 
-abbrev shared_delta : RattleType
-shared_delta = Arc.the_row delta.the_row Global.the_row ghosts
-
 -- from what the bounds say of the delta that the whole may go to another thread
-
-shared_send : IsSend delta.the_row → IsSync delta.the_row → IsSend shared_delta
-shared_send d e = search (crosses, sendable, d, e) depth 60 fits 100000
 
 patch_send : IsSend delta.the_row → IsSync delta.the_row → IsSend (S.row patch_inside.the_type)
 patch_send d e = declared_send patch_inside.the_type (

@@ -1,13 +1,11 @@
 use denote.Builtin.{bool}
 use denote.Hole.{as_row}
-use denote.RattleType.{RattleType}
 use denote.Param.Send.{IsSend, IsSync, sendable, view_send}
 use denote.Param.SendFields.{declared_send, as_row_send}
 use denote.Struct.Declared as S
 use Rattle.std.proofs.Crossing.{crosses}
 use Rattle.std.specs.contracts.vec.Vec as Vec
 use Rattle.std.specs.contracts.option.Option as Option
-use Rattle.std.specs.contracts.sync.Arc as Arc
 use Rattle.std.specs.contracts.alloc.Global as Global
 use Rattle.std.specs.contracts.impls.GlobalAllocator.TheImpl.{ghosts}
 use Rattle.ps_delta.specs.contracts.delta.Delta as delta
@@ -19,15 +17,10 @@ use Rattle.ps_sheet.specs.contracts.cells.Cells as cells
 use Rattle.ps_sheet.specs.contracts.level.Level as level
 use Rattle.ps_sheet.specs.contracts.screen.Screen as screen
 use Rattle.ps_sheet.specs.contracts.sheet.Sheet.TheInside as sheet_inside
+use Rattle.ps_sheet.proofs.SharedDeltas.{shared_delta, shared_send}
 use Rattle.ps_sheet.proofs.crossing.sheet_crosses.Goals as goal
 
-abbrev shared_delta : RattleType
-shared_delta = Arc.the_row delta.the_row Global.the_row ghosts
-
 -- from what the bounds say of the parts, one after another, that the whole may go to another thread
-
-shared_send : IsSend delta.the_row → IsSync delta.the_row → IsSend shared_delta
-shared_send d e = search (crosses, sendable, d, e) depth 60 fits 100000
 
 history_send : IsSend shared_delta → IsSend (Vec.the_row shared_delta Global.the_row ghosts)
 history_send a = search (crosses, sendable, a) depth 60 fits 100000
