@@ -163,7 +163,11 @@ impl<L: DeskName, W: Wait + Drop> Desk<L, W> {
         let Some(held) = &*guard else {
             return Err(Refusal::Memory);
         };
-        held.pull(alloc, pass, from, at_most)
+        // A pass has never seen more than what is published.
+        if !pass.catch_up(held.front()) {
+            return Err(Refusal::Memory);
+        }
+        held.deltas_after(alloc, from, at_most)
     }
 
     /// Makes a change under the lock.

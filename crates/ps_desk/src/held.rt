@@ -134,37 +134,10 @@ impl<L: DeskName, W: Wait + Drop> Held<L, W> {
         }
     }
 
-    /// The deltas of the history after a number, in order, at most so many, for a pass, which has then seen all that is
-    /// published.
+    /// The deltas of the history after a number, in order, at most so many.
     ///
     /// Refused where the history is shorter than the number, and when out of memory.
-    pub(crate) fn pull(
-        &self,
-        alloc: Global,
-        pass: &mut Pass<L>,
-        from: u64,
-        at_most: usize,
-    ) -> Result<Vec<Arc<Delta>>, Refusal>
-        ensures later { IsPrefix pass.old.list pass.new.list }
-        ensures all { IfOk result (λ _. pass.new.list ≡ self.now) }
-        ensures deltas { IfOk result (λ ds. map arc_value ds.items
-            ≡ take at_most (drop from (history_of L.opening pass.new.list))) }
-        ensures there { IfOk result (λ _. from ≤ length (history_of L.opening pass.new.list)) }
-        ensures bound { IfOk result (λ _. length (history_of L.opening pass.new.list) < 2 ^ 64) }
-        ensures refused { IfErr result (λ e. (e ≡ Memory)
-            ⊎ ((e ≡ Version) × (length (history_of L.opening pass.new.list) < from))) }
-        ensures same { (pass.new.appended ≡ pass.old.appended) × (pass.new.seat ≡ pass.old.seat)
-            × (pass.new.enters ≡ pass.old.enters) }
-    {
-        // A pass has never seen more than what is published.
-        if !pass.catch_up(self.copies.front()) {
-            return Err(Refusal::Memory);
-        }
-        self.deltas_after(alloc, from, at_most)
-    }
-
-    /// The deltas of the history after a number, in order, at most so many.
-    fn deltas_after(
+    pub(crate) fn deltas_after(
         &self,
         alloc: Global,
         from: u64,
