@@ -9,7 +9,7 @@ ghost use Rattle.ps_delta.specs.Deltas.{joined_history};
 ghost use Rattle.ps_sheet.specs.Prepared.{IsDeltaOf, IsRefusedBy, history_after};
 ghost use Rattle.ps_sheet.specs.Sheet.{IsSheet};
 ghost use Rattle.ps_face.specs.Legal.{IsLegal, history_of};
-ghost use Rattle.ps_desk.specs.Kept.{IsKept};
+ghost use Rattle.ps_desk.specs.UnderLock.{IsUnderLock};
 ghost use Rattle.ps_desk.specs.Patches.{note_of};
 ghost use Rattle.ps_desk.specs.Receipts.{Tells};
 
@@ -42,7 +42,7 @@ impl<L: DeskName, W: Wait + Drop> Model for Held<L, W> {
     ghost use Rattle.std.specs.Coded.{codes};
     ghost use Rattle.ps_face.specs.declared.patch.Note.{Note};
     ghost use Rattle.ps_face.specs.contracts.patch.Note as note;
-    ghost use Rattle.ps_desk.specs.Kept.{IsKept};
+    ghost use Rattle.ps_desk.specs.UnderLock.{IsUnderLock};
 
     ghost Value = { List Note };
 
@@ -50,7 +50,7 @@ impl<L: DeskName, W: Wait + Drop> Model for Held<L, W> {
 
     ghost view = { λ h. h.copies.list };
 
-    ghost invariant = { λ h. IsKept L.replica L.opening h.sheet.replica h.sheet.history h.copies h.book.total };
+    ghost invariant = { λ h. IsUnderLock L.replica L.opening h.sheet.replica h.sheet.history h.copies h.book.total };
 }
 
 impl<L: DeskName, W: Wait + Drop> Held<L, W> {
@@ -162,7 +162,7 @@ impl<L: DeskName, W: Wait + Drop> Held<L, W> {
 
     /// The three together.
     fn of(sheet: Sheet, copies: FaceWriter<L, W>, book: Book<L>) -> Held<L, W>
-        requires { IsKept L.replica L.opening sheet.replica sheet.history copies book.total }
+        requires { IsUnderLock L.replica L.opening sheet.replica sheet.history copies book.total }
         ensures { result ≡ copies.list }
     {
         Held {
@@ -193,7 +193,7 @@ fn settle<L: DeskName, W: Wait + Drop>(
     book: Book<L>,
     pass: &mut Pass<L>,
 ) -> (Held<L, W>, Result<Receipt, Refusal>)
-    requires kept { IsKept L.replica L.opening prepared.replica prepared.history copies book.total }
+    requires kept { IsUnderLock L.replica L.opening prepared.replica prepared.history copies book.total }
     requires seen { pass.old.list ≡ copies.list }
     ensures later { IsPrefix pass.old.list pass.new.list }
     ensures all { IfOk result.1 (λ _. pass.new.list ≡ result.0) }
@@ -229,7 +229,7 @@ fn append<L: DeskName, W: Wait + Drop>(
 ) -> (Held<L, W>, Result<Receipt, Refusal>)
     requires fresh { prepared.fresh ≡ true }
     requires delta { arc_value delta ≡ prepared.delta }
-    requires kept { IsKept L.replica L.opening prepared.replica prepared.history copies book.total }
+    requires kept { IsUnderLock L.replica L.opening prepared.replica prepared.history copies book.total }
     requires seen { pass.old.list ≡ copies.list }
     ensures all { IfOk result.1 (λ _. pass.new.list ≡ result.0) }
     ensures published { IfOk result.1 (λ _. pass.new.list
@@ -281,7 +281,7 @@ fn commit<L: DeskName, W: Wait + Drop>(
     copies: FaceWriter<L, W>,
     book: Book<L>,
 ) -> Held<L, W>
-    requires { IsKept L.replica L.opening prepared.replica (history_after prepared) copies book.total }
+    requires { IsUnderLock L.replica L.opening prepared.replica (history_after prepared) copies book.total }
     ensures { result ≡ copies.list }
 {
     let (sheet, _report) = prepared.commit();
@@ -294,7 +294,7 @@ fn give_up<L: DeskName, W: Wait + Drop>(
     copies: FaceWriter<L, W>,
     book: Book<L>,
 ) -> Held<L, W>
-    requires { IsKept L.replica L.opening prepared.replica prepared.history copies book.total }
+    requires { IsUnderLock L.replica L.opening prepared.replica prepared.history copies book.total }
     ensures { result ≡ copies.list }
 {
     let sheet = prepared.cancel();

@@ -8,7 +8,7 @@ use mathlib.Core.List.{IsPrefix}
 use prog.Atomic.{either}
 use Rattle.logbook.specs.Pages.{Cell, cell, keeps, no_nib, step, Moves, Goes, View}
 use Rattle.ps_face.specs.declared.patch.Note.{Note}
-use Rattle.ps_face.specs.Book.{IsKept, Adds}
+use Rattle.ps_face.specs.Book.{CountsPatches, Adds}
 use Rattle.ps_face.proofs.Beginnings.{begins_whole}
 
 -- what a client sees of the list, and what an offer of its own does: nothing
@@ -28,7 +28,7 @@ raised old n = either (n == old) (old + 1) n
 
 pub adds_goes : (log v : List Note) (e : Note) (old : ℕ) → length v ≡ old → IsPrefix v log
     → (b : Bool) → (length log == old) ≡ b
-    → Goes IsKept shown moved 0 (seen v) (raised old) (Adds (step 0 old (old + 1) e) (seen v))
+    → Goes CountsPatches shown moved 0 (seen v) (raised old) (Adds (step 0 old (old + 1) e) (seen v))
     ((length log, true) ∷ (0, true) ∷ []) log
 adds_goes log v e old len pre true is =
     let here : length log ≡ old = grind (arith, nat_tests) in
@@ -56,10 +56,10 @@ adds_goes log v e old len pre false is =
 
 -- whatever the book is, the exchange adds the patch to all that was seen, or finds that the list is longer
 pub adds_moves : (v : List Note) (e : Note) (old : ℕ) → length v ≡ old
-    → Moves IsKept shown moved 0 (seen v) (raised old) (Adds (step 0 old (old + 1) e) (seen v))
+    → Moves CountsPatches shown moved 0 (seen v) (raised old) (Adds (step 0 old (old + 1) e) (seen v))
 adds_moves v e old len cs log kept pre away =
     let P : List Cell → Type 0 = λ c. (0 < length c) × ((cell c 0).1 ≡ true)
-    × Goes IsKept shown moved 0 (seen v) (raised old) (Adds (step 0 old (old + 1) e) (seen v)) c log in
+    × Goes CountsPatches shown moved 0 (seen v) (raised old) (Adds (step 0 old (old + 1) e) (seen v)) c log in
     subst P (sym kept.words) (omega arith, refl, adds_goes log v e old len pre (length log == old) refl)
 
 pub on_true : (b : Bool) (P : Type 0) → b ≡ true → OnTrue b P → P

@@ -5,7 +5,7 @@ use Rattle.logbook.specs.Pages.{Cell, Step, View, Book, Named}
 use Rattle.ps_face.specs.declared.patch.Note.{Note}
 
 -- the first word is the length of the list. A book has two words, of which this one leaves the second at 0
-pub record IsKept (cells : List Cell) (log : List Note) : Type 0 where
+pub record CountsPatches (cells : List Cell) (log : List Note) : Type 0 where
   pub words : cells ≡ (length log, true) ∷ (0, true) ∷ []
 
 -- the word that is the length of the list

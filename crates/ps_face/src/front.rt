@@ -19,9 +19,9 @@ pub struct BookLaw;
 impl Rule<Note, u64> for BookLaw {
     ghost use Rattle.std.specs.Prelude.{[]};
     ghost use base.Fml.{ftrue};
-    ghost use Rattle.ps_face.specs.Book.{IsKept};
+    ghost use Rattle.ps_face.specs.Book.{CountsPatches};
 
-    ghost holds = { λ cells log. IsKept cells log };
+    ghost holds = { λ cells log. CountsPatches cells log };
 
     ghost first = { [] };
 

@@ -8,7 +8,7 @@ use Rattle.std.proofs.lemmas.List.{get_or-set_same, get_or-set_other, take_more,
 use Rattle.std.specs.List.{list_any, filter}
 use Rattle.ps_grid.specs.Chains.{References, In, InRegion}
 use Rattle.ps_grid.proofs.ChainLemmas.{bool_cases}
-use Rattle.ps_region.specs.Inside.Touched.{IsFresh, IsPlain, not_plain}
+use Rattle.ps_region.specs.Inside.Touched.{FlagsTouched, IsPlain, not_plain}
 use Rattle.ps_region.proofs.CellListLemmas.{in-push_same, in-push_other}
 
 pub not_not : (b : Bool) → not (not b) ≡ b
@@ -45,7 +45,7 @@ not_plain_is refers formula plain touched has noted c r =
 
 -- a listed cell that isn't fresh refers there
 pub fresh_known : (refers : References) (listed : ℕ → List ℕ) (fresh : List Bool) (touched : List ℕ) (n : ℕ)
-    → IsFresh fresh touched
+    → FlagsTouched fresh touched
     → ((c d : ℕ) → d < n → In (listed d) c → (refers c d ≡ true) ⊎ In touched c)
     → (d e : ℕ) → d < n → In (listed d) e → get_or fresh e false ≡ false → refers e d ≡ true
 fresh_known refers listed fresh touched n noted extra d e lt i off =

@@ -8,7 +8,7 @@ ghost use Rattle.ps_grid.specs.Chains.{In, InRegion, IsCyclic};
 ghost use Rattle.ps_region.specs.Inside.Cells.{Marked};
 ghost use Rattle.ps_region.specs.Inside.Counts.{is_in};
 ghost use Rattle.ps_region.specs.Inside.Settles.{Levels, Settling, is_frame, is_held, is_pending};
-ghost use Rattle.ps_region.specs.Inside.Touched.{IsFresh, IsPlain};
+ghost use Rattle.ps_region.specs.Inside.Touched.{FlagsTouched, IsPlain};
 ghost use Rattle.ps_region.specs.Listed.{listed};
 
 use crate::after::After;
@@ -55,7 +55,7 @@ pub(crate) fn mark_parts<A: After>(
     requires starts_room { ALL < vec_capacity starts.old }
     requires cyclic_room { ALL ≤ vec_capacity cyclic.old }
     ensures marked { Marked marks.new members.new.items }
-    ensures fresh { IsFresh fresh.new touched.now }
+    ensures fresh { FlagsTouched fresh.new touched.now }
     ensures plain { IsPlain (A.formula after.now) plain.new touched.now }
     ensures sound { (c : ℕ) → In members.new.items c → InRegion (A.refers after.now) touched.now c }
     ensures complete { (c : ℕ) → InRegion (A.refers after.now) touched.now c → In members.new.items c }

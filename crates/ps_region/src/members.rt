@@ -5,7 +5,7 @@ ghost use Rattle.ps_grid.specs.declared.size.TheConstants.{CELLS as ALL};
 ghost use Rattle.ps_grid.specs.Chains.{In};
 ghost use Rattle.ps_region.specs.Inside.Counts.{counted_in};
 ghost use Rattle.ps_region.specs.Inside.Cells.{Marked, with_cell, with_all};
-ghost use Rattle.ps_region.specs.Inside.Touched.{IsFresh, IsPlain, not_plain};
+ghost use Rattle.ps_region.specs.Inside.Touched.{FlagsTouched, IsPlain, not_plain};
 
 use crate::after::After;
 use ps_grid::Cell;
@@ -70,7 +70,7 @@ pub(crate) fn note_touched<A: After>(
     requires plain_length { length plain.old ≡ ALL }
     requires no_fresh { (c : ℕ) → slice_index_or fresh.old c false ≡ false }
     requires no_plain { (c : ℕ) → slice_index_or plain.old c false ≡ false }
-    ensures fresh { IsFresh fresh.new touched.now }
+    ensures fresh { FlagsTouched fresh.new touched.now }
     ensures plain { IsPlain (A.formula after.now) plain.new touched.now }
 {
     for c in touched {

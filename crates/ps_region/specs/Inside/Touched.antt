@@ -2,9 +2,9 @@
 use Rattle.std.specs.Prelude.{◌≡◌, ℕ, Bool, false, not, ◌&&◌, List, nat_eq, slice_index_or}
 use Rattle.std.specs.List.{list_any}
 
--- just the touched cells are fresh
-abbrev pub IsFresh : List Bool → List ℕ → Type 0
-IsFresh fresh touched = (c : ℕ) → slice_index_or fresh c false ≡ list_any (nat_eq c) touched
+-- just the touched cells are flagged
+abbrev pub FlagsTouched : List Bool → List ℕ → Type 0
+FlagsTouched fresh touched = (c : ℕ) → slice_index_or fresh c false ≡ list_any (nat_eq c) touched
 
 -- just the touched cells without a formula are plain
 abbrev pub IsPlain : (ℕ → Bool) → List Bool → List ℕ → Type 0
