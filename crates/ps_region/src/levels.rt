@@ -95,6 +95,7 @@ fn release_sole<A: After>(
         left.new level.new order.new.items }
     ensures room { ALL ≤ vec_capacity order.new }
 {
+    // for the fact that the cell is in the grid
     let _place = e.index();
     if still_refers(after, fresh, e, d) {
         lower(left, level, order, e, k);

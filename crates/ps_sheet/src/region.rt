@@ -36,6 +36,7 @@ impl After for Formulas<'_> {
     ghost formula = { λ f. formula_at (state_at f.grid.now) };
 
     fn refers(&self, c: Cell, d: Cell) -> bool {
+        // for the facts that both cells are in the grid
         let _ = (c.index(), d.index());
         match formula_of(self.grid.at(c)) {
             None => false,

@@ -14,7 +14,7 @@ use crate::entries::entries_value;
 use crate::parts::{four, three};
 use ps_content::Content;
 use ps_delta::{CellState, Delta};
-use ps_grid::{Cell, Refusal};
+use ps_grid::{Cell, NAME_BYTES, Refusal};
 use ps_lattice::Register;
 use serde_json::Value;
 use std::alloc::Global;
@@ -32,7 +32,7 @@ fn name_value(alloc: Global, cell: Cell) -> Result<Value, Refusal>
     ensures value { IfOk result (λ v. view v ≡ string (cell_name cell)) }
     ensures memory { IfErr result (λ e. e ≡ Memory) }
 {
-    let mut name = [0; 6];
+    let mut name = [0; NAME_BYTES];
     let len = cell.write(&mut name);
     Ok(text_value(Vec::from_slice(alloc, &name[..len])?))
 }
