@@ -4,8 +4,8 @@ use Rattle.ps_index.proofs.column.place_at.Goals as goal
 
 pub place_of-requires-clause-ordered : goal.place_of-requires-clause-ordered
 place_of-requires-clause-ordered c =
-    ends_rise _ _ _ c.requires.column.1 (c.args.row - 1) c.args.row (record { from = 0; to = 0; cell = 0 }) (omega arith)
-    (omega arith)
+    ends_rise _ _ _ c.requires.column.1 (c.args.row - 1) c.args.row (record { from = 0; to = 0; cell = 0 })
+    (omega arith) (omega arith)
 
 pub place_of-requires-clause-within : goal.place_of-requires-clause-within
 place_of-requires-clause-within c = c.requires.column.1.within c.args.row (omega arith)
