@@ -24,6 +24,3 @@ pub use canonical::read_canonical;
 pub use content::Content;
 pub use entry::read_entry;
 pub use shared::SharedFormula;
-
-#[cfg(test)]
-mod tests;

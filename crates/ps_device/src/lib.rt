@@ -32,6 +32,3 @@ pub use stream::{Reading, Writing};
 
 /// How many bytes are read at once, and how many wait at most before they are written.
 pub const PIECE_BYTES: usize = 65_536;
-
-#[cfg(test)]
-mod tests;

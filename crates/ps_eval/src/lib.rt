@@ -20,8 +20,6 @@ mod laws;
 mod look;
 mod meter;
 mod summary;
-#[cfg(test)]
-mod tests;
 mod total;
 mod tree;
 mod truths;

@@ -20,8 +20,6 @@ mod kept;
 mod laws;
 mod order;
 mod parser;
-#[cfg(test)]
-mod tests;
 
 pub use expr::{Argument, Expr, Sign};
 pub use formula::{Formula, Formulas, LONGEST_ENTRY, LONGEST_TEXT};

@@ -29,6 +29,3 @@ pub use rect::{Cells, Rect};
 pub use refusal::Refusal;
 pub use size::{CELLS, COLUMNS, NAME_BYTES, ROWS};
 pub use twin::Twin;
-
-#[cfg(test)]
-mod tests;

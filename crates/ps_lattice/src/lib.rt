@@ -27,8 +27,6 @@ mod limits;
 mod register;
 mod shared;
 mod tally;
-#[cfg(test)]
-mod tests;
 
 pub use choice::{Choice, Pair};
 pub use entries::{Merge, is_ascending, merge_entries};

@@ -24,6 +24,3 @@ pub use laws::{canonical_spelling, one_spelling};
 pub use lexer::tokens;
 pub use token::{FUNCTIONS, Function, Operator, Token};
 pub use writer::put_token;
-
-#[cfg(test)]
-mod tests;

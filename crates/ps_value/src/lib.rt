@@ -26,6 +26,3 @@ pub use value::{Fault, Value};
 
 /// The greatest number of bytes in a label.
 pub const LABEL_BYTES: usize = 64;
-
-#[cfg(test)]
-mod tests;

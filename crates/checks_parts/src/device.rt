@@ -1,14 +1,13 @@
 //! Devices that fail, stop short or are interrupted.
 ghost use Rattle.ps_grid.specs.Blanks.{IsBlankOf};
 
-use crate::{ConsoleOutput, MemorySource, Reading, Sink, Source, Writing, hand_on, put_all};
+use ps_device::{ConsoleOutput, MemorySource, Reading, Sink, Source, Writing, hand_on, put_all};
 use ps_grid::Refusal;
 use std::alloc::Global;
 use std::io;
 use std::io::{ErrorKind, Read, Write};
 use std::marker::Brand;
 use std::sync::ledger::{Blank, Ledger};
-use std::test::Fail;
 
 /// A peer that is interrupted some times, then gives or takes a byte at a time, and at last fails.
 #[derive(Drop)]
@@ -76,38 +75,46 @@ fn puts<L: Ledger>(peer: Peer, bytes: &[u8], blank: Blank) -> bool
     put_all(&mut sink, bytes).is_ok()
 }
 
+/// A peer that is interrupted three times, and then has so many bytes.
+fn interrupted_peer(bytes: u8) -> Peer {
+    Peer {
+        interrupts: 3,
+        bytes,
+    }
+}
+
+/// What three reads of a peer with so many bytes give.
+fn taken(bytes: u8) -> [Option<usize>; 3] {
+    takes::<Brand>(interrupted_peer(bytes), Blank::new(1))
+}
+
+/// Whether a peer with room for so many bytes takes four.
+fn takes_four(bytes: u8) -> bool {
+    puts::<Brand>(interrupted_peer(bytes), b"four", Blank::new(1))
+}
+
 /// An interrupted call is tried again, and any other error is a failure.
 #[test]
 fn interrupted(rt: HostRuntime) {
-    let peer = Peer {
-        interrupts: 3,
-        bytes: 2,
-    };
-    assert_eq!(rt;
-        takes::<Brand>(peer, Blank::new(1)),
-        [Some(1), Some(1), None]
-    );
-    let peer = Peer {
-        interrupts: 3,
-        bytes: 4,
-    };
-    assert!(rt; puts::<Brand>(peer, b"four", Blank::new(1)));
-    let peer = Peer {
-        interrupts: 3,
-        bytes: 3,
-    };
-    assert!(rt; !puts::<Brand>(peer, b"four", Blank::new(1)));
+    assert!(rt; taken(2) == [Some(1), Some(1), None]);
+    assert!(rt; takes_four(4) && !takes_four(3));
+}
+
+/// What three reads of five bytes give, in pieces of three bytes, and the piece after the first.
+fn taken_in_pieces() -> ([Option<usize>; 3], [u8; 3]) {
+    let mut source = MemorySource::new(b"abcde");
+    let mut piece = [0; 3];
+    let first = source.take(&mut piece).ok();
+    let after_first = piece;
+    let second = source.take(&mut piece).ok();
+    let third = source.take(&mut piece).ok();
+    ([first, second, third], after_first)
 }
 
 /// The bytes of a slice come in pieces of any size, and then the end.
 #[test]
 fn pieces(rt: HostRuntime) {
-    let mut source = MemorySource::new(b"abcde");
-    let mut piece = [0; 3];
-    assert_eq!(rt; source.take(&mut piece).ok(), Some(3));
-    assert_eq!(rt; piece, *b"abc");
-    assert_eq!(rt; source.take(&mut piece).ok(), Some(2));
-    assert_eq!(rt; source.take(&mut piece).ok(), Some(0));
+    assert!(rt; taken_in_pieces() == ([Some(3), Some(2), Some(0)], *b"abc"));
 }
 
 /// A writer that has what it was given only once it is flushed.
@@ -148,12 +155,18 @@ fn given_on<L: Ledger>(alloc: Global, bytes: &[u8], blank: Blank) -> Result<Vec<
     Ok(sink.into_writer().given)
 }
 
+/// Whether a writer has given on all that was handed to it.
+fn gives_on(alloc: Global, bytes: &[u8]) -> bool {
+    match given_on::<Brand>(alloc, bytes, Blank::new(1)) {
+        Ok(given) => given.as_slice() == bytes,
+        Err(_) => false,
+    }
+}
+
 /// A settle flushes the writer.
 #[test]
-fn flushed(rt: HostRuntime) -> Result<(), Fail> {
-    let given = given_on::<Brand>(rt.alloc(), b"ok 1\n", Blank::new(1))?;
-    assert_eq!(rt; given.as_slice(), b"ok 1\n".as_slice());
-    Ok(())
+fn flushed(rt: HostRuntime) {
+    assert!(rt; gives_on(rt.alloc(), b"ok 1\n"));
 }
 
 /// A writer that keeps what it takes, at most so many bytes a call; one of its calls fails.
@@ -232,11 +245,44 @@ fn rounds<L: Ledger>(
     ))
 }
 
+/// The same over a new ledger.
+fn rounds_of(
+    alloc: Global,
+    writer: FailsOnce,
+    bytes: &[u8],
+) -> Result<([bool; 5], FailsOnce), Refusal> {
+    rounds::<Brand>(alloc, writer, bytes, Blank::new(1))
+}
+
+/// Whether a writer has made so many calls, and has just so many of these bytes from their start on.
+fn has_first(writer: &FailsOnce, calls: usize, kept: usize, bytes: &[u8]) -> bool {
+    writer.calls == calls && writer.kept.len() == kept && bytes.starts_with(&writer.kept)
+}
+
+/// How many of the four and of a put of no byte are Ok, where a call of the writer fails: those, and none after them.
+///
+/// None where the writer has not made all calls up to that one, or has not so many of the bytes, twice, as are kept.
+fn oks_where_a_call_fails(
+    alloc: Global,
+    bytes: &[u8],
+    twice: &[u8],
+    fails_at: usize,
+    kept: usize,
+) -> Result<Option<[bool; 5]>, Refusal> {
+    let (oks, writer) = rounds_of(alloc, failing(alloc, 30_000, fails_at), bytes)?;
+    let calls = if fails_at < 12 { fails_at + 1 } else { 12 };
+    if has_first(&writer, calls, kept, twice) {
+        Ok(Some(oks))
+    } else {
+        Ok(None)
+    }
+}
+
 /// Whichever call of the writer fails: it has all that came before, nothing comes after, and the sink stays failed.
 ///
 /// 65,536 of 100,000 bytes are sent as the room fills up, in three writes; the settle takes two more and a flush.
 #[test]
-fn each_call_of_the_writer_fails(rt: HostRuntime) -> Result<(), Fail> {
+fn each_call_of_the_writer_fails(rt: HostRuntime) -> Result<(), Refusal> {
     let alloc = rt.alloc();
     let bytes = bytes_of(alloc, 100_000)?;
     let mut twice = bytes_of(alloc, 100_000)?;
@@ -254,32 +300,24 @@ fn each_call_of_the_writer_fails(rt: HostRuntime) -> Result<(), Fail> {
         (9, 165_536, [true, true, true, false, false]),
         (10, 195_536, [true, true, true, false, false]),
         (11, 200_000, [true, true, true, false, false]),
+        (12, 200_000, [true; 5]),
     ] {
-        let writer = failing(alloc, 30_000, fails_at);
-        let (found, writer) = rounds::<Brand>(alloc, writer, &bytes, Blank::new(1))?;
-        assert_eq!(rt; found, oks);
-        assert_eq!(rt; writer.calls.checked_sub(1), Some(fails_at));
-        assert_eq!(rt; writer.kept.len(), kept);
-        assert!(rt; twice.starts_with(&writer.kept));
+        let found = oks_where_a_call_fails(alloc, &bytes, &twice, fails_at, kept);
+        assert!(rt; found == Ok(Some(oks)), "{fails_at}");
     }
-    let writer = failing(alloc, 30_000, 12);
-    let (found, writer) = rounds::<Brand>(alloc, writer, &bytes, Blank::new(1))?;
-    assert_eq!(rt; found, [true; 5]);
-    assert_eq!(rt; writer.calls, 12);
-    assert!(rt; writer.kept.as_slice() == twice.as_slice());
     Ok(())
+}
+
+/// Whether the first put alone is Ok with a writer that takes no byte, which is called once and keeps none.
+fn fails_at_none(alloc: Global) -> Result<bool, Refusal> {
+    let (oks, writer) = rounds_of(alloc, failing(alloc, 0, 100), b"ok 1\n")?;
+    Ok(oks == [true, false, false, false, false] && has_first(&writer, 1, 0, b""))
 }
 
 /// A writer that takes no byte is a failure.
 #[test]
-fn a_writer_takes_none(rt: HostRuntime) -> Result<(), Fail> {
-    let alloc = rt.alloc();
-    let writer = failing(alloc, 0, 100);
-    let (found, writer) = rounds::<Brand>(alloc, writer, b"ok 1\n", Blank::new(1))?;
-    assert_eq!(rt; found, [true, false, false, false, false]);
-    assert_eq!(rt; writer.calls, 1);
-    assert!(rt; writer.kept.is_empty());
-    Ok(())
+fn a_writer_takes_none(rt: HostRuntime) {
+    assert!(rt; fails_at_none(rt.alloc()) == Ok(true));
 }
 
 /// How many bytes three puts take, of a piece, of its rest and of four more; and the writer after a settle.
@@ -299,17 +337,24 @@ fn taken_of<L: Ledger>(
     Ok(([first, second, third], sink.into_writer()))
 }
 
-/// A piece larger than the room is taken up to the room, and what waits is sent before more is taken.
-#[test]
-fn a_piece_larger_than_the_room(rt: HostRuntime) -> Result<(), Fail> {
-    let alloc = rt.alloc();
+/// Whether of 100,000 bytes the room's are taken first, then their rest, and all came to the writer in three calls.
+fn takes_up_to_the_room(alloc: Global) -> Result<bool, Refusal> {
     let piece = bytes_of(alloc, 100_000)?;
     let (taken, writer) = taken_of::<Brand>(alloc, &piece, Blank::new(1))?;
-    assert_eq!(rt; taken, [65_536, 34_464, 4]);
-    assert_eq!(rt; writer.calls, 3);
-    assert!(rt; writer.kept.starts_with(&piece) && writer.kept.ends_with(b"last"));
-    assert_eq!(rt; writer.kept.len(), 100_004);
-    Ok(())
+    let kept = writer.kept.as_slice();
+    Ok(
+        taken == [65_536, 34_464, 4]
+            && writer.calls == 3
+            && kept.len() == 100_004
+            && kept.starts_with(&piece)
+            && kept.ends_with(b"last"),
+    )
+}
+
+/// A piece larger than the room is taken up to the room, and what waits is sent before more is taken.
+#[test]
+fn a_piece_larger_than_the_room(rt: HostRuntime) {
+    assert!(rt; takes_up_to_the_room(rt.alloc()) == Ok(true));
 }
 
 /// A reply put so many times, then settled.
@@ -330,18 +375,18 @@ fn replied<L: Ledger>(
     Ok(sink.into_writer())
 }
 
+/// Whether 25,000 replies come whole and in order, in five calls of the writer.
+fn replies_come_whole(alloc: Global) -> Result<bool, Refusal> {
+    let writer = replied::<Brand>(alloc, b"ok 1234\n", 25_000, Blank::new(1))?;
+    let is_whole = writer
+        .kept
+        .chunks(8)
+        .all(|reply| reply == b"ok 1234\n".as_slice());
+    Ok(is_whole && writer.kept.len() == 200_000 && writer.calls == 5)
+}
+
 /// More replies than the room holds, before one settle, come whole and in order, in a write for each 65,536 bytes.
 #[test]
-fn more_replies_than_the_room(rt: HostRuntime) -> Result<(), Fail> {
-    let alloc = rt.alloc();
-    let writer = replied::<Brand>(alloc, b"ok 1234\n", 25_000, Blank::new(1))?;
-    assert_eq!(rt; writer.kept.len(), 200_000);
-    assert!(rt;
-        writer
-            .kept
-            .chunks(8)
-            .all(|reply| reply == b"ok 1234\n".as_slice())
-    );
-    assert_eq!(rt; writer.calls, 5);
-    Ok(())
+fn more_replies_than_the_room(rt: HostRuntime) {
+    assert!(rt; replies_come_whole(rt.alloc()) == Ok(true));
 }

@@ -2,10 +2,10 @@
 //!
 //! What a test asserts is worked out by small functions with few owned values each: those are quick to prove.
 
-use crate::{
+use ps_grid::{Refusal, Twin};
+use ps_lattice::{
     Assignment, COUNT_LIMIT, Choice, Count, Join, LAST_TIME, Linear, Pair, Register, Tally,
 };
-use ps_grid::{Refusal, Twin};
 use std::alloc::Global;
 
 #[derive(Clone, Copy, PartialEq, Eq, PartialOrd, Ord)]
@@ -289,24 +289,39 @@ fn a_choice_has_256_sequences(rt: HostRuntime) {
     }
 }
 
+// How many pairs a choice of one option and its twin have, once another option is joined into the twin.
+fn pairs_of_two(alloc: Global) -> Result<(usize, usize), Refusal> {
+    let one = Choice::empty(alloc).choose(alloc, 1, 7)?;
+    let both = with_option_9(alloc, &one)?;
+    Ok((one.parts().len(), both.parts().len()))
+}
+
+fn with_option_9(alloc: Global, choice: &Choice) -> Result<Choice, Refusal> {
+    let other = Choice::empty(alloc).choose(alloc, 2, 9)?;
+    with(alloc, choice, &[&other])
+}
+
+// How many pairs a choice has that more is joined into, and its options.
+fn with_more(alloc: Global) -> Result<(usize, u64), Refusal> {
+    let one = Choice::empty(alloc).choose(alloc, 1, 7)?;
+    let again = with(alloc, &one, &[&with_option_9(alloc, &one)?])?;
+    Ok((again.parts().len(), again.options()))
+}
+
+// How many pairs a choice has that less is joined into, and its options.
+fn with_less(alloc: Global) -> Result<(usize, u64), Refusal> {
+    let one = Choice::empty(alloc).choose(alloc, 1, 7)?;
+    let both = with_option_9(alloc, &with_option_9(alloc, &one)?)?;
+    let again = with(alloc, &both, &[&Choice::empty(alloc)])?;
+    Ok((again.parts().len(), again.options()))
+}
+
 /// A twin stays what it was when the other one is joined; joined with less, a choice stays, and with more it is that.
 #[test]
-fn a_twin_is_a_value_of_its_own(rt: HostRuntime) -> Result<(), Refusal> {
-    let none = Choice::empty(rt.alloc());
-    let one = none.choose(rt.alloc(), 1, 7)?;
-    let other = none.choose(rt.alloc(), 2, 9)?;
-    let mut both = one.twin(rt.alloc())?;
-    both.join(rt.alloc(), &other)?;
-    assert_eq!(rt; one.parts().len(), 1);
-    assert_eq!(rt; both.parts().len(), 2);
-    let mut again = one.twin(rt.alloc())?;
-    again.join(rt.alloc(), &both)?;
-    both.join(rt.alloc(), &other)?;
-    both.join(rt.alloc(), &none)?;
-    assert_eq!(rt; again.parts().len(), 2);
-    assert_eq!(rt; both.parts().len(), 2);
-    assert_eq!(rt; both.options(), 640);
-    Ok(())
+fn a_twin_is_a_value_of_its_own(rt: HostRuntime) {
+    assert!(rt; pairs_of_two(rt.alloc()) == Ok((1, 2)));
+    assert!(rt; with_more(rt.alloc()) == Ok((2, 640)));
+    assert!(rt; with_less(rt.alloc()) == Ok((2, 640)));
 }
 
 fn held(register: &Register<Letter>) -> Option<(u64, u8, u8)> {

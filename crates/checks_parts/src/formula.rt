@@ -3,7 +3,7 @@
 //! What a test asserts is worked out by small functions with few owned values each, and its tables are texts: those
 //! are quick to prove.
 
-use crate::{Argument, Expr, Formula, Sign};
+use ps_formula::{Argument, Expr, Formula, Sign};
 use ps_grid::{Cell, Rect, Refusal};
 use ps_tokens::{Function, Operator};
 use std::alloc::Global;
