@@ -38,10 +38,3 @@ pub use reply::{Reply, send};
 pub use session::{Fed, LINE_LIMIT, Line, Session};
 pub use sheet_session::run;
 pub use transcript::{RunFault, talk};
-
-#[cfg(test)]
-mod command_tests;
-#[cfg(test)]
-mod run_tests;
-#[cfg(test)]
-mod tests;

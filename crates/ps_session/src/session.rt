@@ -12,7 +12,7 @@ use std::marker::Model;
 pub const LINE_LIMIT: usize = 262_208;
 
 /// What a piece of the input ended.
-#[derive(Debug, Clone, Copy, PartialEq, Eq)]
+#[derive(Clone, Copy, PartialEq, Eq)]
 pub enum Line {
     /// No line.
     None,
@@ -23,7 +23,7 @@ pub enum Line {
 }
 
 /// How much of a piece was taken in, and what it ended.
-#[derive(Debug, Clone, Copy, PartialEq, Eq)]
+#[derive(Clone, Copy, PartialEq, Eq)]
 pub struct Fed {
     /// How many bytes were taken, from the piece's first on.
     pub taken: usize,

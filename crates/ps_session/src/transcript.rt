@@ -177,7 +177,7 @@ impl<R: Threads + Sync> Exchange<'_, R> {
 }
 
 /// Why a session ended before the end of its input.
-#[derive(Clone, Copy, Debug, PartialEq, Eq)]
+#[derive(Clone, Copy, PartialEq, Eq)]
 pub enum RunFault {
     /// There was no room for a line; nothing was read.
     Memory,

@@ -1,4 +1,4 @@
-use Rattle.ps_session.proofs.run_tests.lines_are_answered.Given as goal
+use Rattle.checks_sessions.proofs.runs.lines_are_answered.Given as goal
 
 abbrev pub ghosts-answered-K-Ledger : goal.ghosts-answered-K-Ledger
 ghosts-answered-K-Ledger g a = record { name = a.output.name; parts = a.output.parts }

@@ -1,4 +1,4 @@
-use Rattle.ps_session.proofs.run_tests.answered_slowly.Given as goal
+use Rattle.checks_sessions.proofs.runs.answered_slowly.Given as goal
 
 abbrev pub ghosts-answered-K-Ledger : goal.ghosts-answered-K-Ledger
 ghosts-answered-K-Ledger g a = record { name = a.output.name; parts = a.output.parts }

@@ -1,5 +1,5 @@
-use crate::command::Command;
 use ps_grid::Refusal;
+use ps_session::Command;
 use ps_sheet::Edit;
 use std::alloc::Global;
 use std::test::Fail;

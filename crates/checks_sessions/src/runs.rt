@@ -2,10 +2,10 @@
 ghost use Rattle.std.specs.Prelude.{◌≡◌, ◌<◌};
 ghost use Rattle.ps_grid.specs.Blanks.{IsBlankOf};
 
-use crate::run;
 use ps_device::{MemorySink, MemorySource, Reading, Source};
 use ps_eval::Meter;
 use ps_grid::Refusal;
+use ps_session::run;
 use ps_sheet::Sheet;
 use std::alloc::Global;
 use std::io;

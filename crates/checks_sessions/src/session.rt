@@ -1,4 +1,4 @@
-use crate::session::{LINE_LIMIT, Line, Session};
+use ps_session::{LINE_LIMIT, Line, Session};
 use std::alloc::{AllocError, Global};
 use std::test::Fail;
 
