@@ -1,7 +1,7 @@
-"""The whole test of the repository: the merge gate, and then the tests of the program in this folder.
+"""The whole test of the repository: the merge gate, the released code, and then the tests of the program in this folder.
 
-`./test` runs both, `./test --program` the latter alone, and `./test --program TEXT` those whose name has the text. The
-last line is `N passed, M failed` over everything that ran, and the exit status is 0 only where nothing failed.
+`./test` has all of it, `./test --program` the latter alone, and `./test --program TEXT` those whose name has the text.
+The last line is `N passed, M failed` over everything that ran, and the exit status is 0 only where nothing failed.
 """
 import re
 import subprocess
@@ -10,6 +10,7 @@ import traceback
 import unittest
 from typing import NamedTuple
 
+import compared
 from program import TOP
 
 
@@ -95,9 +96,19 @@ def gate():
     return tally
 
 
+def released():
+    """Compares the released code with the build that the gate has proved."""
+    why = compared.difference(TOP)
+    if why is not None:
+        return failed(why)
+    print("test: the released code is that of the proved build", flush=True)
+    return Tally(1, 0)
+
+
 def program(text):
-    """Builds the program, and runs the tests of this folder whose names have the text."""
-    if subprocess.run([TOP / "build"], stdin=subprocess.DEVNULL).returncode != 0:
+    """Has the program proved where it isn't, and runs the tests of this folder whose names have the text."""
+    build = [TOP / "build", "--prove"]
+    if subprocess.run(build, stdin=subprocess.DEVNULL, stdout=subprocess.DEVNULL).returncode != 0:
         return failed("the program isn't built, so it wasn't tested")
     loader = unittest.TestLoader()
     loader.testNamePatterns = [f"*{text}*"]
@@ -114,7 +125,7 @@ def main(words):
     if words[:1] not in ([], ["--program"]) or len(words) > 2:
         print("usage: ./test, or ./test --program [TEXT]", file=sys.stderr)
         return 2
-    tally = Tally(0, 0) if words else gate()
+    tally = Tally(0, 0) if words else gate().and_also(released())
     tally = tally.and_also(program("".join(words[1:])))
     print(f"{tally.passed} passed, {tally.failed} failed")
     return 1 if tally.failed else 0

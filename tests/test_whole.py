@@ -14,6 +14,7 @@ class Stand(unittest.TestCase):
     def test_in(self):
         {}
 """
+SAME = "test: the released code is that of the proved build\n"
 PASSED = "test_stand.Stand.test_in: ok\n"
 
 
@@ -26,6 +27,7 @@ class Whole(ProgramTest):
             shutil.copy(TOP / "tests" / file, self.top / "tests")
         self.use("rt", "echo gate $*", "echo 7 passed, 0 failed")
         self.use("build")
+        self.use_comparison("None")
         self.use_test("self.assertEqual(1, 1)")
 
     def use(self, name, *commands):
@@ -33,6 +35,10 @@ class Whole(ProgramTest):
         file = self.top / name
         file.write_text("\n".join(["#!/bin/sh", *commands]) + "\n")
         file.chmod(stat.S_IRWXU)
+
+    def use_comparison(self, why):
+        """Has this be why the released code isn't that of the proved build."""
+        (self.top / "tests/compared.py").write_text(f"def difference(top):\n    return {why}\n")
 
     def use_test(self, statement):
         """Has this statement be the one test of the program."""
@@ -51,7 +57,8 @@ class Whole(ProgramTest):
         self.assertEqual((ended.status, ended.output.splitlines()[-1]), (1, last))
 
     def test_all_passes(self):
-        self.assertEqual(self.start(), Ended(0, f"gate ci\n7 passed, 0 failed\n{PASSED}8 passed, 0 failed\n", ""))
+        shown = f"gate ci\n7 passed, 0 failed\n{SAME}{PASSED}9 passed, 0 failed\n"
+        self.assertEqual(self.start(), Ended(0, shown, ""))
 
     def test_the_program_alone(self):
         self.assertEqual(self.start("--program"), Ended(0, f"{PASSED}1 passed, 0 failed\n", ""))
@@ -59,21 +66,29 @@ class Whole(ProgramTest):
 
     def test_what_the_gate_counts_as_failed_is_counted(self):
         self.use("rt", "echo 7 passed, 2 failed", "exit 1")
-        self.assert_fails("8 passed, 2 failed")
+        self.assert_fails("9 passed, 2 failed")
 
     def test_a_gate_without_counts_is_a_failure(self):
         self.use("rt", "echo 7 passed, 0 failed", "echo and more")
-        self.assert_fails("1 passed, 1 failed")
+        self.assert_fails("2 passed, 1 failed")
         self.use("rt")
-        self.assert_fails("1 passed, 1 failed")
+        self.assert_fails("2 passed, 1 failed")
 
     def test_a_gate_that_ends_badly_is_a_failure(self):
         self.use("rt", "echo 7 passed, 0 failed", "exit 3")
+        self.assert_fails("9 passed, 1 failed")
+
+    def test_other_released_code_is_a_failure(self):
+        self.use_comparison("'it is another'")
         self.assert_fails("8 passed, 1 failed")
+
+    def test_only_a_proved_program_is_tested(self):
+        self.use("build", "test \"$*\" = --prove")
+        self.assertEqual(self.start("--program"), Ended(0, f"{PASSED}1 passed, 0 failed\n", ""))
 
     def test_a_program_that_is_not_built_is_a_failure(self):
         self.use("build", "exit 4")
-        self.assert_fails("7 passed, 1 failed")
+        self.assert_fails("8 passed, 1 failed")
 
     def test_a_test_of_the_program_that_fails_is_a_failure(self):
         for statement in (
@@ -85,7 +100,7 @@ class Whole(ProgramTest):
         ):
             with self.subTest(statement=statement):
                 self.use_test(statement)
-                self.assert_fails("7 passed, 1 failed")
+                self.assert_fails("8 passed, 1 failed")
 
     def test_a_file_of_tests_that_cannot_be_read_is_a_failure(self):
         (self.top / "tests/test_stand.py").write_text("class\n")
