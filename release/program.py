@@ -4,6 +4,7 @@
 """
 import fcntl
 import os
+import signal
 import sys
 import tempfile
 import time
@@ -101,12 +102,22 @@ def proved_text():
     return "".join(f"{name} {said}\n" for name, said in rows.items())
 
 
+def wait_for_turn():
+    """Waits until no other start builds, which then finds the program made, and keeps others out until this one ends."""
+    held = os.open(TOP / "release", os.O_RDONLY)
+    try:
+        fcntl.flock(held, fcntl.LOCK_EX | fcntl.LOCK_NB)
+    except BlockingIOError:
+        say("waiting for another start, which builds the program")
+        fcntl.flock(held, fcntl.LOCK_EX)
+
+
 def main(words):
     """Sees to the program, which has to be proved where the word `--prove` is given, and returns the exit status."""
+    # an interrupt ends it without a word
+    signal.signal(signal.SIGINT, signal.SIG_DFL)
     OUT.mkdir(exist_ok=True)
-    # Whoever starts it a second time waits, and then finds it made.
-    held = os.open(TOP / "release", os.O_RDONLY)
-    fcntl.flock(held, fcntl.LOCK_EX)
+    wait_for_turn()
     if words != ["--prove"] and not is_made_from(PROVED, proved_text()) and from_release():
         print(RELEASED)
         return 0

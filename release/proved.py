@@ -2,11 +2,13 @@
 import re
 import subprocess
 import sys
+from pathlib import Path
 
 import crates
 
 BEGUN = re.compile(r"\w+: chose --jobs \d+ for (.+)\n?")
-COMMANDS = [["rt", "run", "--", "--help"]]
+# The libraries side by side, and then what is left: the program, with what the first wouldn't build.
+COMMANDS = [[sys.executable, "-B", Path(__file__).with_name("libraries.py")], ["rt", "run", "--", "--help"]]
 
 
 class Shown:

@@ -1,4 +1,4 @@
-"""The whole test of the repository: the merge gate, the released code, and then the tests of the program in this folder.
+"""The whole test of the repository: the merge gate, the released code, and then the tests of the program.
 
 `./test` has all of it, `./test --program` the latter alone, and `./test --program TEXT` those whose name has the text.
 The last line is `N passed, M failed` over everything that ran, and the exit status is 0 only where nothing failed.
