@@ -3,6 +3,7 @@
 `rt` builds what a crate stands on one after the other, so this calls what `rt` itself calls for each library. Where the
 kit has no such file, nothing is done, and `rt run` builds them.
 """
+import functools
 import importlib.util
 import os
 import signal
@@ -92,10 +93,19 @@ def load(file):
 printing = threading.Lock()
 
 
+def left_to_build(rtlib, libraries):
+    """Returns the libraries that aren't built. The sum of each, which those above it ask for, is worked out once."""
+    of_kit = rtlib.Crate.stamp
+    once = functools.cache(of_kit)
+    rtlib.Crate.stamp = lambda crate: once(crate)
+    try:
+        return [it for it in libraries if not it.is_built()]
+    finally:
+        rtlib.Crate.stamp = of_kit
+
+
 def build(crate, jobs):
     """Proves and builds one library, and returns whether it is."""
-    if crate.is_built():
-        return True
     with printing:
         print(f"build: chose --jobs {jobs} for {crate.name}", flush=True)
     is_built = crate.build_rlib(["--jobs", str(jobs)], anew=False) == 0
@@ -115,9 +125,12 @@ def main(file):
     signal.signal(signal.SIGINT, signal.SIG_DFL)
     program = rtlib.Crate(str(TOP / "crates" / crates.PROGRAM), str(TOP), {})
     held = rtlib.lock([*program.below(), program])
+    left = left_to_build(rtlib, program.below())
     tasks = {
-        it.name: Task([dep.name for dep in it.below()], it.count(rb"\n"), lambda jobs, it=it: build(it, jobs))
-        for it in program.below()
+        it.name: Task(
+            [dep.name for dep in it.below() if dep in left], it.count(rb"\n"), lambda jobs, it=it: build(it, jobs)
+        )
+        for it in left
     }
     failed = run_all(tasks, len(os.sched_getaffinity(0)), int(0.85 * free_memory()))
     for lock in held:

@@ -12,16 +12,19 @@ from libraries import Task
 
 # What stands in for the kit's file: what is built is listed, and `low` is built before this, where OLD says so.
 OF_KIT = """\
-import os
 BELOW = {"low": [], "other": [], "middle": ["low", "other"]}
 
 
 class Crate:
     def __init__(self, folder, root, known, name="sheet"):
-        self.folder, self.name = folder, name
+        self.folder, self.name, self.known = folder, name, known
 
     def below(self):
-        return [Crate(self.folder, "", {}, it) for it in BELOW.get(self.name, BELOW)]
+        make = lambda it: self.known.setdefault(it, Crate(self.folder, "", self.known, it))
+        return [make(it) for it in BELOW.get(self.name, BELOW)]
+
+    def stamp(self):
+        return self.name
 
     def count(self, pattern):
         return 100
