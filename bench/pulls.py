@@ -107,8 +107,8 @@ def milliseconds(text):
 def millions(text):
     """Millions of instructions of a run, and the last reply's version."""
     counting = ["valgrind", "--tool=callgrind", "--callgrind-out-file=/dev/null"]
-    done = subprocess.run([*counting, TOP / "crates/sheet/out/sheet", "run"], input=text.encode(), capture_output=True,
-                          check=True)
+    program = subprocess.run([TOP / "build"], stdout=subprocess.PIPE, text=True, check=True).stdout.rstrip("\n")
+    done = subprocess.run([*counting, program, "run"], input=text.encode(), capture_output=True, check=True)
     return int(re.search(rb"Collected : (\d+)", done.stderr)[1]) / 1e6, last_reply(done)
 
 

@@ -104,10 +104,13 @@ class StandIns(ProgramTest):
         self.write(f"kit/{name}", text.replace("{top}", str(self.top)))
         (self.top / "kit" / name).chmod(stat.S_IRWXU)
 
+    def environment(self):
+        """An environment with the kit on `PATH`."""
+        return {**os.environ, "PATH": f"{self.top}/kit/bin:{os.environ['PATH']}"}
+
     def run_script(self, *words, environment=None):
         """Runs a script of the repository to its end, with the kit on `PATH` where nothing else is said."""
-        environment = environment or {**os.environ, "PATH": f"{self.top}/kit/bin:{os.environ['PATH']}"}
-        how = {"env": environment, "timeout": LIMIT, "cwd": self.top, "input": b"", "capture_output": True}
+        how = {"env": environment or self.environment(), "timeout": LIMIT, "cwd": self.top, "input": b"", "capture_output": True}
         ran = subprocess.run([self.top / words[0], *words[1:]], **how)
         return Ended(ran.returncode, ran.stdout, ran.stderr)
 

@@ -1,7 +1,10 @@
 """The script `build` and the launcher, where there is no released code, with stand-ins for the tools."""
+import fcntl
 import os
+import subprocess
+from concurrent.futures import ThreadPoolExecutor
 
-from program import Ended, lines
+from program import LIMIT, Ended, lines
 from stand_ins import BREAKS, BUILDS, FAILS, StandIns
 
 BEGINS = b"sheet: building, which proves what changed; the first time this takes about half an hour\n"
@@ -219,6 +222,23 @@ class FromRelease(StandIns):
         self.make_newer("crates/low/src", "sheet")
         self.assertEqual(self.start(), Ended(3, WORDS))
         self.assertEqual(len(self.calls("clang")), 1)
+
+    def test_two_that_are_started_at_once_compile_once(self):
+        with ThreadPoolExecutor(2) as pool:
+            starts = [pool.submit(self.start) for _ in range(2)]
+            ended = [start.result() for start in starts]
+        self.assertEqual([(it.status, it.output) for it in ended], [(3, WORDS)] * 2)
+        self.assertEqual(len(self.calls("clang")), 1)
+
+    def test_one_that_waits_for_another_says_so(self):
+        held = os.open(self.top / "release", os.O_RDONLY)
+        fcntl.flock(held, fcntl.LOCK_EX)
+        how = {"env": self.environment(), "stderr": subprocess.PIPE, "stdout": subprocess.PIPE}
+        with subprocess.Popen([self.top / "sheet", "two", "words"], **how) as start:
+            waits = lines("sheet: waiting for another start, which builds the program")
+            self.assertEqual(start.stderr.readline(), waits)
+            os.close(held)
+            self.assertEqual(start.communicate(timeout=LIMIT), (WORDS, self.SHOWN))
 
     def test_what_is_newly_released_is_compiled(self):
         self.start()
