@@ -1,5 +1,5 @@
 -- What a recalculation hands to the marking of the region, and what it takes from it.
-use Rattle.std.proofs.Common.{◌≡◌, ◌&&◌, ℕ, ◌<◌, ◌≤◌, ◌+◌, Bool, true, false, ◌⊎◌, inl, inr, List, [], refl}
+use Rattle.std.proofs.Common.{◌≡◌, ◌&&◌, ℕ, ◌<◌, ◌≤◌, ◌+◌, Bool, true, ◌⊎◌, inl, inr, List, [], refl}
 use Rattle.std.proofs.Common.{⊎_elim}
 use Rattle.std.proofs.Common.{lt-ltb, arith, ◌++◌, ◌≢◌, length, length-append, filter, not, eqb, get_or}
 use Rattle.std.specs.List.{list_any}
