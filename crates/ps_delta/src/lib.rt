@@ -36,6 +36,3 @@ pub use laws::{
     covered_changes_nothing, grids_are_shared, groups_join, history_is_a_set, states_join,
 };
 pub use touched::Touched;
-
-#[cfg(test)]
-mod tests;

@@ -1,6 +1,5 @@
 pub mod CellListLemmas
 pub mod CountLemmas
-pub mod ExampleLemmas
 pub mod FoundLemmas
 pub mod GrowthCounts
 pub mod GrowthLemmas

@@ -37,6 +37,3 @@ pub use laws::{
     old_and_new_give_one_region, quiet_cells_keep_their_values,
 };
 pub use region::Region;
-
-#[cfg(test)]
-mod tests;

@@ -19,6 +19,3 @@ mod shown;
 
 pub use kept::Kept;
 pub use shown::Shown;
-
-#[cfg(test)]
-mod tests;

@@ -39,6 +39,3 @@ pub use sharing::may_share_line;
 /// fit, at 1,613 bytes a cell and a comma, so twice the columns need twice the bytes. The session's limit of a line
 /// hangs on it in turn: the word of a command stands before a delta.
 pub const DELTA_LINE_LIMIT: usize = 262_144;
-
-#[cfg(test)]
-mod tests;

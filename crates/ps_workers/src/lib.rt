@@ -16,8 +16,6 @@
 
 mod gate;
 mod level;
-#[cfg(test)]
-mod tests;
 mod worth;
 
 pub use gate::{Gate, Open};

@@ -1,0 +1,266 @@
+//! Formulas put in and taken out, and the cells that then refer to a cell.
+//!
+//! What a test asserts is worked out by small functions with few owned values each; those are quick to prove.
+
+ghost use Rattle.std.specs.Prelude.{IfOk, OnOk};
+ghost use Rattle.ps_index.specs.Stands.{Puts, Stands};
+
+use ps_formula::Formula;
+use ps_grid::{COLUMNS, Cell, Refusal};
+use ps_index::{Index, Readers, Span};
+use std::alloc::Global;
+
+/// The cell that a name names.
+fn cell(name: &str) -> Result<Cell, Refusal> {
+    Cell::read(name.as_bytes()).ok_or(Refusal::Cell)
+}
+
+/// Whether the cells that refer to a cell are just those of these names, in this order.
+fn refer_to(index: &Index, to: Cell, names: &str) -> bool {
+    let mut names = names.split_ascii_whitespace();
+    for found in index.dependents(to) {
+        let name = names.next().unwrap_or("");
+        if Cell::read(name.as_bytes()) != Some(found) {
+            return false;
+        }
+    }
+    names.next().is_none()
+}
+
+/// Whether in each line the cells that refer to the first are just the others, in this order.
+fn all_refer(index: &Index, lines: &str) -> bool {
+    for line in lines.lines() {
+        let (to, names) = line.split_once(":").unwrap_or(("", ""));
+        match cell(to) {
+            Ok(to) => {
+                if !refer_to(index, to, names) {
+                    return false;
+                }
+            }
+            Err(_) => return false,
+        }
+    }
+    true
+}
+
+/// The index with a formula put in for each cell whose name stands before it.
+fn index_of(alloc: Global, lines: &str) -> Result<Index, Refusal>
+    ensures { IfOk result (λ i. (forms : Puts) × Stands i forms) }
+{
+    let mut index = Index::new(alloc)?;
+    put(alloc, &mut index, lines)?;
+    Ok(index)
+}
+
+/// Puts in a formula for each cell whose name stands before it, beside those that are there.
+fn put(alloc: Global, index: &mut Index, lines: &str) -> Result<(), Refusal>
+    requires { (forms : Puts) × Stands index.old forms }
+    ensures { OnOk result ((forms : Puts) × Stands index.new forms) }
+{
+    for line in lines.lines() {
+        let (name, text) = line.split_once(" ").unwrap_or(("", ""));
+        let formula = Formula::read(alloc, text.as_bytes())?;
+        put_in(index, cell(name)?, &formula)?;
+    }
+    Ok(())
+}
+
+/// Puts one more formula in.
+fn put_in(index: &mut Index, cell: Cell, formula: &Formula) -> Result<(), Refusal>
+    requires { (forms : Puts) × Stands index.old forms }
+    ensures { OnOk result ((forms : Puts) × Stands index.new forms) }
+{
+    index.set(cell, None, Some(formula))
+}
+
+/// Whether the spans of a column are just this one.
+fn has_one_span(index: &Index, column: u8, from: u16, to: u16, cell: Cell) -> bool {
+    if column as usize >= COLUMNS {
+        return false;
+    }
+    match *index.spans(column) {
+        [span] => span == Span { from, to, cell },
+        _ => false,
+    }
+}
+
+/// Ranges of a formula that meet are one span, and the cells in all of them are referred to once.
+#[test]
+fn ranges_that_meet_are_one_span(rt: HostRuntime) {
+    let found = ranges_that_meet(rt.alloc());
+    assert!(rt; found == Ok(true));
+}
+
+/// Whether two ranges that overlap are one span, and those cells are found that refer to each cell.
+fn ranges_that_meet(alloc: Global) -> Result<bool, Refusal> {
+    let index = index_of(alloc, "A1 =SUM([.B1:.B2];[.B2:.B3])\nB2 =[.C1]")?;
+    let spans = has_one_span(&index, 1, 1, 3, cell("A1")?)
+        && has_one_span(&index, 2, 1, 1, cell("B2")?)
+        && index.spans(0).is_empty()
+        && index.spans(3).is_empty();
+    Ok(
+        spans
+            && all_refer(
+                &index,
+                "B1:A1\nB2:A1\nB3:A1\nC1:B2\nB4:\nC2:\nA1:\nD1:\nCZ1024:",
+            ),
+    )
+}
+
+/// Of a cell of a column without ranges it is known whether nobody refers to it, or one cell alone.
+#[test]
+fn readers_are_known_without_a_walk(rt: HostRuntime) {
+    let found = known_readers(rt.alloc());
+    assert!(rt; found == Ok(true));
+}
+
+/// Whether the one cell that refers to A1 is known, and the two of A2 and those of a column with a range aren't.
+fn known_readers(alloc: Global) -> Result<bool, Refusal> {
+    let lines = "B1 =[.A1]\nC1 =[.A2]\nD1 =[.A2]\nE1 =SUM([.F1:.F2])";
+    let index = index_of(alloc, lines)?;
+    Ok(
+        index.readers(cell("A1")?) == Readers::One(cell("B1")?)
+            && index.readers(cell("A2")?) == Readers::Several
+            && index.readers(cell("A3")?) == Readers::Nobody
+            && index.readers(cell("F1")?) == Readers::Several
+            && index.readers(cell("CZ1024")?) == Readers::Nobody,
+    )
+}
+
+/// A cell for which two formulas are put in comes once, and for as long as one of them is there.
+#[test]
+fn a_cell_with_two_formulas_comes_once(rt: HostRuntime) {
+    let found = two_formulas(rt.alloc());
+    assert!(rt; found == Ok(true));
+}
+
+/// Whether a cell is found once with two formulas, once with one of them, and not without both.
+fn two_formulas(alloc: Global) -> Result<bool, Refusal> {
+    let cell = cell("A1")?;
+    let sum = Formula::read(alloc, b"=SUM([.B1:.B2];[.B2:.B3])")?;
+    let other = Formula::read(alloc, b"=[.B3]")?;
+    let mut index = Index::new(alloc)?;
+    index.set(cell, None, Some(&sum))?;
+    index.set(cell, None, Some(&other))?;
+    let both = all_refer(&index, "B1:A1\nB3:A1") && index.spans(1).len() == 2;
+    index.remove(cell, &other);
+    let one = all_refer(&index, "B1:A1\nB3:A1") && has_one_span(&index, 1, 1, 3, cell);
+    index.remove(cell, &sum);
+    let none = all_refer(&index, "B1:\nB3:") && index.spans(1).is_empty();
+    Ok(both && one && none)
+}
+
+/// A formula in place of another: what the old one referred to is left, whatever the new one shares with it.
+#[test]
+fn a_formula_takes_the_place_of_another(rt: HostRuntime) {
+    let found = exchanged(rt.alloc());
+    assert!(rt; found == Ok(true));
+}
+
+/// Whether a cell is found by its formula's references alone, when that is exchanged and taken out.
+fn exchanged(alloc: Global) -> Result<bool, Refusal> {
+    let cell = cell("CZ1024")?;
+    let old = Formula::read(alloc, b"=SUM([.B1:.B9])+[.A1024]")?;
+    let new = Formula::read(alloc, b"=SUM([.B5:.C10])")?;
+    let mut index = Index::new(alloc)?;
+    index.set(cell, None, Some(&old))?;
+    let before = all_refer(&index, "A1024:CZ1024\nB1:CZ1024\nB9:CZ1024\nB10:\nC5:");
+    index.set(cell, Some(&old), Some(&new))?;
+    let after = all_refer(
+        &index,
+        "A1024:\nB1:\nB4:\nB5:CZ1024\nB9:CZ1024\nB10:CZ1024\nC5:CZ1024",
+    );
+    index.set(cell, Some(&new), None)?;
+    let none = all_refer(&index, "B5:\nB9:\nB10:\nC5:");
+    Ok(before && after && none)
+}
+
+/// First and last rows and columns, a range over several columns, and the whole grid.
+#[test]
+fn ranges_reach_the_sides_of_the_grid(rt: HostRuntime) {
+    let found = sides_of_the_grid(rt.alloc());
+    assert!(rt; found == Ok(true));
+}
+
+/// Whether references to corners, columns and the whole grid are found at its sides.
+fn sides_of_the_grid(alloc: Global) -> Result<bool, Refusal> {
+    let mut index = index_of(
+        alloc,
+        "A3 =SUM([.A1];[.A1024];[.CZ1];[.CZ1024])\nA2 =SUM([.B1:.D1024])",
+    )?;
+    let few = all_refer(
+        &index,
+        "A1:A3\nA2:\nA1023:\nA1024:A3\nB1:A2\nC512:A2\nD1024:A2\nE1:\nCZ1:A3\nCZ2:\nCZ1023:\nCZ1024:A3",
+    );
+    put(alloc, &mut index, "A1 =SUM([.A1:.CZ1024])")?;
+    let all = all_refer(
+        &index,
+        "A1:A1 A3\nA2:A1\nA1023:A1\nA1024:A1 A3\nB1:A1 A2\nC512:A1 A2\nD1024:A1 A2\nE1:A1\nCZ1:A1 A3\n\
+        CZ2:A1\nCZ1023:A1\nCZ1024:A1 A3",
+    );
+    Ok(few && all && has_one_span(&index, 50, 1, 1024, cell("A1")?))
+}
+
+/// The cells that refer to a cell come in order, whatever the order in which their formulas were put in.
+#[test]
+fn dependents_come_in_order(rt: HostRuntime) {
+    let found = in_order(rt.alloc());
+    assert!(rt; found == Ok(true));
+}
+
+/// Whether cells are found in order that were put in without.
+fn in_order(alloc: Global) -> Result<bool, Refusal> {
+    let index = index_of(
+        alloc,
+        "CZ1024 =[.B1]\nC3 =SUM([.B1:.B2])\nA3 =[.B1]\nCZ2 =SUM([.B1:.B1024])\nB1 =[.B1]\nA2 =[.B2]",
+    )?;
+    Ok(all_refer(&index, "B1:B1 CZ2 A3 C3 CZ1024\nB2:A2 CZ2 C3\nB3:CZ2"))
+}
+
+/// Ranges of one column within one another, and their first and last rows.
+#[test]
+fn ranges_lie_within_one_another(rt: HostRuntime) {
+    let found = nested(rt.alloc());
+    assert!(rt; found == Ok(true));
+}
+
+/// Whether of nine ranges those are found that have a row, at each side of each.
+fn nested(alloc: Global) -> Result<bool, Refusal> {
+    let index = index_of(
+        alloc,
+        "B3 =[.A512]\nB7 =[.A1024]\nB1 =SUM([.A1:.A1024])\nB2 =SUM([.A511:.A513])\n\
+        B4 =SUM([.A1:.A512])\nB5 =SUM([.A513:.A1024])\nB6 =SUM([.A2:.A3])\n\
+        B8 =SUM([.A1:.A511])\nB9 =SUM([.A1023:.A1024])",
+    )?;
+    Ok(all_refer(
+        &index,
+        "A1:B1 B4 B8\nA2:B1 B4 B6 B8\nA3:B1 B4 B6 B8\nA4:B1 B4 B8\nA510:B1 B4 B8\n\
+        A511:B1 B2 B4 B8\nA512:B1 B2 B3 B4\nA513:B1 B2 B5\nA514:B1 B5\nA700:B1 B5\n\
+        A1022:B1 B5\nA1023:B1 B5 B9\nA1024:B1 B5 B7 B9",
+    ))
+}
+
+/// After a growth that is refused in `set` the cells that refer to each cell are as before.
+#[test]
+fn a_refused_growth_changes_nothing(rt: HostRuntime) {
+    let found = grown(rt.alloc());
+    assert!(rt; found != Ok(false));
+}
+
+/// Whether all of a formula's references are found, or after a refusal those from before it alone.
+fn grown(alloc: Global) -> Result<bool, Refusal> {
+    let cell = cell("A9")?;
+    let formula = Formula::read(alloc, b"=SUM([.B1:.CZ3])")?;
+    let mut index = index_of(alloc, "A1 =SUM([.B1:.B2])\nA2 =[.CZ2]")?;
+    match index.set(cell, None, Some(&formula)) {
+        Ok(()) => Ok(all_refer(&index, "B1:A1 A9\nB3:A9\nC1:A9\nAA3:A9\nCZ2:A2 A9")),
+        Err(refusal) => Ok(
+            refusal == Refusal::Memory
+                && all_refer(&index, "B1:A1\nB3:\nC1:\nAA3:\nCY2:\nCZ2:A2")
+                && index.spans(1).len() == 1
+                && index.spans(2).is_empty()
+                && index.spans(50).is_empty()
+                && index.spans(103).len() == 1,
+        ),
+    }
+}

@@ -1,0 +1,254 @@
+//! Lines of deltas, good and bad.
+
+use ps_delta::Delta;
+use ps_grid::Refusal;
+use ps_wire::{DELTA_LINE_LIMIT, decode, encode, fits_line, outgrows_line};
+use std::alloc::Global;
+use std::process::Abort;
+use std::sync::Arc;
+
+/// The compact text of the delta that the bytes stand for.
+fn rewritten(alloc: Global, bytes: &[u8]) -> Result<Vec<u8>, Refusal> {
+    let delta = decode(alloc, bytes)?;
+    let mut line = Vec::new(alloc);
+    encode(alloc, &delta, &mut line)?;
+    Ok(line)
+}
+
+/// Whether the bytes stand for a delta whose compact text is this one.
+fn is_rewritten(alloc: Global, bytes: &[u8], compact: &[u8]) -> Result<bool, Refusal> {
+    let text = rewritten(alloc, bytes)?;
+    Ok(text.as_slice() == compact)
+}
+
+fn is_refused(alloc: Global, bytes: &[u8]) -> bool {
+    matches!(decode(alloc, bytes), Err(Refusal::Delta))
+}
+
+/// Compact lines stay as they are: registers, counters and sets, also on the longest names and the last times.
+#[test]
+fn compact_lines_stay_as_they_are(rt: HostRuntime) -> Result<(), Refusal> {
+    for line in [
+        r#"[["B1",[2,2,"4"],[],[]],["D1",[2,2,"=[.C1]"],[],[]]]"#,
+        r#"[["B1",[3,2,"=[.A1]"],[],[]],["D1",[3,2,"7"],[],[]]]"#,
+        r#"[["A1",[1,1,"=-2*SUM([.B1:.C2];7)"],[],[]]]"#,
+        r#"[["A1",[1,2,"'y"],[],[]]]"#,
+        r#"[["A1",[1,1,"'x"],[],[]]]"#,
+        r#"[["A1",[1,1,"3"],[],[]]]"#,
+        r#"[["A1",[1,1,"4"],[],[]]]"#,
+        r#"[["A1",[1,1,"@tally"],[],[]]]"#,
+        r#"[["A1",null,[[1,5,0]],[]]]"#,
+        r#"[["A1",null,[[2,0,2]],[]]]"#,
+        r#"[["A1",null,[],[[7,2,1,0]]]]"#,
+        r#"[["A1",null,[],[[7,1,1,1]]]]"#,
+        r#"[["B1",null,[],[[1,1,2,0]]]]"#,
+        r#"[["A1",[9007199254740991,2,"1"],[],[]]]"#,
+        r#"[["A1",[1,2,"5"],[],[]]]"#,
+        r#"[["A1",[1,2,"@tally"],[[1,1099511627776,0]],[]]]"#,
+        r#"[["A1",[1,2,"@choice"],[],[[5,1,64,0]]]]"#,
+        r#"[["A1",null,[],[[5,1,256,1]]]]"#,
+        r#"[["A1",[1,1,"@choice"],[],[[7,1,1,0]]]]"#,
+        r#"[["A1",[1,1,"@choice"],[],[[7,1,1,1],[7,2,1,0]]]]"#,
+        r#"[["CZ1024",[1,1,""],[],[]]]"#,
+        r#"[["A1",[1,1,"'a\"b\\c/é"],[],[]]]"#,
+    ] {
+        assert!(rt;
+            is_rewritten(rt.alloc(), line.as_bytes(), line.as_bytes())?,
+            "{line}"
+        );
+    }
+    Ok(())
+}
+
+/// Blanks and escapes may be spelled in other ways; what is written is compact.
+#[test]
+fn other_spellings_are_written_compactly(rt: HostRuntime) -> Result<(), Refusal> {
+    let spaced = br#"[ ["A1", [1,2,"\u0035"], [], []] ]"#;
+    let compact = br#"[["A1",[1,2,"5"],[],[]]]"#;
+    assert!(rt; is_rewritten(rt.alloc(), spaced, compact)?);
+    Ok(())
+}
+
+/// What isn't a delta: nothing, cells out of order or twice, names, numbers, contents, counts and pairs out of their
+/// ranges, numbers with a sign, a fraction or an exponent, and what goes on after its end.
+#[test]
+fn what_is_no_delta_is_refused(rt: HostRuntime) {
+    for line in [
+        r#"[]"#,
+        r#"[["A1",null,[],[]]]"#,
+        r#"[["B1",[1,1,"1"],[],[]],["A1",[1,1,"1"],[],[]]]"#,
+        r#"[["A1",[1,1,"1"],[],[]],["A1",[1,1,"1"],[],[]]]"#,
+        r#"[["A01",[1,1,"1"],[],[]]]"#,
+        r#"[["A1",[0,1,"1"],[],[]]]"#,
+        r#"[["A1",[1,33,"1"],[],[]]]"#,
+        r#"[["A1",[1.0,1,"1"],[],[]]]"#,
+        r#"[["A1",[1,1,"01"],[],[]]]"#,
+        r#"[["A1",[1,1,"=[.$A$1]"],[],[]]]"#,
+        r#"[["A1",null,[[1,0,0]],[]]]"#,
+        r#"[["A1",null,[],[[64,1,1,0]]]]"#,
+        r#"[["A1",null,[],[[0,1,257,0]]]]"#,
+        r#"[["A1",[1e0,1,"1"],[],[]]]"#,
+        r#"[["A1",[-1,1,"1"],[],[]]]"#,
+        r#"[["A1",[-0,1,"1"],[],[]]]"#,
+        r#"[["A1",[18446744073709551616,1,"1"],[],[]]]"#,
+        r#"[["A1",[9007199254740992,2,"1"],[],[]]]"#,
+        r#"[["A1",null,[],[[0,1,1,2]]]]"#,
+        r#"[["A1",null,[],[[0,257,1,0]]]]"#,
+        r#"[["A1",null,[[2,1,0],[1,1,0]],[]]]"#,
+        r#"[["A1",null,[],[[1,1,1,0],[1,1,1,1]]]]"#,
+        r#"[["DA1",[1,1,"1"],[],[]]]"#,
+        r#"[["A1",[1,1,"1"],[]]]"#,
+        r#"[["A1",[1,1,"1"],[],[]]] 1"#,
+        r#"{"A1":[1,1,"1"]}"#,
+        "",
+    ] {
+        assert!(rt; is_refused(rt.alloc(), line.as_bytes()), "{line}");
+    }
+    assert!(rt; is_refused(rt.alloc(), b"[[\"A1\",[1,1,\"'\xff\"],[],[]]]"));
+}
+
+/// Looks at each proper beginning of a line.
+fn look_at_beginnings(rt: &impl Abort, alloc: Global, line: &[u8]) {
+    for length in 0..line.len() {
+        assert!(rt; is_refused(alloc, &line[..length]), "{length}");
+    }
+}
+
+/// Each proper beginning of a line is refused, and so are brackets without end.
+#[test]
+fn cut_lines_are_refused(rt: HostRuntime) -> Result<(), Refusal> {
+    let line = br#"[["B1",[2,2,"4"],[],[]],["D1",[2,2,"=[.C1]"],[],[]]]"#;
+    look_at_beginnings(&rt, rt.alloc(), line);
+    let brackets = vec![in rt.alloc(); b'['; 200]?;
+    assert!(rt; is_refused(rt.alloc(), &brackets));
+    Ok(())
+}
+
+/// The text with as many blanks after it as make this length.
+fn padded(alloc: Global, text: &[u8], length: usize) -> Result<Vec<u8>, Refusal> {
+    let mut line = text.to_vec(alloc)?;
+    line.resize(length, b' ')?;
+    Ok(line)
+}
+
+/// A line may be padded with blanks up to the limit, and not beyond.
+#[test]
+fn lines_are_padded_up_to_the_limit(rt: HostRuntime) -> Result<(), Refusal> {
+    let text = br#"[["A1",[1,2,"5"],[],[]]]"#;
+    let longest = padded(rt.alloc(), text, DELTA_LINE_LIMIT)?;
+    assert!(rt; is_rewritten(rt.alloc(), &longest, text)?);
+    let longer = padded(rt.alloc(), text, DELTA_LINE_LIMIT + 1)?;
+    assert!(rt; is_refused(rt.alloc(), &longer));
+    Ok(())
+}
+
+/// Appends a pair that isn't removed, and a comma.
+fn push_pair(
+    alloc: Global,
+    line: &mut Vec<u8>,
+    option: u64,
+    replica: u64,
+    sequence: u64,
+) -> Result<(), Refusal> {
+    let pair = format!(in alloc; "[{option},{replica},{sequence},0],")?;
+    line.extend_from_slice(pair.as_bytes())?;
+    Ok(())
+}
+
+/// The delta of A1 with the first so many pairs of eight options from the given one on, 256 of each of eight replicas.
+fn pairs_from(alloc: Global, first: u64, count: usize) -> Result<Arc<Delta>, Refusal> {
+    let mut line = b"[[\"A1\",null,[],[".as_slice().to_vec(alloc)?;
+    let mut left = count;
+    for option in first..first.saturating_add(8) {
+        for replica in 1..=8 {
+            for sequence in 1..=256 {
+                if left > 0 {
+                    left -= 1;
+                    push_pair(alloc, &mut line, option, replica, sequence)?;
+                }
+            }
+        }
+    }
+    let _ = line.pop();
+    line.extend_from_slice(b"]]]")?;
+    Ok(Arc::new(alloc, decode(alloc, &line)?)?)
+}
+
+/// The join of a delta and of the first so many pairs of the options from 8 on.
+fn joined_with(alloc: Global, first: &Arc<Delta>, count: usize) -> Result<Delta, Refusal> {
+    let more = pairs_from(alloc, 8, count)?;
+    Delta::joined(alloc, &[first.clone()?, more])
+}
+
+/// Whether the delta is refused as too long for a line.
+fn is_too_long(alloc: Global, delta: &Delta) -> bool {
+    let mut line = Vec::new(alloc);
+    matches!(encode(alloc, delta, &mut line), Err(Refusal::TooLong))
+}
+
+/// The join of 16,384 pairs of a cell and 6,086 more has a text of 262,144 bytes, and so a line. With one pair more it
+/// has none, whatever it is joined with.
+#[test]
+fn what_outgrows_a_line(rt: HostRuntime) -> Result<(), Refusal> {
+    let first = pairs_from(rt.alloc(), 0, 16_384)?;
+    let longest = joined_with(rt.alloc(), &first, 6_086)?;
+    assert!(rt; fits_line(&longest) && !outgrows_line(&longest));
+    let longer = joined_with(rt.alloc(), &first, 6_087)?;
+    assert!(rt; !fits_line(&longer) && outgrows_line(&longer) && is_too_long(rt.alloc(), &longer));
+    Ok(())
+}
+
+/// A line of a cell with all three parts, and of a formula, whose content takes memory of its own.
+const FULL_LINE: &[u8] =
+    br#"[["A1",[1,1,"@choice"],[[1,5,0]],[[7,1,1,1],[7,2,1,0]]],["B1",[2,2,"=-[.A1]"],[],[]]]"#;
+
+/// The delta of the line, by a second call where memory ran out in the first one.
+fn decoded(alloc: Global, bytes: &[u8]) -> Result<Delta, Refusal> {
+    match decode(alloc, bytes) {
+        Err(Refusal::Memory) => decode(alloc, bytes),
+        answer => answer,
+    }
+}
+
+/// Appends the text of the delta, by a second call where the first one is refused. Whether such a refusal was `Memory`
+/// and left the line as before.
+fn append(
+    alloc: Global,
+    delta: &Delta,
+    line: &mut Vec<u8>,
+    before: &[u8],
+) -> Result<bool, Refusal> {
+    match encode(alloc, delta, line) {
+        Ok(()) => Ok(true),
+        Err(refusal) => {
+            let is_kept = refusal == Refusal::Memory && line.as_slice() == before;
+            encode(alloc, delta, line)?;
+            Ok(is_kept)
+        }
+    }
+}
+
+/// Where one growth is refused (`rt try --test --fail-alloc N`), `decode` returns `Memory` or the delta of the line,
+/// and the next call returns that delta.
+#[test]
+fn decode_stands_a_refused_growth(rt: HostRuntime) -> Result<(), Refusal> {
+    let delta = decoded(rt.alloc(), FULL_LINE)?;
+    let mut line = Vec::new(rt.alloc());
+    let _ = append(rt.alloc(), &delta, &mut line, b"")?;
+    assert!(rt; line.as_slice() == FULL_LINE);
+    Ok(())
+}
+
+/// Where one growth is refused (`rt try --test --fail-alloc N`), `encode` returns `Memory` and leaves the line as it
+/// was, be it empty or not; the next call appends the text.
+#[test]
+fn encode_stands_a_refused_growth(rt: HostRuntime) -> Result<(), Refusal> {
+    let delta = decoded(rt.alloc(), FULL_LINE)?;
+    let mut line = Vec::new(rt.alloc());
+    let is_kept_empty = append(rt.alloc(), &delta, &mut line, b"")?;
+    let is_kept_full = append(rt.alloc(), &delta, &mut line, FULL_LINE)?;
+    assert!(rt; is_kept_empty && is_kept_full);
+    assert!(rt; line.starts_with(FULL_LINE) && line.ends_with(FULL_LINE));
+    assert!(rt; line.len() == 2 * FULL_LINE.len());
+    Ok(())
+}

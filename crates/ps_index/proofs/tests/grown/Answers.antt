@@ -1,4 +1,0 @@
-use Rattle.ps_index.proofs.tests.grown.Goals as goal
-
-pub set-requires : goal.set-requires
-set-requires c = (c.in_ok-index.ensures.0, c.in_ok-index.ensures.1)

@@ -1,5 +1,0 @@
-use Rattle.ps_index.specs.Stands.{Puts, Stands}
-use Rattle.ps_index.proofs.tests.put.Given as goal
-
-abbrev pub invariant-loop-line : goal.invariant-loop-line
-invariant-loop-line l = (forms : Puts) × Stands l.index forms
