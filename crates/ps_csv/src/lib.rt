@@ -28,6 +28,3 @@ pub use bytes::LONGEST_TABLE;
 pub use fault::ImportFault;
 pub use incoming::{Imported, import};
 pub use shown::{export, exported_text};
-
-#[cfg(test)]
-mod tests;

@@ -32,8 +32,6 @@ mod name;
 mod patch;
 mod reader;
 mod rule;
-#[cfg(test)]
-mod tests;
 mod writer;
 
 pub use crossing::{patch_crosses, writer_crosses};

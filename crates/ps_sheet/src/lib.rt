@@ -60,6 +60,3 @@ pub use laws::{
 };
 pub use prepared::Prepared;
 pub use sheet::{Report, Sheet};
-
-#[cfg(test)]
-mod tests;

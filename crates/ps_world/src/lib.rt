@@ -24,6 +24,3 @@ mod world;
 
 pub use event::Event;
 pub use world::{World, play};
-
-#[cfg(test)]
-mod tests;

@@ -1,0 +1,89 @@
+//! Jobs: what tests do at a sheet of its own. One function alone owns the sheet.
+
+ghost use Rattle.std.specs.Prelude.{◌≤◌};
+ghost use Rattle.ps_grid.specs.declared.parties.TheConstants.{WORKERS};
+
+use crate::sheet::edits::grow;
+use crate::sheet::gates::{Counts, count_all};
+use crate::sheet::orders::take_in_order;
+use crate::sheet::prepared::{stay_alike, stay_whole};
+use crate::sheet::rounds::{change_often, give_up_often};
+use crate::sheet::script::{Step, go_on};
+use Job::{Alike, Count, GiveUps, Growth, Order, Random, Refusals, Steps};
+use ps_grid::Refusal;
+use ps_sheet::Sheet;
+use std::alloc::Global;
+use std::process::Abort;
+use std::thread::Threads;
+
+/// What is done at a sheet.
+#[derive(Clone, Copy)]
+pub(crate) enum Job {
+    /// These steps, one after another.
+    Steps(&'static [Step]),
+    /// Six deltas, in the n-th of their orders.
+    Order(usize),
+    /// An edit, of which a growth may be refused.
+    Growth,
+    /// Changes at random.
+    Random,
+    /// Changes at random, each after one that is given up.
+    GiveUps,
+    /// Changes through a gate that counts.
+    Count(&'static Counts),
+    /// A change that is given up and made beside a twin.
+    Alike,
+    /// A prepared edit that is refused, and one of which a growth may be.
+    Refusals,
+}
+
+fn do_job<R: Abort + Threads + Sync>(
+    rt: &R,
+    alloc: Global,
+    slot: &mut Option<Sheet>,
+    job: Job,
+) -> Result<(), Refusal> {
+    match job {
+        Steps(steps) => {
+            go_on(rt, alloc, slot.as_mut().expect(rt, "a sheet"), steps);
+            Ok(())
+        }
+        Order(n) => take_in_order(rt, alloc, slot.as_mut().expect(rt, "a sheet"), n),
+        Growth => {
+            grow(rt, alloc, slot.as_mut().expect(rt, "a sheet"));
+            Ok(())
+        }
+        Random => change_often(rt, alloc, slot.as_mut().expect(rt, "a sheet")),
+        GiveUps => give_up_often(rt, alloc, slot),
+        Count(counts) => count_all(rt, alloc, slot, counts),
+        Alike => stay_alike(rt, alloc, slot),
+        Refusals => {
+            stay_whole(rt, alloc, slot);
+            Ok(())
+        }
+    }
+}
+
+/// A job at a sheet, in a slot.
+fn at_own<R: Abort + Threads + Sync>(
+    rt: &R,
+    alloc: Global,
+    sheet: Sheet,
+    job: Job,
+) -> Result<(), Refusal> {
+    let mut slot = Some(sheet);
+    do_job(rt, alloc, &mut slot, job)
+}
+
+/// A job at the empty sheet of a replica.
+pub(crate) fn at_sheet<R: Abort + Threads + Sync>(
+    rt: &R,
+    alloc: Global,
+    replica: u8,
+    workers: usize,
+    job: Job,
+) -> Result<(), Refusal>
+    requires { (1 ≤ workers) × (workers ≤ WORKERS) }
+{
+    at_own(rt, alloc, Sheet::open(alloc, replica, workers)?, job)
+}

@@ -1,0 +1,452 @@
+//! Scripts: steps at a sheet, with what each returns and what the cells show then.
+
+ghost use Rattle.std.specs.Prelude.{◌≡◌, ◌<◌};
+ghost use Rattle.ps_grid.specs.Blanks.{IsBlankOf};
+
+use crate::sheet::jobs::{Job, at_sheet};
+use crate::sheet::long::{Many, chain, fan, put_many, show_alike, show_sequence};
+use Asked::{Add, Choose, Set, Sub, Unchoose};
+use Part::{Assigned, Counted, Paired};
+use Seen::{Empty, Failed, Num, Options, Text};
+use Step::{Alike, Ask, Chain, Enter, Fan, Get, GetAll, Put, Receive, Sequence, Show, Type};
+use ps_content::{Content, read_entry};
+use ps_delta::{CellState, Delta};
+use ps_eval::Meter;
+use ps_grid::{Cell, Refusal};
+use ps_lattice::{Assignment, Choice, Count, Pair, Register, Tally};
+use ps_sheet::{Batch, Edit, Report, Sheet};
+use ps_value::{Fault, Label, Value};
+use std::alloc::Global;
+use std::marker::Brand;
+use std::process::Abort;
+use std::sync::Arc;
+use std::sync::ledger::{Blank, Ledger};
+use std::thread::Threads;
+
+pub(crate) const CYCLE: Seen = Failed(Fault::Cycle);
+
+/// What a change reports: the version, and how many formulas were evaluated, cells are cyclic and levels there are.
+pub(crate) type Figures = [u64; 4];
+
+/// What is asked of a cell.
+#[derive(Clone, Copy)]
+pub(crate) enum Asked {
+    /// To hold what this entry says.
+    Set(&'static str),
+    Add(u64),
+    Sub(u64),
+    Choose(u64),
+    Unchoose(u64),
+}
+
+/// What a delta has for a cell.
+#[derive(Clone, Copy)]
+pub(crate) enum Part {
+    /// What an entry says, with a time and a replica.
+    Assigned(u64, u8, &'static str),
+    /// What a replica added and subtracted.
+    Counted(u8, u64, u64),
+    /// A pair that is in: its option, replica and sequence.
+    Paired(u8, u8, u16),
+}
+
+/// What a cell shows.
+#[derive(Clone, Copy)]
+pub(crate) enum Seen {
+    Empty,
+    Num(i64),
+    Text(&'static str),
+    /// A set of options, each of which is a bit.
+    Options(u64),
+    Failed(Fault),
+}
+
+/// A step of a script.
+#[derive(Clone, Copy)]
+pub(crate) enum Step {
+    /// Asks for a change of a cell, and has this answer: the version or a refusal.
+    Ask(&'static str, Asked, Result<u64, Refusal>),
+    /// Enters an entry into a cell, and has this report.
+    Enter(&'static str, &'static str, Figures),
+    /// Types these entries into these cells as one batch.
+    Type(&'static [(&'static str, &'static str)], Result<u64, Refusal>),
+    /// Receives a delta of one cell.
+    Get(&'static str, Part, Result<u64, Refusal>),
+    /// Receives a delta of several cells.
+    GetAll(&'static [(&'static str, Part)], Result<u64, Refusal>),
+    /// Receives a delta of several cells, and has this report.
+    Receive(&'static [(&'static str, Part)], Figures),
+    /// Looks at a cell.
+    Show(&'static str, Seen),
+    /// Enters a chain of so many cells.
+    Chain(usize),
+    /// Enters cells from `A2` to before a place, to each of which `A1` leads.
+    Fan(usize),
+    /// Types many entries as one batch, and has this report.
+    Put(Many, Figures),
+    /// Looks at the cells from one place to before another, which show the same.
+    Alike(usize, usize, Seen),
+    /// Looks at the cells from one place to before another, which show numbers in sequence.
+    Sequence(usize, usize, i64),
+}
+
+/// `D1` closes a cycle and `B1` ends one.
+pub(crate) const OVER: &[(&str, Part)] = &[
+    ("B1", Assigned(2, 2, "4")),
+    ("D1", Assigned(2, 2, "=[.C1]")),
+];
+
+/// The other way round.
+pub(crate) const BACK: &[(&str, Part)] = &[
+    ("B1", Assigned(3, 2, "=[.A1]")),
+    ("D1", Assigned(3, 2, "7")),
+];
+
+/// A number in `A1`.
+pub(crate) static FIVE: [Step; 1] = [Ask("A1", Set("5"), Ok(1))];
+
+pub(crate) fn cell(rt: &impl Abort, name: &str) -> Cell {
+    Cell::read(name.as_bytes()).expect(rt, "a cell")
+}
+
+/// The edit with a meter of its own.
+fn edited<L: Ledger, R: Threads + Sync>(
+    rt: &R,
+    blank: Blank,
+    alloc: Global,
+    sheet: &mut Sheet,
+    edit: Edit,
+) -> Result<Report, Refusal>
+    requires { IsBlankOf blank L.name L.parts }
+{
+    let mut meter = Meter::<L>::new(blank);
+    sheet.edit(rt, alloc, edit, &mut meter)
+}
+
+/// The delta received with a meter of its own.
+fn received<L: Ledger, R: Threads + Sync>(
+    rt: &R,
+    blank: Blank,
+    alloc: Global,
+    sheet: &mut Sheet,
+    delta: Arc<Delta>,
+) -> Result<Report, Refusal>
+    requires { IsBlankOf blank L.name L.parts }
+{
+    let mut meter = Meter::<L>::new(blank);
+    sheet.receive(rt, alloc, delta, &mut meter)
+}
+
+pub(crate) fn apply<R: Threads + Sync>(
+    rt: &R,
+    alloc: Global,
+    sheet: &mut Sheet,
+    edit: Edit,
+) -> Result<Report, Refusal> {
+    edited::<Brand, R>(rt, Blank::new(1), alloc, sheet, edit)
+}
+
+pub(crate) fn take<R: Threads + Sync>(
+    rt: &R,
+    alloc: Global,
+    sheet: &mut Sheet,
+    delta: Arc<Delta>,
+) -> Result<Report, Refusal> {
+    received::<Brand, R>(rt, Blank::new(1), alloc, sheet, delta)
+}
+
+/// The version that a change ends with.
+pub(crate) fn version_of(answer: Result<Report, Refusal>) -> Result<u64, Refusal> {
+    Ok(answer?.version)
+}
+
+pub(crate) fn figures_of(report: Report) -> Figures {
+    [
+        report.version,
+        report.evaluated,
+        report.cyclic,
+        report.levels,
+    ]
+}
+
+/// The figures that a change ends with.
+fn ended_with(answer: Result<Report, Refusal>) -> Result<Figures, Refusal> {
+    Ok(figures_of(answer?))
+}
+
+fn edit_of(alloc: Global, cell: Cell, asked: &Asked) -> Result<Edit, Refusal> {
+    match asked {
+        Set(entry) => Ok(Edit::Set(cell, read_entry(alloc, entry.as_bytes())?)),
+        Add(amount) => Ok(Edit::Add(cell, *amount)),
+        Sub(amount) => Ok(Edit::Sub(cell, *amount)),
+        Choose(option) => Ok(Edit::Choose(cell, *option)),
+        Unchoose(option) => Ok(Edit::Unchoose(cell, *option)),
+    }
+}
+
+/// What an entry of these pieces says.
+pub(crate) fn read_pieces(alloc: Global, pieces: &[&[u8]]) -> Result<Content, Refusal> {
+    let mut entry = Vec::new(alloc);
+    for piece in pieces {
+        entry.extend_from_slice(piece)?;
+    }
+    read_entry(alloc, &entry)
+}
+
+/// Adds a cell with what an entry says.
+fn add_entry(
+    rt: &impl Abort,
+    alloc: Global,
+    cells: &mut Vec<(Cell, Content)>,
+    name: &str,
+    entry: &str,
+) -> Result<(), Refusal> {
+    let content = read_entry(alloc, entry.as_bytes())?;
+    Ok(cells.push((cell(rt, name), content))?)
+}
+
+fn add_entries(
+    rt: &impl Abort,
+    alloc: Global,
+    cells: &mut Vec<(Cell, Content)>,
+    entries: &[(&str, &str)],
+) -> Result<(), Refusal> {
+    for (name, entry) in entries {
+        add_entry(rt, alloc, cells, name, entry)?;
+    }
+    Ok(())
+}
+
+fn batch_of(rt: &impl Abort, alloc: Global, entries: &[(&str, &str)]) -> Result<Batch, Refusal> {
+    let mut cells = Vec::new(alloc);
+    add_entries(rt, alloc, &mut cells, entries)?;
+    Ok(Batch::new(cells).expect(rt, "a batch"))
+}
+
+fn register(
+    rt: &impl Abort,
+    alloc: Global,
+    time: u64,
+    replica: u8,
+    entry: &str,
+) -> Result<CellState, Refusal> {
+    let content = read_entry(alloc, entry.as_bytes())?;
+    let register = Register::from_parts(Assignment {
+        time,
+        replica,
+        content,
+    });
+    Ok(CellState::from_parts(
+        register.expect(rt, "a register"),
+        Tally::empty(alloc),
+        Choice::empty(alloc),
+    ))
+}
+
+fn tally(
+    rt: &impl Abort,
+    alloc: Global,
+    replica: u8,
+    added: u64,
+    subtracted: u64,
+) -> Result<CellState, Refusal> {
+    let mut counts = Vec::new(alloc);
+    counts.push((replica, Count { added, subtracted }))?;
+    let tally = Tally::from_parts(alloc, counts)?.expect(rt, "counts");
+    Ok(CellState::from_parts(Register::empty(), tally, Choice::empty(alloc)))
+}
+
+fn choice(rt: &impl Abort, alloc: Global, pair: Pair) -> Result<CellState, Refusal> {
+    let mut pairs = Vec::new(alloc);
+    pairs.push((pair, false))?;
+    let choice = Choice::from_parts(alloc, pairs)?.expect(rt, "pairs");
+    Ok(CellState::from_parts(Register::empty(), Tally::empty(alloc), choice))
+}
+
+fn state_of(rt: &impl Abort, alloc: Global, part: &Part) -> Result<CellState, Refusal> {
+    match part {
+        Assigned(time, replica, entry) => register(rt, alloc, *time, *replica, entry),
+        Counted(replica, added, subtracted) => { tally(rt, alloc, *replica, *added, *subtracted) }
+        Paired(option, replica, sequence) => {
+            let pair = Pair {
+                option: *option,
+                replica: *replica,
+                sequence: *sequence,
+            };
+            choice(rt, alloc, pair)
+        }
+    }
+}
+
+/// Adds a cell with what a part says.
+fn add_part(
+    rt: &impl Abort,
+    alloc: Global,
+    cells: &mut Vec<(Cell, CellState)>,
+    name: &str,
+    part: &Part,
+) -> Result<(), Refusal> {
+    let state = state_of(rt, alloc, part)?;
+    Ok(cells.push((cell(rt, name), state))?)
+}
+
+fn add_parts(
+    rt: &impl Abort,
+    alloc: Global,
+    cells: &mut Vec<(Cell, CellState)>,
+    parts: &[(&str, Part)],
+) -> Result<(), Refusal> {
+    for (name, part) in parts {
+        add_part(rt, alloc, cells, name, part)?;
+    }
+    Ok(())
+}
+
+pub(crate) fn delta_of(
+    rt: &impl Abort,
+    alloc: Global,
+    parts: &[(&str, Part)],
+) -> Result<Arc<Delta>, Refusal> {
+    let mut cells = Vec::new(alloc);
+    add_parts(rt, alloc, &mut cells, parts)?;
+    Ok(Arc::new(alloc, Delta::new(cells).expect(rt, "a delta"))?)
+}
+
+/// The value that is seen.
+pub(crate) fn value(rt: &impl Abort, seen: &Seen) -> Value {
+    match seen {
+        Empty => Value::Empty,
+        Num(number) => Value::Num(*number),
+        Text(text) => Value::Text(Label::new(text.as_bytes()).expect(rt, "a text")),
+        Options(options) => Value::Choice(*options),
+        Failed(fault) => Value::Err(*fault),
+    }
+}
+
+/// What is said of a name holds.
+pub(crate) fn check(rt: &impl Abort, holds: bool, name: &str) {
+    assert!(rt; holds, "{name}");
+}
+
+/// What is said of a place holds.
+pub(crate) fn check_place(rt: &impl Abort, holds: bool, place: usize) {
+    assert!(rt; holds, "{place}");
+}
+
+/// There are as many as expected.
+pub(crate) fn check_count(rt: &impl Abort, count: u64, expected: u64, name: &str) {
+    assert_eq!(rt; count, expected, "{name}");
+}
+
+/// Asks for a change of a cell.
+pub(crate) fn ask<R: Abort + Threads + Sync>(
+    rt: &R,
+    alloc: Global,
+    sheet: &mut Sheet,
+    name: &str,
+    asked: &Asked,
+) -> Result<Report, Refusal> {
+    let edit = edit_of(alloc, cell(rt, name), asked)?;
+    apply(rt, alloc, sheet, edit)
+}
+
+/// Types entries into cells as one batch.
+fn type_all<R: Abort + Threads + Sync>(
+    rt: &R,
+    alloc: Global,
+    sheet: &mut Sheet,
+    entries: &[(&str, &str)],
+) -> Result<Report, Refusal> {
+    let batch = batch_of(rt, alloc, entries)?;
+    apply(rt, alloc, sheet, Edit::SetAll(batch))
+}
+
+/// Receives a delta of these cells.
+pub(crate) fn get_all<R: Abort + Threads + Sync>(
+    rt: &R,
+    alloc: Global,
+    sheet: &mut Sheet,
+    parts: &[(&str, Part)],
+) -> Result<Report, Refusal> {
+    let delta = delta_of(rt, alloc, parts)?;
+    take(rt, alloc, sheet, delta)
+}
+
+/// A change ended with this version, or with this refusal.
+fn check_version(
+    rt: &impl Abort,
+    ended: Result<Report, Refusal>,
+    answer: Result<u64, Refusal>,
+    name: &str,
+) {
+    assert_eq!(rt; version_of(ended), answer, "{name}");
+}
+
+/// A change had this report.
+pub(crate) fn check_figures(
+    rt: &impl Abort,
+    ended: Result<Report, Refusal>,
+    figures: Figures,
+    name: &str,
+) {
+    assert_eq!(rt; ended_with(ended), Ok(figures), "{name}");
+}
+
+/// A cell shows this value.
+fn check_shown(rt: &impl Abort, sheet: &Sheet, name: &str, seen: &Seen) {
+    check(rt, sheet.shown(cell(rt, name)) == value(rt, seen), name);
+}
+
+fn take_step<R: Abort + Threads + Sync>(rt: &R, alloc: Global, sheet: &mut Sheet, step: &Step) {
+    match step {
+        Ask(name, asked, answer) => {
+            check_version(rt, ask(rt, alloc, sheet, name, asked), *answer, name)
+        }
+        Enter(name, entry, figures) => {
+            check_figures(rt, ask(rt, alloc, sheet, name, &Set(entry)), *figures, name)
+        }
+        Type(entries, answer) => {
+            check_version(rt, type_all(rt, alloc, sheet, entries), *answer, "a batch")
+        }
+        Get(name, part, answer) => {
+            let ended = get_all(rt, alloc, sheet, &[(*name, *part)]);
+            check_version(rt, ended, *answer, name)
+        }
+        GetAll(parts, answer) => {
+            check_version(rt, get_all(rt, alloc, sheet, parts), *answer, "a delta")
+        }
+        Receive(parts, figures) => {
+            check_figures(rt, get_all(rt, alloc, sheet, parts), *figures, "a delta")
+        }
+        Show(name, seen) => check_shown(rt, sheet, name, seen),
+        Chain(cells) => chain(rt, alloc, sheet, *cells),
+        Fan(end) => fan(rt, alloc, sheet, *end),
+        Put(many, figures) => {
+            check_figures(rt, put_many(rt, alloc, sheet, *many), *figures, "a batch")
+        }
+        Alike(from, to, seen) => show_alike(rt, sheet, *from, *to, value(rt, seen)),
+        Sequence(from, to, first) => show_sequence(rt, sheet, *from, *to, *first),
+    }
+}
+
+/// The steps, one after another.
+pub(crate) fn go_on<R: Abort + Threads + Sync>(
+    rt: &R,
+    alloc: Global,
+    sheet: &mut Sheet,
+    steps: &[Step],
+) {
+    for step in steps {
+        take_step(rt, alloc, sheet, step);
+    }
+}
+
+/// The steps, one after another, at the empty sheet of a replica.
+pub(crate) fn play<R: Abort + Threads + Sync>(
+    rt: &R,
+    alloc: Global,
+    replica: u8,
+    steps: &'static [Step],
+) -> Result<(), Refusal> {
+    at_sheet(rt, alloc, replica, 1, Job::Steps(steps))
+}

@@ -1,0 +1,314 @@
+//! Small worlds with what each replica took and shows, worked by hand from the rules; a long one whose sheets agree.
+
+ghost use Rattle.std.specs.Prelude.{◌≡◌, ◌<◌};
+ghost use Rattle.ps_grid.specs.Blanks.{IsBlankOf};
+
+use ps_content::{Content, read_entry};
+use ps_delta::{CellState, Delta};
+use ps_eval::Meter;
+use ps_grid::{Cell, Refusal};
+use ps_lattice::{Assignment, Choice, Register, Tally};
+use ps_sheet::{Edit, Sheet};
+use ps_value::{Label, Value};
+use ps_world::{Event, World, play};
+use std::alloc::Global;
+use std::marker::Brand;
+use std::process::Abort;
+use std::sync::Arc;
+use std::sync::ledger::{Blank, Ledger};
+use std::thread::Threads;
+
+/// One event, all of them at A1.
+#[derive(Clone, Copy)]
+enum Step {
+    Set(u8, &'static str),
+    Add(u8, u64),
+    Sub(u8, u64),
+    Foreign(i64),
+    Deliver(u8, usize),
+}
+
+fn cell(index: usize) -> Result<Cell, Refusal> {
+    Cell::from_index(index).ok_or(Refusal::Cell)
+}
+
+/// The delta that assigns a number to A1, stamped with time 1 and replica 1.
+fn assigned(alloc: Global, number: i64) -> Result<Arc<Delta>, Refusal> {
+    let register = Register::from_parts(Assignment {
+        time: 1,
+        replica: 1,
+        content: Content::Number(number),
+    });
+    let state = CellState {
+        register: register.ok_or(Refusal::Delta)?,
+        tally: Tally::empty(alloc),
+        choice: Choice::empty(alloc),
+    };
+    let mut cells = Vec::new(alloc);
+    cells.push((cell(0)?, state))?;
+    let delta = Delta::new(cells).ok_or(Refusal::Delta)?;
+    Ok(Arc::new(alloc, delta)?)
+}
+
+fn event_of(alloc: Global, step: Step) -> Result<Event, Refusal> {
+    let at = cell(0)?;
+    match step {
+        Step::Set(replica, entry) => {
+            let content = read_entry(alloc, entry.as_bytes())?;
+            Ok(Event::Edit(replica, Edit::Set(at, content)))
+        }
+        Step::Add(replica, amount) => Ok(Event::Edit(replica, Edit::Add(at, amount))),
+        Step::Sub(replica, amount) => Ok(Event::Edit(replica, Edit::Sub(at, amount))),
+        Step::Foreign(number) => Ok(Event::Foreign(assigned(alloc, number)?)),
+        Step::Deliver(replica, number) => Ok(Event::Deliver(replica, number)),
+    }
+}
+
+/// Plays the events with a meter of its own.
+fn metered<R: Threads + Sync, L: Ledger>(
+    rt: &R,
+    blank: Blank,
+    alloc: Global,
+    replicas: u8,
+    events: Vec<Event>,
+) -> Result<World, Refusal>
+    requires { IsBlankOf blank L.name L.parts }
+{
+    let mut meter = Meter::<L>::new(blank);
+    play(rt, alloc, replicas, events, &mut meter)
+}
+
+fn run<R: Threads + Sync>(
+    rt: &R,
+    alloc: Global,
+    replicas: u8,
+    events: Vec<Event>,
+) -> Result<World, Refusal> {
+    metered::<R, Brand>(rt, Blank::new(1), alloc, replicas, events)
+}
+
+fn run_steps<R: Threads + Sync>(
+    rt: &R,
+    alloc: Global,
+    replicas: u8,
+    steps: &[Step],
+) -> Result<World, Refusal> {
+    let mut events = Vec::new(alloc);
+    for step in steps {
+        events.push(event_of(alloc, *step)?)?;
+    }
+    run(rt, alloc, replicas, events)
+}
+
+/// What a cell shows.
+#[derive(Clone, Copy)]
+enum Seen {
+    Num(i64),
+    Text(&'static str),
+}
+
+/// Whether a value is what is seen.
+fn is_seen(value: Value, seen: Seen) -> bool {
+    match seen {
+        Seen::Num(number) => value == Value::Num(number),
+        Seen::Text(text) => match Label::new(text.as_bytes()) {
+            Some(label) => value == Value::Text(label),
+            None => false,
+        },
+    }
+}
+
+/// A replica, the numbers that it took, its version and what it shows at A1.
+type Row = (u8, &'static [usize], u64, Seen);
+
+/// Whether a replica took these numbers and no other.
+fn took(world: &World, replica: u8, taken: &[usize]) -> bool {
+    match world.taken(replica) {
+        Some(numbers) => {
+            numbers.len() == taken.len() && taken.iter().all(|number| numbers.contains(number))
+        }
+        None => false,
+    }
+}
+
+/// Whether a sheet has this version and shows this at a cell.
+fn shows(sheet: &Sheet, at: Cell, version: u64, seen: Seen) -> bool {
+    sheet.version() == version && is_seen(sheet.shown(at), seen)
+}
+
+/// Whether a replica is as a row says.
+fn is_row(world: &World, at: Cell, row: Row) -> bool {
+    let (replica, taken, version, seen) = row;
+    match world.sheet(replica) {
+        Some(sheet) => shows(sheet, at, version, seen) && took(world, replica, taken),
+        None => false,
+    }
+}
+
+/// The replicas of a world are as the rows say.
+fn check_rows(rt: &impl Abort, world: &World, at: Cell, rows: &[Row]) {
+    for row in rows {
+        assert!(rt; is_row(world, at, *row), "replica {}", row.0);
+    }
+}
+
+/// Plays the steps at as many replicas, which are then as the rows say.
+fn play_steps<R: Abort + Threads + Sync>(
+    rt: &R,
+    alloc: Global,
+    replicas: u8,
+    steps: &[Step],
+    rows: &[Row],
+) -> Result<(), Refusal> {
+    let at = cell(0)?;
+    let world = run_steps(rt, alloc, replicas, steps)?;
+    check_rows(rt, &world, at, rows);
+    Ok(())
+}
+
+static GREATER: [Step; 7] = [
+    Step::Set(1, "x"),
+    Step::Set(2, "y"),
+    Step::Deliver(1, 2),
+    Step::Deliver(2, 1),
+    Step::Deliver(2, 1),
+    Step::Deliver(3, 1),
+    Step::Deliver(1, 9),
+];
+
+static GREATER_SEEN: [Row; 2] = [
+    (1, &[1, 2], 2, Seen::Text("y")),
+    (2, &[1, 2], 1, Seen::Text("y")),
+];
+
+/// Two replicas assign at the same time, and deltas come twice, to an unknown replica, or aren't there.
+#[test]
+fn both_show_the_greater_replica(rt: HostRuntime) -> Result<(), Refusal> {
+    play_steps(&rt, rt.alloc(), 2, &GREATER, &GREATER_SEEN)
+}
+
+static COUNTED: [Step; 9] = [
+    Step::Set(1, "@tally"),
+    Step::Deliver(2, 1),
+    Step::Deliver(3, 1),
+    Step::Add(1, 5),
+    Step::Sub(2, 2),
+    Step::Add(3, 1),
+    Step::Deliver(1, 4),
+    Step::Deliver(1, 3),
+    Step::Deliver(2, 2),
+];
+
+static COUNTED_SEEN: [Row; 3] = [
+    (1, &[1, 2, 3, 4], 4, Seen::Num(4)),
+    (2, &[1, 2, 3], 3, Seen::Num(3)),
+    (3, &[1, 4], 2, Seen::Num(1)),
+];
+
+/// A counter at three replicas, of which each has seen another part.
+#[test]
+fn each_counts_what_it_took(rt: HostRuntime) -> Result<(), Refusal> {
+    play_steps(&rt, rt.alloc(), 3, &COUNTED, &COUNTED_SEEN)
+}
+
+static STAMPED: [Step; 6] = [
+    Step::Foreign(3),
+    Step::Foreign(4),
+    Step::Deliver(1, 1),
+    Step::Deliver(1, 2),
+    Step::Deliver(2, 2),
+    Step::Deliver(2, 1),
+];
+
+static STAMPED_SEEN: [Row; 2] = [(1, &[1, 2], 2, Seen::Num(4)), (2, &[1, 2], 1, Seen::Num(4))];
+
+/// Two untrusted peers' deltas with the same stamp, received in both orders.
+#[test]
+fn equal_stamps_show_the_greater_content(rt: HostRuntime) -> Result<(), Refusal> {
+    play_steps(&rt, rt.alloc(), 2, &STAMPED, &STAMPED_SEEN)
+}
+
+/// The k-th edit of the long world: two after one another at the same cell and replica, then the next ones.
+fn edit_of(alloc: Global, k: usize) -> Result<Edit, Refusal> {
+    let at = cell(k / 2 % 4)?;
+    Ok(match k % 6 {
+        0 => Edit::Set(at, read_entry(alloc, b"=[.A1]+[.B1]")?),
+        1 => Edit::Set(at, Content::Number(7)),
+        2 => Edit::Set(at, Content::Tally),
+        3 => Edit::Add(at, 5),
+        4 => Edit::Set(at, Content::Choice),
+        _ => Edit::Choose(at, 3),
+    })
+}
+
+const EDITS: usize = 20;
+
+/// The replica of the k-th edit: each cell is edited at one replica after another.
+fn editor(k: usize) -> u8
+    requires { k < EDITS }
+{
+    ((k / 2 + k / 8) % 4) as u8 + 1
+}
+
+/// Twice the same delivery.
+fn twice(events: &mut Vec<Event>, replica: u8, number: usize) -> Result<(), Refusal> {
+    events.push(Event::Deliver(replica, number))?;
+    events.push(Event::Deliver(replica, number))?;
+    Ok(())
+}
+
+/// Twenty edits, each delivered at once to one replica; in the end all are delivered to all, the last ones first.
+fn long_script(alloc: Global) -> Result<Vec<Event>, Refusal> {
+    let mut events = Vec::new(alloc);
+    for k in 0..EDITS {
+        events.push(Event::Edit(editor(k), edit_of(alloc, k)?))?;
+        twice(&mut events, (k % 3) as u8 + 1, k + 1)?;
+    }
+    for k in 0..EDITS {
+        for replica in 1..5 {
+            twice(&mut events, 5 - replica, EDITS - k)?;
+        }
+    }
+    Ok(events)
+}
+
+/// Whether two sheets show the same in the first four cells.
+fn show_alike(sheet: &Sheet, other: &Sheet) -> Result<bool, Refusal> {
+    for index in 0..4 {
+        let at = cell(index)?;
+        if sheet.shown(at) != other.shown(at) {
+            return Ok(false);
+        }
+    }
+    Ok(true)
+}
+
+/// Whether two replicas took all deltas.
+fn took_all(world: &World, replica: u8, other: u8) -> bool {
+    match (world.taken(replica), world.taken(other)) {
+        (Some(numbers), Some(others)) => numbers.len() == EDITS && numbers == others,
+        _ => false,
+    }
+}
+
+/// Whether two replicas took the same deltas and show the same values.
+fn are_equal(world: &World, replica: u8, other: u8) -> Result<bool, Refusal> {
+    let sheet = world.sheet(replica).ok_or(Refusal::Replica)?;
+    let same = world.sheet(other).ok_or(Refusal::Replica)?;
+    Ok(took_all(world, replica, other) && show_alike(sheet, same)?)
+}
+
+/// Replicas 2, 3 and 4 are each equal to the first.
+fn check_equal(rt: &impl Abort, world: &World) -> Result<(), Refusal> {
+    for replica in 2..5 {
+        assert!(rt; are_equal(world, 1, replica)?, "replica {replica}");
+    }
+    Ok(())
+}
+
+/// Four replicas edit the same cells; what each took in the end, in its own order and twice, shows the same everywhere.
+#[test]
+fn sheets_agree_in_the_end(rt: HostRuntime) -> Result<(), Refusal> {
+    let world = run(&rt, rt.alloc(), 4, long_script(rt.alloc())?)?;
+    check_equal(&rt, &world)
+}

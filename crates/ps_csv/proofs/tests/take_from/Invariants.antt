@@ -1,4 +1,0 @@
-use Rattle.ps_csv.proofs.tests.take_from.Given as goal
-
-abbrev pub ghosts-taken : goal.ghosts-taken
-ghosts-taken g a = record { name = a.blank.name; parts = a.blank.parts }

@@ -1,6 +1,0 @@
-use Rattle.std.proofs.Common.{◌≡◌, map, take}
-use Rattle.ps_face.specs.Values.{valued}
-use Rattle.ps_face.proofs.tests.published.keep_all.Given as goal
-
-abbrev pub invariant-loop-cell : goal.invariant-loop-cell
-invariant-loop-cell g l = map valued l.kept.items ≡ take l.cell-index l.changes
