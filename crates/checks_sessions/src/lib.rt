@@ -1,13 +1,15 @@
-//! Tests of sessions, by public calls alone.
+//! Tests of sessions and of desks, by public calls alone.
 //!
 //! `commands` asks what lines ask for, `session` how bytes are put together to lines, and `runs` what a sheet's session
-//! replies, all of `ps_session`.
+//! replies, all of `ps_session`. `desk` has a sheet shared by several sessions, of `ps_desk`.
 //!
 //! A crate with tests is proved a second time with them, so these stand apart from what they test.
 #![tactic(auto)]
 
 #[cfg(test)]
 mod commands;
+#[cfg(test)]
+mod desk;
 #[cfg(test)]
 mod runs;
 #[cfg(test)]

@@ -46,8 +46,6 @@ mod receipt;
 mod seat;
 mod shot;
 mod table;
-#[cfg(test)]
-mod tests;
 
 pub use crossing::desk_crosses;
 pub use desk::Desk;

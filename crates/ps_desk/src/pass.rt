@@ -135,7 +135,9 @@ impl<L: DeskName> Pass<L> {
     }
 
     /// The seat that the pass is for.
-    pub(crate) fn seat(&self) -> u64
+    ///
+    /// Cost: constant.
+    pub fn seat(&self) -> u64
         ensures { result ≡ self.now.seat }
     {
         self.seat

@@ -1,4 +1,4 @@
-use Rattle.ps_desk.proofs.tests.turns.a_pass_outlives_its_desk.Given as goal
+use Rattle.checks_sessions.proofs.desk.turns.a_pass_outlives_its_desk.Given as goal
 
 abbrev pub ghosts-is_gone-L-Ledger : goal.ghosts-is_gone-L-Ledger
 ghosts-is_gone-L-Ledger g a = record { name = a.parts.ledger; parts = a.parts.seats }

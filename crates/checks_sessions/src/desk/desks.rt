@@ -3,9 +3,9 @@
 ghost use Rattle.ps_grid.specs.Blanks.{IsBlankOf};
 ghost use Rattle.ps_desk.specs.Opening.{IsNamed};
 
-use crate::{Desk, DeskName, Parts, Pass, Receipt};
 use ps_content::read_entry;
 use ps_delta::Delta;
+use ps_desk::{Desk, DeskName, Parts, Pass, Receipt};
 use ps_eval::Meter;
 use ps_grid::{Cell, Refusal};
 use ps_sheet::{Change, Edit, Sheet};

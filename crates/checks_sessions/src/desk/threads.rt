@@ -2,10 +2,10 @@
 
 ghost use Rattle.ps_desk.specs.Opening.{IsNamed};
 
-use crate::tests::desks::{close, make, open, sheet_of};
-use crate::{Desk, DeskName, Parts, Pass, desk_crosses};
+use crate::desk::desks::{close, make, open, sheet_of};
 use ps_content::Content;
 use ps_delta::Delta;
+use ps_desk::{Desk, DeskName, Parts, Pass, desk_crosses};
 use ps_grid::{CELLS, Cell, SEATS};
 use ps_sheet::{Change, Edit, Sheet};
 use ps_value::Value;

@@ -1,4 +1,4 @@
-use Rattle.ps_desk.proofs.tests.threads.sixteen_seats_at_once.Given as goal
+use Rattle.checks_sessions.proofs.desk.threads.sixteen_seats_at_once.Given as goal
 
 abbrev pub ghosts-race-L-Ledger : goal.ghosts-race-L-Ledger
 ghosts-race-L-Ledger g a = record { name = a.parts.ledger; parts = a.parts.seats }
