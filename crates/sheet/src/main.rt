@@ -3,16 +3,11 @@
 //! `sheet run` opens an empty sheet and answers each line of standard input on standard output; `sheet table` reads a
 //! table of CSV and writes the table of its settled values. `sheet serve` answers the lines of several connections,
 //! side by side and on one sheet, and `sheet sync` hands what one replica has to another, both of which listen on
-//! this machine. It keeps nothing from one start to the next: the lines `pull` and `push` carry deltas, and who
-//! starts the programs keeps them.
+//! this machine. It keeps nothing from one start to the next.
 //!
-//! The contracts to use: [`read_words`] ties the command and the numbers that it returns to the matches that `clap`
-//! finds in the words. [`answer_lines`] makes what was read and written the transcript of an empty sheet,
-//! [`table_on`] what was written the table of what an empty sheet shows once it has taken the table in. [`serve_on`]
-//! closes the sheet that it was given with what its sessions' passes appended, and writes the version. [`sync`] ends
-//! whatever its peers reply, and fails as a device only where a connection did. A [`ProgramFault`] is what ends the
-//! program early, and [`status_of`] its exit status: 0 where all went well, 1 where a device failed, 2 for a command
-//! line that is none, 3 for any other refusal.
+//! It ties the commands of `ps_commands`, whose contracts say what each does, to the words, to standard input, output
+//! and error, and to the exit status: 0 where all went well, 1 where a device failed, 2 for a command line that is
+//! none, 3 for any other refusal.
 //!
 //! With `set A1 5` and `get A1` on standard input, `sheet run` writes `ok 1` and `val 5`; with `2,=[.A1]*3`,
 //! `sheet table` writes `2,6`.
@@ -23,30 +18,14 @@
 ghost use Rattle.std.specs.Prelude.{◌≡◌, ◌<◌};
 ghost use Rattle.ps_grid.specs.Blanks.{IsBlankOf};
 
-mod connection;
-mod exchange;
-mod fault;
-mod help;
-mod notice;
-mod options;
-mod peer;
-mod server;
-mod session;
-mod sessions;
-mod table;
-mod words;
-
 use clap::Error;
 use clap::error::ErrorKind;
-pub use exchange::{sync, sync_on};
-pub use fault::{ProgramFault, status_of};
-pub use options::{Options, RunOptions, ServeOptions, SyncOptions, TableOptions};
-pub use peer::Peer;
+use ps_commands::{
+    Options, ProgramFault, answer_lines, read_words, serve, status_of, sync_on, table_on,
+};
 use ps_device::{ConsoleOutput, Reading, Writing};
 use ps_eval::Meter;
 use ps_grid::Refusal;
-pub use server::{serve, serve_on};
-pub use session::{answer_lines, open_sheet};
 use std::io;
 use std::marker::Brand;
 use std::net::{Net, TcpListener, TcpStream};
@@ -54,8 +33,6 @@ use std::process::ExitCode;
 use std::sync::Wait;
 use std::sync::ledger::{Blank, Ledger};
 use std::thread::Threads;
-pub use table::table_on;
-pub use words::read_words;
 
 /// Runs the command that the words name, and reports what ends it early.
 fn main(rt: HostRuntime) -> ExitCode {
@@ -182,6 +159,3 @@ fn on_standard<
         }
     }
 }
-
-#[cfg(test)]
-mod tests;

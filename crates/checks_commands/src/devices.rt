@@ -1,0 +1,160 @@
+//! Devices that fail in the middle of a session.
+ghost use Rattle.std.specs.Prelude.{◌≡◌, ◌<◌};
+ghost use Rattle.ps_grid.specs.Blanks.{IsBlankOf};
+
+use ps_device::{Reading, Writing};
+use ps_eval::Meter;
+use ps_grid::Refusal;
+use ps_session::{RunFault, run};
+use ps_sheet::Sheet;
+use std::alloc::Global;
+use std::cell::RefCell;
+use std::io;
+use std::io::{ErrorKind, Read, Write};
+use std::marker::Brand;
+use std::sync::ledger::{Blank, Ledger};
+use std::test::Fail;
+use std::thread::Threads;
+
+/// A reader that gives its bytes, and then fails or ends.
+#[derive(Drop)]
+struct Given<'a> {
+    bytes: &'a [u8],
+    fails: bool,
+}
+
+impl Read for Given<'_> {
+    fn read(&mut self, buf: &mut [u8]) -> io::Result<usize> {
+        if self.bytes.is_empty() && self.fails {
+            return Err(io::Error::from(ErrorKind::Other));
+        }
+        let count = self.bytes.len().min(buf.len());
+        buf[..count].copy_from_slice(&self.bytes[..count]);
+        self.bytes = &self.bytes[count..];
+        Ok(count)
+    }
+}
+
+/// A writer that keeps what it is given, for so many calls, and then fails.
+#[derive(Drop)]
+struct Keeper<'a> {
+    kept: &'a RefCell<Vec<u8>>,
+    calls: usize,
+}
+
+impl Write for Keeper<'_> {
+    fn write(&mut self, buf: &[u8]) -> io::Result<usize> {
+        if buf.is_empty() {
+            return Ok(0);
+        }
+        if self.calls == 0 {
+            return Err(io::Error::from(ErrorKind::Other));
+        }
+        self.calls -= 1;
+        match self.kept.try_borrow_mut() {
+            Ok(mut kept) => kept.extend_from_slice(buf)?,
+            Err(_) => return Err(io::Error::from(ErrorKind::Other)),
+        }
+        Ok(buf.len())
+    }
+
+    fn flush(&mut self) -> io::Result<()> {
+        Ok(())
+    }
+}
+
+/// What a session answered, and the version of its sheet.
+#[derive(Clone, Copy)]
+struct SessionEnd {
+    ran: Result<u64, RunFault>,
+    version: u64,
+}
+
+fn ended<R: Threads + Sync, I: Ledger, O: Ledger, M: Ledger>(
+    rt: &R,
+    alloc: Global,
+    given: Given,
+    keeper: Keeper,
+    input: Blank,
+    output: Blank,
+    count: Blank,
+) -> Result<SessionEnd, Refusal>
+    requires input { IsBlankOf input I.name I.parts }
+    requires output { IsBlankOf output O.name O.parts }
+    requires count { IsBlankOf count M.name M.parts }
+{
+    let mut source = Reading::<Given, I>::new(given, input);
+    let mut sink = Writing::<Keeper, O>::new(keeper, output);
+    let mut meter = Meter::<M>::new(count);
+    let mut sheet = Sheet::open(alloc, 1, 1)?;
+    let ran = run(rt, alloc, &mut source, &mut sink, &mut sheet, &mut meter);
+    Ok(SessionEnd {
+        ran,
+        version: sheet.version(),
+    })
+}
+
+/// The session of a reader, whose replies a cell keeps.
+fn session<R: Threads + Sync>(
+    rt: &R,
+    alloc: Global,
+    given: Given,
+    keeper: Keeper,
+) -> Result<SessionEnd, Refusal> {
+    ended::<R, Brand, Brand, Brand>(
+        rt,
+        alloc,
+        given,
+        keeper,
+        Blank::new(1),
+        Blank::new(1),
+        Blank::new(1),
+    )
+}
+
+/// The session of three edits on a writer that fails after so many calls: it ends with the sink's failure, what was
+/// written is a beginning of the replies, and the sheet is that of the lines up to the one whose reply was cut.
+fn ends_after<R: Threads + Sync>(rt: &R, alloc: Global, calls: usize) -> Result<bool, Refusal> {
+    let due = b"ok 1\nok 2\nok 3\n";
+    let kept = RefCell::new(Vec::new(alloc));
+    let given = Given {
+        bytes: b"set A1 1\nset A1 2\nset A1 3\n",
+        fails: false,
+    };
+    let keeper = Keeper { kept: &kept, calls };
+    let found = session(rt, alloc, given, keeper)?;
+    let bytes = kept.into_inner();
+    let lines = bytes.iter().filter(|byte| **byte == b'\n').count() as u64;
+    Ok(
+        due.starts_with(bytes.as_slice())
+            && found.ran == Err(RunFault::Sink)
+            && found.version == lines + 1,
+    )
+}
+
+/// A sink that fails at its k-th call, for each k.
+#[test]
+fn a_failing_sink(rt: HostRuntime) -> Result<(), Fail> {
+    for calls in 0..9 {
+        assert!(rt; ends_after(&rt, rt.alloc(), calls)?, "after {calls} calls");
+    }
+    Ok(())
+}
+
+/// A source that fails in the middle of a line: the complete lines are answered, and the rest isn't carried out.
+#[test]
+fn a_failing_source(rt: HostRuntime) -> Result<(), Fail> {
+    let kept = RefCell::new(Vec::new(rt.alloc()));
+    let given = Given {
+        bytes: b"set A1 5\nset B1",
+        fails: true,
+    };
+    let keeper = Keeper {
+        kept: &kept,
+        calls: 100,
+    };
+    let found = session(&rt, rt.alloc(), given, keeper)?;
+    assert!(rt; found.ran == Err(RunFault::Source) && found.version == 1);
+    assert!(rt; kept.into_inner().as_slice() == b"ok 1\n".as_slice());
+    Ok(())
+}

@@ -1,0 +1,4 @@
+mod Arguments
+mod Backs
+mod Causes
+mod Subcommands

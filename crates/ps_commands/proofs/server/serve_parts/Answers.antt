@@ -1,0 +1,25 @@
+use Rattle.std.proofs.Common.{◌≡◌, ◌∙◌, ap, sym, length, vec_len}
+use Rattle.ps_commands.proofs.Backs.{new_passes-length}
+use Rattle.ps_commands.proofs.server.serve_parts.Goals as goal
+
+pub close-requires : goal.close-requires
+close-requires g c =
+    let given : vec_len c.in-Ok.opened.1 ≡ c.args.parts.seats =
+    c.in-Ok.opened.1.ok.0 ∙ ap length c.in-Ok.ensures.passes ∙ new_passes-length c.args.parts.seats in
+    record { passes = c.in-Ok-serve_all.ensures.len ∙ given ∙ sym c.in-Ok.ensures.seats }
+
+pub returns-in-Ok-serve_all-clause-served : goal.returns-in-Ok-serve_all-clause-served
+returns-in-Ok-serve_all-clause-served g c =
+    let closed = c.close.ensures in
+    let given : vec_len c.in-Ok.opened.1 ≡ c.args.parts.seats =
+    c.in-Ok.opened.1.ok.0 ∙ ap length c.in-Ok.ensures.passes ∙ new_passes-length c.args.parts.seats in
+    let back = c.in-Ok-serve_all.back in
+    record {
+      is_sheet = closed.sheet;
+      replica = rw c.requires.named.replica closed.replica;
+      passes = back.items;
+      each = sym back.ok.0 ∙ c.in-Ok-serve_all.ensures.len ∙ given;
+      back = rw c.in-Ok.ensures.passes at c.in-Ok-serve_all.ensures.each;
+      begins = rw c.requires.named.history closed.begins;
+      grown = rw c.requires.named.history closed.grown;
+    }

@@ -1,0 +1,23 @@
+use Rattle.std.proofs.Common.{rules, ◌≡◌, ◌∙◌, ap, ap₂, Option, Some, true}
+use Rattle.std.specs.Prelude.{pos}
+use Rattle.clap.specs.Words.{Rule, rule_of}
+use Rattle.clap.specs.declared.builder.action.ArgAction.TheVariants.{Set}
+use Rattle.clap.specs.declared.builder.arg.Arg.{Arg}
+use Rattle.clap.specs.declared.builder.value_parser.ValueParser.{ValueParser}
+use Rattle.clap.specs.declared.builder.value_parser.ValueParser.TheVariants as vp
+use Rattle.ps_commands.proofs.words.needed_option.Goals as goal
+
+pub returns-clause-rule : goal.returns-clause-rule
+returns-clause-rule c =
+    let ranged : c.value_parser.result.value_parser ≡ Some (vp.Signed (pos 1) (pos c.args.most)) = search rules in
+    let named : c.action.result ≡ record c.new.result { long = Some c.args.id; action = Some Set } =
+    c.action.ensures ∙ ap (λ (a : Arg). record a { action = Some Set }) c.long.ensures in
+    let read = c.value_parser.ensures.others
+    ∙ ap (λ (a : Arg). record a { value_parser = c.value_parser.result.value_parser }) named in
+    ap rule_of (c.required.ensures ∙ ap (λ (a : Arg). record a { required = true }) read)
+    ∙ ap₂ (λ (r : Rule) (p : Option ValueParser). record r {
+      long = Some c.args.id.now;
+      action = Some Set;
+      parser = p;
+      required = true;
+    }) c.new.ensures.rule ranged

@@ -1,0 +1,60 @@
+-- What the commands begin with, and what they write.
+use Rattle.std.specs.Prelude.{◌≡◌, ◌==◌, ◌∷◌, ◌++◌, ℕ, List, [], Option, if◌then◌else◌, codes, decimal}
+use Rattle.ps_grid.specs.Rectangle.{Area}
+use Rattle.ps_delta.specs.Deltas.{joined_history}
+use Rattle.ps_shown.specs.Shown.{shown_at}
+use Rattle.ps_sheet.specs.Sheet.{IsSheet, SheetView}
+use Rattle.ps_csv.specs.Exports.{exported}
+use Rattle.ps_csv.specs.Faults.{ReaderFails, TableFault, WholeTable}
+use Rattle.ps_csv.specs.Imports.{ImportsTable}
+use Rattle.ps_commands.specs.declared.fault.ProgramFault.{ProgramFault}
+use Rattle.ps_commands.specs.declared.fault.ProgramFault.TheVariants.{PeerRefused, ReaderFailed, Refused}
+
+-- the sheet is the empty one of this replica
+pub record IsOpened (replica : ℕ) (sheet : SheetView) : Type 0 where
+  pub is_sheet : IsSheet sheet
+  pub history : sheet.history ≡ []
+  pub replica_asked : sheet.replica ≡ replica
+
+-- so many rows and columns from A1 on
+abbrev pub from_first : ℕ → ℕ → Area
+from_first records fields = record { left = 0; top = 0; width = fields; height = records }
+
+-- the table of what a sheet shows; nothing where there are no records
+abbrev pub table_of : ℕ → ℕ → SheetView → List ℕ
+table_of records fields sheet =
+    if records == 0 then [] else exported (shown_at sheet.shown) (from_first records fields)
+
+-- the empty sheet of replica 1 took in the table of the bytes, and the text is the table of what it shows then
+pub record IsTableOf (bytes text : List ℕ) : Type 0 where
+  pub records : ℕ
+  pub fields : ℕ
+  pub empty : SheetView
+  pub filled : SheetView
+  pub opened : IsOpened 1 empty
+  pub taken : ImportsTable bytes records fields empty filled
+  pub settled : IsSheet filled
+  pub shown : text ≡ table_of records fields filled
+
+-- the causes of a fault: of a refusal memory, a device, too many bytes, or the first fault of the table for an empty
+-- sheet; else that `csv`'s own reader failed. A source had `old` and has `new` to come
+abbrev pub IsCauseOf : Option (List ℕ) → Option (List ℕ) → ProgramFault → Type 0
+IsCauseOf old new (Refused e) = TableFault (joined_history []) old new e
+IsCauseOf old new (ReaderFailed error) = WholeTable old new (λ bytes. ReaderFails (joined_history []) bytes error)
+IsCauseOf old new (PeerRefused reply) = ⊥
+
+-- a line of a word, with its space, and a number
+abbrev pub notice : List ℕ → ℕ → List ℕ
+notice word number = word ++ decimal number ++ 10 ∷ []
+
+-- what `sync` writes at the end: how many lines it pushed
+abbrev pub synced_text : ℕ → List ℕ
+synced_text lines = notice (codes "synced ") lines
+
+-- what `serve` writes once it listens on a port ..
+abbrev pub listening_text : ℕ → List ℕ
+listening_text port = notice (codes "listening ") port
+
+-- .. and once all sessions have ended, which leave a history of so many deltas
+abbrev pub closed_text : ℕ → List ℕ
+closed_text version = notice (codes "closed ") version

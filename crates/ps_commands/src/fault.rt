@@ -1,0 +1,60 @@
+//! How the program ends before its work is done.
+ghost use Rattle.std.specs.Prelude.{◌≡◌};
+ghost use Rattle.ps_commands.specs.Status.{exit_status, program_fault};
+
+use ps_csv::ImportFault;
+use ps_grid::Refusal;
+use std::alloc::AllocError;
+use thiserror::Error;
+
+/// What ended the program. Its text is the line that standard error gets: `err`, the refusal's number and its name, or
+/// a peer's own such line.
+#[derive(Debug, Drop, Error)]
+pub enum ProgramFault {
+    /// A call was refused.
+    #[error("err {} {}", .0.number(), .0.name())]
+    Refused(Refusal),
+    /// `csv`'s own reader failed over a table, with this error. The text is that of `Csv`.
+    #[error("err {} {}", Refusal::Csv.number(), Refusal::Csv.name())]
+    ReaderFailed(csv::Error),
+    /// A peer refused a request. The text is its reply, as it came.
+    #[error("{0}")]
+    PeerRefused(String),
+}
+
+impl From<Refusal> for ProgramFault {
+    fn from(refusal: Refusal) -> ProgramFault {
+        ProgramFault::Refused(refusal)
+    }
+}
+
+impl From<AllocError> for ProgramFault {
+    fn from(_error: AllocError) -> ProgramFault {
+        ProgramFault::Refused(Refusal::Memory)
+    }
+}
+
+/// The fault that an import ends the program with.
+///
+/// Cost: constant.
+pub fn fault_of_import(fault: ImportFault) -> ProgramFault
+    ensures { result ≡ program_fault fault.reader_error fault.refusal }
+{
+    match fault.reader_error {
+        Some(error) => ProgramFault::ReaderFailed(error),
+        None => ProgramFault::Refused(fault.refusal),
+    }
+}
+
+/// The exit status: 1 where a device failed, else 3.
+///
+/// Cost: constant.
+pub fn status_of(fault: &ProgramFault) -> u8
+    ensures { result ≡ exit_status fault.now }
+{
+    match fault {
+        ProgramFault::Refused(Refusal::Device) => 1,
+        ProgramFault::Refused(_) | ProgramFault::ReaderFailed(_) | ProgramFault::PeerRefused(_) =>
+            3,
+    }
+}

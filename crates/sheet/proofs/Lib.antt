@@ -1,3 +1,0 @@
-mod Backs
-mod Causes
-mod Subcommands

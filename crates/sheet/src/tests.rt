@@ -1,6 +1,0 @@
-mod devices;
-mod exchange;
-mod help;
-mod serving;
-mod session;
-mod words;
