@@ -1,45 +1,196 @@
-"""The recipes of `docs/SERVING.md`: each block of commands writes the block after it."""
+"""The recipes of `docs/SERVING.md`: each block of commands writes the block after it, and keeping loses nothing."""
+import csv
+import io
 import os
 import re
+import socket
+import subprocess
 import sys
 
-from program import SHEET, TOP, Ended, ProgramTest
-from servers import free_port
-from test_start import shell
+from program import LIMIT, SHEET, TOP, Ended, ProgramTest, lines, run, started
+from servers import HERE, free_port
+from sizes import COLUMNS, LONGEST_DELTA, name
 
-# What the recipes ask of `nc -N`: to send all of its input, and to show what comes to the end. It stands in for `nc`,
-# which not every machine has.
+BLOCKS = (TOP / "docs/SERVING.md").read_text().split("```")[1::2]
+# What the page has first: the functions that its recipes call.
+FUNCTIONS = BLOCKS[0].removeprefix("bash\n")
+RECIPES = list(zip(BLOCKS[1::2], BLOCKS[2::2]))
+# What the recipes ask of `nc -N`: to send its input as it comes, and to show what comes back, to the end. It stands in
+# for `nc`, which not every machine has.
 NC = f"""#!{sys.executable}
-import shutil
+import os
 import socket
 import sys
+import threading
 
 _, option, host, port = sys.argv
 assert option == "-N"
 with socket.create_connection((host, int(port))) as connection:
-    connection.sendall(sys.stdin.buffer.read())
-    connection.shutdown(socket.SHUT_WR)
-    shutil.copyfileobj(connection.makefile("rb"), sys.stdout.buffer)
+    def send():
+        while piece := os.read(0, 65536):
+            connection.sendall(piece)
+        connection.shutdown(socket.SHUT_WR)
+
+    threading.Thread(target=send, daemon=True).start()
+    while piece := connection.recv(65536):
+        sys.stdout.buffer.write(piece)
+        sys.stdout.buffer.flush()
 """
 
 
-class Recipes(ProgramTest):
-    def test_each_recipe_writes_the_block_after_it(self):
+class Pasting(ProgramTest):
+    """A test that pastes commands in a folder with the program at `./sheet`."""
+
+    def setUp(self):
+        self.place = self.folder()
+        os.symlink(SHEET, self.place / "sheet")
+        (self.place / "bin").mkdir()
+        (self.place / "bin/nc").write_text(NC)
+        (self.place / "bin/nc").chmod(0o755)
+
+    def paste(self, commands):
+        """How these commands end after the functions of the page."""
+        environment = {**os.environ, "PATH": f"{self.place / 'bin'}:{os.environ['PATH']}"}
+        how = {"cwd": self.place, "env": environment, "stdin": subprocess.DEVNULL, "stdout": subprocess.PIPE}
+        with started("-c", FUNCTIONS + commands, program="bash", **how) as shell:
+            output, error = shell.communicate(timeout=LIMIT)
+            return Ended(shell.returncode, output, error)
+
+
+class Recipes(Pasting):
+    def test_each_writes_the_block_after_it(self):
         # ports of the test's own for those that the page names
-        page = (TOP / "docs/SERVING.md").read_text()
         ports = {named: str(free_port()) for named in ("7001", "7002")}
-        page = re.sub(r"\b700[12]\b", lambda found: ports[found[0]], page)
-        blocks = page.split("```")[1::2]
-        self.assertEqual(len(blocks), 16)
-        folder = self.folder()
-        os.symlink(SHEET, folder / "sheet")
-        (folder / "bin").mkdir()
-        (folder / "bin/nc").write_text(NC)
-        (folder / "bin/nc").chmod(0o755)
-        environment = {**os.environ, "PATH": f"{folder / 'bin'}:{os.environ['PATH']}"}
-        for commands, shown in zip(blocks[::2], blocks[1::2]):
+        self.assertEqual(len(RECIPES), 9)
+        for commands, shown in RECIPES:
             with self.subTest(commands=commands):
-                self.assertTrue(commands.startswith("sh\n"))
+                commands, shown = (re.sub(r"\b700[12]\b", lambda port: ports[port[0]], it) for it in (commands, shown))
+                self.assertTrue(commands.startswith("bash\n"))
                 self.assertTrue(shown.startswith("text\n"))
                 shown = shown.removeprefix("text\n").encode()
-                self.assertEqual(shell(commands.removeprefix("sh\n"), folder, environment), Ended(0, shown))
+                self.assertEqual(self.paste(commands.removeprefix("bash\n")), Ended(0, shown))
+
+    def test_one_whose_port_is_taken_ends_and_says_nothing_to_who_has_it(self):
+        recipes = [commands.removeprefix("bash\n") for commands, _ in RECIPES if "start " in commands]
+        self.assertEqual(len(recipes), 3)
+        with socket.create_server((HERE, 0)) as listener:
+            port = str(listener.getsockname()[1])
+            for commands in recipes:
+                with self.subTest(commands=commands):
+                    ended = self.paste(commands.replace("7001", port).replace("7002", str(free_port())))
+                    self.assertEqual(ended, Ended(1, b"", b"err 20 device\n"))
+            listener.setblocking(False)
+            with self.assertRaises(BlockingIOError):
+                listener.accept()
+
+
+class Keeping(Pasting):
+    """Nothing is lost by `keep`, from `run` and from `serve`, and by the `ask` of `README.md`."""
+
+    def from_run(self):
+        """Keeps what the file `given` does at `run`."""
+        self.assertEqual(self.paste("keep ./sheet run < given > kept"), Ended(0))
+
+    def from_serve(self):
+        """Keeps what the file `given` does at `serve`."""
+        port = free_port()
+        self.assertEqual(self.paste(f"""
+            start log ./sheet serve --port {port} --sessions 2 &&
+            nc -N {HERE} {port} < given > replies &&
+            keep nc -N {HERE} {port} < /dev/null > kept &&
+            wait
+        """), Ended(0))
+        self.assertNotIn(b"err", (self.place / "replies").read_bytes())
+
+    def by_asking(self):
+        """Keeps what the file `given` does at `run`, each change by itself."""
+        ask = re.search(r"^ask\(\) .*$", (TOP / "README.md").read_text(), re.MULTILINE)[0]
+        kept = "ask < given | ./sheet run | sed -n 's/^delta [0-9]* /push /p' > kept"
+        self.assertEqual(self.paste(f"{ask}\n{kept}"), Ended(0))
+
+    def assert_kept(self, given, shown, groups):
+        """What these lines do is kept, in so many groups, and shows this table again at another replica."""
+        table = io.StringIO()
+        csv.writer(table, lineterminator="\n").writerows(shown)
+        asked = f"rows A1:{name(len(shown[0]) - 1, len(shown))}"
+        (self.place / "given").write_text("".join(f"{line}\n" for line in given))
+        for keep, count in ((self.from_run, groups), (self.from_serve, groups), (self.by_asking, len(given))):
+            with self.subTest(keep=keep.__name__):
+                keep()
+                kept = (self.place / "kept").read_text().split("\n")[:-1]
+                self.assertEqual(len(kept), count)
+                replies = lines(*(f"ok {number + 1}" for number in range(count)), f"rows {len(shown)}")
+                ended = run("run", "--replica", "2", given=lines(*kept, asked))
+                self.assertEqual(ended, Ended(0, replies + table.getvalue().encode()))
+
+    def assert_numbers_are_kept(self, count):
+        """So many changes are kept, of a cell for each group of 16."""
+        cells = [name(number // 16 % COLUMNS, number // 16 // COLUMNS + 1) for number in range(count)]
+        last = [str(min(number + 16, count) - 1) for number in range(0, count, 16)]
+        rows = [last[begin:begin + COLUMNS] for begin in range(0, len(last), COLUMNS)]
+        rows[-1] += [""] * (COLUMNS - len(rows[-1]))
+        self.assert_kept([f"set {cell} {number}" for number, cell in enumerate(cells)], rows, len(last))
+
+    def test_a_single_change(self):
+        self.assert_numbers_are_kept(1)
+
+    def test_a_change_more_than_a_group_has(self):
+        self.assert_numbers_are_kept(17)
+
+    def test_100_changes(self):
+        self.assert_numbers_are_kept(100)
+
+    def test_50_000_changes(self):
+        self.assert_numbers_are_kept(50_000)
+
+    def test_groups_that_the_length_of_a_line_cuts_short(self):
+        """Batches of long texts, of which no two fit a line, each with a few changes after it."""
+        given, shown = [], []
+        for batch in range(6):
+            rows = range(batch * 17 + 1, batch * 17 + 17)
+            texts = [[f"{name(column, row)}".ljust(64, "x") for column in range(COLUMNS)] for row in rows]
+            cells = (f'["{name(column, row)}",[1,2,"\'{text}"],[],[]]'
+                     for row, line in zip(rows, texts) for column, text in enumerate(line))
+            given.append(f"push [{','.join(cells)}]")
+            self.assertTrue(LONGEST_DELTA / 2 < len(given[-1]) - len("push ") <= LONGEST_DELTA)
+            given += [f"set {name(column, rows.stop)} {column}" for column in range(batch)]
+            shown += [*texts, [str(column) for column in range(batch)] + [""] * (COLUMNS - batch)]
+        # there are 21 changes, and each group ends before the next batch
+        self.assert_kept(given, shown, 6)
+
+    def test_texts_byte_by_byte(self):
+        texts = ["two  blanks ", " before", "\\n \\\\ \\", '"quoted", and not', "äpfel 梨", "$HOME `x` %s *", "-n"]
+        self.assert_kept([f"set {name(column, 1)} {text}" for column, text in enumerate(texts)], [texts], 1)
+
+
+class Failing(Pasting):
+    """`keep` fails rather than keep less than all."""
+
+    def assert_fails(self, commands, error, output=b""):
+        """These commands fail with this on standard error."""
+        with self.subTest(commands=commands):
+            ended = self.paste(commands)
+            self.assertNotEqual(ended.status, 0)
+            self.assertEqual(ended.output, output)
+            self.assertIn(error, ended.error)
+
+    def test_a_line_that_is_refused(self):
+        self.assert_fails(r"printf 'set A1 5\nset A0 5\n' | keep ./sheet run", b"keep: stopped by err 1 cell\n")
+        self.assert_fails(r"printf 'push []\n' | keep ./sheet run", b"keep: stopped by err 14 delta\n")
+
+    def test_a_session_that_ends_early(self):
+        self.assert_fails("keep true < /dev/null", b"keep: stopped by the end of the session")
+        self.assert_fails("keep printf 'ok 1\\ndelta 1 [[' < /dev/null", b"keep: stopped by delta 1 [[\n")
+        self.assert_fails(f"keep nc -N {HERE} {free_port()} < /dev/null", b"keep: stopped by the end of the session")
+
+    def test_an_input_that_cannot_be_read(self):
+        self.assert_fails("keep ./sheet run < .", b"keep: stopped by err 16 command\n")
+        self.assert_fails("(cat none && echo 'set A1 5') | keep ./sheet run", b"none")
+
+    def test_an_output_that_fails(self):
+        self.assert_fails("echo 'set A1 5' | keep ./sheet run > /dev/full", b"write error")
+
+    def test_questions_are_left_out_and_a_last_line_without_line_feed_is_taken(self):
+        given = r"printf 'set A1 5\nget A1\npull 0 16\nrows A1:B1\n\nset B1 6' | keep ./sheet run"
+        kept = lines('push [["A1",[1,1,"5"],[],[]],["B1",[1,1,"6"],[],[]]]')
+        self.assertEqual(self.paste(given), Ended(0, kept))
