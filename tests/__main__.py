@@ -2,6 +2,7 @@
 
 `./test` has all of it, `./test --program` the latter alone, and `./test --program TEXT` those whose name has the text.
 The last line is `N passed, M failed` over everything that ran, and the exit status is 0 only where nothing failed.
+`./test --hunt MINUTES` compares scripts by chance with a plain model (`hunt/`), and ends in the same way.
 """
 import re
 import subprocess
@@ -122,8 +123,12 @@ def program(text):
 
 def main(words):
     """Runs what the words ask for, and returns the exit status."""
+    if words[:1] == ["--hunt"]:
+        # (read only here, since this file's own test has no hunt beside it)
+        from hunt import command
+        return command.main(words)
     if words[:1] not in ([], ["--program"]) or len(words) > 2:
-        print("usage: ./test, or ./test --program [TEXT]", file=sys.stderr)
+        print("usage: ./test, or ./test --program [TEXT], or ./test --hunt MINUTES [--seed NUMBER]", file=sys.stderr)
         return 2
     tally = Tally(0, 0) if words else gate().and_also(released())
     tally = tally.and_also(program("".join(words[1:])))

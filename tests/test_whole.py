@@ -110,6 +110,7 @@ class Whole(ProgramTest):
         self.assert_fails("0 passed, 1 failed", "--program", "nonsense")
 
     def test_other_words_are_refused(self):
+        usage = "usage: ./test, or ./test --program [TEXT], or ./test --hunt MINUTES [--seed NUMBER]\n"
         for words in (["program"], ["--program", "a", "b"]):
             with self.subTest(words=words):
-                self.assertEqual(self.start(*words), Ended(2, "", "usage: ./test, or ./test --program [TEXT]\n"))
+                self.assertEqual(self.start(*words), Ended(2, "", usage))

@@ -1,0 +1,104 @@
+"""Faults that are planted for the hunt's own test: what stands in for the program has just one of them.
+
+Some change what a sheet does (`SHEETS`), the others the program's replies on their way, by commands of `sed` (`EDITS`).
+"""
+from . import contents, deltas, runs
+from .functions import CYCLE
+from .model import Sheet
+
+
+class Late(Sheet):
+    """Cells that refer to what changed by other formulas alone show what they showed one version before."""
+
+    def append(self, delta):
+        before = {cell: Sheet.value(self, cell) for cell in self.states}
+        super().append(delta)
+        near = {cell for cell in self.states if cell in delta or not delta.keys().isdisjoint(self.referred(cell))}
+        self.values = {cell: value for cell, value in before.items() if cell not in near}
+
+
+class Stale(Sheet):
+    """Once it was in a cycle, a cell shows so until it is changed itself."""
+
+    def append(self, delta):
+        before = [cell for cell in self.states if cell not in delta and self.value(cell) == CYCLE]
+        super().append(delta)
+        self.values = dict.fromkeys(before, CYCLE)
+
+
+class Partial(Sheet):
+    """A total over a range of several rows and columns leaves out the last cell."""
+
+    def cells(self, rectangle):
+        is_partial = rectangle.left < rectangle.right and rectangle.top < rectangle.bottom
+        return super().cells(rectangle)[:-1 if is_partial else None]
+
+
+class Lost(Sheet):
+    """A delta of which a part is known is lost."""
+
+    def receive(self, delta):
+        news = [cell for cell, state in delta.items() if deltas.joined(self.state(cell), state) != self.state(cell)]
+        if len(news) == len(delta):
+            self.append(delta)
+
+
+class Doubled(Sheet):
+    """A delta that has just been taken is taken once more when it comes again."""
+
+    def receive(self, delta):
+        if self.history and self.history[-1] == delta:
+            self.append(delta)
+        else:
+            super().receive(delta)
+
+
+class First(Sheet):
+    """Of two contents with one stamp the one that came first stays."""
+
+    def append(self, delta):
+        kept = {cell: state for cell, state in self.states.items() if cell in delta}
+        super().append(delta)
+        for cell, state in kept.items():
+            if state.register[:2] == self.states[cell].register[:2]:
+                self.states[cell] = self.states[cell]._replace(register=state.register)
+
+
+class Revived(Sheet):
+    """A pair that was removed is in again once it comes as added."""
+
+    def append(self, delta):
+        super().append(delta)
+        for cell, state in delta.items():
+            self.states[cell] = self.states[cell]._replace(pairs={**self.states[cell].pairs, **state.pairs})
+
+
+class Unlimited(Sheet):
+    """An edit of a register with the last time is refused by the number before its own."""
+
+    def assign(self, cell, content):
+        refusal = super().assign(cell, content)
+        return contents.NOT_CHOSEN if refusal == contents.CLOCK_FULL else refusal
+
+
+SHEETS = (Late, Stale, Partial, Lost, Doubled, First, Revived, Unlimited)
+# What each changes: a delta line is lost or doubled, a refusal has another number, a version is one too high.
+EDITS = (r"/^delta 7 /d", r"/^delta 5 /p", r"s/^err 12 not-chosen$/err 11 choice-full/", r"s/^err 8 /err 7 /",
+         r"s/^end 2$/end 3/")
+FILTER = """\
+#!/bin/sh
+{sheet} "$@" | LC_ALL=C sed '{edit}'
+"""
+
+
+def on_sheet(kind):
+    """How a script ends on a sheet with a fault."""
+    return lambda script: runs.by_model(script, kind)
+
+
+def edited(edit, folder):
+    """How a script ends whose replies are edited on their way; the folder is for what does so."""
+    file = folder / "sheet"
+    file.write_text(FILTER.format(sheet=runs.PROGRAM, edit=edit))
+    file.chmod(0o755)
+    return lambda script: runs.by_program(script, str(file))

@@ -1,0 +1,77 @@
+"""Makes a script smaller while something still holds of it."""
+import json
+
+# So many trials end the work, whatever is left.
+TRIALS = 2_000
+
+
+def cells_of(line):
+    """The cells of the delta that the line pushes, as JSON values; none where it pushes none."""
+    try:
+        cells = json.loads(line.removeprefix(b"push ")) if line.startswith(b"push ") else []
+    except ValueError:
+        return []
+    return cells if type(cells) is list else []
+
+
+def line_of(cells):
+    """A line that pushes these cells."""
+    return b"push %s\n" % json.dumps(cells, ensure_ascii=False, separators=(",", ":")).encode("utf-8", "surrogatepass")
+
+
+class Shrinker:
+    """Leaves out what it can of a script while `holds` is true of it."""
+
+    def __init__(self, script, holds):
+        self.script = script
+        self.holds = holds
+        self.trials = 0
+
+    def takes(self, **changes):
+        """Whether it still holds with these changes; then they stay."""
+        changed = self.script._replace(**changes)
+        self.trials += 1
+        if changed == self.script or self.trials > TRIALS or not self.holds(changed):
+            return False
+        self.script = changed
+        return True
+
+    def leave_out_options(self):
+        """Leaves out the options, and then the cuts, of which it doesn't need any."""
+        for option in self.script.words[1::2]:
+            place = self.script.words.index(option)
+            self.takes(words=self.script.words[:place] + self.script.words[place + 2:])
+        self.takes(piece=0)
+
+    def leave_out_parts(self, length):
+        """Leaves out so many neighbouring parts at a time, from the last ones on."""
+        for place in range(len(self.script.parts) - length, -1, -length):
+            parts = self.script.parts
+            self.takes(parts=parts[:place] + parts[place + length:])
+
+    def leave_out_cells(self):
+        """Leaves out cells of the deltas that are pushed."""
+        for place, part in enumerate(self.script.parts):
+            cells = cells_of(part)
+            for cell in cells[::-1]:
+                fewer = [it for it in cells if it is not cell]
+                parts = self.script.parts
+                if fewer and self.takes(parts=(*parts[:place], line_of(fewer), *parts[place + 1:])):
+                    cells = fewer
+
+    def shrunk(self):
+        """The script as small as it became: no single part of it can be left out, unless the trials were too few."""
+        self.leave_out_options()
+        before = None
+        while before != self.script:
+            before = self.script
+            length = len(before.parts)
+            while length := length // 2:
+                self.leave_out_parts(length)
+            self.leave_out_cells()
+        return self.script
+
+
+def shrunk(script, holds):
+    """A smaller script of which it still holds."""
+    return Shrinker(script, holds).shrunk()
