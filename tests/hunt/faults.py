@@ -86,7 +86,8 @@ SHEETS = (Late, Stale, Partial, Lost, Doubled, First, Revived, Unlimited)
 EDITS = (r"/^delta 7 /d", r"/^delta 5 /p", r"s/^err 12 not-chosen$/err 11 choice-full/", r"s/^err 8 /err 7 /",
          r"s/^end 2$/end 3/")
 FILTER = """\
-#!/bin/sh
+#!/usr/bin/env bash
+set -o pipefail
 {sheet} "$@" | LC_ALL=C sed '{edit}'
 """
 
