@@ -1,0 +1,80 @@
+"""`--workers` of each command, seen in the threads that the program starts.
+
+A level of formulas that don't refer to one another is divided where it has 4,096 due cells for each worker; each worker
+but one then has a thread of its own.
+"""
+import os
+import subprocess
+import sys
+from pathlib import Path
+
+from program import LIMIT, TOP, Ended, ProgramTest, lines, started
+from servers import serving
+from shortage import PROGRAM
+from sizes import COLUMNS, name, pushes
+
+# So many rows of formulas are wide enough for 16 workers. All of them refer to the one cell below.
+ROWS = 640
+SOURCE = name(0, ROWS + 1)
+LAST = name(COLUMNS - 1, ROWS)
+ENTRY = f"=[.{SOURCE}]"
+# How many threads evaluate beside the caller's own, for so many workers.
+THREADS = {1: 0, 2: 1, 4: 3, 16: 15}
+
+SCRIPT = lines(*pushes(lambda column, row: ENTRY, range(1, ROWS + 1)), f"set {SOURCE} 7", f"get {LAST}")
+REPLIES = lines(*(f"ok {number}" for number in range(1, ROWS + 2)), "val 7")
+TABLE = lines(*[",".join([ENTRY] * COLUMNS)] * ROWS, "7")
+SHOWN = lines(*[",".join(["7"] * COLUMNS)] * ROWS, "7" + "," * (COLUMNS - 1))
+
+
+class Threads:
+    """How a program is started whose threads are counted, and how many it has started."""
+
+    def __init__(self, library, count):
+        self.count = count
+        env = {**os.environ, "LD_PRELOAD": str(library), "THREADS_COUNT": str(count.fileno())}
+        # (without the launcher, whose own threads aren't meant)
+        self.how = {"program": PROGRAM, "env": env, "pass_fds": [count.fileno()]}
+
+    def started(self):
+        """How many threads the program has started so far."""
+        return int.from_bytes(os.pread(self.count.fileno(), 8, 0), sys.byteorder)
+
+
+class Workers(ProgramTest):
+    def setUp(self):
+        self.library = Path(self.folder()) / "threads.so"
+        words = ["cc", "-shared", "-fPIC", "-O2", "-Wall", "-Wextra", "-Werror", "-o", self.library]
+        subprocess.run([*words, TOP / "tests/threads.c"], check=True, timeout=LIMIT)
+
+    def threads(self):
+        """A count of threads for one program."""
+        count = self.enterContext(open(os.memfd_create("threads"), "r+b"))
+        count.truncate(8)
+        return Threads(self.library, count)
+
+    def assert_command(self, command, given, output):
+        """The command gives this output for each number of workers, and starts the threads of that number."""
+        for workers, wanted in THREADS.items():
+            threads = self.threads()
+            files = {"stdin": subprocess.PIPE, "stdout": subprocess.PIPE, **threads.how}
+            with self.subTest(workers=workers), started(command, "--workers", str(workers), **files) as program:
+                written, error = program.communicate(given, timeout=LIMIT)
+                self.assertEqual(Ended(program.returncode, written, error), Ended(0, output))
+                self.assertEqual(threads.started(), wanted)
+
+    def test_run_has_as_many_as_it_is_told(self):
+        self.assert_command("run", SCRIPT, REPLIES)
+
+    def test_table_has_as_many_as_it_is_told(self):
+        self.assert_command("table", TABLE, SHOWN)
+
+    def test_serve_has_as_many_as_it_is_told_beside_one_for_each_session(self):
+        for workers, wanted in THREADS.items():
+            threads = self.threads()
+            with self.subTest(workers=workers), serving(1, "--workers", str(workers), **threads.how) as server:
+                client = server.client()
+                client.send(SCRIPT)
+                self.assertEqual(client.leave(), REPLIES)
+                self.assertEqual(server.ended(), Ended(0, lines(f"closed {ROWS + 1}")))
+                self.assertEqual(threads.started(), wanted + 1)
