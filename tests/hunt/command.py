@@ -1,5 +1,6 @@
 """The command `./test --hunt MINUTES [--seed NUMBER]`."""
 import argparse
+import functools
 import itertools
 import random
 import subprocess
@@ -8,6 +9,7 @@ import time
 
 from program import TOP
 
+from . import runs
 from .finds import Hunt
 
 # So many finds end a hunt, and each so many seconds it tells how far it is.
@@ -38,12 +40,15 @@ def found(hunt, find, folder):
 def main(words):
     """Hunts as the words ask, and returns the exit status."""
     ask = asked(words)
-    if subprocess.run([TOP / "build"], stdin=subprocess.DEVNULL).returncode != 0:
+    built = subprocess.run([TOP / "build"], stdin=subprocess.DEVNULL, stdout=subprocess.PIPE, text=True)
+    if built.returncode != 0:
         print("hunt: the program isn't built\n0 passed, 1 failed")
         return 1
     seed = random.randrange(1_000_000) if ask.seed is None else ask.seed
     print(f"hunt: seed {seed}", flush=True)
-    hunt, finds, folder = Hunt(seed), 0, None
+    # (the program that there is, which may be that of the released code)
+    by_program = functools.partial(runs.by_program, program=built.stdout.strip())
+    hunt, finds, folder = Hunt(seed, by_program), 0, None
     begun = told_at = time.monotonic()
     for number in itertools.count():
         now = time.monotonic()
