@@ -12,8 +12,11 @@ from tools import Fault
 
 
 def difference(top):
-    """Why the released code in this folder isn't that of the proved build there, or None where it is."""
-    proved = top / "crates/sheet/out/sheet.o"
+    """Why the released code in this folder isn't that of the proved build there, or None where it is.
+
+    Programs are compared, since the gate keeps no object of a program that an earlier run on the machine has proved.
+    """
+    proved = top / "crates/sheet/out/sheet"
     if not proved.is_file():
         return "there is no proved build to compare with"
     try:
@@ -22,9 +25,10 @@ def difference(top):
         if others:
             return f"the released code was made of another {', '.join(others)}: run release/make"
         with tempfile.TemporaryDirectory(prefix="sheet-compared-") as room:
-            made = Path(room) / "released.o"
+            made, program = Path(room) / "released.o", Path(room) / "released"
             released.compile(kit, made)
-            is_same = made.read_bytes() == proved.read_bytes()
-        return None if is_same else "clang makes another object of the released code than the proved build has"
+            tools.link(kit, made, program)
+            is_same = program.read_bytes() == proved.read_bytes()
+        return None if is_same else "the released code makes another program than the proved build"
     except Fault as fault:
         return f"the released code is of no use: {fault}"

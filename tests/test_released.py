@@ -121,9 +121,13 @@ class Compared(StandIns):
 
     def test_code_that_was_not_proved(self):
         # even where release/sums tells of its object
-        file = self.top / "crates/sheet/out/sheet.o"
+        file = self.top / "crates/sheet/out/sheet"
         file.write_bytes(file.read_bytes() + b"# proved\n")
-        self.assert_differs("clang makes another object of the released code than the proved build has")
+        self.assert_differs("the released code makes another program than the proved build")
+
+    def test_a_proved_program_whose_object_is_gone(self):
+        (self.top / "crates/sheet/out/sheet.o").unlink()
+        self.assertIsNone(compared.difference(self.top))
 
     def test_a_failing_clang(self):
         self.use(BREAKS, "toolchain/bin/clang")
