@@ -91,6 +91,16 @@ class Lines(Syncing):
         self.assertEqual(first.asked, ["pull 0 16", "pull 16 16", "pull 32 16", "pull 40 16"])
         self.assertEqual(second.asked, [f"push {delta}" for _, delta in deltas.values()])
 
+    def test_each_group_is_sent_once_and_the_last_one_too(self):
+        for count in (1, 2, 5):
+            with self.subTest(count=count):
+                deltas = [f'[["A1",[{version},1,"{version}"],[],[]]]' for version in range(1, count + 1)]
+                pulled = [lines(f"delta {version} {delta}") for version, delta in enumerate(deltas, 1)]
+                # the second one takes whatever comes, as often as it comes
+                first, second = self.peer(in_turn(*pulled, lines(f"end {count}"))), self.peer(lambda line: b"ok 1\n")
+                self.assertEqual(self.sync(first, second), Ended(0, lines(f"synced {count}")))
+                self.assertEqual(second.asked, [f"push {delta}" for delta in deltas])
+
     def test_replies_with_a_carriage_return(self):
         delta = '[["A1",[1,1,"5"],[],[]]]'
         first = self.peer(in_turn(lines(f"delta 1 {delta}\r"), b"end 1\r\n"))

@@ -41,7 +41,9 @@ class Threads:
         return int.from_bytes(os.pread(self.count.fileno(), 8, 0), sys.byteorder)
 
 
-class Workers(ProgramTest):
+class CountsThreads(ProgramTest):
+    """A test that counts the threads of a program."""
+
     def setUp(self):
         self.library = Path(self.folder()) / "threads.so"
         words = ["cc", "-shared", "-fPIC", "-O2", "-Wall", "-Wextra", "-Werror", "-o", self.library]
@@ -53,6 +55,8 @@ class Workers(ProgramTest):
         count.truncate(8)
         return Threads(self.library, count)
 
+
+class Workers(CountsThreads):
     def assert_command(self, command, given, output):
         """The command gives this output for each number of workers, and starts the threads of that number."""
         for workers, wanted in THREADS.items():

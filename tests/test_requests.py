@@ -1,0 +1,97 @@
+"""Lines that take no memory, and when an edit takes it, by the requests that the program makes.
+
+No clause says that a read, a refused edit, and a change that is made or given up once it is worked out take none. What
+can be seen from outside: lines that take none make no request, however many there are; each request of an edit is one
+whose refusal is the reply to it, so none is made once something has changed; and after a request that was refused
+there is no other.
+"""
+from program import Ended, ProgramTest, lines
+from shortage import ALL, build, each, run_short, serve_short
+
+REFUSED = "err 19 memory"
+# Cells of each kind, one at its last time, a counter at its limit, and a set whose sequences are used up.
+OPENING = (
+    "set A1 5", "set B1 item", "set C1 =[.A1]*2", "set D1 @tally", "add D1 5", "set E1 @choice", "choose E1 7",
+    "set F1 =[.F1]", 'push [["G1",[9007199254740991,2,"5"],[],[]]]',
+    'push [["H1",[1,1,"@tally"],[[1,1099511627776,0]],[]],["I1",[1,1,"@choice"],[],[[0,1,256,0]]]]',
+)
+# Lines that take no memory, each with its reply.
+WITHOUT = {
+    "get A1": "val 5", "get B1": "val item", "get C1": "val 10", "get D1": "val 5", "get E1": "val {7}",
+    "get F1": "val #CYCLE!", "get CZ1024": "val ", "get A0": "err 1 cell", "get": "err 16 command",
+    "walk": "err 16 command", "set DA1 7": "err 1 cell", "rows A1": "err 1 cell", "choose E1 x": "err 8 option",
+    "add A1 5": "err 5 not-tally", "choose D1 3": "err 6 not-choice", "add D1 0": "err 7 amount",
+    "choose E1 64": "err 8 option", "unchoose E1 9": "err 12 not-chosen", "set G1 5": "err 13 clock-full",
+    "add H1 1": "err 10 tally-full", "choose I1 1": "err 11 choice-full",
+    "pull 10": "end 10", "pull 10 16": "end 10", "pull 11": "err 17 version", "pull 0 17": "err 17 version",
+}
+TIMES = 1_000
+# Edits and a pushed delta. (`sub` and `unchoose` aren't among them: of a merged list the room that is left over is given
+# back, which is a request too, and where that is refused they make do.)
+CHANGES = (
+    "set A1 6", "set A1 ", "set A1 text", "set A9 7", "set C1 =[.A1]*3", "set A1 =[.C1]", "set F1 1", "add D1 5",
+    "choose E1 8", 'push [["A1",[9,2,"7"],[],[]],["B9",[1,2,"=[.A1]"],[],[]]]',
+)
+LOOKS = ("get A1", "get B1", "get C1", "get D1", "get E1", "get F1", "get G1", "get A9", "get B9")
+
+
+class Requests(ProgramTest):
+    """The same of a session of `run` and of one of `serve`, each with one worker."""
+
+    def setUp(self):
+        self.files = self.folder()
+        self.library = build(self.files)
+
+    def by_run(self, script):
+        """A session of `run` with these lines, to be started with the requests that are refused."""
+        given = self.files / "given"
+        given.write_bytes(lines(*script))
+
+        def start(first=ALL, last=ALL):
+            short = run_short(self.library, ["run"], given, first, last)
+            self.assertEqual((short.ended.status, short.ended.error), (0, b""))
+            return short.ended.output.decode().splitlines(), short.requests
+
+        return start
+
+    def by_serve(self, script):
+        """The same at a server, which ends well."""
+        def start(first=ALL, last=ALL):
+            short = serve_short(self.library, [lines(*script)], first, last)
+            replies = short.replies[0].decode().splitlines()
+            versions = [int(reply.split()[1]) for reply in replies if reply.startswith("ok ")]
+            self.assertEqual(short.ended, Ended(0, lines(f"closed {max(versions)}")))
+            return replies, short.requests
+
+        return start
+
+    def each_way(self):
+        """How a session is started, of each command."""
+        for how in (self.by_run, self.by_serve):
+            with self.subTest(how=how.__name__):
+                yield how
+
+    def test_reads_and_refused_lines_make_no_request_however_many_there_are(self):
+        for how in self.each_way():
+            opening, requests = how(OPENING)()
+            self.assertEqual(opening, [f"ok {version + 1}" for version in range(len(OPENING))])
+            for line, reply in WITHOUT.items():
+                with self.subTest(line=line):
+                    replies, found = how((*OPENING, *[line] * TIMES))()
+                    self.assertEqual(replies, [*opening, *[reply] * TIMES])
+                    self.assertEqual(found - requests, 0)
+
+    def test_each_request_of_an_edit_comes_before_anything_changes_and_none_after_one_that_is_refused(self):
+        for how in self.each_way():
+            before, opening = how((*OPENING, *LOOKS))()
+            for line in CHANGES:
+                start = how((*OPENING, line, *LOOKS))
+                after, requests = start()
+                self.assertEqual(after[len(OPENING)], f"ok {len(OPENING) + 1}")
+                self.assertGreater(requests, opening)
+                # the looks take none
+                spans = [(number, last) for number in range(opening + 1, requests + 1) for last in (number, ALL)]
+                for span, (replies, found) in zip(spans, each(start, spans)):
+                    with self.subTest(line=line, span=span):
+                        self.assertEqual(replies, [*before[:len(OPENING)], REFUSED, *before[len(OPENING):]])
+                        self.assertEqual(found, span[0])
