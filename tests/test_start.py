@@ -33,10 +33,12 @@ class Examples(ProgramTest):
         self.assertEqual(shell(TABLE_EXAMPLE), Ended(0, lines("2,6", '"x,y",0')))
 
     def test_two_replicas_that_edit_apart_and_meet(self):
-        self.assertIn(TWO_REPLICAS.strip(), (TOP / "README.md").read_text())
+        # the first block of the page, and what the block after it shows
+        command, shown = (TOP / "README.md").read_text().split("```")[1:4:2]
+        self.assertEqual((command, shown[:5]), (f"sh{TWO_REPLICAS}", "text\n"))
         folder = self.folder()
         os.symlink(SHEET, folder / "sheet")
-        self.assertEqual(shell(TWO_REPLICAS, folder), Ended(0, lines("val pears", "val 7", "val pears", "val 7")))
+        self.assertEqual(shell(TWO_REPLICAS, folder), Ended(0, shown.removeprefix("text\n").encode()))
 
     def test_each_command_of_the_page_on_replicas_writes_the_block_after_it(self):
         blocks = (TOP / "docs/REPLICAS.md").read_text().split("```")[1::2]
