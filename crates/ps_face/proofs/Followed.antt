@@ -13,7 +13,7 @@ use Rattle.ps_delta.specs.State.{State, IsInGrid, empty_cell, empty_state, joine
 use Rattle.ps_delta.specs.Deltas.{AreInGrid, Entries, joined_history, state_of}
 use Rattle.ps_delta.proofs.EntryLemmas.{state_of-nil, state_of-there}
 use Rattle.ps_delta.proofs.HistoryLemmas.{joined_history-push}
-use Rattle.ps_sheet.proofs.SettledValues.{settled_at_most_once}
+use Rattle.ps_cells.proofs.SettledValues.{settled_at_most_once}
 use Rattle.ps_face.specs.declared.patch.Note.{Note}
 use Rattle.ps_face.specs.Values.{in_order, written}
 use Rattle.ps_face.specs.Legal.{Follows, IsLegal, Shows, delta_of, history_of}

@@ -8,7 +8,7 @@ use Rattle.std.proofs.lemmas.List.{set-append_left, set_past}
 use Rattle.ps_value.specs.declared.value.Value.{Value}
 use Rattle.ps_shown.specs.Shown.{with_value}
 use Rattle.ps_eval.specs.Items.{Assignment}
-use Rattle.ps_sheet.proofs.PutValues.{with_value-here, with_value-there}
+use Rattle.ps_cells.proofs.PutValues.{with_value-here, with_value-there}
 use Rattle.ps_face.specs.Values.{Changes, listed, overlaid, written}
 
 pub length-listed : (v : Assignment) (n : ℕ) → length (listed v n) ≡ n

@@ -6,7 +6,7 @@ use Rattle.ps_value.specs.declared.value.Value.{Value}
 use Rattle.ps_eval.specs.Items.{Assignment}
 use Rattle.ps_delta.specs.State.{IsBelow}
 use Rattle.ps_delta.specs.Deltas.{Entries, state_of, joined_history}
-use Rattle.ps_sheet.specs.Settled.{IsSettled}
+use Rattle.ps_cells.specs.Settled.{IsSettled}
 use Rattle.ps_face.specs.Values.{Changes, in_order, overlaid}
 use Rattle.ps_face.specs.declared.patch.Note.{Note}
 

@@ -7,7 +7,7 @@ ghost use Rattle.ps_grid.specs.declared.refusal.Refusal.TheVariants.{Memory, Sea
 ghost use Rattle.ps_delta.specs.State.{IsInGrid};
 ghost use Rattle.ps_delta.specs.Deltas.{joined_history};
 ghost use Rattle.ps_shown.specs.Shown.{shown_at};
-ghost use Rattle.ps_sheet.specs.Settled.{IsSettled};
+ghost use Rattle.ps_cells.specs.Settled.{IsSettled};
 ghost use Rattle.ps_face.specs.Legal.{Follows, IsLegal, history_of};
 ghost use Rattle.ps_face.specs.Rules.{newcomer};
 ghost use Rattle.ps_face.specs.Seen.{Stands, turned};

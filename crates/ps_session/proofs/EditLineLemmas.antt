@@ -42,7 +42,7 @@ use Rattle.ps_sheet.specs.declared.edit.Edit.{Edit}
 use Rattle.ps_sheet.specs.declared.edit.Edit.TheVariants as edits
 use Rattle.ps_sheet.specs.Edits.{assigned, counted, delta_of_batch, delta_of_edit, holds_choice, holds_tally}
 use Rattle.ps_sheet.specs.Edits.{is_clock_full, paired, refused_if}
-use Rattle.ps_sheet.specs.Settled.{content_of}
+use Rattle.ps_cells.specs.Settled.{content_of}
 use Rattle.ps_sheet.proofs.FreshCells.{choice_not_empty, some_choice, some_tally, tally_not_empty}
 use Rattle.ps_sheet.proofs.BatchDeltas.{batch_is_delta}
 use Rattle.ps_session.specs.EditLines.{EditLinesFit, EditsAreLawful, IsEdit}

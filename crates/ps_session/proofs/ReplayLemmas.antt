@@ -14,7 +14,7 @@ use Rattle.ps_delta.specs.Deltas.{Entries, joined_history}
 use Rattle.ps_delta.proofs.HistoryLemmas.{joined_history-push}
 use Rattle.ps_sheet.specs.Edits.{delta_of_edit}
 use Rattle.ps_sheet.specs.Sheet.{SheetView, Takes}
-use Rattle.ps_sheet.proofs.SettledValues.{settled_at_most_once}
+use Rattle.ps_cells.proofs.SettledValues.{settled_at_most_once}
 use Rattle.ps_session.proofs.GridHistories.{in_grid_after}
 use Rattle.ps_session.specs.Answers.{AmpleLines, Edited, Obeys, Serves}
 use Rattle.ps_session.specs.Commands.{Read}

@@ -7,7 +7,7 @@ use Rattle.ps_grid.specs.declared.refusal.Refusal.TheVariants as refusals
 use Rattle.ps_grid.specs.Rectangle.{spanned}
 use Rattle.ps_eval.specs.Items.{Assignment}
 use Rattle.ps_delta.specs.Deltas.{Entries, joined_history}
-use Rattle.ps_sheet.specs.Settled.{IsSettled}
+use Rattle.ps_cells.specs.Settled.{IsSettled}
 use Rattle.ps_sheet.specs.Edits.{delta_of_edit}
 use Rattle.ps_sheet.specs.Sheet.{SheetView, Takes}
 use Rattle.ps_csv.specs.Exports.{exported}

@@ -4,7 +4,7 @@ ghost use Rattle.ps_delta.specs.Deltas.{joined_history};
 ghost use Rattle.ps_eval.specs.Items.{Assignment};
 ghost use Rattle.ps_csv.specs.Exports.{exported};
 ghost use Rattle.ps_sheet.specs.Edits.{delta_of_edit};
-ghost use Rattle.ps_sheet.specs.Settled.{IsSettled};
+ghost use Rattle.ps_cells.specs.Settled.{IsSettled};
 ghost use Rattle.ps_sheet.specs.Sheet.{Takes};
 ghost use Rattle.ps_session.specs.Answers.{Edited, Obeys, TakesMemory};
 ghost use Rattle.ps_session.specs.Replies.{done_text, refusal_text, reply_text, rows_text};

@@ -9,9 +9,9 @@ use Rattle.ps_sheet.specs.Sheet.{Takes, AcceptedDeltasJoin, TookTheSame}
 use Rattle.std.proofs.Common.{subst}
 use Rattle.std.proofs.Math.Path.{fun_ext}
 use Rattle.ps_shown.specs.Shown.{shown_at}
-use Rattle.ps_sheet.specs.Settled.{IsSettled}
+use Rattle.ps_cells.specs.Settled.{IsSettled}
 use Rattle.ps_sheet.specs.Sheet.{SheetView, IsSheet}
-use Rattle.ps_sheet.proofs.SettledValues.{settled_at_most_once}
+use Rattle.ps_cells.proofs.SettledValues.{settled_at_most_once}
 
 -- an accepted delta is joined in, whether it was appended or was below
 taken_joins : (d : Entries) (h k : List Entries) → Takes d h k

@@ -10,7 +10,7 @@ use Rattle.ps_shown.specs.declared.kept.Kept.{Kept}
 use Rattle.ps_shown.specs.Shown.{shown_at}
 use Rattle.ps_delta.specs.State.{State, IsBelow, IsInGrid, joined_state}
 use Rattle.ps_delta.specs.Deltas.{Entries, state_of, joined_history}
-use Rattle.ps_sheet.specs.Settled.{IsSettled}
+use Rattle.ps_cells.specs.Settled.{IsSettled}
 use Rattle.ps_sheet.specs.Sheet.{SheetView, IsFresh, IsSheet}
 use Rattle.ps_delta.proofs.HistoryLemmas.{joined_history-push}
 

@@ -1,36 +1,14 @@
 -- The empty sheet.
-use Rattle.std.proofs.Common.{◌≡◌, ℕ, ◌≤◌, true, false, List, []}
-use Rattle.std.proofs.Common.{refl, sym, ap, arith}
-use Rattle.std.proofs.Common.{subst}
+use Rattle.std.proofs.Common.{◌≡◌, ℕ, ◌≤◌, List, [], sym, arith, subst}
 use Rattle.ps_shown.specs.declared.kept.Kept.{Kept}
 use Rattle.ps_shown.specs.Shown.{shown_at}
-use Rattle.ps_value.specs.declared.value.Value.TheVariants.{Empty}
-use Rattle.ps_delta.specs.State.{State, IsInGrid, empty_cell, empty_state}
+use Rattle.ps_delta.specs.State.{State, IsInGrid, empty_state}
 use Rattle.ps_delta.specs.Deltas.{Entries, joined_history}
-use Rattle.ps_grid.specs.declared.parties.TheConstants.{REPLICAS}
-use Rattle.ps_eval.specs.Items.{Assignment}
-use Rattle.ps_sheet.specs.Settled.{refers_to, Cyclic, IsSettled}
-use Rattle.ps_sheet.specs.Inside.Waiting.{is_waiting}
-use Rattle.ps_sheet.specs.Sheet.{IsFresh, IsSheet}
-use Rattle.ps_sheet.specs.Inside.Formulas.{forms_of}
-use Rattle.ps_sheet.specs.Inside.Walk.{ListsCyclic}
-use Rattle.std.specs.List.{IsDistinct}
 use Rattle.ps_delta.proofs.HistoryLemmas.{joined_history-nil}
-use Rattle.ps_grid.proofs.CycleLemmas.{IsCyclic-next}
-use Rattle.ps_sheet.proofs.SettledValues.{true_not_false, progress_start}
-use Rattle.ps_sheet.proofs.SettledValues.{settled_at_end}
-
--- the empty sheet: nothing shown is settled
-pub settled_empty : (v : Assignment) → ((c : ℕ) → v c ≡ Empty) → IsSettled empty_state v
-unfolding empty_state empty_cell
-settled_empty v blank =
-    settled_at_end empty_state v (λ c out. refl) (progress_start empty_state v blank)
-    (λ c waits. absurd (true_not_false (is_waiting (v c)) waits (ap is_waiting (blank c))))
-
--- and holds nothing outside the grid
-pub in_grid_empty : IsInGrid empty_state
-unfolding empty_state
-in_grid_empty c out = refl
+use Rattle.ps_grid.specs.declared.parties.TheConstants.{REPLICAS}
+use Rattle.ps_cells.specs.Settled.{IsSettled}
+use Rattle.ps_cells.proofs.EmptyCells.{in_grid_empty}
+use Rattle.ps_sheet.specs.Sheet.{IsFresh, IsSheet}
 
 -- a sheet of no delta that shows nothing
 pub sheet_open : (replica : ℕ) (history : List Entries) (shown : List Kept) → history ≡ []
@@ -43,27 +21,4 @@ sheet_open replica history shown none range settled = record {
   in_grid = subst (λ (h : List Entries). IsInGrid (joined_history h)) (sym none)
       (subst IsInGrid (sym joined_history-nil) in_grid_empty);
   replica = range;
-}
-
--- no cell of the empty state refers to any
-no_reference : (a b : ℕ) → refers_to empty_state a b ≡ true → ⊥
-unfolding empty_state empty_cell
-no_reference a b r = true_not_false false r refl
-
--- so none is cyclic
-pub acyclic_empty : (c : ℕ) → ¬ Cyclic empty_state c
-acyclic_empty c cyc = let n = IsCyclic-next (refers_to empty_state) c cyc in no_reference c n.0 n.1
-
--- the empty state has no formula
-pub forms_empty : forms_of empty_state ≡ λ c. []
-unfolding empty_state empty_cell
-forms_empty = refl
-
--- and no cyclic cell
-pub cyclic_empty : ListsCyclic empty_state []
-unfolding IsDistinct
-cyclic_empty = record {
-  once = tt;
-  sound = λ c i. absurd (let f : false ≡ true = i in cc);
-  complete = λ c cyc. absurd (acyclic_empty c cyc);
 }

@@ -9,16 +9,17 @@ use Rattle.ps_shown.specs.declared.kept.Kept.{Kept}
 use Rattle.ps_shown.specs.Shown.{shown_at}
 use Rattle.ps_delta.specs.State.{State, IsBelow, state_at}
 use Rattle.ps_delta.specs.Deltas.{Entries, state_of, joined_history}
-use Rattle.ps_sheet.specs.Settled.{IsSettled}
-use Rattle.ps_sheet.specs.Recalculated.{IsRecalculated}
-use Rattle.ps_sheet.specs.Prepared.{put_back, IsChanges, IsPrepared}
+use Rattle.ps_cells.specs.Settled.{IsSettled}
+use Rattle.ps_cells.specs.Recalculated.{IsRecalculated}
+use Rattle.ps_cells.specs.Changes.{put_back, IsChanges}
+use Rattle.ps_sheet.specs.Prepared.{IsPrepared}
 use Rattle.ps_sheet.specs.Sheet.{IsFresh}
 use Rattle.ps_sheet.specs.Inside.Ready.{IsHeld}
-use Rattle.ps_sheet.specs.declared.cells.Cells.{Cells}
-use Rattle.ps_sheet.specs.declared.cells.Pending.{Pending}
+use Rattle.ps_cells.specs.declared.cells.Cells.{Cells}
+use Rattle.ps_cells.specs.declared.cells.Pending.{Pending}
 use Rattle.ps_sheet.proofs.AppendedDeltas.{fresh_push}
-use Rattle.ps_sheet.proofs.IdleChanges.{idle_recalculated, recalculated_as}
-use Rattle.ps_sheet.proofs.ScreenLemmas.{back_none}
+use Rattle.ps_cells.proofs.IdleChanges.{idle_recalculated, recalculated_as}
+use Rattle.ps_cells.proofs.ScreenLemmas.{back_none}
 
 -- a delta below the state
 pub prepared_idle : (r : ℕ) (h : List Entries) (d : Entries) (shown : List Kept) (olds : List (ℕ × Kept))

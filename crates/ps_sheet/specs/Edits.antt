@@ -16,7 +16,7 @@ use Rattle.ps_content.specs.declared.content.Content.TheVariants.{Tally, Choice}
 use Rattle.ps_delta.specs.declared.cell_state.CellState.{CellState}
 use Rattle.ps_delta.specs.State.{State, IsBelow}
 use Rattle.ps_delta.specs.Deltas.{Entries, IsDelta, state_of}
-use Rattle.ps_sheet.specs.Settled.{content_of}
+use Rattle.ps_cells.specs.Settled.{content_of}
 use Rattle.ps_sheet.specs.declared.edit.Edit.{Edit}
 use Rattle.ps_sheet.specs.declared.edit.Edit.TheVariants.{Set, SetAll, Add, Sub, Choose, Unchoose}
 

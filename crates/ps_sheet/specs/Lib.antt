@@ -3,8 +3,6 @@ pub mod Edits
 pub mod Inside
 pub mod Prepared
 pub mod PreparedCode
-pub mod Recalculated
-pub mod ScreenCode
-pub mod Settled
+pub mod Reports
 pub mod Sheet
 pub mod SheetCode

@@ -10,27 +10,17 @@ use Rattle.ps_value.specs.declared.value.Value.{Value}
 use Rattle.ps_eval.specs.Items.{Assignment}
 use Rattle.ps_shown.specs.declared.kept.Kept.{Kept}
 use Rattle.ps_shown.specs.Kept.{value_of}
-use Rattle.ps_shown.specs.Shown.{shown_at, with_value}
+use Rattle.ps_shown.specs.Shown.{shown_at}
 use Rattle.ps_delta.specs.State.{State, IsBelow}
 use Rattle.ps_delta.specs.Deltas.{Entries, state_of, joined_history}
 use Rattle.ps_sheet.specs.Edits.{delta_of_edit}
-use Rattle.ps_sheet.specs.Recalculated.{IsReport}
-use Rattle.ps_sheet.specs.Settled.{IsSettled}
+use Rattle.ps_sheet.specs.Reports.{IsReport}
+use Rattle.ps_cells.specs.Changes.{put_back, IsChanges}
+use Rattle.ps_cells.specs.Settled.{IsSettled}
 use Rattle.ps_sheet.specs.Sheet.{SheetView, Takes}
 use Rattle.ps_sheet.specs.declared.sheet.Report.{Report}
 use Rattle.ps_sheet.specs.declared.edit.Change.{Change}
 use Rattle.ps_sheet.specs.declared.edit.Change.TheVariants.{Edit, Delta}
-
--- the assignment with old values put back: of two of a cell the first
-unfoldable pub put_back : List (ℕ × Kept) → Assignment → Assignment
-put_back [] v = v
-put_back (e ∷ olds) v = with_value (put_back olds v) e.0 (value_of e.1)
-
--- CHANGES: where the cells showed v and show w, exactly the cells that show another value, ascending, with the new one
-pub record IsChanges (v w : Assignment) (changes : List (ℕ × Value)) : Type 0 where
-  pub ascending : IsStrictlyIncreasing (map (λ e. e.0) changes)
-  pub exact : (c : ℕ) → In (map (λ e. e.0) changes) c ↔ ¬ (w c ≡ v c)
-  pub values : All (λ e. e.1 ≡ w e.0) changes
 
 -- the sheet's replica and history before the change, the change's delta, whether it is to be appended, what each cell
 -- shows after the change, with what some showed before it, which cells show another value, and the report

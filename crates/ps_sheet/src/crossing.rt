@@ -4,11 +4,8 @@
 ghost use denote.Param.Send.{IsSend, IsSync};
 ghost use Rattle.ps_sheet.specs.contracts.sheet.Sheet as sheet;
 
-use crate::level::Level;
-use crate::screen::Screen;
-use ps_delta::{Delta, Grid};
-use ps_index::Index;
-use ps_region::Region;
+use ps_cells::cells_cross;
+use ps_delta::Delta;
 
 /// What the bounds say of a type.
 fn crosses<T: Send + Sync>()
@@ -23,9 +20,5 @@ pub fn sheet_crosses()
     ensures { IsSend sheet.the_row }
 {
     crosses::<Delta>();
-    crosses::<Grid>();
-    crosses::<Index>();
-    crosses::<Screen>();
-    crosses::<Region>();
-    crosses::<Level>();
+    cells_cross();
 }

@@ -4,9 +4,9 @@ ghost use Rattle.std.specs.Prelude.{◌≡◌};
 ghost use Rattle.ps_shown.specs.Shown.{shown_at};
 ghost use Rattle.ps_delta.specs.Deltas.{joined_history};
 ghost use Rattle.ps_sheet.specs.Edits.{EditsAreFresh};
-ghost use Rattle.ps_sheet.specs.Recalculated.{OutsideShowsTheSame, QuietShowsTheSame};
+ghost use Rattle.ps_cells.specs.Recalculated.{OutsideShowsTheSame, QuietShowsTheSame};
 ghost use Rattle.ps_sheet.specs.Sheet.{AcceptedDeltasJoin, TookTheSame};
-ghost use Rattle.ps_sheet.specs.Settled.{SettledAtLeastOnce, SettledAtMostOnce};
+ghost use Rattle.ps_cells.specs.Settled.{SettledAtLeastOnce, SettledAtMostOnce};
 
 use crate::sheet::Sheet;
 

@@ -36,20 +36,13 @@
 //! that changed in order as well, and taking it back costs what was put. A look at a cell costs a constant.
 #![tactic(auto)]
 
-mod cells;
-mod change;
 mod contents;
 mod crossing;
 mod edit;
 mod laws;
-mod level;
 mod made;
 mod prepared;
-mod region;
-mod room;
-mod screen;
 mod sheet;
-mod walk;
 
 pub use crossing::sheet_crosses;
 pub use edit::{Batch, Change, Edit};

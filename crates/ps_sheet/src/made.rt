@@ -7,13 +7,14 @@ ghost use Rattle.ps_grid.specs.declared.refusal.Refusal.{Refusal};
 ghost use Rattle.ps_delta.specs.State.{empty_cell, state_at};
 ghost use Rattle.ps_delta.specs.Deltas.{IsDelta};
 ghost use Rattle.ps_lattice.specs.Tally.{is_amount};
-ghost use Rattle.ps_sheet.specs.Settled.{content_of};
+ghost use Rattle.ps_cells.specs.Settled.{content_of};
 ghost use Rattle.ps_sheet.specs.Batches.{IsBatch};
 ghost use Rattle.ps_sheet.specs.Edits.{counted, paired, registered, delta_of_batch, delta_of_edit};
 ghost use Rattle.ps_sheet.specs.Edits.{holds_choice, holds_tally, is_clock_full};
 
-use crate::contents::{content, is_clock_full};
+use crate::contents::is_clock_full;
 use crate::edit::Edit;
+use ps_cells::content;
 use ps_content::Content;
 use ps_delta::{CellState, Delta, Grid};
 use ps_grid::{Cell, REPLICAS, Refusal};

@@ -7,14 +7,14 @@ ghost use Rattle.ps_grid.specs.declared.parties.TheConstants.{WORKERS};
 ghost use Rattle.ps_delta.specs.State.{IsBelow, joined_state};
 ghost use Rattle.ps_delta.specs.Deltas.{joined_history, state_of};
 ghost use Rattle.ps_shown.specs.Shown.{shown_at};
-ghost use Rattle.ps_sheet.specs.Settled.{Cyclic};
-ghost use Rattle.ps_sheet.specs.Recalculated.{IsReport};
+ghost use Rattle.ps_cells.specs.Settled.{Cyclic};
+ghost use Rattle.ps_sheet.specs.Reports.{IsReport};
 ghost use Rattle.ps_sheet.specs.Edits.{is_clock_full};
 
-use crate::cells::Cells;
 use crate::contents;
 use crate::edit::Edit;
 use crate::made::delta_of;
+use ps_cells::Cells;
 use ps_delta::Delta;
 use ps_eval::{Look, Meter};
 use ps_grid::{Cell, REPLICAS, Refusal};

@@ -15,7 +15,7 @@ use Rattle.ps_delta.specs.State.{State, joined_state}
 use Rattle.ps_delta.specs.Deltas.{Entries, state_of, joined_history}
 use Rattle.ps_delta.proofs.HistoryLemmas.{joined_history-push}
 use Rattle.ps_grid.proofs.ChainLemmas.{bool_cases}
-use Rattle.ps_sheet.proofs.SettledValues.{true_not_false}
+use Rattle.ps_cells.proofs.SettledValues.{true_not_false}
 use Rattle.ps_sheet.specs.Sheet.{IsSheet}
 use Rattle.ps_world.specs.World.{Numbers, WorldState, empty_world, picked, joined_of, with_delta, with_taken}
 use Rattle.ps_world.specs.World.{is_up_to, after, after_edit}
@@ -30,7 +30,7 @@ use Rattle.ps_world.specs.Replicas.{ReplicaView, WorldView, replica_at, has_take
 use Rattle.ps_world.specs.Replicas.{ShowsSettled, SameTakenShowTheSame}
 use Rattle.ps_world.specs.Inside.Steps.{IsNew, AreNew, Follows}
 use Rattle.ps_shown.specs.Shown.{shown_at}
-use Rattle.ps_sheet.specs.Settled.{IsSettled}
+use Rattle.ps_cells.specs.Settled.{IsSettled}
 use Rattle.ps_sheet.proofs.AcceptedRuns.{same_shown}
 use Rattle.ps_world.proofs.PickedJoins.{picked-append, joined_more}
 

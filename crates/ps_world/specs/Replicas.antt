@@ -6,7 +6,7 @@ use Rattle.std.specs.Ordering.{nat_cmp}
 use Rattle.std.specs.BTreeSet.{BTreeSet, contains}
 use Rattle.ps_delta.specs.Deltas.{Entries, joined_history}
 use Rattle.ps_shown.specs.Shown.{shown_at}
-use Rattle.ps_sheet.specs.Settled.{IsSettled}
+use Rattle.ps_cells.specs.Settled.{IsSettled}
 use Rattle.ps_sheet.specs.Sheet.{SheetView, IsSheet}
 use Rattle.ps_world.specs.World.{WorldState, joined_of}
 

@@ -8,10 +8,10 @@ use Rattle.ps_delta.specs.State.{state_at}
 use Rattle.ps_delta.specs.Deltas.{Entries, joined_history}
 use Rattle.ps_sheet.specs.Prepared.{PreparedView, IsPrepared}
 use Rattle.ps_sheet.specs.Sheet.{IsFresh}
-use Rattle.ps_sheet.specs.Inside.Kept.{IsWhole}
-use Rattle.ps_sheet.specs.Inside.Pending.{IsPending}
-use Rattle.ps_sheet.specs.declared.cells.Cells.{Cells}
-use Rattle.ps_sheet.specs.declared.cells.Pending.{Pending}
+use Rattle.ps_cells.specs.Inside.Kept.{IsWhole}
+use Rattle.ps_cells.specs.Inside.Pending.{IsPending}
+use Rattle.ps_cells.specs.declared.cells.Cells.{Cells}
+use Rattle.ps_cells.specs.declared.cells.Pending.{Pending}
 use Rattle.ps_sheet.specs.declared.prepared.Prepared.TheInside.{Inside}
 
 abbrev pub history_of : Inside → List Entries

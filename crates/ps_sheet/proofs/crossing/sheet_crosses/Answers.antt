@@ -1,21 +1,12 @@
-use denote.Builtin.{bool}
-use denote.Hole.{as_row}
 use denote.Param.Send.{IsSend, IsSync, sendable, view_send}
 use denote.Param.SendFields.{declared_send, as_row_send}
 use denote.Struct.Declared as S
 use Rattle.std.proofs.Crossing.{crosses}
 use Rattle.std.specs.contracts.vec.Vec as Vec
-use Rattle.std.specs.contracts.option.Option as Option
 use Rattle.std.specs.contracts.alloc.Global as Global
 use Rattle.std.specs.contracts.impls.GlobalAllocator.TheImpl.{ghosts}
 use Rattle.ps_delta.specs.contracts.delta.Delta as delta
-use Rattle.ps_delta.specs.contracts.grid.Grid as grid
-use Rattle.ps_grid.specs.contracts.cell.Cell as cell
-use Rattle.ps_index.specs.contracts.index.Index as index
-use Rattle.ps_region.specs.contracts.region.Region as region
-use Rattle.ps_sheet.specs.contracts.cells.Cells as cells
-use Rattle.ps_sheet.specs.contracts.level.Level as level
-use Rattle.ps_sheet.specs.contracts.screen.Screen as screen
+use Rattle.ps_cells.specs.contracts.cells.Cells as cells
 use Rattle.ps_sheet.specs.contracts.sheet.Sheet.TheInside as sheet_inside
 use Rattle.ps_sheet.proofs.SharedDeltas.{shared_delta, shared_send}
 use Rattle.ps_sheet.proofs.crossing.sheet_crosses.Goals as goal
@@ -24,37 +15,6 @@ use Rattle.ps_sheet.proofs.crossing.sheet_crosses.Goals as goal
 
 history_send : IsSend shared_delta → IsSend (Vec.the_row shared_delta Global.the_row ghosts)
 history_send a = search (crosses, sendable, a) depth 60 fits 100000
-
-list_send : IsSend (Vec.the_row cell.the_row Global.the_row ghosts)
-list_send = search (crosses, sendable) depth 20
-
-flags_send : IsSend (Vec.the_row bool Global.the_row ghosts)
-flags_send = search (crosses, sendable) depth 20
-
-source_send : IsSend (as_row (Option.the_field cell.the_row))
-source_send = search (crosses, sendable) depth 20
-
-cells_send : IsSend grid.the_row → IsSend index.the_row → IsSend screen.the_row → IsSend region.the_row
-    → IsSend level.the_row → IsSend cells.the_row
-cells_send g i s r l = declared_send cells.the_type (
-  as_row_send grid.the_field g,
-  (
-    as_row_send index.the_field i,
-    (
-      as_row_send screen.the_field s,
-      (
-        as_row_send region.the_field r,
-        (
-          source_send,
-          (
-            as_row_send (Vec.the_field cell.the_row Global.the_row ghosts) list_send,
-            (as_row_send (Vec.the_field bool Global.the_row ghosts) flags_send, (l, (search sendable, tt))),
-          ),
-        ),
-      ),
-    ),
-  ),
-)
 
 sheet_send : IsSend delta.the_row → IsSync delta.the_row → IsSend cells.the_row → IsSend (S.row sheet_inside.the_type)
 sheet_send d e c = declared_send sheet_inside.the_type (
@@ -66,10 +26,4 @@ pub returns : goal.returns
 returns c =
     let d : IsSend delta.the_row = record { owned = c.crosses.ensures.send.owned; leaving = λ k x w. tt } in
     let e : IsSync delta.the_row = record { shared = c.crosses.ensures.sync.shared } in
-    let g : IsSend grid.the_row = record { owned = c.crosses-2.ensures.send.owned; leaving = λ k x w. tt } in
-    let i : IsSend index.the_row = record { owned = c.crosses-3.ensures.send.owned; leaving = λ k x w. tt } in
-    let s : IsSend screen.the_row = record { owned = c.crosses-4.ensures.send.owned; leaving = λ k x w. tt } in
-    let r : IsSend region.the_row = record { owned = c.crosses-5.ensures.send.owned; leaving = λ k x w. tt } in
-    let l : IsSend level.the_row =
-    record { owned = c.crosses-6.ensures.send.owned; leaving = λ k x w. (tt, (tt, tt)) } in
-    view_send _ _ _ _ _ (sheet_send d e (cells_send g i s r l))
+    view_send _ _ _ _ _ (sheet_send d e c.cells_cross.ensures)

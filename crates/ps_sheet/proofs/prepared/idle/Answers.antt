@@ -6,14 +6,14 @@ use Rattle.ps_shown.specs.declared.kept.Kept.{Kept}
 use Rattle.ps_shown.specs.Shown.{shown_at}
 use Rattle.ps_delta.specs.State.{IsBelow, state_at}
 use Rattle.ps_delta.specs.Deltas.{joined_history, state_of}
-use Rattle.ps_sheet.specs.Settled.{IsSettled}
+use Rattle.ps_cells.specs.Settled.{IsSettled}
 use Rattle.ps_sheet.specs.Sheet.{SheetView}
-use Rattle.ps_sheet.specs.Prepared.{IsChanges}
+use Rattle.ps_cells.specs.Changes.{IsChanges}
 use Rattle.ps_sheet.specs.Inside.Kept.{view_of}
-use Rattle.ps_sheet.specs.Inside.Screens.{before_of}
+use Rattle.ps_cells.specs.Inside.Screens.{before_of}
 use Rattle.ps_sheet.proofs.PreparedChanges.{prepared_idle}
-use Rattle.ps_sheet.proofs.PendingChanges.{before_listed}
-use Rattle.ps_sheet.proofs.ScreenLemmas.{still_before}
+use Rattle.ps_cells.proofs.PendingChanges.{before_listed}
+use Rattle.ps_cells.proofs.ScreenLemmas.{still_before}
 use Rattle.ps_sheet.proofs.prepared.idle.Goals as goal
 
 pub invariant_of-result : goal.invariant_of-result

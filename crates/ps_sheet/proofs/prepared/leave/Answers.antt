@@ -3,7 +3,7 @@ use Rattle.std.specs.Prelude.{Option}
 use Rattle.std.specs.Arc.{arc_value}
 use Rattle.ps_delta.specs.Deltas.{joined_history}
 use Rattle.ps_sheet.specs.Inside.Ready.{IsHeld}
-use Rattle.ps_sheet.specs.declared.cells.Pending.{Pending}
+use Rattle.ps_cells.specs.declared.cells.Pending.{Pending}
 use Rattle.ps_sheet.proofs.prepared.leave.Goals as goal
 
 pub commit-requires : goal.commit-requires

@@ -2,8 +2,8 @@ use Rattle.std.proofs.Common.{sym, subst}
 use Rattle.std.specs.Prelude.{Option}
 use Rattle.ps_delta.specs.Deltas.{joined_history}
 use Rattle.ps_sheet.specs.Inside.Ready.{IsHeld}
-use Rattle.ps_sheet.specs.declared.cells.Pending.{Pending}
-use Rattle.ps_sheet.proofs.ScreenLemmas.{still_before}
+use Rattle.ps_cells.specs.declared.cells.Pending.{Pending}
+use Rattle.ps_cells.proofs.ScreenLemmas.{still_before}
 use Rattle.ps_sheet.proofs.prepared.take_back.Goals as goal
 
 pub cancel-requires : goal.cancel-requires

@@ -3,7 +3,7 @@ use Rattle.std.specs.Arc.{arc_value}
 use Rattle.ps_shown.specs.Shown.{shown_at}
 use Rattle.ps_delta.specs.State.{State, IsInGrid, state_at}
 use Rattle.ps_delta.specs.Deltas.{Entries, joined_history}
-use Rattle.ps_sheet.specs.Settled.{IsSettled}
+use Rattle.ps_cells.specs.Settled.{IsSettled}
 use Rattle.ps_sheet.specs.Sheet.{IsFresh}
 use Rattle.ps_sheet.specs.Inside.Ready.{history_of}
 use Rattle.ps_sheet.proofs.PreparedChanges.{after_fresh, after_joined, idle_held}

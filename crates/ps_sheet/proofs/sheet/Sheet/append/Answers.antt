@@ -6,7 +6,7 @@ use Rattle.ps_delta.proofs.HistoryLemmas.{joined_history-push}
 use Rattle.ps_sheet.specs.Inside.Kept.{view_of}
 use Rattle.ps_sheet.specs.Sheet.{SheetView}
 use Rattle.ps_shown.specs.Shown.{shown_at}
-use Rattle.ps_sheet.proofs.IdleChanges.{recalculated_as}
+use Rattle.ps_cells.proofs.IdleChanges.{recalculated_as}
 use Rattle.ps_sheet.proofs.AppendedDeltas.{sheet_after, joined_after}
 use Rattle.ps_sheet.proofs.sheet.Sheet.append.Given.{Over}
 use Rattle.ps_sheet.proofs.sheet.Sheet.append.Goals as goal

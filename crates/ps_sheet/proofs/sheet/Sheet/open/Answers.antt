@@ -4,7 +4,7 @@ use Rattle.ps_shown.specs.Shown.{shown_at}
 use Rattle.ps_delta.specs.State.{State}
 use Rattle.ps_delta.specs.Deltas.{joined_history}
 use Rattle.ps_delta.proofs.HistoryLemmas.{joined_history-nil}
-use Rattle.ps_sheet.specs.Settled.{IsSettled}
+use Rattle.ps_cells.specs.Settled.{IsSettled}
 use Rattle.ps_sheet.proofs.EmptySheets.{sheet_open}
 use Rattle.ps_sheet.proofs.sheet.Sheet.open.Goals as goal
 

@@ -6,7 +6,7 @@ use Rattle.ps_delta.specs.State.{State, IsBelow, state_at}
 use Rattle.ps_delta.specs.Deltas.{Entries, joined_history, state_of}
 use Rattle.ps_sheet.specs.Sheet.{SheetView, IsFresh}
 use Rattle.ps_sheet.specs.Inside.Kept.{view_of}
-use Rattle.ps_sheet.specs.Inside.Pending.{IsPending}
+use Rattle.ps_cells.specs.Inside.Pending.{IsPending}
 use Rattle.ps_sheet.proofs.AppendedDeltas.{joined_after}
 use Rattle.ps_sheet.proofs.PreparedChanges.{prepared_made}
 use Rattle.ps_sheet.proofs.sheet.Sheet.prepare_fresh.Goals as goal

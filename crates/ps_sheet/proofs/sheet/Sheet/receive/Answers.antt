@@ -4,7 +4,7 @@ use Rattle.ps_delta.specs.State.{State, IsBelow, joined_state, state_at}
 use Rattle.ps_delta.specs.Deltas.{Entries, joined_history, state_of}
 use Rattle.ps_sheet.specs.Sheet.{SheetView}
 use Rattle.ps_shown.specs.Shown.{shown_at}
-use Rattle.ps_sheet.proofs.IdleChanges.{idle_recalculated}
+use Rattle.ps_cells.proofs.IdleChanges.{idle_recalculated}
 use Rattle.ps_sheet.proofs.AppendedDeltas.{below_joined}
 use Rattle.ps_sheet.proofs.sheet.Sheet.receive.Goals as goal
 

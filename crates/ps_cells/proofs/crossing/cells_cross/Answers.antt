@@ -1,0 +1,60 @@
+use denote.Builtin.{bool}
+use denote.Hole.{as_row}
+use denote.Param.Send.{IsSend, IsSync, sendable}
+use denote.Param.SendFields.{declared_send, as_row_send}
+use Rattle.std.proofs.Crossing.{crosses}
+use Rattle.std.specs.contracts.vec.Vec as Vec
+use Rattle.std.specs.contracts.option.Option as Option
+use Rattle.std.specs.contracts.alloc.Global as Global
+use Rattle.std.specs.contracts.impls.GlobalAllocator.TheImpl.{ghosts}
+use Rattle.ps_delta.specs.contracts.grid.Grid as grid
+use Rattle.ps_grid.specs.contracts.cell.Cell as cell
+use Rattle.ps_index.specs.contracts.index.Index as index
+use Rattle.ps_region.specs.contracts.region.Region as region
+use Rattle.ps_cells.specs.contracts.cells.Cells as cells
+use Rattle.ps_cells.specs.contracts.level.Level as level
+use Rattle.ps_cells.specs.contracts.screen.Screen as screen
+use Rattle.ps_cells.proofs.crossing.cells_cross.Goals as goal
+
+-- from what the bounds say of the parts, one after another, that the whole may go to another thread
+
+list_send : IsSend (Vec.the_row cell.the_row Global.the_row ghosts)
+list_send = search (crosses, sendable) depth 20
+
+flags_send : IsSend (Vec.the_row bool Global.the_row ghosts)
+flags_send = search (crosses, sendable) depth 20
+
+source_send : IsSend (as_row (Option.the_field cell.the_row))
+source_send = search (crosses, sendable) depth 20
+
+cells_send : IsSend grid.the_row → IsSend index.the_row → IsSend screen.the_row → IsSend region.the_row
+    → IsSend level.the_row → IsSend cells.the_row
+cells_send g i s r l = declared_send cells.the_type (
+  as_row_send grid.the_field g,
+  (
+    as_row_send index.the_field i,
+    (
+      as_row_send screen.the_field s,
+      (
+        as_row_send region.the_field r,
+        (
+          source_send,
+          (
+            as_row_send (Vec.the_field cell.the_row Global.the_row ghosts) list_send,
+            (as_row_send (Vec.the_field bool Global.the_row ghosts) flags_send, (l, (search sendable, tt))),
+          ),
+        ),
+      ),
+    ),
+  ),
+)
+
+pub returns : goal.returns
+returns c =
+    let g : IsSend grid.the_row = record { owned = c.crosses.ensures.send.owned; leaving = λ k x w. tt } in
+    let i : IsSend index.the_row = record { owned = c.crosses-2.ensures.send.owned; leaving = λ k x w. tt } in
+    let s : IsSend screen.the_row = record { owned = c.crosses-3.ensures.send.owned; leaving = λ k x w. tt } in
+    let r : IsSend region.the_row = record { owned = c.crosses-4.ensures.send.owned; leaving = λ k x w. tt } in
+    let l : IsSend level.the_row =
+    record { owned = c.crosses-5.ensures.send.owned; leaving = λ k x w. (tt, (tt, tt)) } in
+    cells_send g i s r l

@@ -1,0 +1,12 @@
+use Rattle.std.proofs.Common.{subst}
+use Rattle.ps_region.specs.Listed.{listed}
+use Rattle.ps_shown.specs.Shown.{shown_at}
+use Rattle.ps_cells.specs.Inside.Steps.{flag_at, ShowsAll}
+use Rattle.ps_cells.proofs.level.settle_due.Goals as goal
+
+pub returns-clause-shows : goal.returns-clause-shows
+returns-clause-shows g c =
+    subst
+    (λ vs. ShowsAll c.args.is_last (listed c.args.index.now) c.args.cells.now vs (shown_at c.args.shown.now.kept)
+    (shown_at c.show_due.new.shown.kept) (flag_at c.args.flags.now) (flag_at c.show_due.new.flags))
+    c.evaluate.ensures.values c.show_due.ensures.shows

@@ -1,0 +1,10 @@
+use Rattle.std.proofs.Common.{◌≡◌, ℕ, ◌||◌}
+use Rattle.std.specs.Prelude.{nat_eq}
+use Rattle.std.specs.List.{list_any}
+use Rattle.ps_cells.specs.Inside.Steps.{flag_at}
+use Rattle.ps_cells.proofs.walk.flag_each.Given as goal
+
+-- the cells so far are flagged
+abbrev pub invariant-loop-dependent : goal.invariant-loop-dependent
+invariant-loop-dependent l = (c : ℕ)
+    → flag_at l.flags c ≡ (flag_at l.initial.flags c || list_any (nat_eq c) l.yielded)

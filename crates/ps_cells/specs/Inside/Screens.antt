@@ -1,0 +1,43 @@
+-- What the cells show, and what those that were put showed before.
+use Rattle.std.specs.Prelude.{◌≡◌, ◌↔◌, ◌⊎◌, ℕ, Bool, true, List, [], ◌∷◌, ◌++◌, length, map, nat_eq}
+use Rattle.std.specs.List.{IsDistinct}
+use Rattle.ps_grid.specs.Chains.{In}
+use Rattle.ps_grid.specs.declared.size.TheConstants.{CELLS}
+use Rattle.ps_value.specs.declared.value.Value.{Value}
+use Rattle.ps_eval.specs.Items.{Assignment}
+use Rattle.ps_shown.specs.declared.kept.Kept.{Kept}
+use Rattle.ps_shown.specs.Kept.{value_of}
+use Rattle.ps_shown.specs.Shown.{shown_at}
+unfoldable pub use Rattle.ps_cells.specs.Changes.{put_back}
+use Rattle.ps_cells.specs.Inside.Steps.{flag_at}
+
+-- what is kept of the cells, of those that were put what was kept before, and the changes that were listed last
+pub record ScreenView : Type 0 where
+  pub kept : List Kept
+  pub olds : List (ℕ × Kept)
+  pub changes : List (ℕ × Value)
+
+-- the cells of a list
+abbrev pub cells_in : List (ℕ × Kept) → List ℕ
+cells_in olds = map (λ e. e.0) olds
+
+-- what the cells showed before they were put
+abbrev pub before_of : ScreenView → Assignment
+before_of s = put_back s.olds (shown_at s.kept)
+
+-- each cell of the list once, and the flags say which
+pub record IsNoted (olds : List (ℕ × Kept)) (flags : List Bool) : Type 0 where
+  pub length : length flags ≡ CELLS
+  pub once : IsDistinct nat_eq (cells_in olds)
+  pub flagged : (c : ℕ) → In (cells_in olds) c → flag_at flags c ≡ true
+  pub noted : (c : ℕ) → flag_at flags c ≡ true → In (cells_in olds) c
+
+-- exactly the cells at which two assignments differ, each once
+pub record Differ (w v : Assignment) (cells : List ℕ) : Type 0 where
+  pub once : IsDistinct nat_eq cells
+  pub exact : (c : ℕ) → In cells c ↔ ¬ (w c ≡ v c)
+
+-- ONE CELL is listed, where the cells show w, if that is another value than the one that was kept of it
+abbrev pub ListsDiffering : ℕ × Kept → Assignment → List ℕ → List ℕ → Type 0
+ListsDiffering e w cells cells2 =
+    ((w e.0 ≡ value_of e.1) × (cells2 ≡ cells)) ⊎ ((¬ (w e.0 ≡ value_of e.1)) × (cells2 ≡ cells ++ e.0 ∷ []))

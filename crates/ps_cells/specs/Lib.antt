@@ -1,0 +1,5 @@
+pub mod Changes
+pub mod Inside
+pub mod Recalculated
+pub mod ScreenCode
+pub mod Settled

@@ -1,0 +1,30 @@
+//! That cells may go to another thread.
+//!
+//! The search for this finds no proof over the whole at once, so its parts are taken one after another.
+ghost use denote.Param.Send.{IsSend, IsSync};
+ghost use Rattle.ps_cells.specs.contracts.cells.Cells as cells;
+
+use crate::level::Level;
+use crate::screen::Screen;
+use ps_delta::Grid;
+use ps_index::Index;
+use ps_region::Region;
+
+/// What the bounds say of a type.
+fn crosses<T: Send + Sync>()
+    ensures send { IsSend T.row }
+    ensures sync { IsSync T.row }
+{}
+
+/// Cells may go to another thread.
+///
+/// Cost: none.
+pub fn cells_cross()
+    ensures { IsSend cells.the_row }
+{
+    crosses::<Grid>();
+    crosses::<Index>();
+    crosses::<Screen>();
+    crosses::<Region>();
+    crosses::<Level>();
+}

@@ -1,0 +1,282 @@
+//! One level of a recalculation: its due cells are evaluated together, by workers, and then shown one after the other.
+
+ghost use Rattle.std.specs.Prelude.{◌≡◌, ◌+◌, ◌<◌, ◌≤◌, ◌∷◌, ◌++◌, [], List, ℕ, Bool, false, true};
+ghost use Rattle.std.specs.Prelude.{filter, length, vec_capacity, IfOk, IfErr};
+ghost use Rattle.std.specs.List.{IsDistinct};
+ghost use Rattle.ps_grid.specs.Chains.{In};
+ghost use Rattle.ps_grid.specs.declared.parties.TheConstants.{WORKERS};
+ghost use Rattle.ps_shown.specs.Shown.{shown_at};
+ghost use Rattle.ps_delta.specs.State.{state_at};
+ghost use Rattle.ps_region.specs.Listed.{listed};
+ghost use Rattle.ps_workers.specs.Level.{kept_values};
+ghost use Rattle.ps_cells.specs.Inside.Screens.{before_of};
+ghost use Rattle.ps_cells.specs.Inside.Walk.{formula_at};
+ghost use Rattle.ps_cells.specs.Inside.Steps.{flag_at, HasRoom, ShowsAll, StepsLevel, values_at};
+
+use crate::contents::formula_of;
+use crate::room::put;
+use crate::screen::Screen;
+use crate::walk::show;
+use ps_delta::{Grid, grids_are_shared};
+use ps_eval::{Look, Meter};
+use ps_formula::{Formula, Formulas};
+use ps_grid::{CELLS, Cell, Refusal};
+use ps_index::Index;
+use ps_shown::Kept;
+use ps_value::{Operand, Value};
+use ps_workers::{Gate, eval_level, workers_worth};
+use std::alloc::Global;
+use std::mem;
+use std::sync::ledger::Ledger;
+use std::thread::Threads;
+
+/// The due cells of a level, and places for their new values.
+#[derive(Drop)]
+pub struct Level {
+    /// the cells
+    due: Vec<Cell>,
+    /// as many places as the largest level had due cells; between two levels they keep nothing
+    values: Vec<Kept>,
+}
+
+/// What the cells show, as a formula looks at them.
+#[derive(Drop)]
+struct Looks<'a> {
+    shown: &'a Screen,
+}
+
+impl Look for Looks<'_> {
+    ghost use Rattle.ps_shown.specs.Shown.{shown_at};
+
+    ghost value_at = { λ s. shown_at s.shown.now.kept };
+
+    fn at(&self, cell: Cell) -> Value {
+        self.shown.at(cell)
+    }
+
+    fn operand(&self, cell: Cell) -> Operand {
+        self.shown.operand(cell)
+    }
+}
+
+/// The formulas that the cells hold.
+#[derive(Drop)]
+struct Held<'a> {
+    grid: &'a Grid,
+}
+
+impl Formulas for Held<'_> {
+    ghost use Rattle.ps_content.specs.Order.{formula_in};
+    ghost use Rattle.ps_delta.specs.State.{state_at};
+    ghost use Rattle.ps_cells.specs.Settled.{content_of};
+
+    ghost formula_at = { λ h c. formula_in (content_of (state_at h.grid.now c)) };
+
+    fn formula(&self, cell: Cell) -> Option<&Formula> {
+        formula_of(self.grid.at(cell))
+    }
+}
+
+impl Level {
+    /// A level without cells, with room for each cell of the grid.
+    ///
+    /// Refused only when out of memory.
+    pub(crate) fn new(alloc: Global) -> Result<Level, Refusal>
+        ensures room { IfOk result (HasRoom CELLS) }
+        ensures memory { IfErr result (λ e. e ≡ Refusal.Memory) }
+    {
+        Ok(Level {
+            due: Vec::with_capacity(alloc, CELLS)?,
+            values: Vec::with_capacity(alloc, CELLS)?,
+        })
+    }
+
+    /// Settles the cells of a level, by workers. How many were evaluated.
+    ///
+    /// No flag is set for the last level, since no cell that is still to be evaluated refers to one of it.
+    #[allow(clippy::too_many_arguments)]
+    pub(crate) fn settle<R: Threads + Sync, G: Gate, L: Ledger>(
+        &mut self,
+        rt: &R,
+        workers: usize,
+        gate: &G,
+        grid: &Grid,
+        index: &Index,
+        cells: &[Cell],
+        is_last: bool,
+        shown: &mut Screen,
+        flags: &mut [bool],
+        meter: &mut Meter<L>,
+    ) -> usize
+        requires workers { (0 < workers) × (workers ≤ WORKERS) }
+        requires whole { length flags.old ≡ CELLS }
+        requires room { HasRoom CELLS self.old }
+        requires few { length cells.now ≤ CELLS }
+        requires formulas { (c : ℕ) → In cells.now c → formula_at (state_at grid.now) c ≡ true }
+        ensures settled { StepsLevel (state_at grid.now) (listed index.now) cells.now is_last
+            (shown_at shown.old.kept) (shown_at shown.new.kept) (flag_at flags.old) (flag_at flags.new) result }
+        ensures before { before_of shown.new ≡ before_of shown.old }
+        ensures metered { meter.new ≡ meter.old + result }
+        ensures room { HasRoom CELLS self.new }
+    {
+        list_due(cells, flags, &mut self.due);
+        make_places(self.due.len(), &mut self.values);
+        settle_due(
+            rt,
+            workers,
+            gate,
+            grid,
+            index,
+            &self.due,
+            is_last,
+            &mut self.values,
+            shown,
+            flags,
+            meter,
+        );
+        self.due.len()
+    }
+}
+
+/// Lists the flagged cells.
+fn list_due(cells: &[Cell], flags: &[bool], due: &mut Vec<Cell>)
+    requires whole { length flags.now ≡ CELLS }
+    requires room { length cells.now ≤ vec_capacity due.old }
+    ensures due { due.new.items ≡ filter (flag_at flags.now) cells.now }
+    ensures room { vec_capacity due.old ≤ vec_capacity due.new }
+{
+    due.clear();
+    for cell in cells {
+        if flags[cell.index()] {
+            put(due, *cell);
+        }
+    }
+}
+
+/// Makes places until there are so many.
+fn make_places(count: usize, values: &mut Vec<Kept>)
+    requires room { count ≤ vec_capacity values.old }
+    ensures places { count ≤ length values.new.items }
+    ensures room { vec_capacity values.old ≤ vec_capacity values.new }
+{
+    'places: while values.len() < count {
+        put(values, Kept::Empty);
+    }
+}
+
+/// Evaluates the due cells of a level into the first of the places, and lets each show its value.
+#[allow(clippy::too_many_arguments)]
+fn settle_due<R: Threads + Sync, G: Gate, L: Ledger>(
+    rt: &R,
+    workers: usize,
+    gate: &G,
+    grid: &Grid,
+    index: &Index,
+    cells: &[Cell],
+    is_last: bool,
+    places: &mut [Kept],
+    shown: &mut Screen,
+    flags: &mut [bool],
+    meter: &mut Meter<L>,
+)
+    requires workers { (0 < workers) × (workers ≤ WORKERS) }
+    requires whole { length flags.old ≡ CELLS }
+    requires formulas { (c : ℕ) → In cells.now c → formula_at (state_at grid.now) c ≡ true }
+    requires places { length cells.now ≤ length places.old }
+    ensures shows { ShowsAll is_last (listed index.now) cells.now
+        (values_at (state_at grid.now) (shown_at shown.old.kept) cells.now) (shown_at shown.old.kept)
+        (shown_at shown.new.kept) (flag_at flags.old) (flag_at flags.new) }
+    ensures before { before_of shown.new ≡ before_of shown.old }
+    ensures metered { meter.new ≡ meter.old + length cells.now }
+{
+    let (values, _) = places.split_at_mut(cells.len());
+    evaluate(rt, workers, gate, grid, cells, shown, values, meter);
+    show_due(index, cells, values, is_last, shown, flags);
+}
+
+/// Evaluates the formulas of the cells into their places.
+fn evaluate<R: Threads + Sync, G: Gate, L: Ledger>(
+    rt: &R,
+    workers: usize,
+    gate: &G,
+    grid: &Grid,
+    cells: &[Cell],
+    shown: &Screen,
+    values: &mut [Kept],
+    meter: &mut Meter<L>,
+)
+    requires workers { (0 < workers) × (workers ≤ WORKERS) }
+    requires formulas { (c : ℕ) → In cells.now c → formula_at (state_at grid.now) c ≡ true }
+    requires places { length values.old ≡ length cells.now }
+    ensures values { kept_values values.new ≡ values_at (state_at grid.now) (shown_at shown.now.kept) cells.now }
+    ensures metered { meter.new ≡ meter.old + length cells.now }
+{
+    // It says that the workers may look at the grid together.
+    grids_are_shared();
+    let worth = workers_worth(cells.len(), workers);
+    eval_level(
+        rt,
+        cells,
+        &Held { grid },
+        &Looks { shown },
+        values,
+        worth,
+        gate,
+        meter,
+    );
+}
+
+/// Lets each due cell of a level show the value of its place, and flags the cells of further levels that are due then.
+fn show_due(
+    index: &Index,
+    cells: &[Cell],
+    values: &mut [Kept],
+    is_last: bool,
+    shown: &mut Screen,
+    flags: &mut [bool],
+)
+    requires whole { length flags.old ≡ CELLS }
+    requires places { length values.old ≡ length cells.now }
+    ensures shows { ShowsAll is_last (listed index.now) cells.now (kept_values values.old) (shown_at shown.old.kept)
+        (shown_at shown.new.kept) (flag_at flags.old) (flag_at flags.new) }
+    ensures before { before_of shown.new ≡ before_of shown.old }
+{
+    if is_last {
+        put_all(cells, values, shown);
+    } else {
+        show_all(index, cells, values, shown, flags);
+    }
+}
+
+/// Lets each cell of the last level show the value of its place.
+fn put_all(cells: &[Cell], values: &mut [Kept], shown: &mut Screen)
+    requires places { length values.old ≡ length cells.now }
+    ensures shows { (lists : ℕ → List ℕ) (flags : ℕ → Bool) → ShowsAll true lists cells.now (kept_values values.old)
+        (shown_at shown.old.kept) (shown_at shown.new.kept) flags flags }
+    ensures before { before_of shown.new ≡ before_of shown.old }
+{
+    for i in 0..cells.len() {
+        let kept = mem::replace(&mut values[i], Kept::Empty);
+        shown.put(cells[i], kept);
+    }
+}
+
+/// Lets each cell show the value of its place, and flags the cells that refer to those which showed another one.
+fn show_all(
+    index: &Index,
+    cells: &[Cell],
+    values: &mut [Kept],
+    shown: &mut Screen,
+    flags: &mut [bool],
+)
+    requires whole { length flags.old ≡ CELLS }
+    requires places { length values.old ≡ length cells.now }
+    ensures shows { ShowsAll false (listed index.now) cells.now (kept_values values.old) (shown_at shown.old.kept)
+        (shown_at shown.new.kept) (flag_at flags.old) (flag_at flags.new) }
+    ensures before { before_of shown.new ≡ before_of shown.old }
+{
+    for i in 0..cells.len() {
+        let kept = mem::replace(&mut values[i], Kept::Empty);
+        show(index, cells[i], kept, shown, flags);
+    }
+}

@@ -1,0 +1,19 @@
+//! What the cells of one replica hold and show: a state, and the settled value of each cell.
+//!
+//! It knows no history, no replica and no edit.
+#![tactic(auto)]
+
+mod cells;
+mod change;
+mod contents;
+mod crossing;
+mod level;
+mod region;
+mod room;
+mod screen;
+mod walk;
+
+pub use cells::{Cells, Made, Pending, Work};
+pub use contents::content;
+pub use crossing::cells_cross;
+pub use screen::Screen;

@@ -1,0 +1,116 @@
+//! The region of a change. Where one cell gets one number after another, it stays as it is and isn't looked for again.
+
+ghost use Rattle.std.specs.Prelude.{◌≡◌, ◌<◌, ◌∷◌, [], ℕ, true, false, IfSome, Some};
+ghost use Rattle.ps_formula.specs.References.{mentions};
+ghost use Rattle.ps_grid.specs.Chains.{In};
+ghost use Rattle.ps_delta.specs.State.{State, state_at};
+ghost use Rattle.ps_eval.specs.Items.{Assignment};
+ghost use Rattle.ps_region.specs.Found.{IsFound, has_left};
+ghost use Rattle.ps_region.specs.Listed.{listed};
+ghost use Rattle.ps_cells.specs.Settled.{refers_to};
+ghost use Rattle.ps_cells.specs.Inside.Steps.{AreListed};
+ghost use Rattle.ps_cells.specs.Inside.Walk.{formula_at, IsChange, IsRegionOf, ListsCyclic};
+
+use crate::contents::{formula_of, holds_formula};
+use ps_delta::Grid;
+use ps_formula::Formula;
+use ps_grid::{CELLS, Cell};
+use ps_index::Index;
+use ps_region::{After, Region};
+
+/// The formulas that the cells hold.
+#[derive(Drop)]
+struct Formulas<'a> {
+    grid: &'a Grid,
+}
+
+impl After for Formulas<'_> {
+    ghost use Rattle.ps_delta.specs.State.{state_at};
+    ghost use Rattle.ps_cells.specs.Settled.{refers_to};
+    ghost use Rattle.ps_cells.specs.Inside.Walk.{formula_at};
+    ghost use Rattle.ps_cells.specs.Inside.Bounded.{bounded};
+    ghost use Rattle.ps_cells.specs.Inside.BoundedLaws.{bounded_above, bounded_below, bounded_formula};
+
+    ghost refers = { λ f. bounded (refers_to (state_at f.grid.now)) };
+
+    ghost formula = { λ f. formula_at (state_at f.grid.now) };
+
+    fn refers(&self, c: Cell, d: Cell) -> bool {
+        // for the facts that both cells are in the grid
+        let _ = (c.index(), d.index());
+        match formula_of(self.grid.at(c)) {
+            None => false,
+            Some(formula) => refers(formula, d),
+        }
+    }
+
+    fn is_formula(&self, c: Cell) -> bool {
+        holds_formula(self.grid.at(c))
+    }
+
+    ghost refers_formula = { λ f c d r. bounded_formula (state_at f.grid.now) c d r };
+
+    ghost refers_below = { λ f c d r. bounded_below (refers_to (state_at f.grid.now)) c d r };
+
+    ghost below = { λ f c d r. bounded_above (refers_to (state_at f.grid.now)) c d r };
+}
+
+/// Whether the formula refers to the cell.
+fn refers(formula: &Formula, cell: Cell) -> bool
+    ensures { result ≡ mentions formula.now cell }
+{
+    for rect in formula.rects() {
+        if rect.contains(cell) {
+            return true;
+        }
+    }
+    false
+}
+
+/// The cell of a list that has just one.
+fn sole(cells: &[Cell]) -> Option<Cell>
+    ensures { IfSome result (λ c. cells.now ≡ c ∷ []) }
+{
+    match *cells {
+        [cell] => Some(cell),
+        _ => None,
+    }
+}
+
+/// Whether the region of a change of the source is that of this change too: the source alone is touched, and it neither
+/// had a formula nor has one.
+fn stays(grid: &Grid, region: &Region, source: Option<Cell>, touched: &[Cell]) -> bool
+    ensures { result ≡ true → (c : ℕ) × (source ≡ Some c) × (touched.now ≡ c ∷ [])
+        × (has_left region.now c ≡ false) × (formula_at (state_at grid.now) c ≡ false) }
+{
+    let Some(cell) = source else {
+        return false;
+    };
+    if sole(touched) != Some(cell) || region.left(cell).is_some() {
+        return false;
+    }
+    !holds_formula(grid.at(cell))
+}
+
+/// Finds the region of a change, or leaves that of the change before, where that is the same.
+pub(crate) fn find_region(
+    grid: &Grid,
+    index: &Index,
+    touched: &[Cell],
+    cyclic: &[Cell],
+    region: &mut Region,
+    source: &mut Option<Cell>,
+)
+    requires change { (s : State) × (v : Assignment) × IsChange s (state_at grid.now) v touched.now
+        × ListsCyclic s cyclic.now × IsRegionOf s source.old region.old }
+    requires inside { (c : ℕ) → In touched.now c → c < CELLS }
+    requires lists { AreListed (refers_to (state_at grid.now)) touched.now (listed index.now) }
+    ensures found { IsFound (refers_to (state_at grid.now)) (formula_at (state_at grid.now)) touched.now region.new }
+    ensures source { IsRegionOf (state_at grid.now) source.new region.new }
+{
+    if stays(grid, region, *source, touched) {
+        return;
+    }
+    region.mark(index, &Formulas { grid }, touched, cyclic);
+    *source = sole(touched);
+}

@@ -1,0 +1,253 @@
+//! What the cells show, and what those that a change put showed before it.
+
+ghost use Rattle.std.specs.Prelude.{◌≡◌, ◌<◌, ◌≤◌, [], ℕ, true, false, length, slice_set};
+ghost use Rattle.std.specs.Prelude.{vec_capacity, IfOk, IfErr, map, nat_eq};
+ghost use Rattle.std.specs.List.{IsDistinct};
+ghost use Rattle.ps_grid.specs.Chains.{In};
+ghost use Rattle.ps_value.specs.Operand.{operand_of};
+ghost use Rattle.ps_value.specs.declared.value.Value.TheVariants.{Empty as Nothing};
+ghost use Rattle.ps_shown.specs.Kept.{value_of as value_kept};
+ghost use Rattle.ps_shown.specs.Shown.{shown_at, with_value};
+ghost use Rattle.ps_cells.specs.Inside.Steps.{flag_at};
+ghost use Rattle.ps_eval.specs.Items.{Assignment};
+ghost use Rattle.ps_cells.specs.Inside.Screens.{Differ, IsNoted, ListsDiffering, before_of, cells_in, put_back};
+ghost use Rattle.ps_cells.specs.Changes.{IsChanges};
+
+use crate::cells::no_flags;
+use crate::room;
+use ps_grid::{CELLS, Cell, Refusal};
+use ps_shown::{Kept, Shown};
+use ps_value::{Operand, Value};
+use std::alloc::Global;
+use std::marker::Model;
+
+/// What each cell shows. Of the cells that were put since it was kept or taken back, what they showed before is kept
+/// aside, so that it can be taken back.
+#[derive(Drop)]
+pub struct Screen {
+    /// what each cell shows
+    shown: Shown,
+    /// the cells that were put, each once, with what they showed before; there is room for all
+    olds: Vec<(Cell, Kept)>,
+    /// whether a cell is among these
+    is_put: Vec<bool>,
+    /// the cells of the changes, with room for all
+    cells: Vec<Cell>,
+    /// the changes that were listed last, with room for all cells
+    changes: Vec<(Cell, Value)>,
+}
+
+impl Model for Screen {
+    ghost use Rattle.std.specs.Prelude.{◌≤◌, vec_capacity};
+    ghost use Rattle.ps_grid.specs.declared.size.TheConstants.{CELLS};
+    ghost use Rattle.ps_cells.specs.Inside.Screens.{ScreenView, IsNoted};
+    ghost use Rattle.ps_cells.specs.ScreenCode.{screen_code};
+
+    ghost Value = { ScreenView };
+
+    ghost coded = { screen_code };
+
+    ghost view = { λ s. record { kept = s.shown; olds = s.olds.items; changes = s.changes.items } };
+
+    ghost invariant = { λ s. IsNoted s.olds.items s.is_put.items × (CELLS ≤ vec_capacity s.olds)
+        × (CELLS ≤ vec_capacity s.cells) × (CELLS ≤ vec_capacity s.changes) };
+}
+
+impl Screen {
+    /// Where each cell shows nothing.
+    ///
+    /// Refused only when out of memory.
+    pub fn new(alloc: Global) -> Result<Screen, Refusal>
+        ensures empty { IfOk result (λ s. shown_at s.kept ≡ λ _. Nothing) }
+        ensures still { IfOk result (λ s. s.olds ≡ []) }
+        ensures memory { IfErr result (λ e. e ≡ Refusal.Memory) }
+    {
+        let is_put = no_flags(alloc, CELLS)?;
+        let olds = Vec::with_capacity(alloc, CELLS)?;
+        let cells = Vec::with_capacity(alloc, CELLS)?;
+        let changes = Vec::with_capacity(alloc, CELLS)?;
+        let shown = Shown::new(alloc)?;
+        Ok(Screen {
+            shown,
+            olds,
+            is_put,
+            cells,
+            changes,
+        })
+    }
+
+    /// All that is shown.
+    pub fn shown(&self) -> &Shown
+        ensures shown { result.now ≡ self.now.kept }
+    {
+        &self.shown
+    }
+
+    /// What a cell shows.
+    pub fn at(&self, cell: Cell) -> Value
+        ensures { result ≡ shown_at self.now.kept cell }
+    {
+        self.shown.at(cell)
+    }
+
+    /// What is kept of a cell.
+    #[inline]
+    pub fn kept(&self, cell: Cell) -> &Kept
+        ensures { value_kept result.now ≡ shown_at self.now.kept cell }
+    {
+        self.shown.kept(cell)
+    }
+
+    /// What evaluation reads of what a cell shows.
+    #[inline]
+    pub fn operand(&self, cell: Cell) -> Operand
+        ensures { result ≡ operand_of (shown_at self.now.kept cell) }
+    {
+        self.shown.operand(cell)
+    }
+
+    /// Puts what a cell shows from now on.
+    pub fn put(&mut self, cell: Cell, kept: Kept)
+        ensures shown { shown_at self.new.kept ≡ with_value (shown_at self.old.kept) cell (value_kept kept) }
+        ensures before { before_of self.new ≡ before_of self.old }
+    {
+        let old = self.shown.put(cell, kept);
+        note(&mut self.olds, &mut self.is_put, cell, old);
+    }
+
+    /// The changes that were listed last.
+    pub fn changes(&self) -> &[(Cell, Value)]
+        ensures changes { result.now ≡ self.now.changes }
+    {
+        &self.changes
+    }
+
+    /// Lists the cells that show another value than before, ascending, with what they show.
+    pub fn list_changes(&mut self)
+        ensures kept { self.new.kept ≡ self.old.kept }
+        ensures olds { self.new.olds ≡ self.old.olds }
+        ensures changes { IsChanges (before_of self.old) (shown_at self.old.kept) self.new.changes }
+    {
+        list_changed(&self.olds, &self.shown, &mut self.cells);
+        self.cells.sort_unstable();
+        list_values(&self.cells, &self.shown, &mut self.changes);
+    }
+
+    /// Forgets what was shown before.
+    pub fn keep(&mut self)
+        ensures kept { self.new.kept ≡ self.old.kept }
+        ensures still { self.new.olds ≡ [] }
+    {
+        forget(&mut self.olds, &mut self.is_put);
+    }
+
+    /// Shows again what was shown before.
+    pub fn take_back(&mut self)
+        ensures shown { shown_at self.new.kept ≡ before_of self.old }
+        ensures still { self.new.olds ≡ [] }
+    {
+        put_olds(&mut self.olds, &mut self.is_put, &mut self.shown);
+    }
+}
+
+/// Lists the cells of old values that show another one now.
+fn list_changed(olds: &[(Cell, Kept)], shown: &Shown, cells: &mut Vec<Cell>)
+    requires once { IsDistinct nat_eq (cells_in olds.now) }
+    requires room { length olds.now ≤ vec_capacity cells.old }
+    ensures differ { Differ (shown_at shown.now) (put_back olds.now (shown_at shown.now)) cells.new.items }
+    ensures few { length cells.new.items ≤ length olds.now }
+    ensures room { vec_capacity cells.old ≤ vec_capacity cells.new }
+{
+    cells.clear();
+    for entry in olds {
+        list_one(entry, shown, cells);
+    }
+}
+
+/// Lists the cell of an old value where it shows another one now.
+fn list_one(old: &(Cell, Kept), shown: &Shown, cells: &mut Vec<Cell>)
+    requires room { length cells.old.items < vec_capacity cells.old }
+    ensures listed { ListsDiffering old.now (shown_at shown.now) cells.old.items cells.new.items }
+    ensures room { vec_capacity cells.old ≤ vec_capacity cells.new }
+{
+    if !old.1.is_same(shown.kept(old.0)) {
+        room::put(cells, old.0);
+    }
+}
+
+/// Lists cells with what they show.
+fn list_values(cells: &[Cell], shown: &Shown, changes: &mut Vec<(Cell, Value)>)
+    requires room { length cells.now ≤ vec_capacity changes.old }
+    ensures values { changes.new.items ≡ map (λ c. (c, shown_at shown.now c)) cells.now }
+    ensures room { vec_capacity changes.old ≤ vec_capacity changes.new }
+{
+    changes.clear();
+    for cell in cells {
+        room::put(changes, (*cell, shown.at(*cell)));
+    }
+}
+
+/// Notes what a cell showed, where nothing is noted of it.
+fn note(olds: &mut Vec<(Cell, Kept)>, is_put: &mut [bool], cell: Cell, old: Kept)
+    requires noted { IsNoted olds.old.items is_put.old }
+    requires room { CELLS ≤ vec_capacity olds.old }
+    ensures noted { IsNoted olds.new.items is_put.new }
+    ensures back { (v : Assignment) (y : Value) → value_kept old ≡ v cell
+        → put_back olds.new.items (with_value v cell y) ≡ put_back olds.old.items v }
+    ensures room { vec_capacity olds.old ≤ vec_capacity olds.new }
+{
+    let place = cell.index();
+    if !is_put[place] {
+        is_put[place] = true;
+        room::put(olds, (cell, old));
+    }
+}
+
+/// Forgets old values.
+fn forget(olds: &mut Vec<(Cell, Kept)>, is_put: &mut [bool])
+    requires whole { length is_put.old ≡ CELLS }
+    requires noted { (c : ℕ) → flag_at is_put.old c ≡ true → In (cells_in olds.old.items) c }
+    ensures none { olds.new.items ≡ [] }
+    ensures off { (c : ℕ) → flag_at is_put.new c ≡ false }
+    ensures room { vec_capacity olds.old ≤ vec_capacity olds.new }
+{
+    clear_put(olds, is_put);
+    olds.clear();
+}
+
+/// Takes away the flags of the cells of old values.
+fn clear_put(olds: &[(Cell, Kept)], is_put: &mut [bool])
+    requires whole { length is_put.old ≡ CELLS }
+    requires noted { (c : ℕ) → flag_at is_put.old c ≡ true → In (cells_in olds.now) c }
+    ensures off { (c : ℕ) → flag_at is_put.new c ≡ false }
+{
+    for entry in olds {
+        is_put[entry.0.index()] = false;
+    }
+}
+
+/// Puts old values back, the last one first.
+fn put_olds(olds: &mut Vec<(Cell, Kept)>, is_put: &mut [bool], shown: &mut Shown)
+    requires whole { length is_put.old ≡ CELLS }
+    requires noted { (c : ℕ) → flag_at is_put.old c ≡ true → In (cells_in olds.old.items) c }
+    ensures back { shown_at shown.new ≡ put_back olds.old.items (shown_at shown.old) }
+    ensures none { olds.new.items ≡ [] }
+    ensures off { (c : ℕ) → flag_at is_put.new c ≡ false }
+    ensures room { vec_capacity olds.old ≤ vec_capacity olds.new }
+{
+    'olds: while let Some(last) = olds.pop() {
+        put_one(last, is_put, shown);
+    }
+}
+
+/// Puts one old value back.
+fn put_one(old: (Cell, Kept), is_put: &mut [bool], shown: &mut Shown)
+    requires whole { length is_put.old ≡ CELLS }
+    ensures back { shown_at shown.new ≡ with_value (shown_at shown.old) old.0 (value_kept old.1) }
+    ensures flag { is_put.new ≡ slice_set is_put.old old.0 false }
+    ensures inside { old.0 < CELLS }
+{
+    let (cell, kept) = old;
+    is_put[cell.index()] = false;
+    let _ = shown.put(cell, kept);
+}

@@ -1,0 +1,170 @@
+//! The walk of a recalculation: what the touched and the cyclic cells show, then level after level.
+
+ghost use Rattle.std.specs.Prelude.{◌≡◌, ◌+◌, ◌<◌, ◌≤◌, ◌||◌, ℕ, true, false, length, map, nat_eq};
+ghost use Rattle.std.specs.List.{list_any, All, IsDistinct};
+ghost use Rattle.ps_grid.specs.Chains.{In};
+ghost use Rattle.ps_grid.specs.declared.parties.TheConstants.{WORKERS};
+ghost use Rattle.ps_shown.specs.Kept.{value_of as value_kept};
+ghost use Rattle.ps_shown.specs.Shown.{shown_at};
+ghost use Rattle.ps_delta.specs.State.{state_at};
+ghost use Rattle.ps_region.specs.Found.{level_cells, level_count};
+ghost use Rattle.ps_region.specs.Listed.{listed};
+ghost use Rattle.ps_cells.specs.Inside.Waiting.{first_value};
+ghost use Rattle.ps_cells.specs.Inside.Walk.{formula_at, Shows};
+ghost use Rattle.ps_cells.specs.Inside.Steps.{BeginsAll, ClosesAll, flag_at, HasRoom, IsFirst, MayWalk};
+ghost use Rattle.ps_cells.specs.Inside.Steps.{StepsLevels};
+ghost use Rattle.ps_cells.specs.Inside.Screens.{before_of};
+
+use crate::contents::holds_formula;
+use crate::level::Level;
+use crate::screen::Screen;
+use ps_delta::Grid;
+use ps_eval::Meter;
+use ps_grid::{CELLS, Cell};
+use ps_index::{Index, Readers};
+use ps_region::Region;
+use ps_shown::Kept;
+use ps_value::Fault;
+use ps_workers::Gate;
+use std::sync::ledger::Ledger;
+use std::thread::Threads;
+
+/// Flags the cells that refer to a cell, by a walk of them.
+fn flag_each(index: &Index, cell: Cell, flags: &mut [bool])
+    requires whole { length flags.old ≡ CELLS }
+    ensures flagged { (c : ℕ) → flag_at flags.new c
+        ≡ (flag_at flags.old c || list_any (nat_eq c) (listed index.now cell)) }
+{
+    for dependent in index.dependents(cell) {
+        flags[dependent.index()] = true;
+    }
+}
+
+/// Flags the cells that refer to a cell. They are walked only where there may be several.
+fn flag_dependents(index: &Index, cell: Cell, flags: &mut [bool])
+    requires whole { length flags.old ≡ CELLS }
+    ensures flagged { (c : ℕ) → flag_at flags.new c
+        ≡ (flag_at flags.old c || list_any (nat_eq c) (listed index.now cell)) }
+{
+    match index.readers(cell) {
+        Readers::Nobody => {}
+        Readers::One(reader) => flags[reader.index()] = true,
+        Readers::Several => flag_each(index, cell, flags),
+    }
+}
+
+/// Lets a cell show a value, and flags the cells that refer to it where that is another one than it showed.
+pub(crate) fn show(index: &Index, cell: Cell, kept: Kept, shown: &mut Screen, flags: &mut [bool])
+    requires whole { length flags.old ≡ CELLS }
+    ensures shows { Shows cell (value_kept kept) (listed index.now cell) (shown_at shown.old.kept)
+        (shown_at shown.new.kept)
+        (flag_at flags.old) (flag_at flags.new) }
+    ensures before { before_of shown.new ≡ before_of shown.old }
+{
+    let same = kept.is_same(shown.kept(cell));
+    shown.put(cell, kept);
+    if !same {
+        flag_dependents(index, cell, flags);
+    }
+}
+
+/// Looks after a touched cell: flags it where it has a formula, and else lets it show its value.
+fn show_first(
+    grid: &Grid,
+    index: &Index,
+    cell: Cell,
+    kept: Kept,
+    shown: &mut Screen,
+    flags: &mut [bool],
+)
+    requires whole { length flags.old ≡ CELLS }
+    ensures first { IsFirst (state_at grid.now) cell (value_kept kept) (listed index.now cell) (shown_at shown.old.kept)
+        (shown_at shown.new.kept) (flag_at flags.old) (flag_at flags.new) }
+    ensures before { before_of shown.new ≡ before_of shown.old }
+{
+    if holds_formula(grid.at(cell)) {
+        flags[cell.index()] = true;
+    } else {
+        show(index, cell, kept, shown, flags);
+    }
+}
+
+/// Looks after the touched cells, which come with their first values.
+pub(crate) fn show_all_first(
+    grid: &Grid,
+    index: &Index,
+    first: Vec<(Cell, Kept)>,
+    shown: &mut Screen,
+    flags: &mut [bool],
+)
+    requires whole { length flags.old ≡ CELLS }
+    requires once { IsDistinct nat_eq (map (λ e. e.0) first.items) }
+    requires values { All (λ e. value_kept e.1 ≡ first_value (state_at grid.now e.0)) first.items }
+    ensures begun { BeginsAll (state_at grid.now) (listed index.now) (map (λ e. e.0) first.items)
+        (shown_at shown.old.kept)
+        (shown_at shown.new.kept) (flag_at flags.old) (flag_at flags.new) }
+    ensures before { before_of shown.new ≡ before_of shown.old }
+{
+    for (cell, kept) in first {
+        show_first(grid, index, cell, kept, shown, flags);
+    }
+}
+
+/// Lets cells show `#CYCLE!`.
+pub(crate) fn close_all(cells: &[Cell], shown: &mut Screen)
+    ensures closed { ClosesAll cells.now (shown_at shown.old.kept) (shown_at shown.new.kept) }
+    ensures before { before_of shown.new ≡ before_of shown.old }
+{
+    for cell in cells {
+        shown.put(*cell, Kept::Err(Fault::Cycle));
+    }
+}
+
+/// Settles the frame, level after level. How many cells were evaluated.
+#[allow(clippy::too_many_arguments)]
+pub(crate) fn settle_frame<R: Threads + Sync, G: Gate, L: Ledger>(
+    rt: &R,
+    workers: usize,
+    gate: &G,
+    grid: &Grid,
+    index: &Index,
+    region: &Region,
+    level: &mut Level,
+    shown: &mut Screen,
+    flags: &mut [bool],
+    meter: &mut Meter<L>,
+) -> u64
+    requires workers { (0 < workers) × (workers ≤ WORKERS) }
+    requires whole { length flags.old ≡ CELLS }
+    requires room { HasRoom CELLS level.old }
+    requires begun { MayWalk (state_at grid.now) (listed index.now) (level_cells region.now) (level_count region.now)
+        (shown_at shown.old.kept) (flag_at flags.old) }
+    ensures settled { StepsLevels (state_at grid.now) (listed index.now) (level_cells region.now)
+        (level_count region.now) (level_count region.now + 1) (shown_at shown.old.kept) (shown_at shown.new.kept)
+        (flag_at flags.old) (flag_at flags.new) result }
+    ensures before { before_of shown.new ≡ before_of shown.old }
+    ensures metered { meter.new ≡ meter.old + result }
+    ensures room { HasRoom CELLS level.new }
+{
+    let mut evaluated = 0;
+    let levels = region.levels();
+    for before in 0..levels {
+        let cells = region.level(before + 1);
+        let is_last = before + 1 == levels;
+        evaluated += level.settle(
+            rt, workers, gate, grid, index, cells, is_last, shown, flags, meter,
+        ) as u64;
+    }
+    evaluated
+}
+
+/// Takes away the flags of cells.
+pub(crate) fn clear(cells: &[Cell], flags: &mut [bool])
+    requires whole { length flags.old ≡ CELLS }
+    requires within { (c : ℕ) → flag_at flags.old c ≡ true → In cells.now c }
+    ensures clear { (c : ℕ) → flag_at flags.new c ≡ false }
+{
+    for cell in cells {
+        flags[cell.index()] = false;
+    }
+}

@@ -1,6 +1,0 @@
-use Rattle.std.proofs.Common.{◌≡◌, take}
-use Rattle.ps_sheet.specs.Inside.Formulas.{firsts, shown_firsts}
-use Rattle.ps_sheet.proofs.change.first_values.Given as goal
-
-abbrev pub invariant-loop-cell : goal.invariant-loop-cell
-invariant-loop-cell l = shown_firsts l.first.items ≡ firsts (take l.cell-index l.cells)

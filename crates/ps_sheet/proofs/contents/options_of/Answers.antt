@@ -1,7 +1,0 @@
-use Rattle.ps_lattice.specs.Choice.{is_chosen}
-use Rattle.ps_lattice.specs.declared.limits.TheConstants.{OPTIONS}
-use Rattle.ps_sheet.proofs.SetsAsNumbers.{is_bits_of}
-use Rattle.ps_sheet.proofs.contents.options_of.Goals as goal
-
-pub returns : goal.returns
-returns c = is_bits_of (is_chosen c.args.choice.now) OPTIONS c.options.result c.options.type_inv c.options.ensures
