@@ -1,7 +1,7 @@
 """`sheet serve`: what each session is answered on its own connection, and that the history is just what sessions made.
 
-Sessions run side by side and send all of their lines before they read a reply. Each sets cells of its own, so each reply
-tells whose it is; in the end another session pulls each change by itself.
+Sessions run side by side and send all of their lines before they read a reply. Each sets a cell of its own, so each
+reply tells whose it is; in the end another session pulls each change by itself.
 """
 import threading
 
@@ -99,16 +99,19 @@ class Connections(ProgramTest):
         with serving(2, "--replica", "7") as server:
             first, second = server.client(), server.client()
             first.send(lines("add A1 5", "get A1", "push []", "rows A1:B1", "set A0 5"))
-            self.assertEqual(first.leave(), lines("err 5 not-tally", "val ", "err 14 delta", "rows 1", ",", "err 1 cell"))
+            replies = lines("err 5 not-tally", "val ", "err 14 delta", "rows 1", ",", "err 1 cell")
+            self.assertEqual(first.leave(), replies)
             second.send(lines("pull 0", "pull 0 16"))
             self.assertEqual(second.leave(), lines("end 0", "end 0"))
             self.assertEqual(server.ended(), Ended(0, lines("closed 0")))
 
     def test_each_kind_of_edit_has_the_stamps_of_the_replica(self):
+        edits = (
+            "set A1 5", "set B1 @tally", "add B1 4", "sub B1 1", "set C1 @choice", "choose C1 3", "unchoose C1 3",
+        )
         for replica in (1, 7, 32):
             with self.subTest(replica=replica), serving(1, "--replica", str(replica)) as server:
                 client = server.client()
-                edits = ("set A1 5", "set B1 @tally", "add B1 4", "sub B1 1", "set C1 @choice", "choose C1 3", "unchoose C1 3")
                 client.send(lines(*edits, "pull 0 16"))
                 cells = (f'["A1",[1,{replica},"5"],[],[]]', f'["B1",[1,{replica},"@tally"],[[{replica},4,1]],[]]',
                          f'["C1",[1,{replica},"@choice"],[],[[3,{replica},1,1]]]')

@@ -26,8 +26,8 @@ WITHOUT = {
     "pull 10": "end 10", "pull 10 16": "end 10", "pull 11": "err 17 version", "pull 0 17": "err 17 version",
 }
 TIMES = 1_000
-# Edits and a pushed delta. (`sub` and `unchoose` aren't among them: of a merged list the room that is left over is given
-# back, which is a request too, and where that is refused they make do.)
+# Edits and a pushed delta. (`sub` and `unchoose` aren't among them: of a merged list the room that is left over is
+# given back, which is a request too, and where that is refused they make do.)
 CHANGES = (
     "set A1 6", "set A1 ", "set A1 text", "set A9 7", "set C1 =[.A1]*3", "set A1 =[.C1]", "set F1 1", "add D1 5",
     "choose E1 8", 'push [["A1",[9,2,"7"],[],[]],["B9",[1,2,"=[.A1]"],[],[]]]',

@@ -1,11 +1,11 @@
-"""Levels wide enough for 16 workers, exported as text: the same for each number of workers, and what a plain model says.
+"""Levels wide enough for 16 workers, as text: the same for each number of workers, and what a plain model says.
 
 Each formula has its own value, so a value in another cell's place, or of a level before it is settled, is seen.
 """
 import subprocess
 
 from program import LIMIT, Ended, ProgramTest, lines, started
-from sizes import COLUMNS, name
+from sizes import COLUMNS, name, pushes
 from test_workers import CountsThreads
 
 # The first level: so many rows of formulas over both sources, 66,560 cells. The second: formulas over the first, each
@@ -100,9 +100,8 @@ class Wide(CountsThreads):
         self.assert_same("table", lines(*ENTRIES), lines(*shown(3, -40)), (0, 0), (3, -40))
 
     def test_rows_of_a_session_that_changes_the_sources(self):
-        cells = ([(name(column, row), entry) for column, entry in enumerate(line.split(",")) if entry]
-                 for row, line in enumerate(ENTRIES[:-1], 1))
-        pushed = ("push [" + ",".join(f'["{cell}",[1,2,"{entry}"],[],[]]' for cell, entry in row) + "]" for row in cells)
+        entries = [line.split(",") for line in ENTRIES]
+        pushed = pushes(lambda column, row: entries[row - 1][column], range(1, SOURCES))
         asked = f"rows A1:{name(COLUMNS - 1, SOURCES)}"
         given = lines(*pushed, f"set A{SOURCES} 3", f"set B{SOURCES} 9", asked, f"set A{SOURCES} {2**40}", asked)
         count = FIRST + SECOND

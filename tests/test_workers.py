@@ -1,9 +1,10 @@
-"""`--workers` of each command, seen in the threads that the program starts.
+"""`--workers` of each command, seen in the threads that the program starts, and in the processor time that they take.
 
 A level of formulas that don't refer to one another is divided where it has 4,096 due cells for each worker; each worker
 but one then has a thread of its own.
 """
 import os
+import resource
 import subprocess
 import sys
 from pathlib import Path
@@ -20,6 +21,9 @@ LAST = name(COLUMNS - 1, ROWS)
 ENTRY = f"=[.{SOURCE}]"
 # How many threads evaluate beside the caller's own, for so many workers.
 THREADS = {1: 0, 2: 1, 4: 3, 16: 15}
+
+# How many cells each formula of sums adds up, and how often the first of them is changed.
+SUMMED, CHANGES = 300, 6
 
 SCRIPT = lines(*pushes(lambda column, row: ENTRY, range(1, ROWS + 1)), f"set {SOURCE} 7", f"get {LAST}")
 REPLIES = lines(*(f"ok {number}" for number in range(1, ROWS + 2)), "val 7")
@@ -38,7 +42,15 @@ class Threads:
 
     def started(self):
         """How many threads the program has started so far."""
-        return int.from_bytes(os.pread(self.count.fileno(), 8, 0), sys.byteorder)
+        return self.number(0)
+
+    def seconds(self):
+        """The processor time of all threads that have ended, and that of the one which took most."""
+        return self.number(1) / 1e9, self.number(2) / 1e9
+
+    def number(self, place):
+        """A number of the count."""
+        return int.from_bytes(os.pread(self.count.fileno(), 8, 8 * place), sys.byteorder)
 
 
 class CountsThreads(ProgramTest):
@@ -52,7 +64,7 @@ class CountsThreads(ProgramTest):
     def threads(self):
         """A count of threads for one program."""
         count = self.enterContext(open(os.memfd_create("threads"), "r+b"))
-        count.truncate(8)
+        count.truncate(24)
         return Threads(self.library, count)
 
 
@@ -82,3 +94,21 @@ class Workers(CountsThreads):
                 self.assertEqual(client.leave(), REPLIES)
                 self.assertEqual(server.ended(), Ended(0, lines(f"closed {ROWS + 1}")))
                 self.assertEqual(threads.started(), wanted + 1)
+
+    def test_each_has_its_part_of_a_level(self):
+        # each formula is a sum, so that nearly all time is that of evaluations, most of it in changes of the one cell
+        entry = f"=SUM([.{SOURCE}:.A{ROWS + SUMMED}])"
+        given = lines(*pushes(lambda *_: entry, range(1, ROWS + 1)), *(f"set {SOURCE} {n}" for n in range(CHANGES)))
+        threads, workers = self.threads(), max(THREADS)
+        before = resource.getrusage(resource.RUSAGE_CHILDREN)
+        files = {"stdin": subprocess.PIPE, "stdout": subprocess.PIPE, **threads.how}
+        with started("run", "--workers", str(workers), **files) as program:
+            program.communicate(given, timeout=LIMIT)
+        after = resource.getrusage(resource.RUSAGE_CHILDREN)
+        whole = after.ru_utime + after.ru_stime - before.ru_utime - before.ru_stime
+        others, most = threads.seconds()
+        count = CHANGES * THREADS[workers]
+        self.assertEqual(threads.started(), count)
+        # the caller has a part like each of the others, and what comes before (the bounds are wide, since times differ)
+        self.assertGreater(others, whole / 3)
+        self.assertLess(most, 4 * others / count)
