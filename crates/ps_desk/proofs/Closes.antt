@@ -1,11 +1,11 @@
 -- The histories of a list and of its beginnings.
-use Rattle.std.proofs.Common.{◌≡◌, List, [], ◌∷◌, ◌++◌, ap, ◌∙◌, sym, refl, append_assoc, map}
+use Rattle.std.proofs.Common.{◌≡◌, List, [], ◌∷◌, ◌++◌, All, ◌≤◌, ap, ◌∙◌, sym, refl, append_assoc, map}
 use mathlib.Core.List.{IsPrefix}
 use Rattle.ps_delta.specs.Deltas.{Entries}
 use Rattle.ps_face.specs.declared.patch.Note.{Note}
 use Rattle.ps_face.specs.Legal.{history_of, delta_of}
-use Rattle.ps_desk.specs.Passes.{PassView}
-use Rattle.ps_desk.specs.Closing.{ListBegins, HistoryBegins}
+use Rattle.ps_desk.specs.Passes.{PassView, owned_by}
+use Rattle.ps_desk.specs.Closing.{EndsAt, ListBegins, HistoryBegins}
 
 deltas : (xs ys : List Note) → map delta_of (xs ++ ys) ≡ map delta_of xs ++ map delta_of ys
 deltas [] ys = refl
@@ -21,3 +21,11 @@ history_begins h xs ys p = (
 pub all_begin : (h : List Entries) (list : List Note) (passes : List PassView) → ListBegins list passes
     → HistoryBegins h (history_of h list) passes
 all_begin h list passes b = λ k d lt. history_begins h _ list (b k d lt)
+
+-- what is said of each pass that has ended, said of all
+pub list_begins : (list : List Note) (passes : List PassView) → All (EndsAt list) passes → ListBegins list passes
+list_begins list passes ends = λ k d lt. (ends k d lt).0
+
+pub counts_within : (list : List Note) (passes : List PassView) → All (EndsAt list) passes
+    → All (λ p. p.appended ≤ owned_by p.seat list) passes
+counts_within list passes ends = λ k d lt. (ends k d lt).1

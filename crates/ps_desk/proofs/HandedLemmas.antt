@@ -92,3 +92,9 @@ module _ (history : List Entries) (from most room : ℕ) (deltas : List Entries)
     hands_refusal refusal (inl long) none =
         inl (subst (λ e. HandsOut history from most (refusal_text e)) (sym long) (hands_none (none long)))
     hands_refusal refusal (inr memory) none = inr (ap refusal_text memory)
+
+-- who is handed out some has less than all
+pub some_left : (history : List Entries) (from room : ℕ) (deltas : List Entries)
+    → deltas ≡ take room (drop from history) → 0 < length deltas → from < length history
+some_left history from room deltas is some =
+    omega (arith, some, ap length is, length-take room (drop from history), length-drop from history)

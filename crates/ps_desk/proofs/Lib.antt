@@ -2,6 +2,7 @@ mod Closes
 mod Receipted
 mod HandedLemmas
 mod Noted
+mod Owners
 mod Pulled
 mod Read
 mod SeatLemmas

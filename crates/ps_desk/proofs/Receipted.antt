@@ -1,7 +1,7 @@
 -- What a receipt tells stays told of a list that was seen earlier.
 use Rattle.std.proofs.Common.{◌≡◌, ℕ, ◌+◌, Bool, true, false, List, [], ◌∷◌, ◌++◌, length, refl, sym, ap, ◌∙◌}
 use Rattle.std.proofs.Common.{subst, length-append, Result, Ok, Err}
-use Rattle.std.specs.Prelude.{MatchBool, IfOk, OnErr, ◌<◌}
+use Rattle.std.specs.Prelude.{MatchBool, IfOk, OnErr}
 use Rattle.std.specs.Arc.{arc_value}
 use mathlib.Core.List.{IsPrefix}
 use Rattle.ps_grid.specs.declared.refusal.Refusal.{Refusal}
@@ -85,19 +85,11 @@ tells_if_fresh h p (Err e) seen now seat is fresh history last t = tt
 
 -- what a pass that was told of a list has seen begins with what it had seen, and its seat stays
 module _ (list : List Note) (old new : PassView) where
-  pub caught_later : (b : Bool)
-      → MatchBool b (IsPrefix old.list list × (new ≡ record old { list = list }))
-      ((length list < length old.list) × (new ≡ old))
-      → IsPrefix old.list new.list
-  caught_later true m = subst (IsPrefix old.list) (sym (ap (λ (q : PassView). q.list) m.1)) m.0
-  caught_later false m = subst (IsPrefix old.list) (sym (ap (λ (q : PassView). q.list) m.1)) (begins_itself old.list)
+  pub caught_later : IsPrefix old.list list → new ≡ record old { list = list } → IsPrefix old.list new.list
+  caught_later later is = subst (IsPrefix old.list) (sym (ap (λ (q : PassView). q.list) is)) later
 
-  pub caught_seat : (b : Bool)
-      → MatchBool b (IsPrefix old.list list × (new ≡ record old { list = list }))
-      ((length list < length old.list) × (new ≡ old))
-      → new.seat ≡ old.seat
-  caught_seat true m = ap (λ (q : PassView). q.seat) m.1
-  caught_seat false m = ap (λ (q : PassView). q.seat) m.1
+  pub caught_seat : new ≡ record old { list = list } → new.seat ≡ old.seat
+  caught_seat is = ap (λ (q : PassView). q.seat) is
 
 -- what is told of a prepared change is told of the change
 pub tells_change : (r : ℕ) (h : List Entries) (change : Change) (p : PreparedView) (res : Result Receipt Refusal)

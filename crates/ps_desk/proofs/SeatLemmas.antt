@@ -2,6 +2,8 @@
 use Rattle.std.proofs.Common.{◌⊎◌, inl, inr, refl, ap, ℕ, List, Ok, Err}
 use Rattle.ps_grid.specs.declared.refusal.Refusal.{Refusal}
 use Rattle.ps_delta.specs.Deltas.{Entries}
+use Rattle.ps_face.specs.Legal.{history_of}
+use Rattle.ps_session.specs.Answers.{TakesMemory}
 use Rattle.ps_session.specs.Commands.{ReadsLine}
 use Rattle.ps_session.specs.Replies.{refusal_text}
 use Rattle.ps_session.specs.declared.command.Command.{Command}
@@ -13,7 +15,8 @@ use Rattle.ps_desk.proofs.SeatRuns.{goes_itself}
 module _ (r : ℕ) (h : List Entries) where
   -- a line that was read as a command, which was carried out or was out of memory
   pub answer_of_command : (old new : PassView) (line text : List ℕ) (command : Command) → ReadsLine line (Ok command)
-      → SeatObeys r h (Ok command) old text new ⊎ IsLacking old text new → GoesOn old new
+      → SeatObeys r h (Ok command) old text new
+      ⊎ IsLacking (TakesMemory r (history_of h new.list) (Ok command)) old text new → GoesOn old new
       → SeatAnswers r h old line text new
   answer_of_command old new line text command reads (inl obeys) goes_on = inl (record {
     asked = Ok command;
@@ -25,7 +28,6 @@ module _ (r : ℕ) (h : List Entries) where
   answer_of_command old new line text command reads (inr lacks) goes_on = inr (record {
     asked = Ok command;
     reads = reads;
-    takes = tt;
     lacks = lacks;
     goes_on = goes_on;
   })
@@ -37,8 +39,7 @@ module _ (r : ℕ) (h : List Entries) where
     | inl is ↦ inr (record {
       asked = Err refusal;
       reads = reads;
-      takes = is;
-      lacks = record { told = ap refusal_text is; counted = refl };
+      lacks = record { some = is; told = ap refusal_text is; counted = refl };
       goes_on = goes_itself pass;
     })
     | inr other ↦ inl (record {

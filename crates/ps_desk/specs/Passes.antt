@@ -1,5 +1,5 @@
 -- What contracts see of a pass.
-use Rattle.std.specs.Prelude.{◌≡◌, ℕ, List, [], Option, Some, None, IsSome}
+use Rattle.std.specs.Prelude.{◌≡◌, ◌==◌, ◌≤◌, ℕ, List, [], Option, Some, None, IsSome, count_by}
 use Rattle.ps_value.specs.declared.value.Value.{Value}
 use Rattle.ps_eval.specs.Items.{Assignment}
 use Rattle.ps_delta.specs.Deltas.{Entries, joined_history}
@@ -25,12 +25,17 @@ abbrev pub entered : Option View → ℕ
 entered (Some v) = v.enters
 entered None = 0
 
--- what holds of a pass between two calls: its reader is there, and its share of the ledger is one part, with the amount
--- that the pass counted
-pub record IsPass (reader : Option View) (parts amount count : ℕ) : Type 0 where
+-- how many patches of the list were made by the calls of this seat
+abbrev pub owned_by : ℕ → List Note → ℕ
+owned_by seat list = count_by (λ p. p.owner == seat) list
+
+-- what holds of a pass between two calls: its reader is there, its share of the ledger is one part, with the amount
+-- that the pass counted, and the list that it has seen has that many patches of its seat, or more
+pub record IsPass (reader : Option View) (parts amount count seat : ℕ) : Type 0 where
   pub here : IsSome reader
   pub part : parts ≡ 1
   pub same : amount ≡ count
+  pub owned : count ≤ owned_by seat (seen_by reader)
 
 -- SHOWN: the value is the cell's settled value of the joined history
 abbrev pub IsShown : List Entries → ℕ → Value → Type 0

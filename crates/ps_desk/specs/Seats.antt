@@ -1,6 +1,6 @@
 -- What a session at a desk answers a line. It is told by the replica r and the opening history h, which the name of the
 -- desk has, and by what contracts see of the session's pass before and after the line.
-use Rattle.std.specs.Prelude.{◌≡◌, ◌≢◌, ◌⊎◌, ℕ, ◌+◌, ◌≤◌, List, Ok, Err, IfErr, if◌then◌else◌, unwrap_or}
+use Rattle.std.specs.Prelude.{◌≡◌, ◌≢◌, ◌⊎◌, ℕ, ◌+◌, ◌≤◌, List, Ok, Err, if◌then◌else◌, unwrap_or}
 use mathlib.Core.List.{IsPrefix}
 use Rattle.ps_grid.specs.declared.refusal.Refusal.{Refusal}
 use Rattle.ps_grid.specs.declared.refusal.Refusal.TheVariants as refusals
@@ -12,6 +12,7 @@ use Rattle.ps_sheet.specs.Edits.{delta_of_edit}
 use Rattle.ps_sheet.specs.declared.edit.Edit.{Edit as SheetEdit}
 use Rattle.ps_csv.specs.Exports.{exported}
 use Rattle.ps_face.specs.Legal.{IsLegal, history_of}
+use Rattle.ps_session.specs.Answers.{TakesMemory}
 use Rattle.ps_session.specs.Commands.{Read, ReadsLine}
 use Rattle.ps_session.specs.Handing.{HandsOut}
 use Rattle.ps_session.specs.Replies.{done_text, refusal_text, rows_text, value_text}
@@ -26,6 +27,7 @@ use Rattle.ps_desk.specs.declared.receipt.Receipt.{Receipt}
 -- reply has its number
 pub record IsEdited (r : ℕ) (h : List Entries) (edit : SheetEdit) (old : PassView) (text : List ℕ) (new : PassView) :
     Type 0 where
+  pub legal : IsLegal h new.list
   pub receipt : Receipt
   pub appended : IsAppended (λ s d. delta_of_edit r s edit ≡ Ok d) h old.list new.list old.seat receipt
   pub told : text ≡ done_text receipt.number
@@ -35,6 +37,7 @@ pub record IsEdited (r : ℕ) (h : List Entries) (edit : SheetEdit) (old : PassV
 -- an edit has no delta over all that is published
 pub record IsRefused (r : ℕ) (h : List Entries) (edit : SheetEdit) (old : PassView) (text : List ℕ) (new : PassView) :
     Type 0 where
+  pub legal : IsLegal h new.list
   pub refusal : Refusal
   pub refused : delta_of_edit r (joined_history (history_of h new.list)) edit ≡ Err refusal
   pub told : text ≡ refusal_text refusal
@@ -52,9 +55,16 @@ pub record IsLook (h : List Entries) (reply : Assignment → List ℕ) (old : Pa
   pub counted : new.appended ≡ old.appended
   pub entered : new.enters ≡ old.enters + 1
 
+-- the copies are gone, and nothing was read
+pub record IsGone (old : PassView) (text : List ℕ) (new : PassView) : Type 0 where
+  pub told : text ≡ refusal_text refusals.Seat
+  pub same : new.list ≡ old.list
+  pub counted : new.appended ≡ old.appended
+
 -- deltas were handed out, of all that is published
 pub record IsHandedOut (h : List Entries) (from most : ℕ) (old : PassView) (text : List ℕ) (new : PassView) : Type 0
   where
+    pub legal : IsLegal h new.list
     pub hands : HandsOut (history_of h new.list) from most text
     pub counted : new.appended ≡ old.appended
     pub entered : new.enters ≡ old.enters
@@ -62,6 +72,7 @@ pub record IsHandedOut (h : List Entries) (from most : ℕ) (old : PassView) (te
 -- a delta was taken in: it was appended, or is covered, and the reply has the receipt's number
 pub record IsTakenIn (h : List Entries) (delta : Entries) (old : PassView) (text : List ℕ) (new : PassView) : Type 0
   where
+    pub legal : IsLegal h new.list
     pub receipt : Receipt
     pub tells : Tells (λ s d. d ≡ delta) h old.list new.list old.seat receipt
     pub told : text ≡ done_text receipt.number
@@ -71,15 +82,17 @@ pub record IsTakenIn (h : List Entries) (delta : Entries) (old : PassView) (text
 -- what a session does where a line asks for this: the reply, and its pass afterwards
 abbrev pub SeatObeys : ℕ → List Entries → Read Command → PassView → List ℕ → PassView → Type 0
 SeatObeys r h (Ok (Edit edit)) old text new = IsEdited r h edit old text new ⊎ IsRefused r h edit old text new
-SeatObeys r h (Ok (Get cell)) old text new = IsLook h (λ v. value_text (v cell)) old text new
+SeatObeys r h (Ok (Get cell)) old text new = IsLook h (λ v. value_text (v cell)) old text new ⊎ IsGone old text new
 SeatObeys r h (Ok (Rows first last)) old text new =
     IsLook h (λ v. rows_text ((spanned first last).height) (exported v (spanned first last))) old text new
+    ⊎ IsGone old text new
 SeatObeys r h (Ok (Pull from most)) old text new = IsHandedOut h from (unwrap_or most 1) old text new
 SeatObeys r h (Ok (Push delta)) old text new = IsTakenIn h delta old text new
 SeatObeys r h (Err refusal) old text new = (new ≡ old) × (text ≡ refusal_text refusal)
 
--- out of memory, nothing was appended
-pub record IsLacking (old : PassView) (text : List ℕ) (new : PassView) : Type 0 where
+-- out of memory, where what was asked for takes some; nothing was appended
+pub record IsLacking (takes : Type 0) (old : PassView) (text : List ℕ) (new : PassView) : Type 0 where
+  pub some : takes
   pub told : text ≡ refusal_text refusals.Memory
   pub counted : new.appended ≡ old.appended
 
@@ -97,18 +110,18 @@ pub record SeatServes (r : ℕ) (h : List Entries) (old : PassView) (line text :
   pub obeys : SeatObeys r h asked old text new
   pub goes_on : GoesOn old new
 
--- out of memory, a line appends nothing: where memory was taken to read it, or by what it asks for. Copies that are
--- gone, which no run meets, are told as out of memory too
-pub record SeatLacksMemory (old : PassView) (line text : List ℕ) (new : PassView) : Type 0 where
-  pub asked : Read Command
-  pub reads : ReadsLine line asked
-  pub takes : IfErr asked (λ e. e ≡ refusals.Memory)
-  pub lacks : IsLacking old text new
-  pub goes_on : GoesOn old new
+-- out of memory, a line appends nothing: where memory was taken to read it, or by what it asks for, over all that the
+-- pass has then seen
+pub record SeatLacksMemory (r : ℕ) (h : List Entries) (old : PassView) (line text : List ℕ) (new : PassView) : Type 0
+  where
+    pub asked : Read Command
+    pub reads : ReadsLine line asked
+    pub lacks : IsLacking (TakesMemory r (history_of h new.list) asked) old text new
+    pub goes_on : GoesOn old new
 
 -- ANSWER: what a session at a desk answers a line that isn't empty, and its pass afterwards
 abbrev pub SeatAnswers : ℕ → List Entries → Answering PassView
-SeatAnswers r h old line text new = SeatServes r h old line text new ⊎ SeatLacksMemory old line text new
+SeatAnswers r h old line text new = SeatServes r h old line text new ⊎ SeatLacksMemory r h old line text new
 
 -- .. and a line as it stands between line feeds
 abbrev pub SeatLines : ℕ → List Entries → Answering PassView

@@ -1,9 +1,9 @@
 //! Closing a desk.
 
-ghost use Rattle.std.specs.Prelude.{◌≡◌, ◌+◌, ◌≤◌, length, vec_len};
+ghost use Rattle.std.specs.Prelude.{◌≡◌, ◌+◌, ◌≤◌, All, length, vec_len};
 ghost use Rattle.ps_sheet.specs.Sheet.{IsSheet};
 ghost use Rattle.ps_face.specs.Legal.{IsLegal};
-ghost use Rattle.ps_desk.specs.Closing.{HistoryBegins, ListBegins, appended_of};
+ghost use Rattle.ps_desk.specs.Closing.{EndsAt, HistoryBegins, IsClosed, appended_of};
 
 use crate::desk::Desk;
 use crate::held::Held;
@@ -18,7 +18,8 @@ impl<L: DeskName, W: Wait + Drop> Desk<L, W> {
     /// Ends the desk, and gives its sheet back, once the passes of all seats are given back.
     ///
     /// The history begins with what each pass stands for, and has grown since the desk was opened by just what the
-    /// passes appended. So each delta of a fresh receipt stands at its number, and there is no other.
+    /// passes appended. Of each seat it has as many deltas as the seat's pass appended, which are its fresh receipts'.
+    /// So each delta that was added is that of exactly one of them, and stands at its number.
     ///
     /// Cost: that of freeing the published copies.
     pub fn close<V: Wait>(self, wait: &V, passes: Vec<Pass<L>>) -> Sheet
@@ -26,6 +27,7 @@ impl<L: DeskName, W: Wait + Drop> Desk<L, W> {
         ensures replica { result.replica ≡ L.replica }
         ensures begins { HistoryBegins L.opening result.history passes.items }
         ensures grown { length result.history ≡ length L.opening + appended_of passes.items }
+        ensures one { IsClosed L.opening result.history passes.items }
         ensures sheet { IsSheet result }
     {
         let held = take_out(wait, self.into_held());
@@ -35,7 +37,7 @@ impl<L: DeskName, W: Wait + Drop> Desk<L, W> {
 }
 
 /// What lay under the lock. It is out only while a call is under way.
-fn take_out<L: DeskName, W: Wait + Drop, V: Wait>(
+pub(crate) fn take_out<L: DeskName, W: Wait + Drop, V: Wait>(
     wait: &V,
     slot: Option<Held<L, W>>,
 ) -> Held<L, W> {
@@ -53,7 +55,7 @@ fn gather<L: DeskName, V: Wait>(wait: &V, front: &Front, mut passes: Vec<Pass<L>
     requires book { front.now.book ≡ L.book }
     requires legal { IsLegal L.opening front.now.list }
     requires some { 1 ≤ vec_len passes }
-    ensures begins { ListBegins front.now.list passes.items }
+    ensures ends { All (EndsAt front.now.list) passes.items }
     ensures parts { result.parts ≡ vec_len passes }
     ensures amount { result.amount ≡ appended_of passes.items }
 {
@@ -70,7 +72,7 @@ fn merge_all<L: DeskName, V: Wait>(
 ) -> Share<L>
     requires book { front.now.book ≡ L.book }
     requires legal { IsLegal L.opening front.now.list }
-    ensures begins { ListBegins front.now.list passes.items }
+    ensures ends { All (EndsAt front.now.list) passes.items }
     ensures parts { result.parts ≡ all.parts + vec_len passes }
     ensures amount { result.amount ≡ all.amount + appended_of passes.items }
 {

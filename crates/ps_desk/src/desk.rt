@@ -1,16 +1,18 @@
 //! The desk: a lock round what its passes share.
 
 ghost use Rattle.std.specs.Prelude.{◌≡◌, ◌⊎◌, ◌+◌, ◌<◌, ◌≤◌, ◌^◌, true, if◌then◌else◌, drop, length, map, take};
-ghost use Rattle.std.specs.Prelude.{Ok, Err, IfOk, IfErr, OnOk, OnErr};
+ghost use Rattle.std.specs.Prelude.{Ok, Err, IsOk, IfOk, IfErr, OnOk, OnErr};
 ghost use Rattle.std.specs.Arc.{arc_value};
 ghost use mathlib.Core.List.{IsPrefix};
 ghost use Rattle.ps_grid.specs.declared.refusal.Refusal.TheVariants.{Memory, Version};
-ghost use Rattle.ps_delta.specs.Deltas.{joined_history};
+ghost use Rattle.ps_delta.specs.State.{IsBelow};
+ghost use Rattle.ps_delta.specs.Deltas.{joined_history, state_of};
 ghost use Rattle.ps_sheet.specs.Edits.{delta_of_edit};
-ghost use Rattle.ps_sheet.specs.Prepared.{IsDeltaOf, IsRefusedBy};
-ghost use Rattle.ps_face.specs.Legal.{history_of};
+ghost use Rattle.ps_sheet.specs.Prepared.{IsDeltaOf, IsRefusedBy, IsToAppend};
+ghost use Rattle.ps_face.specs.Legal.{IsLegal, history_of};
 ghost use Rattle.ps_desk.specs.Receipts.{IsAppended, Tells};
 
+use crate::close::take_out;
 use crate::held::Held;
 use crate::name::DeskName;
 use crate::pass::Pass;
@@ -77,8 +79,9 @@ impl<L: DeskName, W: Wait + Drop> Desk<L, W> {
 
     /// Makes the delta of an edit over the sheet's state, appends it to the history, and shows it to all who read.
     ///
-    /// Refused as [`ps_sheet::Sheet::edit`] is, over the history that the pass has then seen, and when out of memory.
-    /// It may wait for other calls, and for those that still read what was published before the last patch.
+    /// Refused as [`ps_sheet::Sheet::edit`] is, over the history that the pass has then seen, and when out of memory,
+    /// where there is such a delta. It may wait for other calls, and for those that still read what was published
+    /// before the last patch.
     ///
     /// Cost: that of [`ps_sheet::Sheet::prepare`], and twice the cells that show another value.
     pub fn edit<R: Threads + Sync, V: Wait, M: Ledger>(
@@ -91,11 +94,14 @@ impl<L: DeskName, W: Wait + Drop> Desk<L, W> {
         meter: &mut Meter<M>,
     ) -> Result<Receipt, Refusal>
         ensures later { IsPrefix pass.old.list pass.new.list }
+        ensures legal { IsLegal L.opening pass.new.list }
         ensures fresh { IfOk result (λ r. r.fresh ≡ true) }
         ensures receipt { IfOk result (IsAppended (λ s d. delta_of_edit L.replica s edit ≡ Ok d) L.opening
             pass.old.list pass.new.list pass.old.seat) }
         ensures refused { IfErr result (λ e. (e ≡ Memory)
             ⊎ (delta_of_edit L.replica (joined_history (history_of L.opening pass.new.list)) edit ≡ Err e)) }
+        ensures asked { IfErr result (λ e. e ≡ Memory
+            → IsOk (delta_of_edit L.replica (joined_history (history_of L.opening pass.new.list)) edit)) }
         ensures counted { OnOk result (pass.new.appended ≡ pass.old.appended + 1) }
         ensures uncounted { OnErr result (pass.new.appended ≡ pass.old.appended) }
         ensures seat { (pass.new.seat ≡ pass.old.seat) × (pass.new.enters ≡ pass.old.enters) }
@@ -110,7 +116,7 @@ impl<L: DeskName, W: Wait + Drop> Desk<L, W> {
     /// Accepts a delta made elsewhere: appends it to the history and shows it to all who read, unless it is below the
     /// joined history already.
     ///
-    /// Refused only when out of memory. It may wait as [`Desk::edit`] does.
+    /// Refused only when out of memory, where the delta was to be appended. It may wait as [`Desk::edit`] does.
     ///
     /// Cost: that of [`ps_sheet::Sheet::prepare`], and twice the cells that show another value.
     pub fn receive<R: Threads + Sync, V: Wait, M: Ledger>(
@@ -123,9 +129,12 @@ impl<L: DeskName, W: Wait + Drop> Desk<L, W> {
         meter: &mut Meter<M>,
     ) -> Result<Receipt, Refusal>
         ensures later { IsPrefix pass.old.list pass.new.list }
+        ensures legal { IsLegal L.opening pass.new.list }
         ensures receipt { IfOk result (Tells (λ s d. d ≡ arc_value delta) L.opening pass.old.list pass.new.list
             pass.old.seat) }
         ensures memory { IfErr result (λ e. e ≡ Memory) }
+        ensures asked { OnErr result (¬ IsBelow (state_of (arc_value delta))
+            (joined_history (history_of L.opening pass.new.list))) }
         ensures counted { IfOk result (λ r. pass.new.appended
             ≡ pass.old.appended + (if r.fresh then 1 else 0)) }
         ensures uncounted { OnErr result (pass.new.appended ≡ pass.old.appended) }
@@ -137,7 +146,8 @@ impl<L: DeskName, W: Wait + Drop> Desk<L, W> {
     /// The deltas of the history after the number `from`, in order, at most so many. The pass has then seen all that is
     /// published.
     ///
-    /// Refused where the history is shorter than the number, and when out of memory. It may wait for other calls.
+    /// Refused where the history is shorter than the number, and when out of memory, where there are such deltas. It
+    /// may wait for other calls.
     ///
     /// Cost: the deltas that are handed out.
     pub fn pull<V: Wait>(
@@ -149,25 +159,23 @@ impl<L: DeskName, W: Wait + Drop> Desk<L, W> {
         at_most: usize,
     ) -> Result<Vec<Arc<Delta>>, Refusal>
         ensures later { IsPrefix pass.old.list pass.new.list }
+        ensures legal { IsLegal L.opening pass.new.list }
         ensures deltas { IfOk result (λ ds. map arc_value ds.items
             ≡ take at_most (drop from (history_of L.opening pass.new.list))) }
         ensures there { IfOk result (λ _. from ≤ length (history_of L.opening pass.new.list)) }
         ensures bound { IfOk result (λ _. length (history_of L.opening pass.new.list) < 2 ^ 64) }
         ensures refused { IfErr result (λ e. (e ≡ Memory)
             ⊎ ((e ≡ Version) × (length (history_of L.opening pass.new.list) < from))) }
+        ensures asked { IfErr result (λ e. e ≡ Memory → from < length (history_of L.opening pass.new.list)) }
         ensures same { (pass.new.appended ≡ pass.old.appended) × (pass.new.seat ≡ pass.old.seat)
             × (pass.new.enters ≡ pass.old.enters) }
     {
-        let guard = self.held.lock(wait);
-        // No other call is under way while the lock is held.
-        let Some(held) = &*guard else {
-            return Err(Refusal::Memory);
-        };
-        // A pass has never seen more than what is published.
-        if !pass.catch_up(held.front()) {
-            return Err(Refusal::Memory);
-        }
-        held.deltas_after(alloc, from, at_most)
+        let mut guard = self.held.lock(wait);
+        let held = take_out(wait, guard.take());
+        pass.catch_up(wait, held.front());
+        let deltas = held.deltas_after(alloc, from, at_most);
+        *guard = Some(held);
+        deltas
     }
 
     /// Makes a change under the lock.
@@ -181,21 +189,21 @@ impl<L: DeskName, W: Wait + Drop> Desk<L, W> {
         meter: &mut Meter<M>,
     ) -> Result<Receipt, Refusal>
         ensures later { IsPrefix pass.old.list pass.new.list }
+        ensures legal { IsLegal L.opening pass.new.list }
         ensures receipt { IfOk result (Tells (λ s d. IsDeltaOf L.replica s change d) L.opening pass.old.list
             pass.new.list pass.old.seat) }
         ensures refused { IfErr result (λ e. (e ≡ Memory)
             ⊎ IsRefusedBy L.replica (joined_history (history_of L.opening pass.new.list)) change e) }
+        ensures asked { IfErr result (λ e. e ≡ Memory
+            → IsToAppend L.replica (joined_history (history_of L.opening pass.new.list)) change) }
         ensures counted { IfOk result (λ r. pass.new.appended
             ≡ pass.old.appended + (if r.fresh then 1 else 0)) }
         ensures uncounted { OnErr result (pass.new.appended ≡ pass.old.appended) }
         ensures seat { (pass.new.seat ≡ pass.old.seat) × (pass.new.enters ≡ pass.old.enters) }
     {
         let mut guard = self.held.lock(wait);
-        // No other call is under way while the lock is held.
-        let Some(held) = guard.take() else {
-            return Err(Refusal::Memory);
-        };
-        let (held, answer) = held.make(rt, alloc, pass, change, meter);
+        let held = take_out(wait, guard.take());
+        let (held, answer) = held.make(rt, wait, alloc, pass, change, meter);
         *guard = Some(held);
         answer
     }

@@ -5,8 +5,9 @@ ghost use Rattle.std.specs.Prelude.{drop, length, map, take, Err, IfOk, IfErr, O
 ghost use Rattle.std.specs.Arc.{arc_value};
 ghost use mathlib.Core.List.{IsPrefix};
 ghost use Rattle.ps_grid.specs.declared.refusal.Refusal.TheVariants.{Memory, Version};
-ghost use Rattle.ps_delta.specs.Deltas.{joined_history};
-ghost use Rattle.ps_sheet.specs.Prepared.{IsDeltaOf, IsRefusedBy, history_after};
+ghost use Rattle.ps_delta.specs.State.{IsBelow};
+ghost use Rattle.ps_delta.specs.Deltas.{joined_history, state_of};
+ghost use Rattle.ps_sheet.specs.Prepared.{IsDeltaOf, IsRefusedBy, IsToAppend, history_after};
 ghost use Rattle.ps_sheet.specs.Sheet.{IsSheet};
 ghost use Rattle.ps_face.specs.Legal.{IsLegal, history_of};
 ghost use Rattle.ps_desk.specs.UnderLock.{IsUnderLock};
@@ -98,21 +99,26 @@ impl<L: DeskName, W: Wait + Drop> Held<L, W> {
 
     /// Makes a change for the session of a pass, which has then seen all that is published.
     ///
-    /// Refused as the sheet refuses the change, and when out of memory; then nothing is published.
-    pub(crate) fn make<R: Threads + Sync, M: Ledger>(
+    /// Refused as the sheet refuses the change, and when out of memory, where the change was to be appended; then
+    /// nothing is published.
+    pub(crate) fn make<R: Threads + Sync, V: Wait, M: Ledger>(
         self,
         rt: &R,
+        wait: &V,
         alloc: Global,
         pass: &mut Pass<L>,
         change: Change,
         meter: &mut Meter<M>,
     ) -> (Held<L, W>, Result<Receipt, Refusal>)
         ensures later { IsPrefix pass.old.list pass.new.list }
-        ensures all { IfOk result.1 (λ _. pass.new.list ≡ result.0) }
+        ensures all { pass.new.list ≡ result.0 }
+        ensures legal { IsLegal L.opening pass.new.list }
         ensures receipt { IfOk result.1 (Tells (λ s d. IsDeltaOf L.replica s change d) L.opening pass.old.list
             pass.new.list pass.old.seat) }
         ensures refused { IfErr result.1 (λ e. (e ≡ Memory)
             ⊎ IsRefusedBy L.replica (joined_history (history_of L.opening pass.new.list)) change e) }
+        ensures asked { IfErr result.1 (λ e. e ≡ Memory
+            → IsToAppend L.replica (joined_history (history_of L.opening pass.new.list)) change) }
         ensures kept { OnErr result.1 (result.0 ≡ self) }
         ensures counted { IfOk result.1 (λ r. pass.new.appended
             ≡ pass.old.appended + (if r.fresh then 1 else 0)) }
@@ -124,19 +130,16 @@ impl<L: DeskName, W: Wait + Drop> Held<L, W> {
             copies,
             book,
         } = self;
-        // A pass has never seen more than what is published.
-        if !pass.catch_up(copies.front()) {
-            return (Held::of(sheet, copies, book), Err(Refusal::Memory));
-        }
+        pass.catch_up(wait, copies.front());
         match sheet.prepare(rt, alloc, change, meter) {
             Err((sheet, refusal)) => (Held::of(sheet, copies, book), Err(refusal)),
-            Ok(prepared) => settle(alloc, prepared, copies, book, pass),
+            Ok(prepared) => settle(wait, alloc, prepared, copies, book, pass),
         }
     }
 
     /// The deltas of the history after a number, in order, at most so many.
     ///
-    /// Refused where the history is shorter than the number, and when out of memory.
+    /// Refused where the history is shorter than the number, and when out of memory, where there are such deltas.
     pub(crate) fn deltas_after(
         &self,
         alloc: Global,
@@ -147,11 +150,15 @@ impl<L: DeskName, W: Wait + Drop> Held<L, W> {
             ≡ take at_most (drop from (history_of L.opening self.now))) }
         ensures above { (result ≡ Err Version) ↔ (length (history_of L.opening self.now) < from) }
         ensures other { IfErr result (λ e. (e ≡ Version) ⊎ (e ≡ Memory)) }
+        ensures asked { result ≡ Err Memory → from < length (history_of L.opening self.now) }
         ensures bound { length (history_of L.opening self.now) < 2 ^ 64 }
     {
         let history = self.sheet.history();
         if from > history.len() as u64 {
             return Err(Refusal::Version);
+        }
+        if from == history.len() as u64 {
+            return Ok(Vec::new(alloc));
         }
         let later = &history[from as usize..];
         if at_most < later.len() {
@@ -185,8 +192,21 @@ fn copy_deltas(alloc: Global, deltas: &[Arc<Delta>]) -> Result<Vec<Arc<Delta>>, 
     Ok(copied)
 }
 
+/// One more owner of a delta. It tries again where a delta has as many owners as can be counted.
+fn share<V: Wait>(wait: &V, delta: &Arc<Delta>) -> Arc<Delta>
+    ensures { arc_value result ≡ arc_value delta.now }
+{
+    for _ in wait.forever() {
+        if let Ok(shared) = delta.clone() {
+            return shared;
+        }
+    }
+    unreachable!()
+}
+
 /// Makes a prepared change, or gives it up where it can't be told.
-fn settle<L: DeskName, W: Wait + Drop>(
+fn settle<L: DeskName, W: Wait + Drop, V: Wait>(
+    wait: &V,
     alloc: Global,
     prepared: Prepared,
     copies: FaceWriter<L, W>,
@@ -196,19 +216,18 @@ fn settle<L: DeskName, W: Wait + Drop>(
     requires kept { IsUnderLock L.replica L.opening prepared.replica prepared.history copies book.total }
     requires seen { pass.old.list ≡ copies.list }
     ensures later { IsPrefix pass.old.list pass.new.list }
-    ensures all { IfOk result.1 (λ _. pass.new.list ≡ result.0) }
+    ensures all { pass.new.list ≡ result.0 }
     ensures receipt { IfOk result.1 (Tells (λ s d. (s ≡ joined_history prepared.history) × (d ≡ prepared.delta))
         L.opening pass.old.list pass.new.list pass.old.seat) }
     ensures memory { IfErr result.1 (λ e. e ≡ Memory) }
+    ensures asked { OnErr result.1 (¬ IsBelow (state_of prepared.delta) (joined_history prepared.history)) }
     ensures kept { OnErr result.1 ((result.0 ≡ copies.list) × (pass.new ≡ pass.old)) }
     ensures counted { IfOk result.1 (λ r. pass.new.appended ≡ pass.old.appended + (if r.fresh then 1 else 0)) }
     ensures seat { (pass.new.seat ≡ pass.old.seat) × (pass.new.enters ≡ pass.old.enters) }
 {
-    let Ok(delta) = prepared.delta().clone() else {
-        return (give_up(prepared, copies, book), Err(Refusal::Memory));
-    };
+    let delta = share(wait, prepared.delta());
     if prepared.fresh() {
-        return append(alloc, prepared, delta, copies, book, pass);
+        return append(wait, alloc, prepared, delta, copies, book, pass);
     }
     let receipt = Receipt {
         number: prepared.report().version,
@@ -219,7 +238,8 @@ fn settle<L: DeskName, W: Wait + Drop>(
 }
 
 /// Publishes a fresh change and makes it, or gives it up where it can't be told.
-fn append<L: DeskName, W: Wait + Drop>(
+fn append<L: DeskName, W: Wait + Drop, V: Wait>(
+    wait: &V,
     alloc: Global,
     prepared: Prepared,
     delta: Arc<Delta>,
@@ -231,7 +251,7 @@ fn append<L: DeskName, W: Wait + Drop>(
     requires delta { arc_value delta ≡ prepared.delta }
     requires kept { IsUnderLock L.replica L.opening prepared.replica prepared.history copies book.total }
     requires seen { pass.old.list ≡ copies.list }
-    ensures all { IfOk result.1 (λ _. pass.new.list ≡ result.0) }
+    ensures all { pass.new.list ≡ result.0 }
     ensures published { IfOk result.1 (λ _. pass.new.list
         ≡ pass.old.list ++ note_of prepared pass.old.seat ∷ []) }
     ensures receipt { IfOk result.1 (λ r. (r.number ≡ prepared.report.version)
@@ -250,9 +270,11 @@ fn append<L: DeskName, W: Wait + Drop>(
         delta,
         fresh: true,
     };
+    // for the fact that the pass has seen what it appended
+    let _ = pass.appended();
     let copies = copies.publish();
+    pass.catch_up(wait, copies.front());
     pass.count(&mut book);
-    let _ = pass.catch_up(copies.front());
     (commit(prepared, copies, book), Ok(receipt))
 }
 

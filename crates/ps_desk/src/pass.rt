@@ -1,10 +1,11 @@
 //! A session's pass.
 
-ghost use Rattle.std.specs.Prelude.{◌≡◌, ◌+◌, ◌<◌, ◌^◌, length, IfNone, IfSome, MatchBool};
+ghost use Rattle.std.specs.Prelude.{◌≡◌, ◌+◌, ◌<◌, ◌≤◌, ◌^◌, length, IfNone, IfSome};
 ghost use mathlib.Core.List.{IsPrefix};
 ghost use Rattle.ps_grid.specs.declared.size.TheConstants.{CELLS};
 ghost use Rattle.ps_face.specs.Legal.{IsLegal, Shows, history_of};
-ghost use Rattle.ps_desk.specs.Passes.{IsShown};
+ghost use Rattle.ps_desk.specs.Closing.{EndsAt};
+ghost use Rattle.ps_desk.specs.Passes.{IsShown, owned_by};
 
 use crate::name::DeskName;
 use crate::shot::Shot;
@@ -42,7 +43,7 @@ impl<L: DeskName> Model for Pass<L> {
       seat = p.seat;
     } };
 
-    ghost invariant = { λ p. IsPass p.reader p.share.parts p.share.amount p.appended };
+    ghost invariant = { λ p. IsPass p.reader p.share.parts p.share.amount p.appended p.seat };
 }
 
 impl<L: DeskName> Pass<L> {
@@ -60,11 +61,12 @@ impl<L: DeskName> Pass<L> {
         }
     }
 
-    /// How many deltas this pass appended.
+    /// How many deltas this pass appended. The list that it has seen has as many patches of its seat, or more.
     ///
     /// Cost: constant.
     pub fn appended(&self) -> u64
         ensures appended { result ≡ self.now.appended }
+        ensures owned { result ≤ owned_by self.now.seat self.now.list }
     {
         self.appended
     }
@@ -143,23 +145,26 @@ impl<L: DeskName> Pass<L> {
         self.seat
     }
 
-    /// Takes a beginning of the published list that is as long as what was seen, or longer.
-    pub(crate) fn catch_up(&mut self, front: &Front) -> bool
+    /// Has seen the whole published list. No run meets a pass that has seen more, for which it would wait for ever.
+    pub(crate) fn catch_up<V: Wait>(&mut self, wait: &V, front: &Front)
         requires book { front.now.book ≡ L.book }
         requires legal { IsLegal L.opening front.now.list }
-        ensures { MatchBool result
-            (IsPrefix self.old.list front.now.list × (self.new ≡ record self.old { list = front.now.list }))
-            ((length front.now.list < length self.old.list) × (self.new ≡ self.old)) }
+        ensures later { IsPrefix self.old.list front.now.list }
+        ensures pass { self.new ≡ record self.old { list = front.now.list } }
     {
         let mut reader = self.reader.take().unwrap();
         let learned = reader.learn(front);
         self.reader = Some(reader);
-        learned
+        if !learned {
+            for _ in wait.forever() {}
+            unreachable!()
+        }
     }
 
-    /// Counts one delta more.
+    /// Counts one delta more, whose patch it has seen.
     pub(crate) fn count(&mut self, book: &mut Book<L>)
         requires room { book.old.total + 1 < 2 ^ 64 }
+        requires owned { self.old.appended + 1 ≤ owned_by self.old.seat self.old.list }
         ensures pass { self.new ≡ record self.old { appended = self.old.appended + 1 } }
         ensures book { book.new.total ≡ book.old.total + 1 }
     {
@@ -174,18 +179,14 @@ impl<L: DeskName> Pass<L> {
         *appended += 1;
     }
 
-    /// Gives up its share, where what it has seen is a beginning of the published list. No run meets another one; the
-    /// call would wait for ever.
+    /// Gives up its share.
     pub(crate) fn end<V: Wait>(mut self, wait: &V, front: &Front) -> Share<L>
         requires book { front.now.book ≡ L.book }
         requires legal { IsLegal L.opening front.now.list }
-        ensures begins { IsPrefix self.list front.now.list }
+        ensures ends { EndsAt front.now.list self }
         ensures share { (result.parts ≡ 1) × (result.amount ≡ self.appended) }
     {
-        if !self.catch_up(front) {
-            for _ in wait.forever() {}
-            unreachable!()
-        }
+        self.catch_up(wait, front);
         let Pass { share, .. } = self;
         share
     }

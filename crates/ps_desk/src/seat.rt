@@ -1,10 +1,14 @@
 //! A session at a desk.
 
-ghost use Rattle.std.specs.Prelude.{◌≡◌, ◌⊎◌, Ok};
+ghost use Rattle.std.specs.Prelude.{◌≡◌, ◌⊎◌, ◌<◌, ⊤, IsOk, Ok, length};
 ghost use Rattle.ps_grid.specs.Rectangle.{LiesInGrid};
+ghost use Rattle.ps_delta.specs.Deltas.{joined_history};
 ghost use Rattle.ps_csv.specs.Exports.{exported};
+ghost use Rattle.ps_sheet.specs.Edits.{delta_of_edit};
+ghost use Rattle.ps_face.specs.Legal.{history_of};
+ghost use Rattle.ps_session.specs.Answers.{TakesMemory};
 ghost use Rattle.ps_session.specs.Replies.{reply_text, rows_text, value_text};
-ghost use Rattle.ps_desk.specs.Seats.{GoesOn, IsEdited, IsHandedOut, IsLacking, IsLook, IsRefused, IsTakenIn};
+ghost use Rattle.ps_desk.specs.Seats.{GoesOn, IsEdited, IsGone, IsHandedOut, IsLacking, IsLook, IsRefused, IsTakenIn};
 ghost use Rattle.ps_desk.specs.Seats.{SeatObeys};
 
 use crate::desk::Desk;
@@ -95,7 +99,8 @@ impl<L: DeskName, W: Wait + Drop, V: Wait> Seat<'_, L, W, V> {
         meter: &mut Meter<M>,
     ) -> Reply
         ensures obeyed { SeatObeys L.replica L.opening (Ok command) self.old (reply_text result) self.new
-            ⊎ IsLacking self.old (reply_text result) self.new }
+            ⊎ IsLacking (TakesMemory L.replica (history_of L.opening self.new.list) (Ok command)) self.old
+            (reply_text result) self.new }
         ensures goes_on { GoesOn self.old self.new }
     {
         match command {
@@ -117,7 +122,8 @@ impl<L: DeskName, W: Wait + Drop, V: Wait> Seat<'_, L, W, V> {
     ) -> Reply
         ensures edited { (IsEdited L.replica L.opening edit self.old (reply_text result) self.new
             ⊎ IsRefused L.replica L.opening edit self.old (reply_text result) self.new)
-            ⊎ IsLacking self.old (reply_text result) self.new }
+            ⊎ IsLacking (IsOk (delta_of_edit L.replica (joined_history (history_of L.opening self.new.list)) edit))
+            self.old (reply_text result) self.new }
         ensures goes_on { GoesOn self.old self.new }
     {
         match self
@@ -132,20 +138,21 @@ impl<L: DeskName, W: Wait + Drop, V: Wait> Seat<'_, L, W, V> {
     /// What a cell shows.
     fn show(&mut self, cell: Cell) -> Reply
         ensures shown { IsLook L.opening (λ v. value_text (v cell)) self.old (reply_text result) self.new
-            ⊎ IsLacking self.old (reply_text result) self.new }
+            ⊎ IsGone self.old (reply_text result) self.new }
         ensures goes_on { GoesOn self.old self.new }
     {
         match self.pass.read(cell) {
             Some(shot) => Reply::Shown(shot.value),
-            None => Reply::Refused(Refusal::Memory),
+            None => Reply::Refused(Refusal::Seat),
         }
     }
 
     /// The shown values of a rectangle as a table, by one look at all cells.
     fn show_table(&mut self, alloc: Global, rect: Rect) -> Reply
         requires in_grid { LiesInGrid rect }
-        ensures shown { IsLook L.opening (λ v. rows_text rect.height (exported v rect)) self.old (reply_text result)
-            self.new ⊎ IsLacking self.old (reply_text result) self.new }
+        ensures shown { (IsLook L.opening (λ v. rows_text rect.height (exported v rect)) self.old (reply_text result)
+            self.new ⊎ IsGone self.old (reply_text result) self.new)
+            ⊎ IsLacking ⊤ self.old (reply_text result) self.new }
         ensures goes_on { GoesOn self.old self.new }
     {
         let mut values = match vec![in alloc; Value::Empty; CELLS] {
@@ -153,7 +160,7 @@ impl<L: DeskName, W: Wait + Drop, V: Wait> Seat<'_, L, W, V> {
             Err(_) => return Reply::Refused(Refusal::Memory),
         };
         let Some(_) = self.pass.read_all(&mut values) else {
-            return Reply::Refused(Refusal::Memory);
+            return Reply::Refused(Refusal::Seat);
         };
         match exported_text(alloc, &AllShown::new(values), rect) {
             Ok(table) => Reply::Rows(rect.height() as u64, table),
@@ -165,7 +172,7 @@ impl<L: DeskName, W: Wait + Drop, V: Wait> Seat<'_, L, W, V> {
     /// under the lock, and their line is made after it.
     fn hand_out(&mut self, alloc: Global, from: u64, most: usize) -> Reply
         ensures handed { IsHandedOut L.opening from most self.old (reply_text result) self.new
-            ⊎ IsLacking self.old (reply_text result) self.new }
+            ⊎ IsLacking (from < length (history_of L.opening self.new.list)) self.old (reply_text result) self.new }
         ensures goes_on { GoesOn self.old self.new }
     {
         // one at least, so that there is none only at the end
@@ -195,7 +202,7 @@ impl<L: DeskName, W: Wait + Drop, V: Wait> Seat<'_, L, W, V> {
         meter: &mut Meter<M>,
     ) -> Reply
         ensures taken { IsTakenIn L.opening delta self.old (reply_text result) self.new
-            ⊎ IsLacking self.old (reply_text result) self.new }
+            ⊎ IsLacking ⊤ self.old (reply_text result) self.new }
         ensures goes_on { GoesOn self.old self.new }
     {
         let pushed = match Arc::new(alloc, delta) {

@@ -1,14 +1,13 @@
-use Rattle.std.proofs.Common.{◌≡◌, List, ◌∷◌, [], length, sym, ap, subst, arith, rules, length-append, refl, ◌∙◌}
+use Rattle.std.proofs.Common.{◌≡◌, List, ◌∷◌, [], All, length, sym, ap, subst, arith, rules, length-append, refl, ◌∙◌}
 use Rattle.std.specs.Prelude.{map}
 use Rattle.std.specs.Vec.Iter.{into_iter_items, into_iter_len}
 use Rattle.std.proofs.lemmas.Iterator.Adapters.{YieldsList-from_vec}
 use Rattle.std.proofs.lemmas.Iterator.Consumers.{YieldsList-end}
 use Rattle.std.proofs.lemmas.List.Elements.{All-push}
 use Rattle.std.proofs.lemmas.List.Sums.{sum_by-append}
-use mathlib.Core.List.{IsPrefix}
 use Rattle.ps_face.specs.declared.patch.Note.{Note}
 use Rattle.ps_desk.specs.Passes.{PassView}
-use Rattle.ps_desk.specs.Closing.{ListBegins}
+use Rattle.ps_desk.specs.Closing.{EndsAt}
 use Rattle.ps_desk.proofs.close.merge_all.Goals as goal
 
 pub loop-pass-preserved : goal.loop-pass-preserved
@@ -25,15 +24,15 @@ loop-pass-preserved g c =
         c.merge.ensures.amount,
         c.end.ensures.share.1,
       ),
-      All-push (λ p. IsPrefix p.list list) yielded pass i.2 c.end.ensures.begins,
+      All-push (EndsAt list) yielded pass i.2 c.end.ensures.ends,
     )
 
 map_same : (xs : List PassView) → map (λ y. y) xs ≡ xs
 map_same [] = refl
 map_same (x ∷ xs) = ap (λ l. x ∷ l) (map_same xs)
 
-pub returns-clause-begins : goal.returns-clause-begins
-returns-clause-begins g c =
+pub returns-clause-ends : goal.returns-clause-ends
+returns-clause-ends g c =
     let passes : List PassView = c.args.passes.items in
     let it = c.into_iter-pass-iterator in
     let items : into_iter_items it.result ≡ passes = search rules in
@@ -42,4 +41,4 @@ returns-clause-begins g c =
     c.loop-pass.yielded c.loop-pass.pass-iterator c.loop-pass.yielded_by _ c.next.new.self c.in-None.is
     c.next.ensures.steps in
     let all : c.loop-pass.yielded ≡ passes = sym (map_same c.loop-pass.yielded) ∙ seen.0 in
-    subst (λ (l : List PassView). ListBegins c.args.front.now.list l) all c.loop-pass.invariant.2
+    subst (λ (l : List PassView). All (EndsAt c.args.front.now.list) l) all c.loop-pass.invariant.2

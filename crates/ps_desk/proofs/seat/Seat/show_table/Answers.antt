@@ -20,7 +20,7 @@ returns-in-Ok-exported_text-clause-shown g c =
     let text = c.in-Ok-exported_text.ensures.text
     ∙ ap (λ (vs : List Value). exported (λ k. slice_index_or vs k Empty) rect) items
     ∙ table_of_values shows.0 c.read_all.new.values rect c.requires.in_grid shows.2 in
-    inl (record {
+    inl (inl (record {
       legal = c.in-Some.ensures.legal;
       values = shows.0;
       settled = shows.1;
@@ -28,4 +28,4 @@ returns-in-Ok-exported_text-clause-shown g c =
           ∙ ap (λ (n : ℕ). rows_text n (exported shows.0 rect)) c.height.ensures.height;
       counted = c.in-Some.ensures.same.0 ∙ ap (λ (p : PassView). p.appended) c.self.view_is;
       entered = c.in-Some.ensures.step ∙ ap (λ (p : PassView). p.enters + 1) c.self.view_is;
-    })
+    }))
