@@ -1,57 +1,132 @@
--- What a sheet does with a line is the answer to the line.
-use Rattle.std.proofs.Common.{◌≡◌, ◌≢◌, ◌⊎◌, inl, inr, refl, ap, ℕ, List, Ok, Err}
+-- What a sheet answers by the calls of a board is what a sheet answers a line.
+use Rattle.std.proofs.Common.{◌≡◌, ◌≢◌, ◌⊎◌, ◌<◌, ◌++◌, ◌∷◌, [], ◌∙◌, inl, inr, refl, ap, arith}
+use Rattle.std.proofs.Common.{ℕ, List, length, max, Result, Ok, Err}
+use Rattle.std.specs.Prelude.{IfErr, IfOk, IsOkAnd, drop, take, unwrap_or}
+use Rattle.ps_grid.specs.Rectangle.{spanned}
 use Rattle.ps_grid.specs.declared.refusal.Refusal.{Refusal}
 use Rattle.ps_grid.specs.declared.refusal.Refusal.TheVariants as refusals
+use Rattle.ps_delta.specs.Deltas.{Entries, joined_history}
+use Rattle.ps_sheet.specs.Edits.{delta_of_edit}
 use Rattle.ps_sheet.specs.Sheet.{SheetView}
-use Rattle.ps_session.specs.Commands.{ReadsLine}
-use Rattle.ps_session.specs.Answers.{Answers, Obeys, TakesMemory}
-use Rattle.ps_session.specs.Replies.{refusal_text}
+use Rattle.ps_session.specs.Boards.{BoardAnswers, Obeyed}
+use Rattle.ps_session.specs.Commands.{Read, ReadsLine, with_part}
+use Rattle.ps_session.specs.Answers.{Answers, Edited, Obeys, TakesMemory}
+use Rattle.ps_session.specs.Replies.{done_text, refusal_text, rows_text, value_text}
+use Rattle.ps_session.specs.SheetBoard.{SheetCalls, SheetPulls}
 use Rattle.ps_session.specs.declared.command.Command.{Command}
+use Rattle.ps_session.specs.declared.command.Command.TheVariants as commands
+use Rattle.ps_session.proofs.PulledLemmas.{hands_out}
 
 -- a refusal is out of memory, or it isn't
 pub memory_or_other : (refusal : Refusal) → (refusal ≡ refusals.Memory) ⊎ (refusal ≢ refusals.Memory)
 memory_or_other refusals.Memory = inl refl
 memory_or_other _ = inr (λ is. cc)
 
--- a line that was read as a command, which was carried out or was out of memory
-pub answer_of_command : (old new : SheetView) (line text : List ℕ) (command : Command) → ReadsLine line (Ok command)
-    → Obeys old.replica old.history (Ok command) text new.history
-    ⊎ (TakesMemory old.replica old.history (Ok command) × (text ≡ refusal_text refusals.Memory)
-    × (new.history ≡ old.history))
-    → new.replica ≡ old.replica → Answers old line text new
-answer_of_command old new line text command reads (inl obeys) replica = inl (record {
-  asked = Ok command;
-  reads = reads;
-  ample = λ is. cc;
-  obeys = obeys;
-  replica = replica;
-})
-answer_of_command old new line text command reads (inr lacks) replica = inr (record {
-  asked = Ok command;
-  reads = reads;
-  takes = lacks.0;
-  told = lacks.1;
-  history = lacks.2;
-  replica = replica;
-})
+-- deltas of the history before its end
+pub sheet_pulls : {V : Type 0} (deltas : V → List Entries) (old : SheetView) (from most : ℕ) (r : Result V Refusal)
+    → from < length old.history → IfOk r (λ v. deltas v ≡ take most (drop from old.history))
+    → IfErr r (λ e. e ≡ refusals.Memory) → SheetPulls old from most (with_part deltas r) old
+sheet_pulls deltas old from most (Ok v) inside is memory = (omega (arith, inside), is, refl)
+sheet_pulls deltas old from most (Err e) inside is memory = (inr (memory, inside), refl)
 
--- a line that was read as a refusal
-pub answer_of_refusal : (sheet : SheetView) (line : List ℕ) (refusal : Refusal) → ReadsLine line (Err refusal)
-    → Answers sheet line (refusal_text refusal) sheet
-answer_of_refusal sheet line refusal reads = elim (memory_or_other refusal) [
-  | inl is ↦ inr (record {
-    asked = Err refusal;
+edited_of : (made : Result Entries Refusal) (history next : List Entries) (number : ℕ) (text : List ℕ)
+    → IsOkAnd made (λ d. next ≡ history ++ d ∷ []) → number ≡ length next → text ≡ done_text number
+    → Edited made history text next
+edited_of (Ok d) history next number text made counts told = (made, told ∙ ap done_text counts)
+edited_of (Err e) history next number text made counts told = absurd made
+
+refused_of : (made : Result Entries Refusal) (history next : List Entries) (refusal : Refusal) (text : List ℕ)
+    → made ≡ Err refusal → next ≡ history → text ≡ refusal_text refusal → Edited made history text next
+refused_of (Ok d) history next refusal text made stays told = absurd cc
+refused_of (Err e) history next refusal text made stays told =
+    let same : refusal ≡ e = cc in
+    (stays, told ∙ ap refusal_text same)
+
+module _ (old new : SheetView) (line text : List ℕ) where
+  serves : (command : Command) → ReadsLine line (Ok command)
+      → Obeys old.replica old.history (Ok command) text new.history → new.replica ≡ old.replica
+      → Answers old line text new
+  serves command reads obeys replica = inl (record {
+    asked = Ok command;
     reads = reads;
-    takes = is;
-    told = ap refusal_text is;
-    history = refl;
-    replica = refl;
+    ample = λ is. cc;
+    obeys = obeys;
+    replica = replica;
   })
-  | inr other ↦ inl (record {
-    asked = Err refusal;
+
+  lacks : (asked : Read Command) → ReadsLine line asked → TakesMemory old.replica old.history asked
+      → text ≡ refusal_text refusals.Memory → new ≡ old → Answers old line text new
+  lacks asked reads takes told same = inr (record {
+    asked = asked;
     reads = reads;
-    ample = λ is. other cc;
-    obeys = (refl, refl);
-    replica = refl;
+    takes = takes;
+    told = told;
+    history = ap (λ (x : SheetView). x.history) same;
+    replica = ap (λ (x : SheetView). x.replica) same;
   })
-]
+
+  stays : new ≡ old → new.history ≡ old.history
+  stays same = ap (λ (x : SheetView). x.history) same
+
+  replica_stays : new ≡ old → new.replica ≡ old.replica
+  replica_stays same = ap (λ (x : SheetView). x.replica) same
+
+  obeyed : (asked : Read Command) → ReadsLine line asked → Obeyed SheetCalls old asked text new
+      → Answers old line text new
+  obeyed (Ok (commands.Edit edit)) reads (Ok number, made, told) =
+      serves (commands.Edit edit) reads
+      (edited_of (delta_of_edit old.replica (joined_history old.history) edit) old.history new.history number text
+      made.0 made.1.number told) made.1.replica
+  obeyed (Ok (commands.Edit edit)) reads (Err refusal, (inl refused, same), told) =
+      serves (commands.Edit edit) reads
+      (refused_of (delta_of_edit old.replica (joined_history old.history) edit) old.history new.history refusal text
+      refused (stays same) told) (replica_stays same)
+  obeyed (Ok (commands.Edit edit)) reads (Err refusal, (inr memory, same), told) =
+      lacks (Ok (commands.Edit edit)) reads memory.1 (told ∙ ap refusal_text memory.0) same
+  obeyed (Ok (commands.Get cell)) reads (Ok value, look, told) =
+      serves (commands.Get cell) reads
+      (stays look.1, look.0.0, look.0.1, told ∙ ap value_text look.0.2) (replica_stays look.1)
+  obeyed (Ok (commands.Get cell)) reads (Err refusal, none, told) = absurd none
+  obeyed (Ok (commands.Rows first last)) reads (Ok table, look, told) =
+      serves (commands.Rows first last) reads
+      (stays look.1, look.0.0, look.0.1, told ∙ ap (rows_text ((spanned first last).height)) look.0.2)
+      (replica_stays look.1)
+  obeyed (Ok (commands.Rows first last)) reads (Err refusal, memory, told) =
+      lacks (Ok (commands.Rows first last)) reads tt (told ∙ ap refusal_text memory.0) memory.1
+  obeyed (Ok (commands.Pull from most)) reads (Ok deltas, pulled, told) =
+      elim (hands_out old.history from (unwrap_or most 1) (max (unwrap_or most 1) 1) deltas text pulled.1 pulled.0
+      (omega arith) (omega arith) told) [
+        | inl hands ↦ serves (commands.Pull from most) reads (stays pulled.2, hands) (replica_stays pulled.2)
+        | inr memory ↦ lacks (Ok (commands.Pull from most)) reads memory.0 memory.1 pulled.2
+      ]
+  obeyed (Ok (commands.Pull from most)) reads (Err refusal, (inl beyond, same), told) =
+      serves (commands.Pull from most) reads (
+        stays same,
+        record {
+          beyond = λ lt. told ∙ ap refusal_text beyond.0;
+          at_end = λ at. absurd (omega (arith, at, beyond.1));
+          before_end = λ lt. absurd (omega (arith, lt, beyond.1));
+        },
+      ) (replica_stays same)
+  obeyed (Ok (commands.Pull from most)) reads (Err refusal, (inr memory, same), told) =
+      lacks (Ok (commands.Pull from most)) reads memory.1 (told ∙ ap refusal_text memory.0) same
+  obeyed (Ok (commands.Push delta)) reads (inl (Ok number, taken, told)) =
+      serves (commands.Push delta) reads (taken.0, told ∙ ap done_text taken.1.number) taken.1.replica
+  obeyed (Ok (commands.Push delta)) reads (inl (Err refusal, memory, told)) =
+      lacks (Ok (commands.Push delta)) reads tt (told ∙ ap refusal_text memory.0) memory.1
+  obeyed (Ok (commands.Push delta)) reads (inr memory) =
+      lacks (Ok (commands.Push delta)) reads tt memory.1 memory.0
+  obeyed (Err refusal) reads refused = elim (memory_or_other refusal) [
+    | inl is ↦ lacks (Err refusal) reads is (refused.1 ∙ ap refusal_text is) refused.0
+    | inr other ↦ inl (record {
+      asked = Err refusal;
+      reads = reads;
+      ample = λ is. other cc;
+      obeys = (stays refused.0, refused.1);
+      replica = replica_stays refused.0;
+    })
+  ]
+
+pub sheet_answers : (old new : SheetView) (line text : List ℕ) → BoardAnswers SheetCalls old line text new
+    → Answers old line text new
+sheet_answers old new line text a = obeyed old new line text a.asked a.reads a.obeyed

@@ -1,14 +1,16 @@
 -- Deltas joined, and the line of the greatest number of them that isn't too long.
-use Rattle.std.proofs.Common.{◌≡◌, ◌≢◌, ◌⊎◌, ◌∙◌, ◌+◌, ◌-◌, ◌<◌, ◌≤◌, inl, inr, refl, sym, ap, ap₂, subst}
+use Rattle.std.proofs.Common.{◌≡◌, ◌≢◌, ◌∙◌, ◌+◌, ◌-◌, ◌<◌, ◌≤◌, inl, inr, refl, sym, ap, ap₂, subst}
 use Rattle.std.proofs.Common.{arith, ℕ, List}
-use Rattle.std.proofs.Common.{[], ◌∷◌, length, take, map, drop}
-use Rattle.std.proofs.lemmas.List.{length-map, take_rest}
-use Rattle.std.specs.List.{All, drop-map}
+use Rattle.std.proofs.Common.{[], ◌∷◌, length, take, map, drop, Result, Ok, Err}
+use Rattle.std.specs.Prelude.{IfOk, get_or}
+use Rattle.std.proofs.lemmas.List.{length-map}
+use Rattle.std.specs.List.{All}
 use Rattle.std.proofs.lemmas.Bool.{cases_lt, cases_order}
 use Rattle.std.proofs.lemmas.List.Elements.{All-head, All-tail}
 use Rattle.ps_delta.specs.declared.cell_state.CellState.{CellState}
 use Rattle.ps_delta.specs.State.{State, empty_cell}
-use Rattle.ps_delta.specs.Deltas.{Entries, cells_of, state_of}
+use Rattle.ps_delta.specs.Deltas.{Entries, IsDelta, cells_of, state_of}
+use Rattle.ps_delta.proofs.HistoryLemmas.{joined_history-one}
 use Rattle.ps_delta.specs.Order.{Rising}
 use Rattle.ps_delta.proofs.EntryLemmas.{state_of-here, state_of-rising, state_of-there}
 use Rattle.ps_delta.proofs.WalkLemmas.{rising_of}
@@ -16,9 +18,7 @@ use Rattle.ps_wire.specs.Length.{HasNoLine}
 use Rattle.ps_wire.specs.Line.{delta_text}
 use Rattle.ps_wire.specs.declared.TheConstants.{DELTA_LINE_LIMIT}
 use Rattle.ps_session.specs.Handing.{HandsGroup, HandsOut, HasNone, IsGreatest, IsGroupLine, IsJoint}
-use Rattle.ps_session.specs.Replies.{handed_text, refusal_text}
-use Rattle.ps_grid.specs.declared.refusal.Refusal.{Refusal}
-use Rattle.ps_grid.specs.declared.refusal.Refusal.TheVariants as refusals
+use Rattle.ps_session.specs.Replies.{handed_text}
 
 abbrev IsFilled : ℕ × CellState → Type 0
 IsFilled e = e.1 ≢ empty_cell
@@ -114,38 +114,49 @@ module _ {X : Type 0} (f : X → Entries) (xs : List X) (most : ℕ) where
   pub none_found : (count : ℕ) → count ≤ 0 → NoneAbove count → HasNone (map f xs) most
   none_found count none_left none k line some within = none k line (omega (arith, some, none_left)) within
 
--- a version that is not beyond the end and not the end is before the end
-pub is_before_end : (from version end : ℕ) → version ≡ end → from ≤ version → ¬ (from ≡ version) → from < end
-is_before_end from version end is within other = omega (arith, is, within, other)
+-- a delta by itself, with a line or without one
+module _ (d : Entries) (lawful : IsDelta d) where
+  alone : IsJoint (d ∷ []) d
+  alone = record { lawful = lawful; joined = sym (joined_history-one d) }
 
-module _ {X : Type 0} (f : X → Entries) (xs : List X) (history : List Entries) (from most : ℕ)
-    (same : map f xs ≡ history) (inside : from < length history) where
-  rest : map f (take (length xs - from) (drop from xs)) ≡ drop from history
-  rest = ap (map f) (take_rest xs from) ∙ sym (drop-map f from xs) ∙ ap (drop from) same
-
-  handed : (text : List ℕ) → HandsGroup from most (drop from history) text → HandsOut history from most text
-  handed text hands = record {
-    beyond = λ lt. absurd (omega (arith, lt, inside));
-    at_end = λ is. absurd (omega (arith, is, inside));
-    before_end = λ _. hands;
+  pub alone_greatest : (line : List ℕ) → line ≡ delta_text d → length line ≤ DELTA_LINE_LIMIT
+      → IsGreatest (d ∷ []) 1 1 line
+  alone_greatest line is fits = record {
+    some = omega arith;
+    within = omega arith;
+    grouped = record { within = omega arith; delta = d; joint = alone; is = is; fits = fits };
+    greatest = λ k longer above within. absurd (omega (arith, above, within));
   }
 
-  pub hands_group : (n : ℕ) (line : List ℕ) → IsGreatest (map f (take (length xs - from) (drop from xs))) most n line
-      → HandsOut history from most (handed_text (from + n) line)
-  hands_group n line greatest =
-      handed _ (inl (n, line, subst (λ (ds : List Entries). IsGreatest ds most n line) rest greatest, refl))
+  pub alone_none : DELTA_LINE_LIMIT < length (delta_text d) → HasNone (d ∷ []) 1
+  alone_none long k line some within group =
+      let one : k ≡ 1 = omega (arith, some, within) in
+      let joint : IsJoint (d ∷ []) group.delta =
+      subst (λ m. IsJoint (take m (d ∷ [])) group.delta) one group.joint in
+      let same : d ≡ group.delta = joint_once (d ∷ []) d group.delta alone joint in
+      let longer : length line ≡ length (delta_text d) =
+      ap length group.is ∙ ap (λ (e : Entries). length (delta_text e)) (sym same) in
+      omega (arith, long, group.fits, longer)
 
-  hands_none : HasNone (map f (take (length xs - from) (drop from xs))) most
-      → HandsOut history from most (refusal_text refusals.TooLong)
-  hands_none none = handed _ (inr (subst (λ (ds : List Entries). HasNone ds most) rest none, refl))
+-- .. whatever became of its line
+pub alone_line : {V E : Type 0} (items : V → List ℕ) (d : Entries) (r : Result V E) → IsDelta d
+    → IfOk r (λ v. items v ≡ delta_text d) → IfOk r (λ v. length (items v) ≤ DELTA_LINE_LIMIT)
+    → IfOk r (λ v. IsGreatest (d ∷ []) 1 1 (items v))
+alone_line items d (Ok v) lawful is fits = alone_greatest d lawful (items v) is fits
+alone_line items d (Err e) lawful is fits = tt
 
-  pub hands_refusal : (refusal : Refusal) → (refusal ≡ refusals.TooLong) ⊎ (refusal ≡ refusals.Memory)
-      → (refusal ≡ refusals.TooLong → HasNone (map f (take (length xs - from) (drop from xs))) most)
-      → HandsOut history from most (refusal_text refusal)
-      ⊎ ((from < length history) × (refusal_text refusal ≡ refusal_text refusals.Memory))
-  hands_refusal refusal (inl is) none =
-      inl (subst (λ e. HandsOut history from most (refusal_text e)) (sym is) (hands_none (none is)))
-  hands_refusal refusal (inr is) none = inr (inside, ap refusal_text is)
+pub one_item : {X : Type 0} (f : X → Entries) (xs : List X) (x : X) → length xs ≡ 1 → x ≡ get_or xs 0 x
+    → map f xs ≡ f x ∷ []
+one_item f [] x one is = absurd (omega (arith, one))
+one_item f (y ∷ []) x one is = ap (λ z. f z ∷ []) (sym is)
+one_item f (y ∷ z ∷ zs) x one is = absurd (omega (arith, one))
+
+-- .. where there is no other, however many may be handed out
+pub none_of_one : (deltas : List Entries) (d : Entries) (most : ℕ) → deltas ≡ d ∷ [] → HasNone (d ∷ []) 1
+    → HasNone deltas most
+none_of_one deltas d most is none k line some within group =
+    let mine : IsGroupLine (d ∷ []) k line = subst (λ ds. IsGroupLine ds k line) is group in
+    none k line some mine.within mine
 
 -- the line of so many deltas is one
 group_line_once : (deltas : List Entries) (n m : ℕ) (line other : List ℕ) → n ≡ m → IsGroupLine deltas n line

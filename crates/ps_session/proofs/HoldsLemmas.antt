@@ -1,6 +1,6 @@
 -- What the line that a session holds says of the bytes between two line feeds.
 use Rattle.std.proofs.Common.{◌≡◌, ◌^◌, ◌+◌, ◌-◌, ℕ, min, Bool, true, false, List, length, refl, sym, rules}
-use Rattle.std.proofs.Common.{Option, Some, None, Result, Ok, Err, subst, nat_le}
+use Rattle.std.proofs.Common.{[], ◌∷◌, ◌<◌, arith, Option, Some, None, Result, Ok, Err, subst, nat_le}
 use Rattle.std.specs.Prelude.{if◌then◌else◌, MatchBool, OnOk}
 use Rattle.ps_device.specs.Device.{Sends}
 use Rattle.ps_session.specs.declared.session.TheConstants.{LINE_LIMIT}
@@ -56,3 +56,17 @@ module _ {State E : Type 0} (refused : List ℕ) (Answers : Answering State) (ol
       counted result
   handled_long raw is stays sent counts = subst (Tested raw) (sym (long_kept raw is)) (refused_line result stays sent
       counts)
+
+-- a line that isn't empty was answered, and the reply was sent
+pub replied_line : {State E : Type 0} (Answers : Answering State) (old new : State) (line reply : List ℕ)
+    (contents after : Option (List ℕ)) (answered counted : ℕ) (result : Result (Unit {0}) E)
+    → 0 < length line → Answers old line reply new → Sends contents after result reply
+    → OnOk result (counted ≡ min (answered + 1) (2 ^ 64 - 1))
+    → Replied (λ o t w. Replies Answers o line t w) old new (as_one (is_filled line)) contents after answered counted
+    result
+replied_line Answers old new [] reply contents after answered counted result some answers sent counts =
+    absurd (omega (arith, some))
+replied_line Answers old new (b ∷ bs) reply contents after answered counted (Ok x) some answers sent counts =
+    (reply, answers, sent, counts)
+replied_line Answers old new (b ∷ bs) reply contents after answered counted (Err e) some answers sent counts =
+    (reply, sent.0, answers, sent.1, sent.2)

@@ -21,3 +21,5 @@ mod RangeLemmas
 mod EditLineLemmas
 mod EntryLemmas
 mod PullLemmas
+pub mod PulledLemmas
+pub mod Weaker

@@ -5,6 +5,8 @@ pub mod Inside
 pub mod Words
 pub mod Commands
 pub mod Handing
+pub mod Boards
+pub mod SheetBoard
 pub mod Answers
 pub mod Laws
 pub mod EditLines

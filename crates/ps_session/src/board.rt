@@ -1,26 +1,59 @@
-//! What answers a session's lines.
-ghost use Rattle.std.specs.Prelude.{◌<◌, ℕ, List, length};
+//! What answers the commands of a session.
+ghost use Rattle.std.specs.Prelude.{◌+◌, ◌<◌, ◌^◌, IfOk, length, map};
+ghost use Rattle.std.specs.Arc.{arc_value};
 ghost use Rattle.std.specs.Thread.{IsSync};
-ghost use Rattle.ps_session.specs.Replies.{reply_text};
+ghost use Rattle.ps_session.specs.Boards.{Calls};
+ghost use Rattle.ps_session.specs.Commands.{with_part};
 
-use crate::reply::Reply;
+use ps_delta::Delta;
+use ps_grid::{Cell, Rect, Refusal};
+use ps_sheet::Edit;
+use ps_value::Value;
 use std::alloc::Global;
+use std::sync::Arc;
 use std::thread::Threads;
 
-/// What answers the lines of a session. Its calls are lent an `M`, as a count of evaluations.
+/// What answers the commands of a session, by a call for each. The calls that change something are lent an `M`, as a
+/// count of evaluations, and `rt`, which they may start threads by.
+///
+/// A refusal is told as it is, so a call is refused as out of memory only where it takes some.
 pub trait Board<M> {
-    /// What a line that isn't empty is answered: the state before, the line, the reply's text, the state after.
-    ghost answers: { Self → List ℕ → List ℕ → Self → Type 0 };
+    /// What each call answers.
+    ghost calls: { Calls Self };
 
-    /// Carries out a line; `rt` is what it may start threads by.
-    fn answer<R: Threads + Sync>(
+    /// Makes an edit: the number that is told as `ok`.
+    fn apply_edit<R: Threads + Sync>(
         &mut self,
         rt: &R,
         alloc: Global,
-        line: &[u8],
+        edit: Edit,
         lent: &mut M,
-    ) -> Reply
+    ) -> Result<u64, Refusal>
         requires shared { IsSync R.row }
-        requires filled { 0 < length line.now }
-        ensures answered { answers self.old line.now (reply_text result) self.new };
+        ensures edited { calls.edits self.old edit result self.new };
+
+    /// Takes in a delta made elsewhere: the number that is told as `ok`.
+    fn apply_delta<R: Threads + Sync>(
+        &mut self,
+        rt: &R,
+        alloc: Global,
+        delta: Arc<Delta>,
+        lent: &mut M,
+    ) -> Result<u64, Refusal>
+        requires shared { IsSync R.row }
+        ensures received { calls.receives self.old (arc_value delta) result self.new };
+
+    /// What a cell shows.
+    fn value(&mut self, cell: Cell) -> Result<Value, Refusal>
+        ensures shown { calls.shows self.old cell result self.new };
+
+    /// What the cells of a rectangle show, as the text of a table.
+    fn table(&mut self, alloc: Global, rect: Rect) -> Result<Vec<u8>, Refusal>
+        ensures shown { calls.tables self.old rect (with_part (λ text. text.items) result) self.new };
+
+    /// The deltas after the number `from`, in order, at most so many.
+    fn pull(&mut self, alloc: Global, from: u64, most: usize) -> Result<Vec<Arc<Delta>>, Refusal>
+        ensures pulled { calls.pulls self.old from most (with_part (λ deltas. map arc_value deltas.items) result)
+            self.new }
+        ensures numbered { IfOk result (λ deltas. from + length deltas.items < 2 ^ 64) };
 }

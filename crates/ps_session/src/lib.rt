@@ -1,8 +1,9 @@
 //! Sessions: lines in, replies out.
 //!
-//! A [`Session`] puts bytes together to lines, in whatever pieces they come. A [`Board`] answers a line; [`talk`] is
-//! the whole way from a source of bytes to a sink: it reads the source to its end and writes the reply to each line,
-//! in order. A [`Command`] is what a line asks for. A sheet is a board, and [`run`] is the talk of a sheet.
+//! A [`Session`] is the reader of lines: it puts bytes together to lines, in whatever pieces they come. A [`Command`]
+//! is what a line asks for. A [`Board`] is what answers commands, by a call for each. [`talk`] is the whole way from a
+//! source of bytes to a sink: it reads the source to its end, obeys each line and writes its reply, in order. A sheet
+//! is a board, and [`run`] is the talk of a sheet.
 //!
 //! It is not a connection: it opens no device, and knows one peer. What a sheet does with an edit or a delta, it leaves
 //! to the sheet.
@@ -18,13 +19,14 @@
 //! Cost: reading takes no memory beyond the room of one line; a line costs its bytes and what its board takes.
 #![tactic(auto)]
 
-mod answers;
 mod board;
 mod command;
-mod handing;
 mod laws;
+mod obey;
+mod pull;
 mod reply;
 mod session;
+mod sheet_board;
 mod sheet_session;
 mod transcript;
 mod verb;
@@ -32,8 +34,8 @@ mod words;
 
 pub use board::Board;
 pub use command::{Command, LARGEST_GROUP};
-pub use handing::greatest_group;
 pub use laws::{bytes_divide_one_way, edit_lines_fit, pulls_hand_out, transcript_is_decided};
+pub use pull::greatest_group;
 pub use reply::{Reply, send};
 pub use session::{Fed, LINE_LIMIT, Line, Session};
 pub use sheet_session::run;

@@ -1,4 +1,4 @@
-//! A session's reading of bytes into lines.
+//! The reader of a session's lines.
 ghost use Rattle.std.specs.Prelude.{◌≡◌, ◌<◌, ◌≤◌, Some, None, [], IfOk, length, take, vec_len, vec_capacity};
 ghost use Rattle.std.specs.Prelude.{if◌then◌else◌};
 ghost use Rattle.ps_session.specs.declared.session.TheConstants.{LINE_LIMIT};
@@ -31,7 +31,7 @@ pub struct Fed {
     pub line: Line,
 }
 
-/// The line that is being read.
+/// The reader of a session's lines: the line that is being read, out of bytes that come in any pieces.
 #[derive(Drop)]
 pub struct Session {
     /// The bytes of the line so far, or of the line that ended last.
@@ -96,7 +96,7 @@ fn keep(bytes: &mut Vec<u8>, too_long: bool, part: &[u8]) -> bool
 impl Session {
     ghost use Rattle.ps_session.specs.Feeding.{Ends, Feeds, without_return};
 
-    /// A session that has read nothing. Refused out of memory.
+    /// A reader that has read nothing. Refused out of memory.
     ///
     /// Cost: the room of one line.
     pub fn new(alloc: Global) -> Result<Session, AllocError>

@@ -2,8 +2,9 @@
 ghost use Rattle.std.specs.Prelude.{◌≡◌, ◌≢◌, [], ◌<◌, ◌≤◌, ◌++◌, ◌+◌, ◌-◌, ◌^◌, ℕ, min, List, Option, Result, Ok};
 ghost use Rattle.std.specs.Prelude.{Err, IfOk, OnOk, OnErr, ⊤, length, take, MatchResult};
 ghost use Rattle.std.specs.Io.KnownBytes.{Consumes, IsAtEnd, Keeps};
-ghost use Rattle.ps_session.specs.Transcript.{Answered, Cut, Lines, Replies, Stopped, Transcribed};
+ghost use Rattle.ps_session.specs.Transcript.{Answered, Cut, Replies, Stopped, Transcribed};
 ghost use Rattle.ps_session.specs.Transcript.{has_reply, is_filled};
+ghost use Rattle.ps_session.specs.Boards.{BoardAnswers, BoardLines};
 ghost use Rattle.ps_session.specs.Replies.{refusal_text, reply_text};
 ghost use Rattle.ps_device.specs.Device.{Sends};
 ghost use Rattle.ps_session.specs.Inside.Stands.{CutsShort, GoesOn, Stands};
@@ -12,6 +13,7 @@ ghost use Rattle.ps_session.specs.Inside.Holds.{Holds, Replied, as_one};
 ghost use Rattle.ps_grid.specs.declared.refusal.Refusal.TheVariants as refusals;
 
 use crate::board::Board;
+use crate::obey::answer;
 use crate::reply::{Reply, send};
 use crate::session::{Line, Session};
 use ps_device::{Failed, PIECE_BYTES, Sink, Source, hand_on};
@@ -19,9 +21,9 @@ use ps_grid::Refusal;
 use std::alloc::Global;
 use std::thread::Threads;
 
-/// A session under way: the line that is being read, and how many lines had a reply.
+/// A session under way, without its board and its devices: the line that is being read, and how many lines had a reply.
 #[derive(Drop)]
-struct Exchange<'a, R> {
+struct Conversation<'a, R> {
     /// What a board starts threads by.
     rt: &'a R,
     /// What memory is taken from.
@@ -32,7 +34,7 @@ struct Exchange<'a, R> {
     answered: u64,
 }
 
-impl<R: Threads + Sync> Exchange<'_, R> {
+impl<R: Threads + Sync> Conversation<'_, R> {
     /// Answers the line that has ended, which isn't too long; an empty one has no reply.
     fn answer<B: Board<M>, M, K: Sink>(
         &mut self,
@@ -41,7 +43,7 @@ impl<R: Threads + Sync> Exchange<'_, R> {
         sink: &mut K,
     ) -> Result<(), Failed>
         ensures replied { Replied
-            (λ old reply new. Replies B.answers old (without_return self.old.session.line) reply new)
+            (λ old reply new. Replies (BoardAnswers B.calls) old (without_return self.old.session.line) reply new)
             board.old board.new (as_one (is_filled (without_return self.old.session.line)))
             (K.contents sink.old) (K.contents sink.new) self.old.answered self.new.answered result }
         ensures calm { OnOk result (K.failures sink.new ≡ K.failures sink.old) }
@@ -53,7 +55,7 @@ impl<R: Threads + Sync> Exchange<'_, R> {
         if line.is_empty() {
             return Ok(());
         }
-        let reply = board.answer(self.rt, self.alloc, line, lent);
+        let reply = answer(self.rt, self.alloc, line, board, lent);
         match send(&reply, sink) {
             Ok(()) => {}
             Err(failed) => return Err(failed),
@@ -85,7 +87,7 @@ impl<R: Threads + Sync> Exchange<'_, R> {
         sink: &mut K,
     ) -> Result<(), Failed>
         ensures replied { (raw : List ℕ) → Holds line self.old.session raw
-            → Replied (λ old reply new. Lines B.answers old raw reply new) board.old board.new
+            → Replied (λ old reply new. BoardLines B.calls old raw reply new) board.old board.new
             (as_one (has_reply raw)) (K.contents sink.old) (K.contents sink.new)
             self.old.answered self.new.answered result }
         ensures calm { OnOk result (K.failures sink.new ≡ K.failures sink.old) }
@@ -109,10 +111,10 @@ impl<R: Threads + Sync> Exchange<'_, R> {
     ) -> Result<usize, Failed>
         requires some { 0 < length piece.now }
         ensures within { IfOk result (λ taken. (0 < taken) × (taken ≤ length piece.now)) }
-        ensures stands { IfOk result (λ taken. GoesOn (Lines B.answers) (take taken piece.now)
+        ensures stands { IfOk result (λ taken. GoesOn (BoardLines B.calls) (take taken piece.now)
             board.old self.old.session.pending (K.contents sink.old) self.old.answered
             board.new self.new.session.pending (K.contents sink.new) self.new.answered) }
-        ensures cut { OnErr result (CutsShort (Lines B.answers) piece.now
+        ensures cut { OnErr result (CutsShort (BoardLines B.calls) piece.now
             board.old self.old.session.pending (K.contents sink.old) self.old.answered
             board.new (K.contents sink.new)) }
         ensures calm { OnOk result (K.failures sink.new ≡ K.failures sink.old) }
@@ -134,10 +136,10 @@ impl<R: Threads + Sync> Exchange<'_, R> {
         lent: &mut M,
         sink: &mut K,
     ) -> Result<(), Failed>
-        ensures stands { OnOk result (GoesOn (Lines B.answers) piece.now
+        ensures stands { OnOk result (GoesOn (BoardLines B.calls) piece.now
             board.old self.old.session.pending (K.contents sink.old) self.old.answered
             board.new self.new.session.pending (K.contents sink.new) self.new.answered) }
-        ensures cut { OnErr result (CutsShort (Lines B.answers) piece.now
+        ensures cut { OnErr result (CutsShort (BoardLines B.calls) piece.now
             board.old self.old.session.pending (K.contents sink.old) self.old.answered
             board.new (K.contents sink.new)) }
         ensures calm { OnOk result (K.failures sink.new ≡ K.failures sink.old) }
@@ -158,13 +160,13 @@ impl<R: Threads + Sync> Exchange<'_, R> {
         sink: &mut K,
     ) -> Result<(), Failed>
         ensures transcribed { OnOk result ((first : B) (written : Option (List ℕ)) (read : List ℕ)
-            → Stands (Lines B.answers) first written read
+            → Stands (BoardLines B.calls) first written read
             board.old self.old.session.pending (K.contents sink.old) self.old.answered
-            → Transcribed (Lines B.answers) first written read board.new (K.contents sink.new) self.new.answered) }
+            → Transcribed (BoardLines B.calls) first written read board.new (K.contents sink.new) self.new.answered) }
         ensures cut { OnErr result ((first : B) (written : Option (List ℕ)) (read : List ℕ)
-            → Stands (Lines B.answers) first written read
+            → Stands (BoardLines B.calls) first written read
             board.old self.old.session.pending (K.contents sink.old) self.old.answered
-            → Cut (Lines B.answers) ⊤ first written read board.new (K.contents sink.new)) }
+            → Cut (BoardLines B.calls) ⊤ first written read board.new (K.contents sink.new)) }
         ensures calm { OnOk result (K.failures sink.new ≡ K.failures sink.old) }
         ensures failed { OnErr result (K.failures sink.old < K.failures sink.new) }
     {
@@ -189,7 +191,7 @@ pub enum RunFault {
 
 /// Reads the source to its end, and answers each line that ends there.
 fn read_on<R: Threads + Sync, S: Source, B: Board<M>, M, K: Sink>(
-    exchange: &mut Exchange<R>,
+    conversation: &mut Conversation<R>,
     source: &mut S,
     board: &mut B,
     lent: &mut M,
@@ -198,22 +200,22 @@ fn read_on<R: Threads + Sync, S: Source, B: Board<M>, M, K: Sink>(
     ensures read { OnOk result ((read : List ℕ)
         × Consumes (S.remaining source.old) (S.remaining source.new) read × IsAtEnd (S.remaining source.new)
         × ((first : B) (written : Option (List ℕ))
-        → Stands (Lines B.answers) first written []
-        board.old exchange.old.session.pending (K.contents sink.old) exchange.old.answered
-        → Stands (Lines B.answers) first written read
-        board.new exchange.new.session.pending (K.contents sink.new) exchange.new.answered)) }
+        → Stands (BoardLines B.calls) first written []
+        board.old conversation.old.session.pending (K.contents sink.old) conversation.old.answered
+        → Stands (BoardLines B.calls) first written read
+        board.new conversation.new.session.pending (K.contents sink.new) conversation.new.answered)) }
     ensures sink { result ≡ Err RunFault.Sink
         → (read : List ℕ) × Consumes (S.remaining source.old) (S.remaining source.new) read
         × ((first : B) (written : Option (List ℕ))
-        → Stands (Lines B.answers) first written []
-        board.old exchange.old.session.pending (K.contents sink.old) exchange.old.answered
-        → Stopped (Lines B.answers) ⊥ first written read board.new (K.contents sink.new)) }
+        → Stands (BoardLines B.calls) first written []
+        board.old conversation.old.session.pending (K.contents sink.old) conversation.old.answered
+        → Stopped (BoardLines B.calls) ⊥ first written read board.new (K.contents sink.new)) }
     ensures source { result ≡ Err RunFault.Source
         → (read : List ℕ) × Consumes (S.remaining source.old) (S.remaining source.new) read
         × ((first : B) (written : Option (List ℕ))
-        → Stands (Lines B.answers) first written []
-        board.old exchange.old.session.pending (K.contents sink.old) exchange.old.answered
-        → Answered (Lines B.answers) first written read board.new (K.contents sink.new)) }
+        → Stands (BoardLines B.calls) first written []
+        board.old conversation.old.session.pending (K.contents sink.old) conversation.old.answered
+        → Answered (BoardLines B.calls) first written read board.new (K.contents sink.new)) }
     ensures source_settled { result ≡ Err RunFault.Source → K.waiting sink.new ≡ [] }
     ensures memory { result ≢ Err RunFault.Memory }
     ensures calm { OnOk result ((S.failures source.new ≡ S.failures source.old)
@@ -234,7 +236,7 @@ fn read_on<R: Threads + Sync, S: Source, B: Board<M>, M, K: Sink>(
         if count == 0 {
             return Ok(());
         }
-        match exchange.serve(&piece[..count], board, lent, sink) {
+        match conversation.serve(&piece[..count], board, lent, sink) {
             Ok(()) => {}
             Err(_) => return Err(RunFault::Sink),
         }
@@ -260,14 +262,15 @@ pub fn talk<R: Threads + Sync, S: Source, B: Board<M>, M, K: Sink>(
     ensures transcribed { IfOk result (λ answered. (read : List ℕ)
         × Consumes (S.remaining source.old) (S.remaining source.new) read
         × IsAtEnd (S.remaining source.new)
-        × Transcribed (Lines B.answers) board.old (K.contents sink.old) read board.new (K.contents sink.new) answered) }
+        × Transcribed (BoardLines B.calls) board.old (K.contents sink.old) read board.new (K.contents sink.new)
+        answered) }
     ensures sink { result ≡ Err RunFault.Sink
         → (read : List ℕ) × Consumes (S.remaining source.old) (S.remaining source.new) read
-        × Stopped (Lines B.answers) (IsAtEnd (S.remaining source.new)) board.old (K.contents sink.old) read
+        × Stopped (BoardLines B.calls) (IsAtEnd (S.remaining source.new)) board.old (K.contents sink.old) read
         board.new (K.contents sink.new) }
     ensures source { result ≡ Err RunFault.Source
         → (read : List ℕ) × Consumes (S.remaining source.old) (S.remaining source.new) read
-        × Answered (Lines B.answers) board.old (K.contents sink.old) read board.new (K.contents sink.new) }
+        × Answered (BoardLines B.calls) board.old (K.contents sink.old) read board.new (K.contents sink.new) }
     ensures settled { OnOk result (K.waiting sink.new ≡ []) }
     ensures source_settled { result ≡ Err RunFault.Source → K.waiting sink.new ≡ [] }
     ensures memory { result ≡ Err RunFault.Memory
@@ -281,19 +284,19 @@ pub fn talk<R: Threads + Sync, S: Source, B: Board<M>, M, K: Sink>(
         Ok(session) => session,
         Err(_) => return Err(RunFault::Memory),
     };
-    let mut exchange = Exchange {
+    let mut conversation = Conversation {
         rt,
         alloc,
         session,
         answered: 0,
     };
-    read_on(&mut exchange, source, board, lent, sink)?;
-    match exchange.finish(board, lent, sink) {
+    read_on(&mut conversation, source, board, lent, sink)?;
+    match conversation.finish(board, lent, sink) {
         Ok(()) => {}
         Err(_) => return Err(RunFault::Sink),
     }
     match hand_on(sink) {
-        Ok(()) => Ok(exchange.answered),
+        Ok(()) => Ok(conversation.answered),
         Err(_) => Err(RunFault::Sink),
     }
 }

@@ -1,0 +1,35 @@
+use Rattle.std.proofs.Common.{◌∙◌, ◌<◌, Err, ap, arith, length, map, subst}
+use Rattle.std.proofs.lemmas.List.{length-map}
+use Rattle.std.proofs.lemmas.Grind.{common_steps}
+use Rattle.std.specs.Arc.{arc_value}
+use Rattle.std.specs.Prelude.{Ok}
+use Rattle.ps_session.specs.Handing.{HasNone}
+use Rattle.ps_session.proofs.PulledLemmas.{hands_refusal}
+use Rattle.ps_session.proofs.obey.hand_out.Goals as goal
+
+pub overflow_add-result : goal.overflow_add-result
+overflow_add-result g c =
+    let found = c.in-Ok-greatest_group.ensures.found in
+    let items = c.in-Ok.deltas.items in
+    omega (
+      arith,
+      found.grouped.within,
+      length-map c.deref.result.now arc_value,
+      ap length c.deref.ensures.value,
+      length-map items arc_value,
+      c.in-Ok.ensures.numbered,
+    )
+
+pub returns : goal.returns
+returns g c =
+    let items = c.in-Ok.deltas.items in
+    let some : 0 < length items = grind (arith, common_steps, c.if-is_empty.ensures) in
+    let refused = c.in-Err-greatest_group in (
+      Ok (map arc_value items),
+      subst (λ m. g.B.Board.calls.pulls c.args.board.now c.args.from m (Ok (map arc_value items)) c.pull.new.self)
+          c.max.ensures c.in-Ok.ensures.pulled,
+      hands_refusal c.args.from c.args.most (map arc_value items) refused.refusal
+          (omega (arith, length-map items arc_value, some)) refused.ensures.refused
+          (λ long. subst (λ ds. HasNone (map arc_value ds) c.args.most) c.deref.ensures.value
+          (c.greatest_group.ensures.none (refused.is ∙ ap Err long))),
+    )

@@ -1,0 +1,10 @@
+use Rattle.std.proofs.Common.{◌≤◌, length}
+use Rattle.std.specs.Arc.{arc_value}
+use Rattle.ps_session.proofs.HandingLemmas.{NoneAbove}
+use Rattle.ps_session.proofs.pull.greatest_group.Given as goal
+
+abbrev pub invariant-counts : goal.invariant-counts
+invariant-counts l = (l.count ≤ length l.joints.items) × NoneAbove arc_value l.deltas l.most l.count
+
+abbrev pub decreases-counts : goal.decreases-counts
+decreases-counts l = l.count

@@ -1,0 +1,13 @@
+use Rattle.std.proofs.Common.{◌-◌, ◌≤◌, length, map}
+use Rattle.std.specs.Arc.{arc_value}
+use Rattle.ps_session.specs.Inside.Joints.{AreFirstJoints}
+use Rattle.ps_session.proofs.pull.joined_upward.Given as goal
+
+abbrev pub invariant-joints : goal.invariant-joints
+invariant-joints l = record {
+  few : length l.joints.items ≤ l.count;
+  first : AreFirstJoints (map arc_value l.deltas) (map arc_value l.joints.items);
+}
+
+abbrev pub decreases-joints : goal.decreases-joints
+decreases-joints l = l.count - length l.joints.items

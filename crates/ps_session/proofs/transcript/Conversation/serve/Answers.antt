@@ -1,0 +1,19 @@
+use Rattle.std.proofs.Common.{◌∙◌}
+use Rattle.std.proofs.lemmas.Result.{err_from_is_err_and}
+use Rattle.ps_session.proofs.InputReadToEnd.{cut_rest, stands_more, turn_within}
+use Rattle.ps_session.proofs.transcript.Conversation.serve.Goals as goal
+
+pub returns-in_err-start-clause-cut : goal.returns-in_err-start-clause-cut
+returns-in_err-start-clause-cut g c =
+    let p = err_from_is_err_and c.from_residual.result c.from_residual.ensures.1 in
+    rw (p.1) (λ first written read s. cut_rest _ first written read c.args.piece.now c.turns.start _ _
+    (c.in_err-start.ensures.cut first written _ (c.turns.invariant.1 first written read s)))
+
+pub turns-preserved : goal.turns-preserved
+turns-preserved g c = (
+  turn_within c.args.piece.now c.turns.start c.in_ok-start.field-0 c.turns-test.true c.in_ok-start.ensures.within.1,
+  λ first written read s. stands_more _ first written read c.args.piece.now c.turns.start c.in_ok-start.field-0 _ _ _
+      _
+      (c.in_ok-start.ensures.stands first written _ (c.turns.invariant.1 first written read s)),
+  c.in_ok-start.ensures.calm ∙ c.turns.invariant.2,
+)

@@ -1,0 +1,69 @@
+-- What a board answers a command and a line, made of what its calls answer.
+use Rattle.std.specs.Prelude.{◌≡◌, ◌⊎◌, ℕ, List, [], ◌∷◌, max, Ok, Err, unwrap_or}
+use Rattle.ps_grid.specs.Rectangle.{Area, spanned}
+use Rattle.ps_grid.specs.declared.refusal.Refusal.TheVariants as refusals
+use Rattle.ps_value.specs.declared.value.Value.{Value}
+use Rattle.ps_delta.specs.Deltas.{Entries}
+use Rattle.ps_sheet.specs.declared.edit.Edit.{Edit as SheetEdit}
+use Rattle.ps_session.specs.Commands.{Read, ReadsLine}
+use Rattle.ps_session.specs.Handing.{HandsGroup}
+use Rattle.ps_session.specs.Replies.{done_text, end_text, refusal_text, rows_text, value_text}
+use Rattle.ps_session.specs.Transcript.{Answering, Lines}
+use Rattle.ps_session.specs.declared.command.Command.{Command}
+use Rattle.ps_session.specs.declared.command.Command.TheVariants.{Edit, Get, Pull, Push, Rows}
+
+-- what the calls of a board answer, or why they refuse: the state before, what was asked for, the answer, the state
+-- after
+pub record Calls (State : Type 0) : Type 1 where
+  -- an edit is made: the number of its delta
+  pub edits : State → SheetEdit → Read ℕ → State → Type 0
+  -- a delta made elsewhere is taken in: its number, or that of the last one
+  pub receives : State → Entries → Read ℕ → State → Type 0
+  -- a cell is looked at: its value
+  pub shows : State → ℕ → Read Value → State → Type 0
+  -- a rectangle is looked at: the text of its values as a table
+  pub tables : State → Area → Read (List ℕ) → State → Type 0
+  -- the deltas after a number, at most so many
+  pub pulls : State → ℕ → ℕ → Read (List Entries) → State → Type 0
+
+-- what an answer is told as
+abbrev pub told : {X : Type 0} → (X → List ℕ) → Read X → List ℕ
+told text (Ok answer) = text answer
+told text (Err refusal) = refusal_text refusal
+
+-- a call answered, and the reply tells its answer
+abbrev pub Tells : {X : Type 0} → (Read X → Type 0) → (X → List ℕ) → List ℕ → Type 0
+Tells {X} Call text reply = (answer : Read X) × Call answer × (reply ≡ told text answer)
+
+-- what one is told who has the first `from` deltas and takes at most so many at once: of these deltas after them as
+-- many as one line holds, or that there are none; out of memory only where there is one
+abbrev pub HandsOn : ℕ → ℕ → Read (List Entries) → List ℕ → Type 0
+HandsOn from most (Err refusal) reply = reply ≡ refusal_text refusal
+HandsOn from most (Ok []) reply = reply ≡ end_text from
+HandsOn from most (Ok (d ∷ ds)) reply =
+    HandsGroup from most (d ∷ ds) reply ⊎ (reply ≡ refusal_text refusals.Memory)
+
+-- what a board does where a line asks for this: the reply, and the board afterwards. A pull asks for one delta at
+-- least, so that there is none only at the end. A delta that is pushed may find no memory before the board is asked
+abbrev pub Obeyed : {State : Type 0} → Calls State → State → Read Command → List ℕ → State → Type 0
+Obeyed calls old (Ok (Edit edit)) reply new = Tells (λ answer. calls.edits old edit answer new) done_text reply
+Obeyed calls old (Ok (Get cell)) reply new = Tells (λ answer. calls.shows old cell answer new) value_text reply
+Obeyed calls old (Ok (Rows first last)) reply new =
+    Tells (λ answer. calls.tables old (spanned first last) answer new) (rows_text ((spanned first last).height)) reply
+Obeyed calls old (Ok (Pull from most)) reply new = (answer : Read (List Entries))
+    × calls.pulls old from (max (unwrap_or most 1) 1) answer new × HandsOn from (unwrap_or most 1) answer reply
+Obeyed calls old (Ok (Push delta)) reply new =
+    Tells (λ answer. calls.receives old delta answer new) done_text reply
+    ⊎ ((new ≡ old) × (reply ≡ refusal_text refusals.Memory))
+Obeyed calls old (Err refusal) reply new = (new ≡ old) × (reply ≡ refusal_text refusal)
+
+-- ANSWER: what a board with these calls answers a line that isn't empty, and the board afterwards
+pub record BoardAnswers {State : Type 0} (calls : Calls State) (old : State) (line reply : List ℕ) (new : State) :
+    Type 0 where
+  pub asked : Read Command
+  pub reads : ReadsLine line asked
+  pub obeyed : Obeyed calls old asked reply new
+
+-- .. and a line as it stands between line feeds
+abbrev pub BoardLines : {State : Type 0} → Calls State → Answering State
+BoardLines calls = Lines (BoardAnswers calls)

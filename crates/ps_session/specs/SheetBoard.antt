@@ -1,0 +1,64 @@
+-- What a sheet answers the calls of a board. A refusal changes nothing.
+use Rattle.std.specs.Prelude.{◌≡◌, ◌⊎◌, ◌<◌, ◌≤◌, ◌++◌, ◌∷◌, [], ℕ, List, length, take, drop, Ok, Err, IsOk, IsOkAnd}
+use Rattle.ps_grid.specs.Rectangle.{Area}
+use Rattle.ps_grid.specs.declared.refusal.Refusal.TheVariants as refusals
+use Rattle.ps_value.specs.declared.value.Value.{Value}
+use Rattle.ps_eval.specs.Items.{Assignment}
+use Rattle.ps_delta.specs.Deltas.{Entries, joined_history}
+use Rattle.ps_cells.specs.Settled.{IsSettled}
+use Rattle.ps_sheet.specs.Edits.{delta_of_edit}
+use Rattle.ps_sheet.specs.Sheet.{SheetView, Takes}
+use Rattle.ps_sheet.specs.declared.edit.Edit.{Edit}
+use Rattle.ps_csv.specs.Exports.{exported}
+use Rattle.ps_session.specs.Boards.{Calls}
+use Rattle.ps_session.specs.Commands.{Read}
+
+-- the history has this many deltas now, and the replica is the same
+pub record Counts (old : SheetView) (n : ℕ) (new : SheetView) : Type 0 where
+  pub number : n ≡ length new.history
+  pub replica : new.replica ≡ old.replica
+
+-- the delta of an edit ends the history; out of memory only where there is such a delta
+abbrev pub SheetEdits : SheetView → Edit → Read ℕ → SheetView → Type 0
+SheetEdits old edit (Ok number) new =
+    IsOkAnd (delta_of_edit old.replica (joined_history old.history) edit) (λ d. new.history ≡ old.history ++ d ∷ [])
+    × Counts old number new
+SheetEdits old edit (Err refusal) new =
+    ((delta_of_edit old.replica (joined_history old.history) edit ≡ Err refusal)
+    ⊎ ((refusal ≡ refusals.Memory) × IsOk (delta_of_edit old.replica (joined_history old.history) edit)))
+    × (new ≡ old)
+
+-- the delta ends the history, or changes nothing
+abbrev pub SheetReceives : SheetView → Entries → Read ℕ → SheetView → Type 0
+SheetReceives old delta (Ok number) new = Takes delta old.history new.history × Counts old number new
+SheetReceives old delta (Err refusal) new = (refusal ≡ refusals.Memory) × (new ≡ old)
+
+-- a look at a sheet sees the settled values of its history
+abbrev pub Looks : SheetView → (Assignment → Type 0) → SheetView → Type 0
+Looks old Sees new = ((v : Assignment) × IsSettled (joined_history old.history) v × Sees v) × (new ≡ old)
+
+abbrev pub SheetShows : SheetView → ℕ → Read Value → SheetView → Type 0
+SheetShows old cell (Ok value) new = Looks old (λ v. value ≡ v cell) new
+SheetShows old cell (Err refusal) new = ⊥
+
+abbrev pub SheetTables : SheetView → Area → Read (List ℕ) → SheetView → Type 0
+SheetTables old rect (Ok text) new = Looks old (λ v. text ≡ exported v rect) new
+SheetTables old rect (Err refusal) new = (refusal ≡ refusals.Memory) × (new ≡ old)
+
+-- the deltas of the history after a number that isn't beyond its end; out of memory only where there is one
+abbrev pub SheetPulls : SheetView → ℕ → ℕ → Read (List Entries) → SheetView → Type 0
+SheetPulls old from most (Ok deltas) new =
+    (from ≤ length old.history) × (deltas ≡ take most (drop from old.history)) × (new ≡ old)
+SheetPulls old from most (Err refusal) new =
+    (((refusal ≡ refusals.Version) × (length old.history < from))
+    ⊎ ((refusal ≡ refusals.Memory) × (from < length old.history)))
+    × (new ≡ old)
+
+abbrev pub SheetCalls : Calls SheetView
+SheetCalls = record {
+  edits = SheetEdits;
+  receives = SheetReceives;
+  shows = SheetShows;
+  tables = SheetTables;
+  pulls = SheetPulls;
+}

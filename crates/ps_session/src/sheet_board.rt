@@ -1,0 +1,81 @@
+//! A sheet answers commands.
+ghost use Rattle.std.specs.Prelude.{◌≡◌, IfErr, IfOk, map};
+ghost use Rattle.std.specs.Arc.{arc_value};
+
+use crate::board::Board;
+use ps_csv::exported_text;
+use ps_delta::Delta;
+use ps_eval::Meter;
+use ps_grid::{Cell, Rect, Refusal};
+use ps_sheet::{Edit, Sheet};
+use ps_value::Value;
+use std::alloc::Global;
+use std::sync::Arc;
+use std::sync::ledger::Ledger;
+use std::thread::Threads;
+
+impl<L: Ledger> Board<Meter<L>> for Sheet {
+    ghost use Rattle.ps_session.specs.SheetBoard.{SheetCalls};
+
+    ghost calls = { SheetCalls };
+
+    fn apply_edit<R: Threads + Sync>(
+        &mut self,
+        rt: &R,
+        alloc: Global,
+        edit: Edit,
+        lent: &mut Meter<L>,
+    ) -> Result<u64, Refusal> {
+        match self.edit(rt, alloc, edit, lent) {
+            Ok(report) => Ok(report.version),
+            Err(refusal) => Err(refusal),
+        }
+    }
+
+    fn apply_delta<R: Threads + Sync>(
+        &mut self,
+        rt: &R,
+        alloc: Global,
+        delta: Arc<Delta>,
+        lent: &mut Meter<L>,
+    ) -> Result<u64, Refusal> {
+        match self.receive(rt, alloc, delta, lent) {
+            Ok(report) => Ok(report.version),
+            Err(refusal) => Err(refusal),
+        }
+    }
+
+    fn value(&mut self, cell: Cell) -> Result<Value, Refusal> {
+        Ok(self.shown(cell))
+    }
+
+    fn table(&mut self, alloc: Global, rect: Rect) -> Result<Vec<u8>, Refusal> {
+        // the call brings that the sheet is one, so that what it shows is settled
+        let _ = self.version();
+        exported_text(alloc, self, rect)
+    }
+
+    fn pull(&mut self, alloc: Global, from: u64, most: usize) -> Result<Vec<Arc<Delta>>, Refusal> {
+        let version = self.version();
+        if from > version {
+            return Err(Refusal::Version);
+        }
+        if from == version {
+            return Ok(Vec::new(alloc));
+        }
+        let later = &self.history()[from as usize..];
+        copy_deltas(alloc, &later[..most.min(later.len())])
+    }
+}
+
+/// The same deltas, held once more each.
+fn copy_deltas(alloc: Global, deltas: &[Arc<Delta>]) -> Result<Vec<Arc<Delta>>, Refusal>
+    ensures copied { IfOk result (λ ds. map arc_value ds.items ≡ map arc_value deltas.now) }
+    ensures memory { IfErr result (λ e. e ≡ Refusal.Memory) }
+{
+    let mut copies = Vec::with_capacity(alloc, deltas.len())?;
+    'deltas: for delta in deltas {
+        copies.push(delta.clone()?)?;
+    }
+    Ok(copies)
+}
