@@ -15,7 +15,7 @@ use Rattle.ps_session.specs.Replies.{done_text, refusal_text, rows_text, value_t
 use Rattle.ps_session.specs.SheetBoard.{SheetCalls, SheetPulls}
 use Rattle.ps_session.specs.declared.command.Command.{Command}
 use Rattle.ps_session.specs.declared.command.Command.TheVariants as commands
-use Rattle.ps_session.proofs.PulledLemmas.{hands_out}
+use Rattle.ps_session.proofs.PulledDeltas.{hands_out}
 
 -- a refusal is out of memory, or it isn't
 pub memory_or_other : (refusal : Refusal) → (refusal ≡ refusals.Memory) ⊎ (refusal ≢ refusals.Memory)

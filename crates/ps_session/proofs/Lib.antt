@@ -15,11 +15,11 @@ mod SplitLemmas
 mod AskedInRange
 mod ReplayLemmas
 mod GridHistories
-mod HandingLemmas
+mod GreatestGroup
 mod JointLemmas
 mod RangeLemmas
 mod EditLineLemmas
 mod EntryLemmas
-mod PullLemmas
-pub mod PulledLemmas
+mod PullsHandOut
+pub mod PulledDeltas
 pub mod Weaker

@@ -13,8 +13,8 @@ use std::alloc::Global;
 use std::sync::Arc;
 use std::thread::Threads;
 
-/// What answers the commands of a session, by a call for each. The calls that change something are lent an `M`, as a
-/// count of evaluations, and `rt`, which they may start threads by.
+/// What answers the commands of a session, by a call for each. The calls that change something count their evaluations
+/// on an `M`, and may start threads by `rt`.
 ///
 /// A refusal is told as it is, so a call is refused as out of memory only where it takes some.
 pub trait Board<M> {
@@ -22,36 +22,46 @@ pub trait Board<M> {
     ghost calls: { Calls Self };
 
     /// Makes an edit: the number that is told as `ok`.
+    ///
+    /// Cost: that of the change, and of what it makes others show.
     fn apply_edit<R: Threads + Sync>(
         &mut self,
         rt: &R,
         alloc: Global,
         edit: Edit,
-        lent: &mut M,
+        meter: &mut M,
     ) -> Result<u64, Refusal>
         requires shared { IsSync R.row }
         ensures edited { calls.edits self.old edit result self.new };
 
     /// Takes in a delta made elsewhere: the number that is told as `ok`.
+    ///
+    /// Cost: that of the change, and of what it makes others show.
     fn apply_delta<R: Threads + Sync>(
         &mut self,
         rt: &R,
         alloc: Global,
         delta: Arc<Delta>,
-        lent: &mut M,
+        meter: &mut M,
     ) -> Result<u64, Refusal>
         requires shared { IsSync R.row }
         ensures received { calls.receives self.old (arc_value delta) result self.new };
 
     /// What a cell shows.
+    ///
+    /// Cost: constant, and no memory.
     fn value(&mut self, cell: Cell) -> Result<Value, Refusal>
         ensures shown { calls.shows self.old cell result self.new };
 
     /// What the cells of a rectangle show, as the text of a table.
+    ///
+    /// Cost: the cells of the rectangle and the bytes of the text.
     fn table(&mut self, alloc: Global, rect: Rect) -> Result<Vec<u8>, Refusal>
         ensures shown { calls.tables self.old rect (with_part (λ text. text.items) result) self.new };
 
     /// The deltas after the number `from`, in order, at most so many.
+    ///
+    /// Cost: the deltas that are handed out.
     fn pull(&mut self, alloc: Global, from: u64, most: usize) -> Result<Vec<Arc<Delta>>, Refusal>
         ensures pulled { calls.pulls self.old from most (with_part (λ deltas. map arc_value deltas.items) result)
             self.new }

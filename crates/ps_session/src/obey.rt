@@ -22,12 +22,12 @@ pub(crate) fn answer<R: Threads + Sync, B: Board<M>, M>(
     alloc: Global,
     line: &[u8],
     board: &mut B,
-    lent: &mut M,
+    meter: &mut M,
 ) -> Reply
     ensures answered { BoardAnswers B.calls board.old line.now (reply_text result) board.new }
 {
     match Command::read(alloc, line) {
-        Ok(command) => obey(rt, alloc, command, board, lent),
+        Ok(command) => obey(rt, alloc, command, board, meter),
         Err(refusal) => Reply::Refused(refusal),
     }
 }
@@ -38,12 +38,12 @@ fn obey<R: Threads + Sync, B: Board<M>, M>(
     alloc: Global,
     command: Command,
     board: &mut B,
-    lent: &mut M,
+    meter: &mut M,
 ) -> Reply
     ensures obeyed { Obeyed B.calls board.old (Ok command) (reply_text result) board.new }
 {
     match command {
-        Command::Edit(edit) => match board.apply_edit(rt, alloc, edit, lent) {
+        Command::Edit(edit) => match board.apply_edit(rt, alloc, edit, meter) {
             Ok(number) => Reply::Done(number),
             Err(refusal) => Reply::Refused(refusal),
         },
@@ -53,7 +53,7 @@ fn obey<R: Threads + Sync, B: Board<M>, M>(
         },
         Command::Rows(first, last) => show_table(alloc, Rect::new(first, last), board),
         Command::Pull { from, most } => hand_out(alloc, from, most.unwrap_or(1) as usize, board),
-        Command::Push(delta) => take_in(rt, alloc, delta, board, lent),
+        Command::Push(delta) => take_in(rt, alloc, delta, board, meter),
     }
 }
 
@@ -93,7 +93,7 @@ fn take_in<R: Threads + Sync, B: Board<M>, M>(
     alloc: Global,
     delta: Delta,
     board: &mut B,
-    lent: &mut M,
+    meter: &mut M,
 ) -> Reply
     ensures taken { Tells (λ answer. B.calls.receives board.old delta answer board.new) done_text (reply_text result)
         ⊎ ((board.new ≡ board.old) × (reply_text result ≡ refusal_text Refusal.Memory)) }
@@ -102,7 +102,7 @@ fn take_in<R: Threads + Sync, B: Board<M>, M>(
         Ok(pushed) => pushed,
         Err(_) => return Reply::Refused(Refusal::Memory),
     };
-    match board.apply_delta(rt, alloc, pushed, lent) {
+    match board.apply_delta(rt, alloc, pushed, meter) {
         Ok(number) => Reply::Done(number),
         Err(refusal) => Reply::Refused(refusal),
     }

@@ -24,9 +24,9 @@ impl<L: Ledger> Board<Meter<L>> for Sheet {
         rt: &R,
         alloc: Global,
         edit: Edit,
-        lent: &mut Meter<L>,
+        meter: &mut Meter<L>,
     ) -> Result<u64, Refusal> {
-        match self.edit(rt, alloc, edit, lent) {
+        match self.edit(rt, alloc, edit, meter) {
             Ok(report) => Ok(report.version),
             Err(refusal) => Err(refusal),
         }
@@ -37,9 +37,9 @@ impl<L: Ledger> Board<Meter<L>> for Sheet {
         rt: &R,
         alloc: Global,
         delta: Arc<Delta>,
-        lent: &mut Meter<L>,
+        meter: &mut Meter<L>,
     ) -> Result<u64, Refusal> {
-        match self.receive(rt, alloc, delta, lent) {
+        match self.receive(rt, alloc, delta, meter) {
             Ok(report) => Ok(report.version),
             Err(refusal) => Err(refusal),
         }

@@ -39,7 +39,7 @@ impl<R: Threads + Sync> Conversation<'_, R> {
     fn answer<B: Board<M>, M, K: Sink>(
         &mut self,
         board: &mut B,
-        lent: &mut M,
+        meter: &mut M,
         sink: &mut K,
     ) -> Result<(), Failed>
         ensures replied { Replied
@@ -55,7 +55,7 @@ impl<R: Threads + Sync> Conversation<'_, R> {
         if line.is_empty() {
             return Ok(());
         }
-        let reply = answer(self.rt, self.alloc, line, board, lent);
+        let reply = answer(self.rt, self.alloc, line, board, meter);
         match send(&reply, sink) {
             Ok(()) => {}
             Err(failed) => return Err(failed),
@@ -83,7 +83,7 @@ impl<R: Threads + Sync> Conversation<'_, R> {
         &mut self,
         line: Line,
         board: &mut B,
-        lent: &mut M,
+        meter: &mut M,
         sink: &mut K,
     ) -> Result<(), Failed>
         ensures replied { (raw : List ℕ) → Holds line self.old.session raw
@@ -96,7 +96,7 @@ impl<R: Threads + Sync> Conversation<'_, R> {
     {
         match line {
             Line::None => Ok(()),
-            Line::Full => self.answer(board, lent, sink),
+            Line::Full => self.answer(board, meter, sink),
             Line::TooLong => self.refuse(sink),
         }
     }
@@ -106,7 +106,7 @@ impl<R: Threads + Sync> Conversation<'_, R> {
         &mut self,
         piece: &[u8],
         board: &mut B,
-        lent: &mut M,
+        meter: &mut M,
         sink: &mut K,
     ) -> Result<usize, Failed>
         requires some { 0 < length piece.now }
@@ -123,7 +123,7 @@ impl<R: Threads + Sync> Conversation<'_, R> {
         let fed = self.session.feed(piece);
         match fed.line {
             Line::None => {}
-            line => self.close(line, board, lent, sink)?,
+            line => self.close(line, board, meter, sink)?,
         }
         Ok(fed.taken)
     }
@@ -133,7 +133,7 @@ impl<R: Threads + Sync> Conversation<'_, R> {
         &mut self,
         piece: &[u8],
         board: &mut B,
-        lent: &mut M,
+        meter: &mut M,
         sink: &mut K,
     ) -> Result<(), Failed>
         ensures stands { OnOk result (GoesOn (BoardLines B.calls) piece.now
@@ -147,7 +147,7 @@ impl<R: Threads + Sync> Conversation<'_, R> {
     {
         let mut start = 0;
         'turns: while start < piece.len() {
-            start += self.turn(&piece[start..], board, lent, sink)?;
+            start += self.turn(&piece[start..], board, meter, sink)?;
         }
         Ok(())
     }
@@ -156,7 +156,7 @@ impl<R: Threads + Sync> Conversation<'_, R> {
     fn finish<B: Board<M>, M, K: Sink>(
         &mut self,
         board: &mut B,
-        lent: &mut M,
+        meter: &mut M,
         sink: &mut K,
     ) -> Result<(), Failed>
         ensures transcribed { OnOk result ((first : B) (written : Option (List ℕ)) (read : List ℕ)
@@ -172,7 +172,7 @@ impl<R: Threads + Sync> Conversation<'_, R> {
     {
         match self.session.end() {
             Line::None => {}
-            line => self.close(line, board, lent, sink)?,
+            line => self.close(line, board, meter, sink)?,
         }
         Ok(())
     }
@@ -194,7 +194,7 @@ fn read_on<R: Threads + Sync, S: Source, B: Board<M>, M, K: Sink>(
     conversation: &mut Conversation<R>,
     source: &mut S,
     board: &mut B,
-    lent: &mut M,
+    meter: &mut M,
     sink: &mut K,
 ) -> Result<(), RunFault>
     ensures read { OnOk result ((read : List ℕ)
@@ -236,7 +236,7 @@ fn read_on<R: Threads + Sync, S: Source, B: Board<M>, M, K: Sink>(
         if count == 0 {
             return Ok(());
         }
-        match conversation.serve(&piece[..count], board, lent, sink) {
+        match conversation.serve(&piece[..count], board, meter, sink) {
             Ok(()) => {}
             Err(_) => return Err(RunFault::Sink),
         }
@@ -257,7 +257,7 @@ pub fn talk<R: Threads + Sync, S: Source, B: Board<M>, M, K: Sink>(
     source: &mut S,
     sink: &mut K,
     board: &mut B,
-    lent: &mut M,
+    meter: &mut M,
 ) -> Result<u64, RunFault>
     ensures transcribed { IfOk result (λ answered. (read : List ℕ)
         × Consumes (S.remaining source.old) (S.remaining source.new) read
@@ -290,8 +290,8 @@ pub fn talk<R: Threads + Sync, S: Source, B: Board<M>, M, K: Sink>(
         session,
         answered: 0,
     };
-    read_on(&mut conversation, source, board, lent, sink)?;
-    match conversation.finish(board, lent, sink) {
+    read_on(&mut conversation, source, board, meter, sink)?;
+    match conversation.finish(board, meter, sink) {
         Ok(()) => {}
         Err(_) => return Err(RunFault::Sink),
     }

@@ -1,4 +1,4 @@
-use Rattle.ps_session.proofs.PullLemmas.{pulls_hand_out}
+use Rattle.ps_session.proofs.PullsHandOut.{pulls_hand_out}
 use Rattle.ps_session.proofs.laws.pulls_hand_out.Goals as goal
 
 pub returns : goal.returns

@@ -3,8 +3,8 @@ use Rattle.std.proofs.lemmas.List.{length-map}
 use Rattle.std.specs.Arc.{arc_value}
 use Rattle.ps_wire.specs.Line.{delta_text}
 use Rattle.ps_wire.specs.declared.TheConstants.{DELTA_LINE_LIMIT}
-use Rattle.ps_session.proofs.HandingLemmas.{greatest_found, none_above_all, none_above_next, none_found}
-use Rattle.ps_session.proofs.HandingLemmas.{none_of_one, one_item}
+use Rattle.ps_session.proofs.GreatestGroup.{greatest_found, none_above_all, none_above_next, none_found}
+use Rattle.ps_session.proofs.GreatestGroup.{none_of_one, one_item}
 use Rattle.ps_session.proofs.JointLemmas.{joint_at}
 use Rattle.ps_session.proofs.ReadLemmas.{same_fault}
 use Rattle.ps_session.proofs.pull.greatest_group.Goals as goal

@@ -1,6 +1,6 @@
 use Rattle.std.proofs.Common.{◌≤◌, length}
 use Rattle.std.specs.Arc.{arc_value}
-use Rattle.ps_session.proofs.HandingLemmas.{NoneAbove}
+use Rattle.ps_session.proofs.GreatestGroup.{NoneAbove}
 use Rattle.ps_session.proofs.pull.greatest_group.Given as goal
 
 abbrev pub invariant-counts : goal.invariant-counts

@@ -3,7 +3,7 @@ use Rattle.std.specs.Arc.{arc_value}
 use Rattle.std.specs.Prelude.{IfOk}
 use Rattle.ps_delta.specs.Deltas.{Entries}
 use Rattle.ps_session.proofs.AnswerLemmas.{sheet_pulls}
-use Rattle.ps_session.proofs.PulledLemmas.{pulled_part}
+use Rattle.ps_session.proofs.PulledDeltas.{pulled_part}
 use Rattle.ps_session.proofs.sheet_board.SheetBoardMeter.pull.Goals as goal
 
 pub returns-clause-pulled : goal.returns-clause-pulled
