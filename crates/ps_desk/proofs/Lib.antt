@@ -1,10 +1,9 @@
 mod Closes
 mod Receipted
-mod HandedLemmas
 mod Noted
 mod Owners
 mod Pulled
 mod Read
-mod SeatLemmas
+pub mod SeatLemmas
 pub mod SeatRuns
 mod TableLemmas

@@ -1,16 +1,22 @@
 -- What a session at a desk does with a line is the answer to the line.
-use Rattle.std.proofs.Common.{◌⊎◌, inl, inr, refl, ap, ℕ, List, Ok, Err}
+use Rattle.std.proofs.Common.{◌≡◌, ◌⊎◌, ◌∙◌, inl, inr, refl, ap, sym, subst, arith, max, length, ℕ, ◌<◌, List, Ok, Err}
+use Rattle.std.specs.Prelude.{unwrap_or}
 use Rattle.ps_grid.specs.declared.refusal.Refusal.{Refusal}
 use Rattle.ps_delta.specs.Deltas.{Entries}
 use Rattle.ps_face.specs.Legal.{history_of}
 use Rattle.ps_session.specs.Answers.{TakesMemory}
-use Rattle.ps_session.specs.Commands.{ReadsLine}
+use Rattle.ps_grid.specs.Rectangle.{spanned}
+use Rattle.ps_grid.specs.declared.refusal.Refusal.TheVariants as refusals
+use Rattle.ps_session.specs.Boards.{BoardAnswers, HandsOn, Obeyed}
+use Rattle.ps_session.specs.Commands.{Read, ReadsLine}
 use Rattle.ps_session.specs.Replies.{refusal_text}
 use Rattle.ps_session.specs.declared.command.Command.{Command}
+use Rattle.ps_session.specs.declared.command.Command.TheVariants.{Edit, Get, Pull, Push, Rows}
 use Rattle.ps_session.proofs.AnswerLemmas.{memory_or_other}
+use Rattle.ps_session.proofs.PulledDeltas.{hands_out}
 use Rattle.ps_desk.specs.Passes.{PassView}
-use Rattle.ps_desk.specs.Seats.{GoesOn, IsLacking, SeatAnswers, SeatObeys}
-use Rattle.ps_desk.proofs.SeatRuns.{goes_itself}
+use Rattle.ps_desk.specs.Seats.{GoesOn, IsHandedOut, IsLacking, SeatAnswers, SeatCalls, SeatObeys, SeatPulls}
+use Rattle.ps_desk.proofs.SeatRuns.{goes_itself, goes_on}
 
 module _ (r : ℕ) (h : List Entries) where
   -- a line that was read as a command, which was carried out or was out of memory
@@ -50,3 +56,77 @@ module _ (r : ℕ) (h : List Entries) where
       goes_on = goes_itself pass;
     })
   ]
+
+  -- what a line is done, or nothing for want of memory
+  abbrev Does : Read Command → PassView → List ℕ → PassView → Type 0
+  Does asked old text new =
+      SeatObeys r h asked old text new ⊎ IsLacking (TakesMemory r (history_of h new.list) asked) old text new
+
+  -- a pull of one delta at least was answered or refused, and the reply tells of it
+  pulled : (old new : PassView) (from most : ℕ) (text : List ℕ) (answer : Read (List Entries))
+      → SeatPulls h old from (max most 1) answer new → HandsOn from most answer text
+      → IsHandedOut h from most old text new
+      ⊎ IsLacking (from < length (history_of h new.list)) old text new
+  pulled old new from most text (Ok deltas) call hands =
+      let p = call.0 in
+      elim (hands_out (history_of h new.list) from most (max most 1) deltas text p.part p.there (omega arith)
+      (omega arith) hands) [
+        | inl out ↦ inl (record { legal = p.legal; hands = out; counted = p.counted; entered = p.entered })
+        | inr lacks ↦ inr (record { some = lacks.0; told = lacks.1; counted = p.counted })
+      ]
+  pulled old new from most text (Err refusal) call hands =
+      let p = call.0 in
+      elim p.cause [
+        | inl beyond ↦ inl (record {
+          legal = p.legal;
+          hands = record {
+            beyond = λ _. hands ∙ ap refusal_text beyond.0;
+            at_end = λ at. absurd (omega (arith, at, beyond.1));
+            before_end = λ lt. absurd (omega (arith, lt, beyond.1));
+          };
+          counted = p.counted;
+          entered = p.entered;
+        })
+        | inr lacks ↦ inr (record { some = lacks.1; told = hands ∙ ap refusal_text lacks.0; counted = p.counted })
+      ]
+
+  went : (old new : PassView) (from most : ℕ) (answer : Read (List Entries)) → SeatPulls h old from most answer new
+      → GoesOn old new
+  went old new from most (Ok deltas) call = call.1
+  went old new from most (Err refusal) call = call.1
+
+  -- the calls of a seat make its answer to a line
+  answer_of : (old new : PassView) (line text : List ℕ) (asked : Read Command) → ReadsLine line asked
+      → Obeyed (SeatCalls r h) old asked text new → SeatAnswers r h old line text new
+  answer_of old new line text (Ok (Edit edit)) reads did =
+      answer_of_command old new line text (Edit edit) reads
+      (subst (λ (t : List ℕ). Does (Ok (Edit edit)) old t new) (sym did.2) did.1.0) did.1.1
+  answer_of old new line text (Ok (Get cell)) reads did =
+      answer_of_command old new line text (Get cell) reads
+      (subst (λ (t : List ℕ). Does (Ok (Get cell)) old t new) (sym did.2) (inl did.1.0)) did.1.1
+  answer_of old new line text (Ok (Rows first last)) reads did =
+      answer_of_command old new line text (Rows first last) reads
+      (subst (λ (t : List ℕ). Does (Ok (Rows first last)) old t new) (sym did.2) did.1.0) did.1.1
+  answer_of old new line text (Ok (Pull from most)) reads did =
+      answer_of_command old new line text (Pull from most) reads
+      (pulled old new from (unwrap_or most 1) text did.0 did.1 did.2)
+      (went old new from (max (unwrap_or most 1) 1) did.0 did.1)
+  answer_of old new line text (Ok (Push delta)) reads (inl did) =
+      answer_of_command old new line text (Push delta) reads
+      (subst (λ (t : List ℕ). Does (Ok (Push delta)) old t new) (sym did.2) did.1.0) did.1.1
+  answer_of old new line text (Ok (Push delta)) reads (inr lacks) =
+      answer_of_command old new line text (Push delta) reads
+      (inr (record { some = tt; told = lacks.1; counted = ap (λ (p : PassView). p.appended) lacks.0 }))
+      (subst (GoesOn old) (sym lacks.0) (goes_itself old))
+  answer_of old new line text (Err refusal) reads did =
+      subst (λ (p : PassView). SeatAnswers r h old line text p) (sym did.0)
+      (subst (λ (t : List ℕ). SeatAnswers r h old line t old) (sym did.1) (answer_of_refusal old line refusal reads))
+
+  pub seat_answers : (old new : PassView) (line text : List ℕ) → BoardAnswers (SeatCalls r h) old line text new
+      → SeatAnswers r h old line text new
+  seat_answers old new line text answers = answer_of old new line text answers.asked answers.reads answers.obeyed
+
+  -- and go on from what the pass had seen
+  pub answers_go_on : (old new : PassView) (line text : List ℕ) → BoardAnswers (SeatCalls r h) old line text new
+      → GoesOn old new
+  answers_go_on old new line text answers = goes_on r h old new line text (seat_answers old new line text answers)

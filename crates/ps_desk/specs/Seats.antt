@@ -1,10 +1,12 @@
 -- What a session at a desk answers a line. It is told by the replica r and the opening history h, which the name of the
 -- desk has, and by what contracts see of the session's pass before and after the line.
-use Rattle.std.specs.Prelude.{◌≡◌, ◌≢◌, ◌⊎◌, ℕ, ◌+◌, ◌≤◌, List, Ok, Err, if◌then◌else◌, unwrap_or}
+use Rattle.std.specs.Prelude.{◌≡◌, ◌≢◌, ◌⊎◌, ℕ, ◌+◌, ◌<◌, ◌≤◌, ⊤, List, Ok, Err, IsOk, if◌then◌else◌, unwrap_or}
+use Rattle.std.specs.Prelude.{drop, length, take}
 use mathlib.Core.List.{IsPrefix}
 use Rattle.ps_grid.specs.declared.refusal.Refusal.{Refusal}
 use Rattle.ps_grid.specs.declared.refusal.Refusal.TheVariants as refusals
-use Rattle.ps_grid.specs.Rectangle.{spanned}
+use Rattle.ps_grid.specs.Rectangle.{Area, spanned}
+use Rattle.ps_value.specs.declared.value.Value.{Value}
 use Rattle.ps_eval.specs.Items.{Assignment}
 use Rattle.ps_delta.specs.Deltas.{Entries, joined_history}
 use Rattle.ps_cells.specs.Settled.{IsSettled}
@@ -13,6 +15,7 @@ use Rattle.ps_sheet.specs.declared.edit.Edit.{Edit as SheetEdit}
 use Rattle.ps_csv.specs.Exports.{exported}
 use Rattle.ps_face.specs.Legal.{IsLegal, history_of}
 use Rattle.ps_session.specs.Answers.{TakesMemory}
+use Rattle.ps_session.specs.Boards.{BoardAnswers, Calls, told}
 use Rattle.ps_session.specs.Commands.{Read, ReadsLine}
 use Rattle.ps_session.specs.Handing.{HandsOut}
 use Rattle.ps_session.specs.Replies.{done_text, refusal_text, rows_text, value_text}
@@ -102,6 +105,60 @@ pub record GoesOn (old new : PassView) : Type 0 where
   pub appended : old.appended ≤ new.appended
   pub seat : new.seat ≡ old.seat
 
+-- deltas were pulled: those of all that is published after a number that isn't beyond its end, at most so many
+pub record IsPulled (h : List Entries) (from most : ℕ) (deltas : List Entries) (old new : PassView) : Type 0 where
+  pub legal : IsLegal h new.list
+  pub there : from ≤ length (history_of h new.list)
+  pub part : deltas ≡ take most (drop from (history_of h new.list))
+  pub counted : new.appended ≡ old.appended
+  pub entered : new.enters ≡ old.enters
+
+-- a pull was refused: the number is beyond the end of all that is published, or memory ran out before that end
+pub record IsUnpulled (h : List Entries) (from : ℕ) (refusal : Refusal) (old new : PassView) : Type 0 where
+  pub legal : IsLegal h new.list
+  pub cause : ((refusal ≡ refusals.Version) × (length (history_of h new.list) < from))
+      ⊎ ((refusal ≡ refusals.Memory) × (from < length (history_of h new.list)))
+  pub counted : new.appended ≡ old.appended
+  pub entered : new.enters ≡ old.enters
+
+-- what the calls of a seat answer; each goes on from what the pass had seen
+abbrev pub SeatEdits : ℕ → List Entries → PassView → SheetEdit → Read ℕ → PassView → Type 0
+SeatEdits r h old edit answer new =
+    ((IsEdited r h edit old (told done_text answer) new ⊎ IsRefused r h edit old (told done_text answer) new)
+    ⊎ IsLacking (IsOk (delta_of_edit r (joined_history (history_of h new.list)) edit)) old (told done_text answer) new)
+    × GoesOn old new
+
+abbrev pub SeatReceives : List Entries → PassView → Entries → Read ℕ → PassView → Type 0
+SeatReceives h old delta answer new =
+    (IsTakenIn h delta old (told done_text answer) new ⊎ IsLacking ⊤ old (told done_text answer) new) × GoesOn old new
+
+abbrev pub SeatShows : List Entries → PassView → ℕ → Read Value → PassView → Type 0
+SeatShows h old cell answer new =
+    (IsLook h (λ v. value_text (v cell)) old (told value_text answer) new ⊎ IsGone old (told value_text answer) new)
+    × GoesOn old new
+
+abbrev pub Tabled : List Entries → PassView → Area → Read (List ℕ) → PassView → Type 0
+Tabled h old rect answer new =
+    (IsLook h (λ v. rows_text rect.height (exported v rect)) old (told (rows_text rect.height) answer) new
+    ⊎ IsGone old (told (rows_text rect.height) answer) new)
+    ⊎ IsLacking ⊤ old (told (rows_text rect.height) answer) new
+
+abbrev pub SeatTables : List Entries → PassView → Area → Read (List ℕ) → PassView → Type 0
+SeatTables h old rect answer new = Tabled h old rect answer new × GoesOn old new
+
+abbrev pub SeatPulls : List Entries → PassView → ℕ → ℕ → Read (List Entries) → PassView → Type 0
+SeatPulls h old from most (Ok deltas) new = IsPulled h from most deltas old new × GoesOn old new
+SeatPulls h old from most (Err refusal) new = IsUnpulled h from refusal old new × GoesOn old new
+
+abbrev pub SeatCalls : ℕ → List Entries → Calls PassView
+SeatCalls r h = record {
+  edits = SeatEdits r h;
+  receives = SeatReceives h;
+  shows = SeatShows h;
+  tables = SeatTables h;
+  pulls = SeatPulls h;
+}
+
 -- a line does what it asks for
 pub record SeatServes (r : ℕ) (h : List Entries) (old : PassView) (line text : List ℕ) (new : PassView) : Type 0 where
   pub asked : Read Command
@@ -126,3 +183,9 @@ SeatAnswers r h old line text new = SeatServes r h old line text new ⊎ SeatLac
 -- .. and a line as it stands between line feeds
 abbrev pub SeatLines : ℕ → List Entries → Answering PassView
 SeatLines r h = Lines (SeatAnswers r h)
+
+-- LAW: what a session is answered by the calls of a seat is the answer of a seat
+abbrev pub SeatsAnswerLines : Type 0
+SeatsAnswerLines =
+    (r : ℕ) (h : List Entries) (old new : PassView) (line text : List ℕ)
+    → BoardAnswers (SeatCalls r h) old line text new → SeatAnswers r h old line text new

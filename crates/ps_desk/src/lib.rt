@@ -37,6 +37,7 @@ mod close;
 mod crossing;
 mod desk;
 mod held;
+mod laws;
 mod name;
 mod open;
 mod parts;
@@ -49,6 +50,7 @@ mod table;
 
 pub use crossing::desk_crosses;
 pub use desk::Desk;
+pub use laws::seats_answer_lines;
 pub use name::DeskName;
 pub use parts::Parts;
 pub use pass::Pass;

@@ -8,7 +8,7 @@ use Rattle.ps_csv.specs.Exports.{exported}
 use Rattle.ps_session.specs.Replies.{rows_text}
 use Rattle.ps_desk.specs.Passes.{PassView}
 use Rattle.ps_desk.proofs.TableLemmas.{table_of_values}
-use Rattle.ps_desk.proofs.seat.Seat.show_table.Goals as goal
+use Rattle.ps_desk.proofs.seat.Seat.table_of.Goals as goal
 
 pub returns-in-Ok-exported_text-clause-shown : goal.returns-in-Ok-exported_text-clause-shown
 returns-in-Ok-exported_text-clause-shown g c =
@@ -24,8 +24,7 @@ returns-in-Ok-exported_text-clause-shown g c =
       legal = c.in-Some.ensures.legal;
       values = shows.0;
       settled = shows.1;
-      told = ap (λ (t : List ℕ). rows_text c.height.result t) text
-          ∙ ap (λ (n : ℕ). rows_text n (exported shows.0 rect)) c.height.ensures.height;
+      told = ap (rows_text rect.height) text;
       counted = c.in-Some.ensures.same.0 ∙ ap (λ (p : PassView). p.appended) c.self.view_is;
       entered = c.in-Some.ensures.step ∙ ap (λ (p : PassView). p.enters + 1) c.self.view_is;
     }))
