@@ -1,6 +1,7 @@
-"""The whole test of the repository: the merge gate, the released code, and then the tests of the program.
+"""The whole test of the repository: the merge gate, the wrong bodies, the released code, and the tests of the program.
 
 `./test` has all of it, `./test --program` the latter alone, and `./test --program TEXT` those whose name has the text.
+`./test --wrong` tries the wrong bodies alone, and `./test --wrong CRATE` those of a crate, over what is proved already.
 The last line is `N passed, M failed` over everything that ran, and the exit status is 0 only where nothing failed.
 `./test --hunt MINUTES` compares scripts by chance with a plain model (`hunt/`), and ends in the same way.
 """
@@ -12,8 +13,13 @@ import unittest
 from typing import NamedTuple
 
 import compared
+import wrong
 from program import TOP
+from wrong import Fault
 
+USAGE = (
+    "usage: ./test, or ./test --program [TEXT], or ./test --wrong [CRATE], or ./test --hunt MINUTES [--seed NUMBER]"
+)
 
 class Tally(NamedTuple):
     """How many passed, and how many failed."""
@@ -106,6 +112,15 @@ def released():
     return Tally(1, 0)
 
 
+def refused(crate=""):
+    """Tries the wrong bodies of every crate, or of one, which the prover has to refuse."""
+    try:
+        tally = Tally(*wrong.all_tried(TOP, crate))
+    except (Fault, OSError) as fault:
+        return failed(f"the wrong bodies can't be tried: {fault}")
+    return tally if tally != Tally(0, 0) else failed("there is no wrong body to try")
+
+
 def program(text):
     """Has the program proved where it isn't, and runs the tests of this folder whose names have the text."""
     build = [TOP / "build", "--prove"]
@@ -127,11 +142,16 @@ def main(words):
         # (read only here, since this file's own test has no hunt beside it)
         from hunt import command
         return command.main(words)
-    if words[:1] not in ([], ["--program"]) or len(words) > 2:
-        print("usage: ./test, or ./test --program [TEXT], or ./test --hunt MINUTES [--seed NUMBER]", file=sys.stderr)
+    if words[:1] not in ([], ["--program"], ["--wrong"]) or len(words) > 2:
+        print(USAGE, file=sys.stderr)
         return 2
-    tally = Tally(0, 0) if words else gate().and_also(released())
-    tally = tally.and_also(program("".join(words[1:])))
+    tally = Tally(0, 0) if words else gate()
+    if words[:1] != ["--program"]:
+        tally = tally.and_also(refused("".join(words[1:])))
+    if not words:
+        tally = tally.and_also(released())
+    if words[:1] != ["--wrong"]:
+        tally = tally.and_also(program("".join(words[1:])))
     print(f"{tally.passed} passed, {tally.failed} failed")
     return 1 if tally.failed else 0
 

@@ -27,6 +27,7 @@ class Whole(ProgramTest):
             shutil.copy(TOP / "tests" / file, self.top / "tests")
         self.use("rt", "echo gate $*", "echo 7 passed, 0 failed")
         self.use("build")
+        self.use_wrong("3, 0")
         self.use_comparison("None")
         self.use_test("self.assertEqual(1, 1)")
 
@@ -39,6 +40,11 @@ class Whole(ProgramTest):
     def use_comparison(self, why):
         """Has this be why the released code isn't that of the proved build."""
         (self.top / "tests/compared.py").write_text(f"def difference(top):\n    return {why}\n")
+
+    def use_wrong(self, counts):
+        """Has so many wrong bodies be refused, and so many not."""
+        lines = ["Fault = ValueError", "", "", "def all_tried(top, crate):", "    print('wrong', crate)", f"    return {counts}"]
+        (self.top / "tests/wrong.py").write_text("\n".join(lines) + "\n")
 
     def use_test(self, statement):
         """Has this statement be the one test of the program."""
@@ -57,7 +63,7 @@ class Whole(ProgramTest):
         self.assertEqual((ended.status, ended.output.splitlines()[-1]), (1, last))
 
     def test_all_passes(self):
-        shown = f"gate ci\n7 passed, 0 failed\n{SAME}{PASSED}9 passed, 0 failed\n"
+        shown = f"gate ci\n7 passed, 0 failed\nwrong \n{SAME}{PASSED}12 passed, 0 failed\n"
         self.assertEqual(self.start(), Ended(0, shown, ""))
 
     def test_the_program_alone(self):
@@ -66,21 +72,32 @@ class Whole(ProgramTest):
 
     def test_what_the_gate_counts_as_failed_is_counted(self):
         self.use("rt", "echo 7 passed, 2 failed", "exit 1")
-        self.assert_fails("9 passed, 2 failed")
+        self.assert_fails("12 passed, 2 failed")
 
     def test_a_gate_without_counts_is_a_failure(self):
         self.use("rt", "echo 7 passed, 0 failed", "echo and more")
-        self.assert_fails("2 passed, 1 failed")
+        self.assert_fails("5 passed, 1 failed")
         self.use("rt")
-        self.assert_fails("2 passed, 1 failed")
+        self.assert_fails("5 passed, 1 failed")
 
     def test_a_gate_that_ends_badly_is_a_failure(self):
         self.use("rt", "echo 7 passed, 0 failed", "exit 3")
-        self.assert_fails("9 passed, 1 failed")
+        self.assert_fails("12 passed, 1 failed")
 
     def test_other_released_code_is_a_failure(self):
         self.use_comparison("'it is another'")
-        self.assert_fails("8 passed, 1 failed")
+        self.assert_fails("11 passed, 1 failed")
+
+    def test_wrong_bodies_that_are_not_refused_are_failures(self):
+        self.use_wrong("1, 2")
+        self.assert_fails("10 passed, 2 failed")
+
+    def test_the_wrong_bodies_of_a_crate_alone(self):
+        self.assertEqual(self.start("--wrong", "low"), Ended(0, "wrong low\n3 passed, 0 failed\n", ""))
+
+    def test_no_wrong_body_is_a_failure(self):
+        self.use_wrong("0, 0")
+        self.assert_fails("0 passed, 1 failed", "--wrong", "nonsense")
 
     def test_only_a_proved_program_is_tested(self):
         self.use("build", "test \"$*\" = --prove")
@@ -88,7 +105,7 @@ class Whole(ProgramTest):
 
     def test_a_program_that_is_not_built_is_a_failure(self):
         self.use("build", "exit 4")
-        self.assert_fails("8 passed, 1 failed")
+        self.assert_fails("11 passed, 1 failed")
 
     def test_a_test_of_the_program_that_fails_is_a_failure(self):
         for statement in (
@@ -100,7 +117,7 @@ class Whole(ProgramTest):
         ):
             with self.subTest(statement=statement):
                 self.use_test(statement)
-                self.assert_fails("8 passed, 1 failed")
+                self.assert_fails("11 passed, 1 failed")
 
     def test_a_file_of_tests_that_cannot_be_read_is_a_failure(self):
         (self.top / "tests/test_stand.py").write_text("class\n")
@@ -110,7 +127,7 @@ class Whole(ProgramTest):
         self.assert_fails("0 passed, 1 failed", "--program", "nonsense")
 
     def test_other_words_are_refused(self):
-        usage = "usage: ./test, or ./test --program [TEXT], or ./test --hunt MINUTES [--seed NUMBER]\n"
+        usage = "usage: ./test, or ./test --program [TEXT], or ./test --wrong [CRATE], or ./test --hunt MINUTES [--seed NUMBER]\n"
         for words in (["program"], ["--program", "a", "b"]):
             with self.subTest(words=words):
                 self.assertEqual(self.start(*words), Ended(2, "", usage))

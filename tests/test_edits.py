@@ -1,0 +1,80 @@
+"""How wrong bodies are read and applied, and how those that are not refused are told."""
+import unittest
+from pathlib import Path
+from tempfile import TemporaryDirectory
+
+import edits
+import wrong
+from edits import Change, Edit, Unusable
+
+BODY = "function: list::first\nfile: src/list.rt\nold: one\nnew: two\nold: two three\nnew: \n"
+READ = Edit("body", "list::first", (Change("src/list.rt", "one", "two"), Change("src/list.rt", "two three", "")))
+
+
+class Edits(unittest.TestCase):
+    def setUp(self):
+        folder = TemporaryDirectory(prefix="sheet-test-")
+        self.addCleanup(folder.cleanup)
+        self.top = Path(folder.name)
+        (self.top / "src").mkdir()
+        (self.top / "src/list.rt").write_text("one three\nfour\n")
+
+    def body(self, text):
+        """The edit in a file of this text."""
+        file = self.top / "body.edit"
+        file.write_text(text)
+        return edits.read(file)
+
+    def test_it_is_read(self):
+        self.assertEqual(self.body(BODY), READ)
+
+    def test_what_cannot_be_read_is_unusable(self):
+        for text in (
+            "",
+            "function: f\n",
+            "file: src/list.rt\nold: one\nnew: two\n",
+            "function: f\nold: one\nnew: two\n",
+            "function: f\nfile: src/list.rt\nnew: two\n",
+            f"{BODY}more\n",
+        ):
+            with self.subTest(text=text):
+                self.assertRaises(Unusable, self.body, text)
+
+    def test_its_changes_apply_one_after_another(self):
+        self.assertEqual(edits.applied(READ, self.top, {}), {"src/list.rt": "\nfour\n"})
+
+    def test_an_old_text_stands_once(self):
+        for old in ("e", "five"):
+            with self.subTest(old=old):
+                edit = Edit("body", "f", (Change("src/list.rt", old, "x"),))
+                self.assertRaises(Unusable, edits.applied, edit, self.top, {})
+        self.assertRaises(Unusable, edits.applied, Edit("body", "f", (Change("src/none.rt", "a", "b"),)), self.top, {})
+
+    def test_those_of_one_function_or_one_text_are_in_rounds_apart(self):
+        other = Edit("other", "list::second", (Change("src/list.rt", "four", "five"),))
+        again = Edit("again", "list::second", (Change("src/list.rt", "three", "3"),))
+        same = Edit("same", "list::third", (Change("src/list.rt", "one", "1"),))
+        found = edits.rounds([READ, other, again, same], self.top)
+        self.assertEqual([[it.name for it in trial.edits] for trial in found], [["body", "other"], ["again", "same"]])
+        self.assertEqual(found[0].texts, {"src/list.rt": "\nfive\n"})
+
+
+class Refused(unittest.TestCase):
+    def crate(self):
+        """A crate, no file of which is looked at."""
+        return object.__new__(wrong.Crate)
+
+    def is_refused(self, said, status=1):
+        """Whether a check that says this of the function refuses it."""
+        checked = wrong.Checked(status, {} if said is None else {"list::first": said}, [])
+        return self.crate().is_refused(checked, READ)
+
+    def test_what_the_check_says_of_the_function_decides(self):
+        for said in ("not proved", "no proof: `search` did not prove `returns-clause`; it calls `low::f`, which is not proved"):
+            self.assertTrue(self.is_refused(said))
+        for said in ("proved", None, "no proof: it calls `low::f`, which is not proved"):
+            self.assertFalse(self.is_refused(said))
+
+    def test_a_check_without_a_verdict_refuses_nothing(self):
+        for status in (0, 2, 3, -9):
+            self.assertFalse(self.is_refused("not proved", status))

@@ -1,0 +1,145 @@
+"""Tries the wrong bodies (`edits.py`): the prover has to refuse each, over the libraries that the gate has proved.
+
+Those of a crate that change different functions are tried at once, in a copy of the crate, by checks of these functions
+alone; what such a check doesn't refuse is tried once more by itself. What a crate's checks prove is kept between them.
+"""
+import os
+import re
+import shutil
+import subprocess
+import sys
+import tempfile
+from concurrent.futures import ThreadPoolExecutor
+from pathlib import Path
+from typing import NamedTuple
+
+import edits
+from edits import Round, Unusable
+from program import TOP
+
+sys.path.insert(0, str(TOP / "release"))
+import crates
+import libraries
+import tools
+from tools import Fault
+
+# The most memory that such a check took.
+MEMORY = 3_000_000_000
+# What a function's line says where one that it calls is refused, and nothing else.
+RESTS = re.compile(r"(?:no proof: )?it calls `[^`]*`, which is not proved")
+# What the prover says of a text that it can't read, which is no refusal.
+UNREAD = re.compile(r"(?:\./)?src/\S+?:\d+:\d+: error: |.*\berror\[[\w-]+\]")
+
+
+class Checked(NamedTuple):
+    """How a check ended: its status, what it says of each function, and what else it wrote."""
+
+    status: int
+    said: dict
+    lines: list
+
+
+def below(known, crate):
+    """Returns the repository's libraries that a crate stands on, at any distance."""
+    found = {}
+    for library in known[crate][1]:
+        if library in known:
+            found |= {library: None} | dict.fromkeys(below(known, library))
+    return list(found)
+
+
+def words(top, kit, crate):
+    """Returns the words of a check of a crate over the libraries that are built below this folder."""
+    known = crates.rows(top)
+    rlib = {name: top / "crates" / name / "out/rlib" for name in below(known, crate)}
+    root = "main" if (top / "crates" / crate / "src/main.rt").is_file() else "lib"
+    found = ["--crate-name", crate, f"src/{root}.rt", "--extern", f"std={kit}/rlibs/std.rlib", "-L", f"dependency={kit}/rlibs"]
+    for library in known[crate][1]:
+        folder = rlib.get(library, kit / "rlibs")
+        found += ["--extern", f"{library}={folder}/{library}.rlib"]
+    for folder in rlib.values():
+        found += ["-L", f"dependency={folder}"]
+    return [*found, "--antt-project", f"{kit}/rattle/logic/antt-project.json", "--logic-built", f"{kit}/logic_built", "--jobs", "1"]
+
+
+class Crate:
+    """A copy of a crate, in which edits of it are tried."""
+
+    def __init__(self, top, kit, name, room):
+        self.folder, self.room, self.name = top / "crates" / name, room, name
+        self.words = [kit / "bin/rattle", "check", *words(top, kit, name), "--incremental", room / "kept"]
+        (room / "kept").mkdir()
+
+    def check(self, trial):
+        """Checks the functions of the round's edits, with its texts in the place of the crate's own."""
+        copy = self.room / "copy"
+        shutil.rmtree(copy, ignore_errors=True)
+        for part in crates.PARTS:
+            if (self.folder / part).is_dir():
+                shutil.copytree(self.folder / part, copy / part)
+        for path, text in trial.texts.items():
+            (copy / path).write_text(text)
+        only = [word for edit in trial.edits for word in ("--only", edit.function)]
+        ran = subprocess.run(
+            [*self.words, *only], cwd=copy, stdin=subprocess.DEVNULL, stdout=subprocess.PIPE, stderr=subprocess.STDOUT, errors="replace"
+        )
+        lines = ran.stdout.splitlines()
+        found = (re.match(rf"fn {self.name}::(.+?): (.*)", line) for line in lines)
+        return Checked(ran.returncode, {it[1]: it[2] for it in found if it}, lines)
+
+    def is_refused(self, checked, edit):
+        """Whether the check refuses the function for what stands in it: not only for a function that it calls."""
+        said = checked.said.get(edit.function, "proved")
+        return checked.status == 1 and said != "proved" and RESTS.fullmatch(said) is None
+
+    def alone(self, edit):
+        """Tries an edit by itself. Returns why it isn't refused, or None where it is."""
+        checked = self.check(Round([edit], edits.applied(edit, self.folder, {})))
+        if self.is_refused(checked, edit):
+            return None
+        if checked.said.get(edit.function) == "proved":
+            return "is still proved"
+        said = next((line for line in checked.lines if UNREAD.match(line)), "".join(checked.lines[-1:]))
+        return f"has no verdict (status {checked.status}): {said[:200]}"
+
+    def faults(self, bodies):
+        """Tries these edits. Returns, by its name, why each that isn't refused isn't."""
+        found, usable = {}, []
+        for file in bodies:
+            try:
+                edit = edits.read(file)
+                edits.applied(edit, self.folder, {})
+                usable.append(edit)
+            except Unusable as fault:
+                found[file.stem] = f"can't be tried: {fault}"
+        for trial in edits.rounds(usable, self.folder):
+            checked = self.check(trial)
+            for edit in trial.edits:
+                why = None if self.is_refused(checked, edit) else self.alone(edit)
+                if why is not None:
+                    found[edit.name] = why
+        return found
+
+
+def tried(top, kit, name, bodies):
+    """Tries these edits of a crate, and shows what each came to. Returns how many were refused, and how many weren't."""
+    with tempfile.TemporaryDirectory(prefix="sheet-wrong-") as room:
+        faults = Crate(top, kit, name, Path(room)).faults(bodies)
+    said = [f"wrong body {name}/{it.stem}: {faults.get(it.stem, 'refused')}\n" for it in bodies]
+    # written at once, since crates are tried side by side
+    sys.stdout.write("".join(said))
+    sys.stdout.flush()
+    return len(bodies) - len(faults), len(faults)
+
+
+def all_tried(top, only=""):
+    """Tries the wrong bodies of every crate, or of one. Returns how many were refused, and how many weren't."""
+    kit = tools.folder()
+    chosen = {name: bodies for name, bodies in edits.of_crates(top).items() if bodies and only in ("", name)}
+    # the crates that stand on most take longest
+    known = crates.rows(top)
+    order = sorted(chosen, key=lambda name: -len(below(known, name)))
+    lanes = max(1, min(len(os.sched_getaffinity(0)), libraries.free_memory() // MEMORY))
+    with ThreadPoolExecutor(lanes) as pool:
+        counts = list(pool.map(lambda name: tried(top, kit, name, chosen[name]), order))
+    return sum(refused for refused, _ in counts), sum(failed for _, failed in counts)
