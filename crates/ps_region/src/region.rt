@@ -54,13 +54,15 @@ impl Model for Region {
 }
 
 impl Region {
-    /// A region without cells, with room for each cell of the grid; no other call takes memory.
+    /// A region without cells, levels and cyclic cells, with room for each cell of the grid; no other call takes memory.
     ///
     /// Refused only when out of memory.
     ///
     /// Cost: the cells of the grid.
     pub fn new(alloc: Global) -> Result<Region, Refusal>
         ensures empty { IfOk result (λ r. r.members ≡ []) }
+        ensures no_level { IfOk result (λ r. level_count r ≡ 0) }
+        ensures no_cyclic { IfOk result (λ r. r.cyclic ≡ []) }
         ensures memory { IfErr result (λ e. e ≡ Memory) }
     {
         let marks = no_marks(alloc, CELLS)?;
@@ -176,15 +178,24 @@ impl Region {
         &self.cyclic
     }
 
+    /// Whether the cell is a formula cell of the region.
+    ///
+    /// Cost: constant.
+    pub fn is_formula(&self, c: Cell) -> bool
+        ensures { result ≡ has_left self.now c }
+    {
+        let place = c.index();
+        self.marks[place] && !self.plain[place]
+    }
+
     /// How many of the cells that a formula cell of the region refers to are cyclic; none for any other cell.
     ///
     /// Cost: constant.
     pub fn left(&self, c: Cell) -> Option<usize>
         ensures { result ≡ (if has_left self.now c then Some (slice_index self.now.left c) else None) }
     {
-        let place = c.index();
-        if self.marks[place] && !self.plain[place] {
-            Some(self.left[place] as usize)
+        if self.is_formula(c) {
+            Some(self.left[c.index()] as usize)
         } else {
             None
         }
