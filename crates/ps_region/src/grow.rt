@@ -11,9 +11,10 @@ ghost use Rattle.ps_region.specs.Inside.Touched.{IsPlain};
 ghost use Rattle.ps_region.specs.Listed.{listed};
 
 use crate::after::After;
+use crate::change::{Change, still_refers};
 use crate::members::{enter, enter_all, has_formula};
 use ps_grid::{CELLS, Cell};
-use ps_index::{Index, Readers};
+use ps_index::Readers;
 
 /// What is noted of a cell that no cell refers to.
 const NONE: u32 = CELLS as u32;
@@ -30,22 +31,14 @@ pub(crate) fn add_one(left: &mut [u32], e: Cell)
     left[e.index()] += 1;
 }
 
-/// Whether a cell that is listed refers there after the change: the formula is asked only where the cell is touched.
-pub(crate) fn still_refers<A: After>(after: &A, fresh: &[bool], e: Cell, d: Cell) -> bool
-    requires length { length fresh.now ≡ ALL }
-    requires known { slice_index_or fresh.now e false ≡ false → A.refers after.now e d ≡ true }
-    ensures { result ≡ A.refers after.now e d }
-{
-    !fresh[e.index()] || after.refers(e, d)
-}
-
 /// Whether the reference of a listed cell is counted.
-fn is_counted<A: After>(after: &A, fresh: &[bool], counted: bool, e: Cell, d: Cell) -> bool
-    requires length { length fresh.now ≡ ALL }
-    requires known { slice_index_or fresh.now e false ≡ false → A.refers after.now e d ≡ true }
-    ensures { result ≡ (counted && A.refers after.now e d) }
+fn is_counted<A: After>(change: &Change<'_, A>, counted: bool, e: Cell, d: Cell) -> bool
+    requires length { length change.now.fresh.now ≡ ALL }
+    requires known { slice_index_or change.now.fresh.now e false ≡ false
+        → A.refers change.now.after.now e d ≡ true }
+    ensures { result ≡ (counted && A.refers change.now.after.now e d) }
 {
-    counted && still_refers(after, fresh, e, d)
+    counted && still_refers(change, e, d)
 }
 
 /// What is noted of some cells and one more: the cell where it is the first, and else `SEVERAL`.
@@ -59,23 +52,20 @@ fn noted_with(noted: u32, e: Cell) -> u32
 }
 
 /// Puts the cell `e`, which refers to the cell `d`, into the region, and counts its reference if `d` is a formula cell.
-#[allow(clippy::too_many_arguments)]
 fn enter_one<A: After>(
-    after: &A,
-    fresh: &[bool],
-    plain: &[bool],
+    change: &Change<'_, A>,
     marks: &mut [bool],
     left: &mut [u32],
     members: &mut Vec<Cell>,
     d: Cell,
     e: Cell,
 )
-    requires fresh_length { length fresh.now ≡ ALL }
-    requires plain_length { length plain.now ≡ ALL }
+    requires fresh_length { length change.now.fresh.now ≡ ALL }
+    requires plain_length { length change.now.plain.now ≡ ALL }
     requires marks_length { length marks.old ≡ ALL }
     requires left_length { length left.old ≡ ALL }
-    requires known { slice_index_or fresh.now e false ≡ false → A.refers after.now e d ≡ true }
-    requires formula { slice_index_or plain.now d false ≡ not (A.formula after.now d) }
+    requires known { slice_index_or change.now.fresh.now e false ≡ false → A.refers change.now.after.now e d ≡ true }
+    requires formula { slice_index_or change.now.plain.now d false ≡ not (A.formula change.now.after.now d) }
     requires marked { Marked marks.old members.old.items }
     requires room { ALL ≤ vec_capacity members.old }
     requires small { counted_in members.old.items left.old e < ALL }
@@ -83,61 +73,60 @@ fn enter_one<A: After>(
     ensures marked { Marked marks.new members.new.items }
     ensures room { ALL ≤ vec_capacity members.new }
     ensures counts { (q : ℕ) → counted_in members.new.items left.new q ≡ counted_in members.old.items left.old q
-        + as_one (list_any (nat_eq q) (e ∷ []) && (A.formula after.now d && A.refers after.now q d)) }
+        + as_one (list_any (nat_eq q) (e ∷ [])
+        && (A.formula change.now.after.now d && A.refers change.now.after.now q d)) }
 {
-    let counted = has_formula(plain, d);
+    let counted = has_formula(change.plain, d);
     enter(marks, left, members, e);
-    if is_counted(after, fresh, counted, e, d) {
+    if is_counted(change, counted, e, d) {
         add_one(left, e);
     }
 }
 
 /// Puts each cell that refers to the cell `d` into the region, counts its reference if `d` is a formula cell, and notes
 /// the one such cell where there is just one. They are walked only where there may be several.
-#[allow(clippy::too_many_arguments)]
 fn enter_dependents<A: After>(
-    index: &Index,
-    after: &A,
-    fresh: &[bool],
-    plain: &[bool],
+    change: &Change<'_, A>,
     marks: &mut [bool],
     left: &mut [u32],
     members: &mut Vec<Cell>,
     sole: &mut [u32],
     d: Cell,
 )
-    requires fresh_length { length fresh.now ≡ ALL }
-    requires plain_length { length plain.now ≡ ALL }
+    requires fresh_length { length change.now.fresh.now ≡ ALL }
+    requires plain_length { length change.now.plain.now ≡ ALL }
     requires marks_length { length marks.old ≡ ALL }
     requires left_length { length left.old ≡ ALL }
     requires sole_length { length sole.old ≡ ALL }
-    requires known { (e : ℕ) → In (listed index.now d) e → slice_index_or fresh.now e false ≡ false
-        → A.refers after.now e d ≡ true }
-    requires formula { slice_index_or plain.now d false ≡ not (A.formula after.now d) }
+    requires known { (e : ℕ) → In (listed change.now.index.now d) e
+        → slice_index_or change.now.fresh.now e false ≡ false
+        → A.refers change.now.after.now e d ≡ true }
+    requires formula { slice_index_or change.now.plain.now d false ≡ not (A.formula change.now.after.now d) }
     requires marked { Marked marks.old members.old.items }
     requires room { ALL ≤ vec_capacity members.old }
     requires small { (q : ℕ) → counted_in members.old.items left.old q < ALL }
-    ensures members { members.new.items ≡ with_all members.old.items (listed index.now d) }
+    ensures members { members.new.items ≡ with_all members.old.items (listed change.now.index.now d) }
     ensures marked { Marked marks.new members.new.items }
     ensures room { ALL ≤ vec_capacity members.new }
     ensures counts { (q : ℕ) → counted_in members.new.items left.new q ≡ counted_in members.old.items left.old q
-        + as_one (list_any (nat_eq q) (listed index.now d) && (A.formula after.now d && A.refers after.now q d)) }
-    ensures sole { HasSole (listed index.now d) (slice_index_or sole.new d 0) }
+        + as_one (list_any (nat_eq q) (listed change.now.index.now d)
+        && (A.formula change.now.after.now d && A.refers change.now.after.now q d)) }
+    ensures sole { HasSole (listed change.now.index.now d) (slice_index_or sole.new d 0) }
     ensures others { (c : ℕ) → nat_eq c d ≡ false → slice_index_or sole.new c 0 ≡ slice_index_or sole.old c 0 }
 {
-    match index.readers(d) {
+    match change.index.readers(d) {
         Readers::Nobody => sole[d.index()] = NONE,
         Readers::One(e) => {
-            enter_one(after, fresh, plain, marks, left, members, d, e);
+            enter_one(change, marks, left, members, d, e);
             // known by its contract: the cell is in the grid
             sole[d.index()] = e.index() as u32;
         }
         Readers::Several => {
-            let counted = has_formula(plain, d);
+            let counted = has_formula(change.plain, d);
             let mut noted = NONE;
-            for e in index.dependents(d) {
+            for e in change.index.dependents(d) {
                 enter(marks, left, members, e);
-                if is_counted(after, fresh, counted, e, d) {
+                if is_counted(change, counted, e, d) {
                     add_one(left, e);
                 }
                 noted = noted_with(noted, e);
@@ -149,45 +138,45 @@ fn enter_dependents<A: After>(
 
 /// Grows the region from the touched cells, counts for each member its references to formula cells of the region, and
 /// notes for each the one cell that refers to it, where there is just one.
-#[allow(clippy::too_many_arguments)]
 pub(crate) fn grow<A: After>(
-    index: &Index,
-    after: &A,
-    touched: &[Cell],
-    fresh: &[bool],
-    plain: &[bool],
+    change: &Change<'_, A>,
     marks: &mut [bool],
     left: &mut [u32],
     members: &mut Vec<Cell>,
     sole: &mut [u32],
 )
-    requires fresh_length { length fresh.now ≡ ALL }
-    requires plain_length { length plain.now ≡ ALL }
+    requires fresh_length { length change.now.fresh.now ≡ ALL }
+    requires plain_length { length change.now.plain.now ≡ ALL }
     requires marks_length { length marks.old ≡ ALL }
     requires left_length { length left.old ≡ ALL }
     requires sole_length { length sole.old ≡ ALL }
-    requires known { (d e : ℕ) → d < ALL → In (listed index.now d) e → slice_index_or fresh.now e false ≡ false
-        → A.refers after.now e d ≡ true }
-    requires plain { IsPlain (A.formula after.now) plain.now touched.now }
-    requires extra { (c d : ℕ) → d < ALL → In (listed index.now d) c
-        → (A.refers after.now c d ≡ true) ⊎ In touched.now c }
-    requires lists_all { (c d : ℕ) → A.refers after.now c d ≡ true → In (listed index.now d) c }
+    requires known { (d e : ℕ) → d < ALL → In (listed change.now.index.now d) e
+        → slice_index_or change.now.fresh.now e false ≡ false
+        → A.refers change.now.after.now e d ≡ true }
+    requires plain { IsPlain (A.formula change.now.after.now) change.now.plain.now change.now.touched.now }
+    requires extra { (c d : ℕ) → d < ALL → In (listed change.now.index.now d) c
+        → (A.refers change.now.after.now c d ≡ true) ⊎ In change.now.touched.now c }
+    requires lists_all { (c d : ℕ) → A.refers change.now.after.now c d ≡ true → In (listed change.now.index.now d) c }
     requires empty { members.old.items ≡ [] }
     requires marked { Marked marks.old members.old.items }
     requires room { ALL ≤ vec_capacity members.old }
     ensures marked { Marked marks.new members.new.items }
     ensures room { ALL ≤ vec_capacity members.new }
-    ensures sound { (c : ℕ) → In members.new.items c → InRegion (A.refers after.now) touched.now c }
-    ensures complete { (c : ℕ) → InRegion (A.refers after.now) touched.now c → In members.new.items c }
+    ensures sound { (c : ℕ) → In members.new.items c
+        → InRegion (A.refers change.now.after.now) change.now.touched.now c }
+    ensures complete { (c : ℕ) → InRegion (A.refers change.now.after.now) change.now.touched.now c
+        → In members.new.items c }
     ensures counts { (q : ℕ) → counted_in members.new.items left.new q
-        ≡ cells_left (A.refers after.now) (is_walked (A.formula after.now) members.new.items) [] ALL q }
-    ensures sole { (m : ℕ) → In members.new.items m → HasSole (listed index.now m) (slice_index_or sole.new m 0) }
+        ≡ cells_left (A.refers change.now.after.now)
+        (is_walked (A.formula change.now.after.now) members.new.items) [] ALL q }
+    ensures sole { (m : ℕ) → In members.new.items m
+        → HasSole (listed change.now.index.now m) (slice_index_or sole.new m 0) }
 {
-    enter_all(marks, left, members, touched);
+    enter_all(marks, left, members, change.touched);
     let mut head = 0;
     while head < members.len() {
         let d = members[head];
-        enter_dependents(index, after, fresh, plain, marks, left, members, sole, d);
+        enter_dependents(change, marks, left, members, sole, d);
         head += 1;
     }
 }

@@ -11,10 +11,9 @@ ghost use Rattle.ps_region.specs.Inside.Touched.{not_plain};
 ghost use Rattle.ps_region.specs.Listed.{listed};
 
 use crate::after::After;
-use crate::grow::still_refers;
+use crate::change::{Change, still_refers};
 use crate::members::{has_formula, put};
 use ps_grid::{CELLS, Cell};
-use ps_index::Index;
 
 /// Whether a member is a formula cell of which no reference is left.
 fn is_ready_cell(plain: &[bool], left: &[u32], c: Cell) -> bool
@@ -73,10 +72,8 @@ fn lower(left: &mut [u32], level: &mut [u32], order: &mut Vec<Cell>, e: Cell, k:
 }
 
 /// Counts the reference of the one cell that is listed for the cell `d` as settled.
-#[allow(clippy::too_many_arguments)]
 fn release_sole<A: After>(
-    after: &A,
-    fresh: &[bool],
+    change: &Change<'_, A>,
     left: &mut [u32],
     level: &mut [u32],
     order: &mut Vec<Cell>,
@@ -84,31 +81,28 @@ fn release_sole<A: After>(
     e: Cell,
     k: u32,
 )
-    requires fresh_length { length fresh.now ≡ ALL }
+    requires fresh_length { length change.now.fresh.now ≡ ALL }
     requires left_length { length left.old ≡ ALL }
     requires level_length { length level.old ≡ ALL }
-    requires known { slice_index_or fresh.now e false ≡ false → A.refers after.now e d ≡ true }
-    requires some { A.refers after.now e d ≡ true → 0 < slice_index left.old e }
+    requires known { slice_index_or change.now.fresh.now e false ≡ false → A.refers change.now.after.now e d ≡ true }
+    requires some { A.refers change.now.after.now e d ≡ true → 0 < slice_index left.old e }
     requires queued { Queued left.old order.old.items }
     requires room { ALL ≤ vec_capacity order.old }
-    ensures released { Released (A.refers after.now) d k (e ∷ []) left.old level.old order.old.items
+    ensures released { Released (A.refers change.now.after.now) d k (e ∷ []) left.old level.old order.old.items
         left.new level.new order.new.items }
     ensures room { ALL ≤ vec_capacity order.new }
 {
     // for the fact that the cell is in the grid
     let _place = e.index();
-    if still_refers(after, fresh, e, d) {
+    if still_refers(change, e, d) {
         lower(left, level, order, e, k);
     }
 }
 
 /// Counts each reference to the cell `d` as settled: by what is noted where at most one cell refers there, and else by
 /// a walk of the index.
-#[allow(clippy::too_many_arguments)]
 fn release<A: After>(
-    index: &Index,
-    after: &A,
-    fresh: &[bool],
+    change: &Change<'_, A>,
     sole: &[u32],
     left: &mut [u32],
     level: &mut [u32],
@@ -116,29 +110,30 @@ fn release<A: After>(
     d: Cell,
     k: u32,
 )
-    requires fresh_length { length fresh.now ≡ ALL }
+    requires fresh_length { length change.now.fresh.now ≡ ALL }
     requires sole_length { length sole.now ≡ ALL }
     requires left_length { length left.old ≡ ALL }
     requires level_length { length level.old ≡ ALL }
-    requires sole { HasSole (listed index.now d) (slice_index_or sole.now d 0) }
-    requires known { (e : ℕ) → In (listed index.now d) e → slice_index_or fresh.now e false ≡ false
-        → A.refers after.now e d ≡ true }
-    requires some { (c : ℕ) → A.refers after.now c d ≡ true → 0 < slice_index left.old c }
+    requires sole { HasSole (listed change.now.index.now d) (slice_index_or sole.now d 0) }
+    requires known { (e : ℕ) → In (listed change.now.index.now d) e
+        → slice_index_or change.now.fresh.now e false ≡ false
+        → A.refers change.now.after.now e d ≡ true }
+    requires some { (c : ℕ) → A.refers change.now.after.now c d ≡ true → 0 < slice_index left.old c }
     requires queued { Queued left.old order.old.items }
     requires room { ALL ≤ vec_capacity order.old }
-    ensures released { Released (A.refers after.now) d k (listed index.now d) left.old level.old order.old.items
-        left.new level.new order.new.items }
+    ensures released { Released (A.refers change.now.after.now) d k (listed change.now.index.now d)
+        left.old level.old order.old.items left.new level.new order.new.items }
     ensures room { ALL ≤ vec_capacity order.new }
 {
     let noted = sole[d.index()] as usize;
     if noted <= CELLS {
         if let Some(e) = Cell::from_index(noted) {
-            release_sole(after, fresh, left, level, order, d, e, k);
+            release_sole(change, left, level, order, d, e, k);
         }
         return;
     }
-    for e in index.dependents(d) {
-        if still_refers(after, fresh, e, d) {
+    for e in change.index.dependents(d) {
+        if still_refers(change, e, d) {
             lower(left, level, order, e, k);
         }
     }
@@ -154,14 +149,9 @@ fn put_start(starts: &mut Vec<u32>, place: usize)
     let _ = starts.push(place as u32);
 }
 
-/// Gives the cells of the queue and those that they release their levels, level after level. `_outside` is there for
-/// the contract alone.
-#[allow(clippy::too_many_arguments)]
+/// Gives the cells of the queue and those that they release their levels, level after level.
 pub(crate) fn settle<A: After>(
-    index: &Index,
-    after: &A,
-    _outside: &[Cell],
-    fresh: &[bool],
+    change: &Change<'_, A>,
     marks: &[bool],
     sole: &[u32],
     left: &mut [u32],
@@ -169,25 +159,28 @@ pub(crate) fn settle<A: After>(
     order: &mut Vec<Cell>,
     starts: &mut Vec<u32>,
 )
-    requires fresh_length { length fresh.now ≡ ALL }
+    requires fresh_length { length change.now.fresh.now ≡ ALL }
     requires sole_length { length sole.now ≡ ALL }
     requires left_length { length left.old ≡ ALL }
     requires level_length { length level.old ≡ ALL }
-    requires known { (d e : ℕ) → d < ALL → In (listed index.now d) e → slice_index_or fresh.now e false ≡ false
-        → A.refers after.now e d ≡ true }
-    requires lists_all { (c d : ℕ) → A.refers after.now c d ≡ true → In (listed index.now d) c }
+    requires known { (d e : ℕ) → d < ALL → In (listed change.now.index.now d) e
+        → slice_index_or change.now.fresh.now e false ≡ false
+        → A.refers change.now.after.now e d ≡ true }
+    requires lists_all { (c d : ℕ) → A.refers change.now.after.now c d ≡ true → In (listed change.now.index.now d) c }
     requires sole { (m : ℕ) → slice_index_or marks.now m false ≡ true
-        → HasSole (listed index.now m) (slice_index_or sole.now m 0) }
-    requires closed { (c d : ℕ) → A.refers after.now c d ≡ true → slice_index_or marks.now d false ≡ true
+        → HasSole (listed change.now.index.now m) (slice_index_or sole.now m 0) }
+    requires closed { (c d : ℕ) → A.refers change.now.after.now c d ≡ true → slice_index_or marks.now d false ≡ true
         → slice_index_or marks.now c false ≡ true }
-    requires starting { Settling (A.refers after.now) (is_pending (A.formula after.now) (is_in _outside.now) marks.now)
-        (is_frame (A.formula after.now) marks.now) ALL 0 0 (length order.old.items) 1
+    requires starting { Settling (A.refers change.now.after.now)
+        (is_pending (A.formula change.now.after.now) (is_in change.now.outside.now) marks.now)
+        (is_frame (A.formula change.now.after.now) marks.now) ALL 0 0 (length order.old.items) 1
         left.old level.old order.old.items }
     requires empty { starts.old.items ≡ [] }
     requires room { ALL ≤ vec_capacity order.old }
     requires room_starts { ALL < vec_capacity starts.old }
-    ensures ended { Settling (A.refers after.now) (is_pending (A.formula after.now) (is_in _outside.now) marks.now)
-        (is_frame (A.formula after.now) marks.now) ALL (length order.new.items) (length order.new.items)
+    ensures ended { Settling (A.refers change.now.after.now)
+        (is_pending (A.formula change.now.after.now) (is_in change.now.outside.now) marks.now)
+        (is_frame (A.formula change.now.after.now) marks.now) ALL (length order.new.items) (length order.new.items)
         (length order.new.items) (length starts.new.items) left.new level.new order.new.items }
     ensures room { ALL ≤ vec_capacity order.new }
     ensures room_starts { ALL < vec_capacity starts.new }
@@ -201,7 +194,7 @@ pub(crate) fn settle<A: After>(
     'levels: while head < end {
         'walk: while head < end {
             let d = order[head];
-            release(index, after, fresh, sole, left, level, order, d, k + 1);
+            release(change, sole, left, level, order, d, k + 1);
             head += 1;
         }
         put_start(starts, end);

@@ -23,6 +23,7 @@
 #![tactic(auto)]
 
 mod after;
+mod change;
 mod grow;
 mod laws;
 mod levels;

@@ -12,6 +12,7 @@ ghost use Rattle.ps_region.specs.Inside.Touched.{FlagsTouched, IsPlain};
 ghost use Rattle.ps_region.specs.Listed.{listed};
 
 use crate::after::After;
+use crate::change::Change;
 use crate::grow::grow;
 use crate::levels::{first_level, list_held, settle};
 use crate::members::{clear, note_touched};
@@ -72,16 +73,20 @@ pub(crate) fn mark_parts<A: After>(
 {
     clear(marks, fresh, plain, members);
     note_touched(after, touched, fresh, plain);
-    grow(
-        index, after, touched, fresh, plain, marks, left, members, sole,
-    );
-    count_outside(index, after, outside, fresh, marks, left);
+    let change = Change {
+        index,
+        after,
+        touched,
+        outside,
+        fresh,
+        plain,
+    };
+    grow(&change, marks, left, members, sole);
+    count_outside(&change, marks, left);
     order.clear();
     first_level(plain, left, level, members, order);
     starts.clear();
-    settle(
-        index, after, outside, fresh, marks, sole, left, level, order, starts,
-    );
+    settle(&change, marks, sole, left, level, order, starts);
     cyclic.clear();
     list_held(plain, left, members, cyclic);
 }

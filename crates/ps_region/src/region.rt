@@ -54,7 +54,7 @@ impl Model for Region {
 }
 
 impl Region {
-    /// A region without cells, levels and cyclic cells, with room for each cell of the grid; no other call takes memory.
+    /// A region without cells, levels or cyclic cells, with room for the whole grid; no other call takes memory.
     ///
     /// Refused only when out of memory.
     ///

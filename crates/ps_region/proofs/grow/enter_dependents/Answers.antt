@@ -20,21 +20,23 @@ pub enter_one-requires-clause-known : goal.enter_one-requires-clause-known
 enter_one-requires-clause-known g c =
     c.requires.known c.in-One.e
     (subst (λ xs. In xs c.in-One.e)
-    (listed_is c.args.index.now c.args.d (c.in-One.e ∷ []) (sym (c.readers.ensures.one c.in-One.e c.in-One.is)))
+    (listed_is c.args.change.now.index.now c.args.d (c.in-One.e ∷ [])
+    (sym (c.readers.ensures.one c.in-One.e c.in-One.is)))
     (In-self c.in-One.e []))
 
 pub returns-in-Nobody-clause-members : goal.returns-in-Nobody-clause-members
 returns-in-Nobody-clause-members g c =
     ap (with_all c.args.members.now.items)
-    (listed_is c.args.index.now c.args.d [] (sym (c.readers.ensures.nobody c.in-Nobody.is)))
+    (listed_is c.args.change.now.index.now c.args.d [] (sym (c.readers.ensures.nobody c.in-Nobody.is)))
 
 pub returns-in-Nobody-clause-counts : goal.returns-in-Nobody-clause-counts
 returns-in-Nobody-clause-counts g c = λ q.
     let n = counted_in c.args.members.now.items c.args.left.now q in
     let same : n ≡ n + 0 = omega arith in
     same ∙ ap (λ xs. n + as_one (list_any (eqb q) xs
-    && (g.A.After.formula c.args.after.now c.args.d && g.A.After.refers c.args.after.now q c.args.d)))
-    (listed_is c.args.index.now c.args.d [] (sym (c.readers.ensures.nobody c.in-Nobody.is)))
+    && (g.A.After.formula c.args.change.now.after.now c.args.d
+    && g.A.After.refers c.args.change.now.after.now q c.args.d)))
+    (listed_is c.args.change.now.index.now c.args.d [] (sym (c.readers.ensures.nobody c.in-Nobody.is)))
 
 pub returns-in-Nobody-clause-sole : goal.returns-in-Nobody-clause-sole
 returns-in-Nobody-clause-sole g c =
@@ -42,21 +44,25 @@ returns-in-Nobody-clause-sole g c =
     ap (λ x. get_or (set c.args.sole.now c.index.result CELLS) x 0) (sym c.index.ensures.index)
     ∙ get_or-set_same c.args.sole.now c.index.result CELLS 0
     (omega (arith, c.index.ensures.in_grid, c.requires.sole_length)) in
-    sole_nobody (listed c.args.index.now c.args.d) (get_or (set c.args.sole.now c.index.result CELLS) c.args.d 0)
-    (listed_is c.args.index.now c.args.d [] (sym (c.readers.ensures.nobody c.in-Nobody.is)))
+    sole_nobody (listed c.args.change.now.index.now c.args.d)
+    (get_or (set c.args.sole.now c.index.result CELLS) c.args.d 0)
+    (listed_is c.args.change.now.index.now c.args.d [] (sym (c.readers.ensures.nobody c.in-Nobody.is)))
     here
 
 pub returns-in-One-clause-members : goal.returns-in-One-clause-members
 returns-in-One-clause-members g c =
     c.enter_one.ensures.members ∙ ap (with_all c.args.members.now.items)
-    (listed_is c.args.index.now c.args.d (c.in-One.e ∷ []) (sym (c.readers.ensures.one c.in-One.e c.in-One.is)))
+    (listed_is c.args.change.now.index.now c.args.d (c.in-One.e ∷ [])
+    (sym (c.readers.ensures.one c.in-One.e c.in-One.is)))
 
 pub returns-in-One-clause-counts : goal.returns-in-One-clause-counts
 returns-in-One-clause-counts g c = λ q.
     c.enter_one.ensures.counts q
     ∙ ap (λ xs. counted_in c.args.members.now.items c.args.left.now q + as_one (list_any (eqb q) xs
-    && (g.A.After.formula c.args.after.now c.args.d && g.A.After.refers c.args.after.now q c.args.d)))
-    (listed_is c.args.index.now c.args.d (c.in-One.e ∷ []) (sym (c.readers.ensures.one c.in-One.e c.in-One.is)))
+    && (g.A.After.formula c.args.change.now.after.now c.args.d
+    && g.A.After.refers c.args.change.now.after.now q c.args.d)))
+    (listed_is c.args.change.now.index.now c.args.d (c.in-One.e ∷ [])
+    (sym (c.readers.ensures.one c.in-One.e c.in-One.is)))
 
 pub returns-in-One-clause-sole : goal.returns-in-One-clause-sole
 returns-in-One-clause-sole g c =
@@ -66,21 +72,22 @@ returns-in-One-clause-sole g c =
     ap (λ x. get_or (set c.args.sole.now place e) x 0) (sym c.index-in-One-2.ensures.index)
     ∙ get_or-set_same c.args.sole.now place e 0
     (omega (arith, c.index-in-One-2.ensures.in_grid, c.requires.sole_length)) in
-    sole_one (listed c.args.index.now c.args.d) (get_or (set c.args.sole.now place e) c.args.d 0) c.in-One.e
-    (listed_is c.args.index.now c.args.d (c.in-One.e ∷ []) (sym (c.readers.ensures.one c.in-One.e c.in-One.is)))
+    sole_one (listed c.args.change.now.index.now c.args.d) (get_or (set c.args.sole.now place e) c.args.d 0) c.in-One.e
+    (listed_is c.args.change.now.index.now c.args.d (c.in-One.e ∷ [])
+    (sym (c.readers.ensures.one c.in-One.e c.in-One.is)))
     (here ∙ c.index-in-One.ensures.index)
     (let small = c.index-in-One.ensures.in_grid in let is = c.index-in-One.ensures.index in omega (arith, small, is))
 
 pub is_counted-requires-clause-known : goal.is_counted-requires-clause-known
 is_counted-requires-clause-known g c =
-    let n = next_listed c.args.index.now c.args.d c.loop-e.yielded _ _
+    let n = next_listed c.args.change.now.index.now c.args.d c.loop-e.yielded _ _
     c.into_iter-e-iterator.ensures.into_iter_gives c.dependents-e-items.ensures.list
     c.dependents-e-items.ensures.once c.loop-e.yielded_by c.next.ensures.steps c.in-Some.e c.in-Some.is in
     c.requires.known c.in-Some.e n.inside
 
 pub add_one-requires-clause-small : goal.add_one-requires-clause-small
 add_one-requires-clause-small g c =
-    let n = next_listed c.args.index.now c.args.d c.loop-e.yielded _ _
+    let n = next_listed c.args.change.now.index.now c.args.d c.loop-e.yielded _ _
     c.into_iter-e-iterator.ensures.into_iter_gives c.dependents-e-items.ensures.list
     c.dependents-e-items.ensures.once c.loop-e.yielded_by c.next.ensures.steps c.in-Some.e c.in-Some.is in
     let e = c.in-Some.e in
@@ -93,10 +100,10 @@ add_one-requires-clause-small g c =
 
 pub loop-e-preserved : goal.loop-e-preserved
 loop-e-preserved g c =
-    let n = next_listed c.args.index.now c.args.d c.loop-e.yielded _ _
+    let n = next_listed c.args.change.now.index.now c.args.d c.loop-e.yielded _ _
     c.into_iter-e-iterator.ensures.into_iter_gives c.dependents-e-items.ensures.list
     c.dependents-e-items.ensures.once c.loop-e.yielded_by c.next.ensures.steps c.in-Some.e c.in-Some.is in
-    let all = listed c.args.index.now c.args.d in
+    let all = listed c.args.change.now.index.now c.args.d in
     let e = c.in-Some.e in
     let i = length c.loop-e.yielded in
     let push = n.push in
@@ -105,7 +112,7 @@ loop-e-preserved g c =
     let low : e < length c.enter.new.left =
     omega (
       arith,
-      listed_below c.args.index.now c.args.d e n.inside,
+      listed_below c.args.change.now.index.now c.args.d e n.inside,
       c.enter.auto.left,
       c.loop-e.auto.left,
       c.requires.left_length,
@@ -120,28 +127,28 @@ loop-e-preserved g c =
       room = c.enter.ensures.room;
       counts = elim c.if-is_counted.branch [
         | then-is_counted w ↦ λ q. rw (w.left-is, w.add_one.ensures, n.push, n.more)
-            (counted_yes (λ x. g.A.After.formula c.args.after.now c.args.d
-            && g.A.After.refers c.args.after.now x c.args.d) (take i all)
+            (counted_yes (λ x. g.A.After.formula c.args.change.now.after.now c.args.d
+            && g.A.After.refers c.args.change.now.after.now x c.args.d) (take i all)
             (λ x. counted_in c.args.members.now.items c.args.left.now x) c.enter.new.members.items c.enter.new.left e
             (λ x. c.enter.ensures.counts x ∙ c.loop-e.invariant.counts x)
             inside
             (sym (w.if-is_counted.ensures
-            ∙ ap (λ b. b && g.A.After.refers c.args.after.now e c.args.d)
+            ∙ ap (λ b. b && g.A.After.refers c.args.change.now.after.now e c.args.d)
             (c.has_formula-counted.ensures
-            ∙ (ap not c.requires.formula ∙ not_not (g.A.After.formula c.args.after.now c.args.d)))))
+            ∙ (ap not c.requires.formula ∙ not_not (g.A.After.formula c.args.change.now.after.now c.args.d)))))
             n.new low q)
         | else-is_counted w ↦ λ q. rw (w.left-is, n.push, n.more)
-            (counted_no (λ x. g.A.After.formula c.args.after.now c.args.d
-            && g.A.After.refers c.args.after.now x c.args.d) (take i all)
+            (counted_no (λ x. g.A.After.formula c.args.change.now.after.now c.args.d
+            && g.A.After.refers c.args.change.now.after.now x c.args.d) (take i all)
             (λ x. counted_in c.args.members.now.items c.args.left.now x) c.enter.new.members.items c.enter.new.left e
             (λ x. c.enter.ensures.counts x ∙ c.loop-e.invariant.counts x)
             (sym (w.if-is_counted.ensures
-            ∙ ap (λ b. b && g.A.After.refers c.args.after.now e c.args.d)
+            ∙ ap (λ b. b && g.A.After.refers c.args.change.now.after.now e c.args.d)
             (c.has_formula-counted.ensures
-            ∙ (ap not c.requires.formula ∙ not_not (g.A.After.formula c.args.after.now c.args.d))))) q)
+            ∙ (ap not c.requires.formula ∙ not_not (g.A.After.formula c.args.change.now.after.now c.args.d))))) q)
       ];
       noted = rw (n.push, n.more) (sole_more (take i all) c.loop-e.noted c.noted_with-noted.result e
-          c.loop-e.invariant.noted (listed_below c.args.index.now c.args.d e n.inside)
+          c.loop-e.invariant.noted (listed_below c.args.change.now.index.now c.args.d e n.inside)
           c.noted_with-noted.ensures.first c.noted_with-noted.ensures.more);
     }
 
@@ -149,7 +156,7 @@ pub returns-in-None-clause-members : goal.returns-in-None-clause-members
 returns-in-None-clause-members g c =
     c.loop-e.invariant.members
     ∙ ap (λ xs. with_all c.args.members.now.items xs)
-    (all_listed c.args.index.now c.args.d c.loop-e.yielded _ _
+    (all_listed c.args.change.now.index.now c.args.d c.loop-e.yielded _ _
     c.into_iter-e-iterator.ensures.into_iter_gives c.dependents-e-items.ensures.list
     c.dependents-e-items.ensures.once c.loop-e.yielded_by c.next.ensures.steps c.in-None.is)
 
@@ -158,15 +165,16 @@ returns-in-None-clause-counts g c = λ q.
     c.loop-e.invariant.counts q
     ∙ ap (λ xs. counted_in c.args.members.now.items c.args.left.now q
     + as_one (list_any (eqb q) xs
-    && (g.A.After.formula c.args.after.now c.args.d && g.A.After.refers c.args.after.now q c.args.d)))
-    (all_listed c.args.index.now c.args.d c.loop-e.yielded _ _
+    && (g.A.After.formula c.args.change.now.after.now c.args.d
+    && g.A.After.refers c.args.change.now.after.now q c.args.d)))
+    (all_listed c.args.change.now.index.now c.args.d c.loop-e.yielded _ _
     c.into_iter-e-iterator.ensures.into_iter_gives c.dependents-e-items.ensures.list
     c.dependents-e-items.ensures.once c.loop-e.yielded_by c.next.ensures.steps c.in-None.is)
 
 pub returns-in-None-clause-sole : goal.returns-in-None-clause-sole
 returns-in-None-clause-sole g c =
     let all =
-    all_listed c.args.index.now c.args.d c.loop-e.yielded _ _
+    all_listed c.args.change.now.index.now c.args.d c.loop-e.yielded _ _
     c.into_iter-e-iterator.ensures.into_iter_gives c.dependents-e-items.ensures.list
     c.dependents-e-items.ensures.once c.loop-e.yielded_by c.next.ensures.steps c.in-None.is in
     let place = c.index-in-Several.result in

@@ -21,25 +21,29 @@ returns-then-is_counted-clause-counts g c = λ q.
     let low : e < length c.enter.new.left =
     omega (arith, below, c.enter.auto.marks, c.enter.auto.left, c.requires.marks_length, c.requires.left_length) in
     rw c.add_one.ensures
-    (counted_yes (λ x. g.A.After.formula c.args.after.now d && g.A.After.refers c.args.after.now x d) []
+    (counted_yes
+    (λ x. g.A.After.formula c.args.change.now.after.now d && g.A.After.refers c.args.change.now.after.now x d) []
     (λ x. counted_in c.args.members.now.items c.args.left.now x) c.enter.new.members.items c.enter.new.left e
     (λ x. let n = counted_in c.args.members.now.items c.args.left.now x in
     let same : n ≡ n + 0 = omega arith in c.enter.ensures.counts x ∙ same)
     inside
     (sym (c.if-is_counted.ensures
-    ∙ ap (λ b. b && g.A.After.refers c.args.after.now e d)
-    (c.has_formula-counted.ensures ∙ (ap not c.requires.formula ∙ not_not (g.A.After.formula c.args.after.now d)))))
+    ∙ ap (λ b. b && g.A.After.refers c.args.change.now.after.now e d)
+    (c.has_formula-counted.ensures ∙
+    (ap not c.requires.formula ∙ not_not (g.A.After.formula c.args.change.now.after.now d)))))
     refl low q)
 
 pub returns-else-is_counted-clause-counts : goal.returns-else-is_counted-clause-counts
 returns-else-is_counted-clause-counts g c = λ q.
     let e = c.args.e in
     let d = c.args.d in
-    counted_no (λ x. g.A.After.formula c.args.after.now d && g.A.After.refers c.args.after.now x d) []
+    counted_no (λ x. g.A.After.formula c.args.change.now.after.now d
+    && g.A.After.refers c.args.change.now.after.now x d) []
     (λ x. counted_in c.args.members.now.items c.args.left.now x) c.enter.new.members.items c.enter.new.left e
     (λ x. let n = counted_in c.args.members.now.items c.args.left.now x in
     let same : n ≡ n + 0 = omega arith in c.enter.ensures.counts x ∙ same)
     (sym (c.if-is_counted.ensures
-    ∙ ap (λ b. b && g.A.After.refers c.args.after.now e d)
-    (c.has_formula-counted.ensures ∙ (ap not c.requires.formula ∙ not_not (g.A.After.formula c.args.after.now d)))))
+    ∙ ap (λ b. b && g.A.After.refers c.args.change.now.after.now e d)
+    (c.has_formula-counted.ensures ∙
+    (ap not c.requires.formula ∙ not_not (g.A.After.formula c.args.change.now.after.now d)))))
     q

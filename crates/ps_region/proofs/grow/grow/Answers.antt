@@ -17,11 +17,13 @@ loop-head-init g c = record {
   marked = c.enter_all.ensures.marked;
   room = c.enter_all.ensures.room;
   grown = rw (c.enter_all.ensures.members, c.requires.empty)
-      (Grown-start (g.A.After.refers c.args.after.now) (listed c.args.index.now) c.args.touched.now);
+      (Grown-start (g.A.After.refers c.args.change.now.after.now)
+      (listed c.args.change.now.index.now) c.args.change.now.touched.now);
   soles = λ p lt. absurd (omega arith);
   counts = λ q. rw (c.enter_all.ensures.members, c.requires.empty)
-      (counts_start (g.A.After.refers c.args.after.now) (g.A.After.formula c.args.after.now) c.args.members.now.items
-      c.args.touched.now c.args.left.now c.enter_all.new.left CELLS
+      (counts_start (g.A.After.refers c.args.change.now.after.now)
+      (g.A.After.formula c.args.change.now.after.now) c.args.members.now.items
+      c.args.change.now.touched.now c.args.left.now c.enter_all.new.left CELLS
       c.requires.empty (rw c.enter_all.ensures.members at c.enter_all.ensures.counts) q);
 }
 
@@ -39,9 +41,9 @@ enter_dependents-requires-clause-small g c = λ q.
     let same = c.requires.marks_length in
     let new : list_any (eqb h) (take c.loop-head.head members) ≡ false =
     in-take_apart members c.loop-head.head c.loop-head.invariant.marked.once lt in
-    let small = cells_left-lt (g.A.After.refers c.args.after.now)
-    (is_walked (g.A.After.formula c.args.after.now) (take c.loop-head.head members)) CELLS q h
-    (omega (arith, below, long, long2, same)) (ap (λ b. b && g.A.After.formula c.args.after.now h) new) in
+    let small = cells_left-lt (g.A.After.refers c.args.change.now.after.now)
+    (is_walked (g.A.After.formula c.args.change.now.after.now) (take c.loop-head.head members)) CELLS q h
+    (omega (arith, below, long, long2, same)) (ap (λ b. b && g.A.After.formula c.args.change.now.after.now h) new) in
     let is = c.loop-head.invariant.counts q in
     omega (arith, small, is, long3, long4)
 
@@ -62,9 +64,10 @@ enter_dependents-requires-clause-formula g c =
     let lt : c.loop-head.head < length members = omega arith in
     let at = get_or_read members c.loop-head.head c.index-d.result.now lt c.index-d.ensures 0 in
     let h = get_or members c.loop-head.head 0 in
-    rw at (plain_known (g.A.After.refers c.args.after.now) (g.A.After.formula c.args.after.now) c.args.plain.now
-    c.args.touched.now
-    (g.met.A.After.refers_formula c.args.after.now) c.requires.plain h
+    rw at (plain_known (g.A.After.refers c.args.change.now.after.now)
+    (g.A.After.formula c.args.change.now.after.now) c.args.change.now.plain.now
+    c.args.change.now.touched.now
+    (g.met.A.After.refers_formula c.args.change.now.after.now) c.requires.plain h
     (c.loop-head.invariant.grown.sound h (in-get_or members c.loop-head.head 0 lt)))
 
 pub loop-head-smaller : goal.loop-head-smaller
@@ -88,17 +91,19 @@ loop-head-preserved g c =
       marked = c.enter_dependents.ensures.marked;
       room = c.enter_dependents.ensures.room;
       grown = rw (c.enter_dependents.ensures.members, at)
-          (Grown-step (g.A.After.refers c.args.after.now) (listed c.args.index.now) c.args.touched.now
+          (Grown-step (g.A.After.refers c.args.change.now.after.now)
+          (listed c.args.change.now.index.now) c.args.change.now.touched.now
           c.loop-head.head members (λ x i. c.requires.extra x h (omega (arith, below, long, long2, same)) i)
           c.loop-head.invariant.grown lt);
       soles = rw c.enter_dependents.ensures.members
-          (rw at (λ p. soles_step (λ m n. HasSole (listed c.args.index.now m) n) members
-          (listed c.args.index.now h) c.loop-head.sole c.enter_dependents.new.sole c.loop-head.head lt
+          (rw at (λ p. soles_step (λ m n. HasSole (listed c.args.change.now.index.now m) n) members
+          (listed c.args.change.now.index.now h) c.loop-head.sole c.enter_dependents.new.sole c.loop-head.head lt
           c.loop-head.invariant.marked.once (rw at at c.enter_dependents.ensures.sole)
           (rw at at c.enter_dependents.ensures.others) c.loop-head.invariant.soles p));
       counts = λ q. rw (c.enter_dependents.ensures.members, at)
-          (counts_step (g.A.After.refers c.args.after.now) (g.A.After.formula c.args.after.now) members
-          (listed c.args.index.now h)
+          (counts_step (g.A.After.refers c.args.change.now.after.now)
+          (g.A.After.formula c.args.change.now.after.now) members
+          (listed c.args.change.now.index.now h)
           c.loop-head.left c.enter_dependents.new.left c.loop-head.head CELLS lt c.loop-head.invariant.marked.once
           (omega (arith, below, long, long2, same))
           (λ x r. c.requires.lists_all x h r)
@@ -108,16 +113,18 @@ loop-head-preserved g c =
 
 pub returns-clause-complete : goal.returns-clause-complete
 returns-clause-complete g c =
-    Grown-complete (g.A.After.refers c.args.after.now) (listed c.args.index.now) c.args.touched.now
+    Grown-complete (g.A.After.refers c.args.change.now.after.now)
+    (listed c.args.change.now.index.now) c.args.change.now.touched.now
     (c.requires.lists_all) c.loop-head.head c.loop-head.members.items c.loop-head.invariant.grown (omega arith)
 
 pub returns-clause-counts : goal.returns-clause-counts
 returns-clause-counts g c = λ q. c.loop-head.invariant.counts q
-    ∙ ap (λ xs. cells_left (g.A.After.refers c.args.after.now) (is_walked (g.A.After.formula c.args.after.now) xs) []
+    ∙ ap (λ xs. cells_left (g.A.After.refers c.args.change.now.after.now)
+    (is_walked (g.A.After.formula c.args.change.now.after.now) xs) []
     CELLS q)
     (take_all c.loop-head.head c.loop-head.members.items (omega arith))
 
 pub returns-clause-sole : goal.returns-clause-sole
 returns-clause-sole g c =
-    soles_end (λ m n. HasSole (listed c.args.index.now m) n) c.loop-head.members.items c.loop-head.sole
+    soles_end (λ m n. HasSole (listed c.args.change.now.index.now m) n) c.loop-head.members.items c.loop-head.sole
     c.loop-head.head (omega arith) c.loop-head.invariant.soles

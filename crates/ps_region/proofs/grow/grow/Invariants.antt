@@ -11,10 +11,12 @@ invariant-loop-head g l = record {
   marked : Marked l.marks l.members.items;
   room : CELLS ≤ vec_capacity l.members;
   soles : (p : ℕ) → p < l.head
-      → HasSole (listed l.index (get_or l.members.items p 0)) (get_or l.sole (get_or l.members.items p 0) 0);
-  grown : Grown (g.A.After.refers l.after) (listed l.index) l.touched l.head l.members.items;
+      → HasSole (listed l.change.index.now (get_or l.members.items p 0)) (get_or l.sole (get_or l.members.items p 0) 0);
+  grown : Grown (g.A.After.refers l.change.after.now)
+      (listed l.change.index.now) l.change.touched.now l.head l.members.items;
   counts : (q : ℕ) → counted_in l.members.items l.left q
-      ≡ cells_left (g.A.After.refers l.after) (is_walked (g.A.After.formula l.after) (take l.head l.members.items))
+      ≡ cells_left (g.A.After.refers l.change.after.now)
+      (is_walked (g.A.After.formula l.change.after.now) (take l.head l.members.items))
       [] CELLS q;
 }
 

@@ -4,7 +4,7 @@ use Rattle.ps_region.proofs.levels.release_sole.Goals as goal
 
 pub returns-then-still_refers-clause-released : goal.returns-then-still_refers-clause-released
 returns-then-still_refers-clause-released g c =
-    let refers = g.A.After.refers c.args.after.now in
+    let refers = g.A.After.refers c.args.change.now.after.now in
     let r : refers c.args.e c.args.d ≡ true = sym c.if-still_refers.ensures in
     let some = c.requires.some r in
     (Released-lower refers c.args.d c.args.k [] c.args.left.now c.args.level.now c.args.order.now.items

@@ -30,7 +30,7 @@ release-requires-clause-sole g c =
     c.index-d.ensures in
     let h = get_or order c.walk.head 0 in
     rw front.is (c.requires.sole h
-    (and_true_left (get_or c.args.marks.now h false) (g.A.After.formula c.args.after.now h)
+    (and_true_left (get_or c.args.marks.now h false) (g.A.After.formula c.args.change.now.after.now h)
     (s.framed h (in-get_or order c.walk.head 0 front.there))))
 
 pub release-requires-clause-some : goal.release-requires-clause-some
@@ -39,14 +39,16 @@ release-requires-clause-some g c =
     let s = c.walk.invariant.state in
     let front = front_of order c.walk.head c.levels.«end» c.index-d.result.now c.walk-test.true s.within
     c.index-d.ensures in
-    rw front.is (Settling-lowers (g.A.After.refers c.args.after.now)
-    (is_pending (g.A.After.formula c.args.after.now) (is_in c.args._outside.now) c.args.marks.now)
-    (is_frame (g.A.After.formula c.args.after.now) c.args.marks.now)
+    rw front.is (Settling-lowers (g.A.After.refers c.args.change.now.after.now)
+    (is_pending (g.A.After.formula c.args.change.now.after.now) (is_in c.args.change.now.outside.now) c.args.marks.now)
+    (is_frame (g.A.After.formula c.args.change.now.after.now) c.args.marks.now)
     CELLS
-    (g.met.A.After.refers_below c.args.after.now)
-    (frame_pending (g.A.After.formula c.args.after.now) (is_in c.args._outside.now) c.args.marks.now)
-    (frame_back (g.A.After.refers c.args.after.now) (g.A.After.formula c.args.after.now) c.args.marks.now
-    c.requires.closed (g.met.A.After.refers_formula c.args.after.now))
+    (g.met.A.After.refers_below c.args.change.now.after.now)
+    (frame_pending (g.A.After.formula c.args.change.now.after.now)
+    (is_in c.args.change.now.outside.now) c.args.marks.now)
+    (frame_back (g.A.After.refers c.args.change.now.after.now)
+    (g.A.After.formula c.args.change.now.after.now) c.args.marks.now
+    c.requires.closed (g.met.A.After.refers_formula c.args.change.now.after.now))
     c.levels.head c.walk.head c.levels.«end» c.levels.k c.walk.left c.walk.level order s c.walk-test.true)
 
 pub walk-preserved : goal.walk-preserved
@@ -59,21 +61,24 @@ walk-preserved g c =
     let long = c.walk.auto.left in
     let long0 = c.levels.auto.left in
     record {
-      state = Settling-step (g.A.After.refers c.args.after.now)
-          (is_pending (g.A.After.formula c.args.after.now) (is_in c.args._outside.now) c.args.marks.now)
-          (is_frame (g.A.After.formula c.args.after.now) c.args.marks.now)
+      state = Settling-step (g.A.After.refers c.args.change.now.after.now)
+          (is_pending (g.A.After.formula c.args.change.now.after.now)
+          (is_in c.args.change.now.outside.now) c.args.marks.now)
+          (is_frame (g.A.After.formula c.args.change.now.after.now) c.args.marks.now)
           CELLS
-          (g.met.A.After.refers_below c.args.after.now)
-          (frame_pending (g.A.After.formula c.args.after.now) (is_in c.args._outside.now) c.args.marks.now)
-          (frame_back (g.A.After.refers c.args.after.now) (g.A.After.formula c.args.after.now) c.args.marks.now
-          c.requires.closed (g.met.A.After.refers_formula c.args.after.now))
-          (listed c.args.index.now (get_or order c.walk.head 0))
+          (g.met.A.After.refers_below c.args.change.now.after.now)
+          (frame_pending (g.A.After.formula c.args.change.now.after.now)
+          (is_in c.args.change.now.outside.now) c.args.marks.now)
+          (frame_back (g.A.After.refers c.args.change.now.after.now)
+          (g.A.After.formula c.args.change.now.after.now) c.args.marks.now
+          c.requires.closed (g.met.A.After.refers_formula c.args.change.now.after.now))
+          (listed c.args.change.now.index.now (get_or order c.walk.head 0))
           c.levels.head c.walk.head c.levels.«end» c.levels.k c.walk.left c.walk.level order
           c.release.new.left c.release.new.level c.release.new.order.items s c.walk-test.true
           (omega (arith, long, long0))
           (λ x r. c.requires.lists_all x (get_or order c.walk.head 0) r) rel;
-      levels = Levels-keep (g.A.After.refers c.args.after.now) (get_or order c.walk.head 0) (c.levels.k + 1)
-          (listed c.args.index.now (get_or order c.walk.head 0))
+      levels = Levels-keep (g.A.After.refers c.args.change.now.after.now) (get_or order c.walk.head 0) (c.levels.k + 1)
+          (listed c.args.change.now.index.now (get_or order c.walk.head 0))
           c.levels.starts.items c.walk.left c.walk.level order c.release.new.left c.release.new.level
           c.release.new.order.items c.walk.invariant.levels rel;
       room = c.release.ensures.room;
@@ -110,9 +115,9 @@ levels-preserved g c =
     let f = c.walk-test.false in
     let r = j.state.reached in
     let same : c.walk.head ≡ c.levels.«end» = omega (arith, f, r) in
-    let s = subst (λ e. Settling (g.A.After.refers c.args.after.now)
-    (is_pending (g.A.After.formula c.args.after.now) (is_in c.args._outside.now) c.args.marks.now)
-    (is_frame (g.A.After.formula c.args.after.now) c.args.marks.now)
+    let s = subst (λ e. Settling (g.A.After.refers c.args.change.now.after.now)
+    (is_pending (g.A.After.formula c.args.change.now.after.now) (is_in c.args.change.now.outside.now) c.args.marks.now)
+    (is_frame (g.A.After.formula c.args.change.now.after.now) c.args.marks.now)
     CELLS c.levels.head c.walk.head e k c.walk.left c.walk.level c.walk.order.items) (sym same) j.state in
     let long = c.len-end-in-levels.ensures in
     let last : c.len-end-in-levels.result ≡ length c.walk.order.items = omega arith in
@@ -124,14 +129,17 @@ levels-preserved g c =
     let room = i.room_starts in
     let long1 = c.walk.auto.left in
     record {
-      state = rw last (Settling-level (g.A.After.refers c.args.after.now)
-          (is_pending (g.A.After.formula c.args.after.now) (is_in c.args._outside.now) c.args.marks.now)
-          (is_frame (g.A.After.formula c.args.after.now) c.args.marks.now)
+      state = rw last (Settling-level (g.A.After.refers c.args.change.now.after.now)
+          (is_pending (g.A.After.formula c.args.change.now.after.now)
+          (is_in c.args.change.now.outside.now) c.args.marks.now)
+          (is_frame (g.A.After.formula c.args.change.now.after.now) c.args.marks.now)
           CELLS
-          (g.met.A.After.refers_below c.args.after.now)
-          (frame_pending (g.A.After.formula c.args.after.now) (is_in c.args._outside.now) c.args.marks.now)
-          (frame_back (g.A.After.refers c.args.after.now) (g.A.After.formula c.args.after.now) c.args.marks.now
-          c.requires.closed (g.met.A.After.refers_formula c.args.after.now))
+          (g.met.A.After.refers_below c.args.change.now.after.now)
+          (frame_pending (g.A.After.formula c.args.change.now.after.now)
+          (is_in c.args.change.now.outside.now) c.args.marks.now)
+          (frame_back (g.A.After.refers c.args.change.now.after.now)
+          (g.A.After.formula c.args.change.now.after.now) c.args.marks.now
+          c.requires.closed (g.met.A.After.refers_formula c.args.change.now.after.now))
           c.levels.head c.walk.head k c.walk.left c.walk.level c.walk.order.items s);
       levels = rw items (Levels-more starts c.walk.order.items c.walk.level k c.levels.head c.levels.«end» j.levels
           count i.some i.begin t j.state.within j.state.current);

@@ -6,8 +6,9 @@ use Rattle.ps_region.proofs.levels.settle.Given as goal
 
 abbrev pub invariant-levels : goal.invariant-levels
 invariant-levels g l = record {
-  state : Settling (g.A.After.refers l.after) (is_pending (g.A.After.formula l.after) (is_in l._outside) l.marks)
-      (is_frame (g.A.After.formula l.after) l.marks)
+  state : Settling (g.A.After.refers l.change.after.now)
+      (is_pending (g.A.After.formula l.change.after.now) (is_in l.change.outside.now) l.marks)
+      (is_frame (g.A.After.formula l.change.after.now) l.marks)
       CELLS l.head l.head l.«end» l.k l.left l.level l.order.items;
   levels : Levels l.starts.items l.order.items l.level;
   last : l.«end» ≡ length l.order.items;
@@ -23,8 +24,9 @@ decreases-levels g l = CELLS - l.head
 
 abbrev pub invariant-walk : goal.invariant-walk
 invariant-walk g l = record {
-  state : Settling (g.A.After.refers l.after) (is_pending (g.A.After.formula l.after) (is_in l._outside) l.marks)
-      (is_frame (g.A.After.formula l.after) l.marks)
+  state : Settling (g.A.After.refers l.change.after.now)
+      (is_pending (g.A.After.formula l.change.after.now) (is_in l.change.outside.now) l.marks)
+      (is_frame (g.A.After.formula l.change.after.now) l.marks)
       CELLS l.initial.head l.head l.«end» l.k l.left l.level l.order.items;
   levels : Levels l.starts.items l.order.items l.level;
   room : CELLS ≤ vec_capacity l.order;

@@ -13,7 +13,7 @@ use Rattle.ps_region.proofs.outside.count_outside.Goals.{then-not-marks-index, e
 pub raise-requires-clause-small : goal.raise-requires-clause-small
 raise-requires-clause-small g c = λ q m.
     let i = c.loop-d.d-index in
-    let outside = c.args.outside.now in
+    let outside = c.args.change.now.outside.now in
     let d = c.d-item.result in
     let at : d ≡ get_or outside i 0 = get_or_read outside i d c.loop-d-test.true c.d-item.is 0 in
     let new : list_any (eqb d) (take i outside) ≡ false =
@@ -21,7 +21,8 @@ raise-requires-clause-small g c = λ q m.
     (in-take_apart outside i c.requires.once c.loop-d-test.true) in
     let off : get_or c.args.marks.now d false ≡ false =
     ap (λ x. get_or c.args.marks.now x false) (sym c.index.ensures.index) ∙ c.if-not-marks-index.true in
-    let small = outside_small (g.A.After.refers c.args.after.now) (g.A.After.formula c.args.after.now)
+    let small = outside_small (g.A.After.refers c.args.change.now.after.now)
+    (g.A.After.formula c.args.change.now.after.now)
     c.args.marks.now (take i outside) CELLS q d
     (omega (arith, c.index.ensures.index, c.index.ensures.in_grid)) off new in
     let is = c.loop-d.invariant q m in
@@ -30,10 +31,10 @@ raise-requires-clause-small g c = λ q m.
 pub loop-d-preserved : goal.loop-d-preserved
 loop-d-preserved g c =
     let i = c.loop-d.d-index in
-    let outside = c.args.outside.now in
+    let outside = c.args.change.now.outside.now in
     let d = c.d-item.result in
-    let refers = g.A.After.refers c.args.after.now in
-    let formula = g.A.After.formula c.args.after.now in
+    let refers = g.A.After.refers c.args.change.now.after.now in
+    let formula = g.A.After.formula c.args.change.now.after.now in
     let at : d ≡ get_or outside i 0 = get_or_read outside i d c.loop-d-test.true c.d-item.is 0 in
     let new : list_any (eqb d) (take i outside) ≡ false =
     subst (λ x. list_any (eqb x) (take i outside) ≡ false) (sym at)
@@ -58,9 +59,9 @@ loop-d-preserved g c =
 pub returns : goal.returns
 returns g c = record {
   counts = λ q m. c.loop-d.invariant q m
-      ∙ ap (λ xs. cells_left (g.A.After.refers c.args.after.now)
-      (is_pending (g.A.After.formula c.args.after.now) (is_in xs) c.args.marks.now) [] CELLS q)
-      (take_all c.loop-d.d-index c.args.outside.now (let t = c.loop-d-test.false in omega (arith, t)));
+      ∙ ap (λ xs. cells_left (g.A.After.refers c.args.change.now.after.now)
+      (is_pending (g.A.After.formula c.args.change.now.after.now) (is_in xs) c.args.marks.now) [] CELLS q)
+      (take_all c.loop-d.d-index c.args.change.now.outside.now (let t = c.loop-d-test.false in omega (arith, t)));
 }
 
 pub raise-requires-clause-known : goal.raise-requires-clause-known

@@ -6,5 +6,5 @@ use Rattle.ps_region.proofs.outside.count_outside.Given as goal
 
 abbrev pub invariant-loop-d : goal.invariant-loop-d
 invariant-loop-d g l = (q : ℕ) → get_or l.marks q false ≡ true
-    → get_or l.left q 0 ≡ cells_left (g.A.After.refers l.after)
-    (is_pending (g.A.After.formula l.after) (is_in (take l.d-index l.outside)) l.marks) [] CELLS q
+    → get_or l.left q 0 ≡ cells_left (g.A.After.refers l.change.after.now)
+    (is_pending (g.A.After.formula l.change.after.now) (is_in (take l.d-index l.change.outside.now)) l.marks) [] CELLS q

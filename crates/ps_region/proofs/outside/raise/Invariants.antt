@@ -10,6 +10,6 @@ invariant-loop-e g l = record {
   can_next : (goal.iterator-loop-e g).can_next l.e-iterator;
   is_finite : (goal.iterator-loop-e g).is_finite l.e-iterator;
   raised : (q : ℕ) → get_or l.left q 0 ≡ get_or l.initial.left q 0
-      + as_one (list_any (nat_eq q) (take (length l.yielded) (listed l.index l.d))
-      && (get_or l.marks q false && g.A.After.refers l.after q l.d));
+      + as_one (list_any (nat_eq q) (take (length l.yielded) (listed l.change.index.now l.d))
+      && (get_or l.marks q false && g.A.After.refers l.change.after.now q l.d));
 }

@@ -1,0 +1,33 @@
+//! A change, as a mark reads it.
+
+ghost use Rattle.std.specs.Prelude.{◌≡◌, length, true, false, slice_index_or};
+ghost use Rattle.ps_grid.specs.declared.size.TheConstants.{CELLS as ALL};
+
+use crate::after::After;
+use ps_grid::Cell;
+use ps_index::Index;
+
+/// A change, and what is noted of its touched cells.
+#[derive_where(Clone, Copy)]
+pub(crate) struct Change<'a, A> {
+    /// lists the formulas after the change, and at most those that touched cells had before
+    pub index: &'a Index,
+    pub after: &'a A,
+    pub touched: &'a [Cell],
+    /// the cyclic cells outside the region; it doesn't matter which of the region's are there
+    pub outside: &'a [Cell],
+    /// for each cell whether it is touched
+    pub fresh: &'a [bool],
+    /// for each cell whether it is touched and has no formula
+    pub plain: &'a [bool],
+}
+
+/// Whether a cell that is listed refers there after the change: the formula is asked only where the cell is touched.
+pub(crate) fn still_refers<A: After>(change: &Change<'_, A>, e: Cell, d: Cell) -> bool
+    requires length { length change.now.fresh.now ≡ ALL }
+    requires known { slice_index_or change.now.fresh.now e false ≡ false
+        → A.refers change.now.after.now e d ≡ true }
+    ensures { result ≡ A.refers change.now.after.now e d }
+{
+    !change.fresh[e.index()] || change.after.refers(e, d)
+}
