@@ -17,7 +17,7 @@ use Rattle.ps_eval.specs.Items.{Assignment}
 use Rattle.ps_shown.specs.declared.kept.Kept.{Kept}
 use Rattle.ps_shown.specs.Kept.{value_of}
 use Rattle.ps_shown.specs.Shown.{with_value}
-use Rattle.ps_cells.specs.Changes.{IsChanges}
+use Rattle.ps_cells.specs.Changes.{IsChanged, IsChanges}
 use Rattle.ps_cells.specs.Inside.Screens.{Differ, ListsDiffering, cells_in, put_back}
 use Rattle.ps_cells.proofs.PutValues.{with_value-here}
 use Rattle.ps_cells.proofs.ListedCells.{In-pushed, In-end, In-pushed_cases, fresh_place}
@@ -136,22 +136,32 @@ flips x y =
     (λ ne. ne_eqb x y ne ∙ sym (ne_eqb y x (λ e. ne (sym e))))
     (cases_eq x y)
 
--- the cells that differ, in order, with what they show
-pub changes_of : (v w : Assignment) (picked sorted : List ℕ) (changes : List (ℕ × Value)) → Differ w v picked
-    → IsPermutation picked sorted → IsSorted nat_cmp sorted → changes ≡ map (λ c. (c, w c)) sorted → IsChanges v w
-    changes
-changes_of v w picked sorted changes differ moved rises is =
+-- the cells that differ, in order
+pub changed_of : (v w : Assignment) (picked sorted : List ℕ) → Differ w v picked → IsPermutation picked sorted
+    → IsSorted nat_cmp sorted → IsChanged v w sorted
+changed_of v w picked sorted differ moved rises =
     let same : (c : ℕ) → list_any (eqb c) picked ≡ list_any (eqb c) sorted =
     λ c. list_any-IsPermutation (eqb c) picked sorted moved in
-    let cells : map (λ (e : ℕ × Value). e.0) changes ≡ sorted =
-    ap (map (λ (e : ℕ × Value). e.0)) is ∙ firsts_of w sorted in
     record {
-      ascending = subst IsStrictlyIncreasing (sym cells)
-          (IsStrictlyIncreasing-from_distinct sorted (IsNonDecreasingBy-from_sort (λ x. x) sorted rises)
-          (IsDistinct-IsPermutation eqb flips picked sorted moved differ.once));
+      ascending = IsStrictlyIncreasing-from_distinct sorted (IsNonDecreasingBy-from_sort (λ x. x) sorted rises)
+          (IsDistinct-IsPermutation eqb flips picked sorted moved differ.once);
       exact = λ c. (
-        (λ i. (differ.exact c).0 (same c ∙ subst (λ xs. In xs c) cells i)),
-        (λ ne. subst (λ xs. In xs c) (sym cells) (sym (same c) ∙ (differ.exact c).1 ne)),
+        (λ i. (differ.exact c).0 (same c ∙ i)),
+        (λ ne. sym (same c) ∙ (differ.exact c).1 ne),
       );
-      values = subst (All (λ (e : ℕ × Value). e.1 ≡ w e.0)) (sym is) (values_of w sorted);
+    }
+
+-- and with what they show
+pub changes_of : (v w : Assignment) (cells : List ℕ) (changes : List (ℕ × Value)) → IsChanged v w cells
+    → changes ≡ map (λ c. (c, w c)) cells → IsChanges v w changes
+changes_of v w cells changes changed is =
+    let same : map (λ (e : ℕ × Value). e.0) changes ≡ cells =
+    ap (map (λ (e : ℕ × Value). e.0)) is ∙ firsts_of w cells in
+    record {
+      ascending = subst IsStrictlyIncreasing (sym same) changed.ascending;
+      exact = λ c. (
+        (λ i. (changed.exact c).0 (subst (λ xs. In xs c) same i)),
+        (λ ne. subst (λ xs. In xs c) (sym same) ((changed.exact c).1 ne)),
+      );
+      values = subst (All (λ (e : ℕ × Value). e.1 ≡ w e.0)) (sym is) (values_of w cells);
     }

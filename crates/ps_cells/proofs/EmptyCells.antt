@@ -1,4 +1,4 @@
--- Cells that hold nothing.
+-- Tables that hold nothing.
 use Rattle.std.proofs.Common.{◌≡◌, ℕ, ◌≤◌, true, false, List, []}
 use Rattle.std.proofs.Common.{refl, sym, ap, arith}
 use Rattle.std.proofs.Common.{subst}

@@ -9,6 +9,7 @@ pub mod EmptyCells
 pub mod FirstValues
 pub mod FlagTables
 pub mod FoundLevels
+pub mod HeldCells
 pub mod IdleChanges
 pub mod LevelSteps
 pub mod ListedCells

@@ -22,7 +22,7 @@ use Rattle.ps_cells.specs.Inside.Kept.{IsTidy, IsWhole, Recalculates}
 use Rattle.ps_cells.specs.Inside.Pending.{IsPending}
 use Rattle.ps_cells.specs.Inside.Screens.{ScreenView, before_of, put_back}
 use Rattle.ps_cells.specs.Inside.Walk.{ListsCyclic}
-use Rattle.ps_cells.specs.declared.cells.Cells.{Cells}
+use Rattle.ps_cells.specs.declared.tables.Tables.{Tables}
 use Rattle.ps_cells.proofs.SettledValues.{formula_below}
 use Rattle.ps_cells.proofs.ChangedStates.{cyclic_formula}
 use Rattle.ps_cells.proofs.CellCounts.{distinct_below_cells}
@@ -62,7 +62,7 @@ new_formulas_of s t index olds given taken back back_is taken_is given_is stood 
     (sym (back_is ∙ (taken_is ∙ ap (entries_from t) given_is))) stood
 
 -- after a recalculation the change is pending
-pub pending_of : (s d : State) (v : Assignment) (es olds : Entries) (x y : Cells) (cyclic touched : List ℕ)
+pub pending_of : (s d : State) (v : Assignment) (es olds : Entries) (x y : Tables) (cyclic touched : List ℕ)
     (evaluated closed levels : ℕ) → IsInGrid s → IsSettled s v → before_of y.shown ≡ v → ListsCyclic s cyclic
     → AreChanges s (joined_state s d) es → state_at x.grid ≡ overlaid s es → olds ≡ entries_from s es
     → HasRoomFor x.grid olds → Stands x.index (with_puts es (forms_of s)) → IsInGrid (overlaid s es)
@@ -97,7 +97,7 @@ pending_of s d v es olds x y cyclic touched evaluated closed levels in_grid sett
     }
 
 -- tidy is what it is with another grid, index and screen too
-pub tidy_with : (s : State) (x : Cells) (grid : Blocks) (index : List (List Span)) (shown : ScreenView) → IsTidy s x
+pub tidy_with : (s : State) (x : Tables) (grid : Blocks) (index : List (List Span)) (shown : ScreenView) → IsTidy s x
     → IsTidy s (record x { grid = grid; index = index; shown = shown })
 tidy_with s x grid index shown tidy = record {
   cyclic = tidy.cyclic;
@@ -110,7 +110,7 @@ tidy_with s x grid index shown tidy = record {
 }
 
 -- what is shown may be listed: nothing else changes
-module _ (x : Cells) (shown : ScreenView) (kept : shown.kept ≡ x.shown.kept) (olds : shown.olds ≡ x.shown.olds) where
+module _ (x : Tables) (shown : ScreenView) (kept : shown.kept ≡ x.shown.kept) (olds : shown.olds ≡ x.shown.olds) where
   pub before_listed : before_of shown ≡ before_of x.shown
   before_listed =
       ap (λ (es : List (ℕ × Kept)). put_back es (shown_at shown.kept)) olds

@@ -17,7 +17,7 @@ use Rattle.ps_delta.specs.Deltas.{Entries, cells_of, overlaid}
 use Rattle.ps_delta.specs.Raised.{AreChanges, entries_from}
 use Rattle.ps_index.specs.declared.span.Span.{Span}
 use Rattle.std.specs.List.Sorted.{IsStrictlyIncreasing}
-use Rattle.ps_cells.specs.declared.cells.Cells.{Cells}
+use Rattle.ps_cells.specs.declared.tables.Tables.{Tables}
 use Rattle.ps_cells.specs.Settled.{content_of, refers_to, IsSettled}
 use Rattle.ps_cells.specs.Recalculated.{IsRecalculated}
 use Rattle.ps_cells.specs.Inside.BoundedLaws.{mentions_formula}
@@ -94,7 +94,7 @@ old_formulas_of s b es es1 back i j taken same list index once stands =
     (swapped s es i once stands))
 
 -- after the exchange of the states a recalculation may begin
-pub may_recalculate : (s d : State) (es : Entries) (x : Cells) (touched : List ℕ) (first : List (ℕ × Kept))
+pub may_recalculate : (s d : State) (es : Entries) (x : Tables) (touched : List ℕ) (first : List (ℕ × Kept))
     → IsInGrid s → IsSettled s (shown_at x.shown.kept) → IsTidy s x → Stands x.index (with_puts es (forms_of s))
     → AreChanges s (joined_state s d) es → state_at x.grid ≡ overlaid s es → touched ≡ cells_of es
     → shown_firsts first ≡ firsts es → MayRecalculate x touched first
@@ -124,7 +124,7 @@ may_recalculate s d es x touched first in_grid settled tidy stands joins given c
     }
 
 -- what a recalculation did is what the change recalculates
-pub recalculated : (s d : State) (es : Entries) (x y : Cells) (touched : List ℕ) (evaluated cyclic levels : ℕ)
+pub recalculated : (s d : State) (es : Entries) (x y : Tables) (touched : List ℕ) (evaluated cyclic levels : ℕ)
     → AreChanges s (joined_state s d) es → state_at x.grid ≡ overlaid s es → touched ≡ cells_of es
     → Recalculates x y touched evaluated cyclic levels
     → IsRecalculated s (state_at y.grid) (shown_at x.shown.kept) (shown_at y.shown.kept) evaluated cyclic levels

@@ -14,6 +14,11 @@ unfoldable pub put_back : List (ℕ × Kept) → Assignment → Assignment
 put_back [] v = v
 put_back (e ∷ olds) v = with_value (put_back olds v) e.0 (value_of e.1)
 
+-- CHANGED: where the cells showed v and show w, exactly the cells that show another value, ascending
+pub record IsChanged (v w : Assignment) (cells : List ℕ) : Type 0 where
+  pub ascending : IsStrictlyIncreasing cells
+  pub exact : (c : ℕ) → In cells c ↔ ¬ (w c ≡ v c)
+
 -- CHANGES: where the cells showed v and show w, exactly the cells that show another value, ascending, with the new one
 pub record IsChanges (v w : Assignment) (changes : List (ℕ × Value)) : Type 0 where
   pub ascending : IsStrictlyIncreasing (map (λ e. e.0) changes)

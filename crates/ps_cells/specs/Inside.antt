@@ -3,6 +3,7 @@ pub mod Alone
 pub mod Bounded
 pub mod BoundedLaws
 pub mod Formulas
+pub mod Held
 pub mod Kept
 pub mod Pending
 pub mod Screens

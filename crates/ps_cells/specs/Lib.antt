@@ -1,3 +1,5 @@
+pub mod Cells
+pub mod CellsCode
 pub mod Changes
 pub mod Inside
 pub mod Recalculated

@@ -10,8 +10,9 @@ use Rattle.ps_cells.specs.Inside.Screens.{ScreenView}
 -- a screen is stored as the tuple of its parts
 abbrev pub screen_code : Coded ScreenView
 screen_code =
-    code_by ((List Kept × List (ℕ × Kept)) × List (ℕ × Value))
+    code_by ((List Kept × List (ℕ × Kept)) × (List ℕ × List (ℕ × Value)))
     (coded× (coded× (coded_list kept.the_row.coded) (coded_list (coded× coded_ℕ kept.the_row.coded)))
-    (coded_list (coded× coded_ℕ value.the_row.coded)))
-    (λ s. ((s.kept, s.olds), s.changes)) (λ p. record { kept = p.0.0; olds = p.0.1; changes = p.1 })
+    (coded× (coded_list coded_ℕ) (coded_list (coded× coded_ℕ value.the_row.coded))))
+    (λ s. ((s.kept, s.olds), (s.changed, s.changes)))
+    (λ p. record { kept = p.0.0; olds = p.0.1; changed = p.1.0; changes = p.1.1 })
     (λ _. refl)

@@ -1,386 +1,211 @@
-//! What the cells of a sheet hold and show, and what is kept beside it so that a change costs what its region costs.
+//! What the cells of one replica hold and show, where at most one change is staged.
 
-ghost use Rattle.std.specs.Prelude.{◌≡◌, ◌+◌, ◌<◌, ◌≤◌, ◌++◌, [], List, ℕ, true, false, filter, length, nat_eq, not};
-ghost use Rattle.std.specs.Prelude.{vec_capacity, IfOk, IfErr, OnOk, OnErr};
-ghost use Rattle.std.specs.List.{list_all, list_any};
+ghost use Rattle.std.specs.Prelude.{◌≡◌, ◌+◌, ◌<◌, ◌≤◌, [], true, is_some, map, None, IfOk, IfErr, OnOk, OnErr};
 ghost use Rattle.ps_grid.specs.declared.parties.TheConstants.{WORKERS};
+ghost use Rattle.ps_delta.specs.State.{IsInGrid, empty_state, joined_state};
+ghost use Rattle.ps_delta.specs.Deltas.{state_of};
 ghost use Rattle.ps_shown.specs.Shown.{shown_at};
-ghost use Rattle.ps_delta.specs.State.{State, empty_state, joined_state, state_at};
-ghost use Rattle.ps_delta.specs.Deltas.{Entries, state_of};
+ghost use Rattle.ps_cells.specs.Cells.{AreTheSame, shown_before, shown_now, state_before, state_now};
+ghost use Rattle.ps_cells.specs.Changes.{IsChanged};
 ghost use Rattle.ps_cells.specs.Recalculated.{IsRecalculated};
-ghost use Rattle.ps_cells.specs.Inside.Steps.{flag_at};
-ghost use Rattle.ps_cells.specs.Inside.Screens.{before_of};
-ghost use Rattle.ps_cells.specs.Inside.Kept.{IsWhole, MayRecalculate, Recalculates};
-ghost use Rattle.ps_cells.specs.Inside.Pending.{IsPending};
-ghost use Rattle.ps_cells.specs.Changes.{IsChanges};
-ghost use Rattle.ps_cells.specs.Inside.Alone.{is_alone, is_empty};
-ghost use Rattle.ps_cells.specs.Inside.Walk.{formula_at};
-ghost use Rattle.ps_region.specs.Listed.{listed};
+ghost use Rattle.ps_cells.specs.Settled.{IsSettled};
 
-use crate::change::{Plan, begin, take_formulas};
-use crate::contents::holds_formula;
-use crate::level::Level;
-use crate::region::find_region;
-use crate::screen::Screen;
-use crate::walk::{clear, close_all, settle_frame, show_all_first};
+use crate::tables::{Tables, Work, copy_list};
 use ps_delta::{CellState, Delta, Grid};
 use ps_eval::Meter;
 use ps_grid::{CELLS, Cell, Refusal};
-use ps_index::Index;
-use ps_region::Region;
-use ps_shown::Kept;
-use ps_workers::{Gate, Open};
+use ps_shown::Shown;
+use ps_value::Value;
+use ps_workers::Gate;
 use std::alloc::Global;
+use std::marker::Model;
+use std::mem;
 use std::sync::ledger::Ledger;
 use std::thread::Threads;
 
-/// What follows from the history of a sheet.
+/// What the cells of one replica hold and show. A change of them is staged, and then committed or cancelled.
+///
+/// A contract sees it as its `CellsView`.
 #[derive(Drop)]
 pub struct Cells {
-    /// what each cell holds
-    pub grid: Grid,
-    /// which formulas refer to a cell
-    pub index: Index,
-    /// what each cell shows
-    pub shown: Screen,
-    /// the region of the last change
-    pub region: Region,
-    /// the cell of which this is still the region, where it alone was touched
-    pub source: Option<Cell>,
-    /// the cells that show `#CYCLE!`, each once
-    pub cyclic: Vec<Cell>,
-    /// which cells are due, while a change is made
-    pub flags: Vec<bool>,
-    /// the due cells of one level
-    pub level: Level,
-    /// how many workers evaluate a level
-    pub workers: usize,
+    tables: Tables,
+    /// the cells that showed `#CYCLE!` before the staged change, with room for all cells
+    were_cyclic: Vec<Cell>,
+    /// the touched cells of the staged change, ascending, each with the state that it had
+    staged: Option<Vec<(Cell, CellState)>>,
 }
 
-/// What a recalculation did.
-#[derive(Drop)]
-pub struct Work {
-    /// how many formulas were evaluated
-    pub evaluated: u64,
-    /// how many formula cells of the region are cyclic
-    pub cyclic: u64,
-    /// how many levels the other ones have
-    pub levels: u64,
-}
+impl Model for Cells {
+    ghost use Rattle.ps_cells.specs.Cells.{CellsView};
 
-/// What takes a change back that was made.
-#[derive(Drop)]
-pub struct Pending {
-    /// the touched cells, ascending, each with the state that it had
-    pub olds: Vec<(Cell, CellState)>,
-    /// the cells that showed `#CYCLE!`
-    pub cyclic: Vec<Cell>,
-}
+    ghost Value = { CellsView };
 
-/// A change that was made, and can be taken back.
-#[derive(Drop)]
-pub struct Made {
-    pub work: Work,
-    pub pending: Pending,
+    ghost use Rattle.ps_cells.specs.CellsCode.{cells_code};
+
+    ghost coded = { cells_code };
+
+    ghost use Rattle.ps_cells.specs.Inside.Held.{view_of, IsHeld};
+
+    ghost view = { view_of };
+
+    ghost invariant = { IsHeld };
 }
 
 impl Cells {
-    /// Cells that hold and show nothing.
+    /// Cells that hold and show nothing, with so many workers, 1 to `WORKERS`, among whom the formulas of a wide level
+    /// are divided.
     ///
     /// Refused only when out of memory.
+    ///
+    /// Cost: linear in the cells of the grid.
     pub fn new(alloc: Global, workers: usize) -> Result<Cells, Refusal>
         requires workers { (0 < workers) × (workers ≤ WORKERS) }
-        ensures whole { IfOk result IsWhole }
-        ensures empty { IfOk result (λ x. state_at x.grid ≡ empty_state) }
+        ensures empty { IfOk result (λ x. state_now x ≡ empty_state) }
+        ensures settled { IfOk result (λ x. IsSettled (state_now x) (shown_now x)) }
+        ensures none { IfOk result (λ x. (x.staged ≡ None) × (x.olds ≡ [])) }
+        ensures workers { IfOk result (λ x. x.workers ≡ workers) }
         ensures memory { IfErr result (λ e. e ≡ Refusal.Memory) }
     {
-        let flags = no_flags(alloc, CELLS)?;
-        let cyclic = Vec::with_capacity(alloc, CELLS)?;
-        let level = Level::new(alloc)?;
         Ok(Cells {
-            grid: Grid::new(alloc)?,
-            index: Index::new(alloc)?,
-            shown: Screen::new(alloc)?,
-            region: Region::new(alloc)?,
-            source: None,
-            cyclic,
-            flags,
-            level,
-            workers,
+            tables: Tables::new(alloc, workers)?,
+            were_cyclic: Vec::with_capacity(alloc, CELLS)?,
+            staged: None,
         })
     }
 
-    /// Joins a delta to what the cells hold, and settles again what they show.
+    /// Joins a delta to what the cells hold, and settles again what they show, so that it can be cancelled. Each worker
+    /// passes the gate before each of its evaluations. What was recalculated.
     ///
     /// Refused only when out of memory, and then the cells hold and show what they did.
-    pub fn take_in<R: Threads + Sync, L: Ledger>(
+    ///
+    /// Cost: that of the join, and of the region: its cells, their references, and the evaluations, which the workers
+    /// of a wide level share; and one look at each cell that shows `#CYCLE!`.
+    pub fn stage<R: Threads + Sync, G: Gate, L: Ledger>(
         &mut self,
         rt: &R,
+        gate: &G,
         alloc: Global,
         delta: &Delta,
         meter: &mut Meter<L>,
     ) -> Result<Work, Refusal>
-        requires whole { IsWhole self.old }
-        ensures whole { IsWhole self.new }
-        ensures joined { OnOk result (state_at self.new.grid
-            ≡ joined_state (state_at self.old.grid) (state_of delta.now)) }
-        ensures work { IfOk result (λ w. IsRecalculated (state_at self.old.grid) (state_at self.new.grid)
-            (shown_at self.old.shown.kept) (shown_at self.new.shown.kept) w.evaluated w.cyclic w.levels) }
+        requires none { self.old.staged ≡ None }
+        ensures joined { OnOk result (state_now self.new ≡ joined_state (state_now self.old) (state_of delta.now)) }
+        ensures in_grid { OnOk result (IsInGrid (state_now self.new)) }
+        ensures settled { OnOk result (IsSettled (state_now self.new) (shown_now self.new)) }
+        ensures staged { OnOk result (is_some self.new.staged ≡ true) }
+        ensures before { OnOk result ((state_before self.new ≡ state_now self.old)
+            × (shown_before self.new ≡ shown_now self.old)) }
+        ensures work { IfOk result (λ w. IsRecalculated (state_now self.old) (state_now self.new)
+            (shown_now self.old) (shown_now self.new) w.evaluated w.cyclic w.levels) }
         ensures metered { IfOk result (λ w. meter.new ≡ meter.old + w.evaluated) }
+        ensures workers { self.new.workers ≡ self.old.workers }
         ensures memory { IfErr result (λ e. e ≡ Refusal.Memory) }
-        ensures kept { OnErr result ((state_at self.new.grid ≡ state_at self.old.grid)
-            × (self.new.shown ≡ self.old.shown)) }
+        ensures kept { OnErr result (AreTheSame self.old self.new) }
         ensures unmetered { OnErr result (meter.new ≡ meter.old) }
     {
-        let made = self.prepare(rt, &Open, alloc, delta, meter)?;
-        self.commit(made.pending);
-        Ok(made.work)
+        copy_list(&self.tables.cyclic, &mut self.were_cyclic);
+        let (work, olds) = self.tables.join(rt, gate, alloc, delta, meter)?;
+        self.staged = Some(olds);
+        Ok(work)
     }
 
-    /// Joins a delta to what the cells hold, and settles again what they show, so that it can be taken back.
+    /// Leaves the staged change as it was made. It takes no memory.
     ///
-    /// Refused only when out of memory, and then the cells hold and show what they did.
-    pub fn prepare<R: Threads + Sync, G: Gate, L: Ledger>(
-        &mut self,
-        rt: &R,
-        gate: &G,
-        alloc: Global,
-        delta: &Delta,
-        meter: &mut Meter<L>,
-    ) -> Result<Made, Refusal>
-        requires whole { IsWhole self.old }
-        ensures pending { IfOk result (λ m. IsPending (state_at self.old.grid) self.new m.pending.olds.items
-            m.pending.cyclic.items) }
-        ensures before { OnOk result (before_of self.new.shown ≡ shown_at self.old.shown.kept) }
-        ensures joined { OnOk result (state_at self.new.grid
-            ≡ joined_state (state_at self.old.grid) (state_of delta.now)) }
-        ensures work { IfOk result (λ m. IsRecalculated (state_at self.old.grid) (state_at self.new.grid)
-            (shown_at self.old.shown.kept) (shown_at self.new.shown.kept) m.work.evaluated m.work.cyclic
-            m.work.levels) }
-        ensures metered { IfOk result (λ m. meter.new ≡ meter.old + m.work.evaluated) }
-        ensures memory { IfErr result (λ e. e ≡ Refusal.Memory) }
-        ensures whole { OnErr result (IsWhole self.new) }
-        ensures kept { OnErr result ((state_at self.new.grid ≡ state_at self.old.grid)
-            × (self.new.shown ≡ self.old.shown)) }
-        ensures unmetered { OnErr result (meter.new ≡ meter.old) }
+    /// Cost: the touched cells with their references, and the cells that were put.
+    pub fn commit(&mut self)
+        requires staged { is_some self.old.staged ≡ true }
+        ensures none { (self.new.staged ≡ None) × (self.new.olds ≡ []) }
+        ensures kept { (self.new.grid ≡ self.old.grid) × (self.new.shown ≡ self.old.shown) }
+        ensures workers { self.new.workers ≡ self.old.workers }
     {
-        let cyclic = copied(alloc, &self.cyclic)?;
-        let change = begin(alloc, &mut self.grid, &mut self.index, delta)?;
-        let Plan {
-            mut raised,
-            touched,
-            first,
-        } = change;
-        self.grid.exchange(&mut raised);
-        let work = self.recalculate(rt, gate, &touched, first, meter);
-        Ok(Made {
-            work,
-            pending: Pending {
-                olds: raised,
-                cyclic,
-            },
-        })
+        let Some(olds) = mem::replace(&mut self.staged, None) else {
+            unreachable!()
+        };
+        self.tables.leave(&olds);
     }
 
-    /// Lists the cells that show another value than before a change, which may be pending.
-    pub fn list_changes(&mut self)
-        ensures grid { self.new.grid ≡ self.old.grid }
-        ensures kept { self.new.shown.kept ≡ self.old.shown.kept }
-        ensures olds { self.new.shown.olds ≡ self.old.shown.olds }
-        ensures changes { IsChanges (before_of self.old.shown) (shown_at self.old.shown.kept) self.new.shown.changes }
-        ensures whole { IsWhole self.old → IsWhole self.new }
-        ensures pending { (s : State) (olds : Entries) (cyclic : List ℕ) → IsPending s self.old olds cyclic
-            → IsPending s self.new olds cyclic }
+    /// Takes the staged change back: the cells hold and show what they did. It takes no memory.
+    ///
+    /// Cost: the touched cells with their references, the cells that were put, and those that showed `#CYCLE!`.
+    pub fn cancel(&mut self)
+        requires staged { is_some self.old.staged ≡ true }
+        ensures none { (self.new.staged ≡ None) × (self.new.olds ≡ []) }
+        ensures state { state_now self.new ≡ state_before self.old }
+        ensures shown { shown_now self.new ≡ shown_before self.old }
+        ensures workers { self.new.workers ≡ self.old.workers }
     {
-        self.shown.list_changes();
+        let Some(olds) = mem::replace(&mut self.staged, None) else {
+            unreachable!()
+        };
+        self.tables.take_back(olds, &self.were_cyclic);
     }
 
-    /// Leaves a change as it was made. It takes no memory.
-    pub fn commit(&mut self, pending: Pending)
-        requires pending { (s : State) × IsPending s self.old pending.olds.items pending.cyclic.items }
-        ensures whole { IsWhole self.new }
-        ensures grid { self.new.grid ≡ self.old.grid }
-        ensures shown { self.new.shown.kept ≡ self.old.shown.kept }
+    /// Lists the cells that show another value than before the staged change.
+    ///
+    /// Cost: that of sorting them, and the cells that were put.
+    pub fn list_changed(&mut self)
+        ensures changed { IsChanged (shown_before self.old) (shown_now self.old) self.new.changed }
+        ensures kept { (self.new.grid ≡ self.old.grid) × (self.new.shown ≡ self.old.shown)
+            × (self.new.olds ≡ self.old.olds) × (self.new.staged ≡ self.old.staged)
+            × (self.new.workers ≡ self.old.workers) }
     {
-        take_formulas(&mut self.index, &pending.olds);
-        self.shown.keep();
+        self.tables.shown.list_changed();
     }
 
-    /// Takes a change back. It takes no memory.
-    pub fn cancel(&mut self, pending: Pending)
-        requires pending { (s : State) × IsPending s self.old pending.olds.items pending.cyclic.items }
-        ensures whole { IsWhole self.new }
-        ensures back { (s : State) → IsPending s self.old pending.olds.items pending.cyclic.items
-            → state_at self.new.grid ≡ s }
-        ensures shown { shown_at self.new.shown.kept ≡ before_of self.old.shown }
+    /// Lists what the cells show that were listed last.
+    ///
+    /// Cost: linear in these.
+    pub fn list_values(&mut self)
+        ensures values { self.new.changes ≡ map (λ c. (c, shown_now self.old c)) self.old.changed }
+        ensures kept { (self.new.grid ≡ self.old.grid) × (self.new.shown ≡ self.old.shown)
+            × (self.new.olds ≡ self.old.olds) × (self.new.staged ≡ self.old.staged)
+            × (self.new.workers ≡ self.old.workers) × (self.new.changed ≡ self.old.changed) }
     {
-        let Pending { mut olds, cyclic } = pending;
-        self.grid.exchange(&mut olds);
-        take_formulas(&mut self.index, &olds);
-        self.shown.take_back();
-        self.source = None;
-        restore(&cyclic, &mut self.cyclic);
+        self.tables.shown.list_values();
     }
 
-    /// Settles what the cells show, after the touched cells got what they hold.
-    fn recalculate<R: Threads + Sync, G: Gate, L: Ledger>(
-        &mut self,
-        rt: &R,
-        gate: &G,
-        touched: &[Cell],
-        first: Vec<(Cell, Kept)>,
-        meter: &mut Meter<L>,
-    ) -> Work
-        requires may { MayRecalculate self.old touched.now first.items }
-        ensures done { Recalculates self.old self.new touched.now result.evaluated result.cyclic result.levels }
-        ensures before { before_of self.new.shown ≡ before_of self.old.shown }
-        ensures metered { meter.new ≡ meter.old + result.evaluated }
+    /// The cells that were listed last, ascending.
+    ///
+    /// Cost: constant.
+    pub fn changed(&self) -> &[Cell]
+        ensures changed { result.now ≡ self.now.changed }
     {
-        if self.cyclic.is_empty() && are_alone(&self.grid, &self.index, touched) {
-            self.show_alone(touched, first)
-        } else {
-            self.recalculate_region(rt, gate, touched, first, meter)
-        }
+        self.tables.shown.changed()
     }
 
-    /// Settles what the cells show where no touched cell has a formula, no formula refers to one, and no cell was
-    /// cyclic: the touched cells are the region.
-    fn show_alone(&mut self, touched: &[Cell], first: Vec<(Cell, Kept)>) -> Work
-        requires may { MayRecalculate self.old touched.now first.items }
-        requires alone { list_all (is_alone (formula_at (state_at self.old.grid)) (listed self.old.index)) touched.now
-            ≡ true }
-        requires none { self.old.cyclic.items ≡ [] }
-        ensures done { Recalculates self.old self.new touched.now result.evaluated result.cyclic result.levels }
-        ensures before { before_of self.new.shown ≡ before_of self.old.shown }
-        ensures idle { result.evaluated ≡ 0 }
+    /// The cells whose values were listed last, with these.
+    ///
+    /// Cost: constant.
+    pub fn changes(&self) -> &[(Cell, Value)]
+        ensures changes { result.now ≡ self.now.changes }
     {
-        show_all_first(
-            &self.grid,
-            &self.index,
-            first,
-            &mut self.shown,
-            &mut self.flags,
-        );
-        clear(touched, &mut self.flags);
-        self.source = None;
-        Work {
-            evaluated: 0,
-            cyclic: 0,
-            levels: 0,
-        }
+        self.tables.shown.changes()
     }
 
-    /// Settles what the cells show, by the region of the change.
-    fn recalculate_region<R: Threads + Sync, G: Gate, L: Ledger>(
-        &mut self,
-        rt: &R,
-        gate: &G,
-        touched: &[Cell],
-        first: Vec<(Cell, Kept)>,
-        meter: &mut Meter<L>,
-    ) -> Work
-        requires { MayRecalculate self.old touched.now first.items }
-        ensures done { Recalculates self.old self.new touched.now result.evaluated result.cyclic result.levels }
-        ensures before { before_of self.new.shown ≡ before_of self.old.shown }
-        ensures metered { meter.new ≡ meter.old + result.evaluated }
+    /// What each cell holds.
+    ///
+    /// Cost: constant.
+    pub fn grid(&self) -> &Grid
+        ensures grid { result.now ≡ self.now.grid }
     {
-        find_region(
-            &self.grid,
-            &self.index,
-            touched,
-            &self.cyclic,
-            &mut self.region,
-            &mut self.source,
-        );
-        show_all_first(
-            &self.grid,
-            &self.index,
-            first,
-            &mut self.shown,
-            &mut self.flags,
-        );
-        close_all(self.region.cyclic(), &mut self.shown);
-        let evaluated = settle_frame(
-            rt,
-            self.workers,
-            gate,
-            &self.grid,
-            &self.index,
-            &self.region,
-            &mut self.level,
-            &mut self.shown,
-            &mut self.flags,
-            meter,
-        );
-        clear(self.region.members(), &mut self.flags);
-        renew(&self.region, &mut self.cyclic);
-        Work {
-            evaluated,
-            cyclic: self.region.cyclic().len() as u64,
-            levels: self.region.levels() as u64,
-        }
+        &self.tables.grid
     }
-}
 
-/// Whether no formula refers to the cell.
-fn is_unread(index: &Index, cell: Cell) -> bool
-    ensures { result ≡ is_empty (listed index.now cell) }
-{
-    index.dependents(cell).next().is_none()
-}
+    /// What each cell shows.
+    ///
+    /// Cost: constant.
+    pub fn shown(&self) -> &Shown
+        ensures shown { result.now ≡ self.now.shown }
+    {
+        self.tables.shown.shown()
+    }
 
-/// Whether the cell has no formula, and no formula refers to it.
-fn is_alone(grid: &Grid, index: &Index, cell: Cell) -> bool
-    ensures { result ≡ is_alone (formula_at (state_at grid.now)) (listed index.now) cell }
-{
-    !holds_formula(grid.at(cell)) && is_unread(index, cell)
-}
-
-/// Whether no cell of these has a formula, and no formula refers to one.
-fn are_alone(grid: &Grid, index: &Index, cells: &[Cell]) -> bool
-    ensures { result ≡ list_all (is_alone (formula_at (state_at grid.now)) (listed index.now)) cells.now }
-{
-    cells.iter().all(|cell| is_alone(grid, index, *cell))
-}
-
-/// A table of `n` flags, none of which is set.
-pub(crate) fn no_flags(alloc: Global, n: usize) -> Result<Vec<bool>, Refusal>
-    ensures length { IfOk result (λ v. length v.items ≡ n) }
-    ensures off { IfOk result (λ v. (c : ℕ) → flag_at v.items c ≡ false) }
-    ensures memory { IfErr result (λ e. e ≡ Refusal.Memory) }
-{
-    let flags = vec![in alloc; false; n]?;
-    Ok(flags)
-}
-
-/// Brings the list of the cyclic cells up to date: those outside the region stay, and those of the region come after.
-fn renew(region: &Region, cyclic: &mut Vec<Cell>)
-    requires room { length (filter (λ c. not (list_any (nat_eq c) region.now.members)) cyclic.old.items)
-        + length region.now.cyclic ≤ vec_capacity cyclic.old }
-    ensures items { cyclic.new.items ≡ filter (λ c. not (list_any (nat_eq c) region.now.members)) cyclic.old.items
-        ++ region.now.cyclic }
-    ensures room { vec_capacity cyclic.old ≤ vec_capacity cyclic.new }
-{
-    cyclic.retain(|c| !region.contains(*c));
-    let _ = cyclic.extend_from_slice(region.cyclic());
-}
-
-/// The same cells.
-fn copied(alloc: Global, cells: &[Cell]) -> Result<Vec<Cell>, Refusal>
-    ensures same { IfOk result (λ v. v.items ≡ cells.now) }
-    ensures memory { IfErr result (λ e. e ≡ Refusal.Memory) }
-{
-    let mut list = Vec::new(alloc);
-    list.extend_from_slice(cells)?;
-    Ok(list)
-}
-
-/// Makes the list of the cyclic cells what it was.
-fn restore(cells: &[Cell], cyclic: &mut Vec<Cell>)
-    requires room { length cells.now ≤ vec_capacity cyclic.old }
-    ensures items { cyclic.new.items ≡ cells.now }
-    ensures room { vec_capacity cyclic.old ≤ vec_capacity cyclic.new }
-{
-    cyclic.clear();
-    let _ = cyclic.extend_from_slice(cells);
+    /// Whether a change is staged.
+    ///
+    /// Cost: constant.
+    pub fn is_staged(&self) -> bool
+        ensures staged { result ≡ is_some self.now.staged }
+    {
+        self.staged.is_some()
+    }
 }

@@ -6,7 +6,7 @@ ghost use Rattle.ps_cells.specs.contracts.cells.Cells as cells;
 
 use crate::level::Level;
 use crate::screen::Screen;
-use ps_delta::Grid;
+use ps_delta::{CellState, Grid};
 use ps_index::Index;
 use ps_region::Region;
 
@@ -22,6 +22,7 @@ fn crosses<T: Send + Sync>()
 pub fn cells_cross()
     ensures { IsSend cells.the_row }
 {
+    crosses::<CellState>();
     crosses::<Grid>();
     crosses::<Index>();
     crosses::<Screen>();

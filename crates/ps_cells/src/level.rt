@@ -32,7 +32,7 @@ use std::thread::Threads;
 
 /// The due cells of a level, and places for their new values.
 #[derive(Drop)]
-pub struct Level {
+pub(crate) struct Level {
     /// the cells
     due: Vec<Cell>,
     /// as many places as the largest level had due cells; between two levels they keep nothing

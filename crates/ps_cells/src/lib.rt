@@ -11,9 +11,10 @@ mod level;
 mod region;
 mod room;
 mod screen;
+mod tables;
 mod walk;
 
-pub use cells::{Cells, Made, Pending, Work};
+pub use cells::Cells;
 pub use contents::content;
 pub use crossing::cells_cross;
-pub use screen::Screen;
+pub use tables::Work;

@@ -11,10 +11,10 @@ ghost use Rattle.ps_shown.specs.Shown.{shown_at, with_value};
 ghost use Rattle.ps_cells.specs.Inside.Steps.{flag_at};
 ghost use Rattle.ps_eval.specs.Items.{Assignment};
 ghost use Rattle.ps_cells.specs.Inside.Screens.{Differ, IsNoted, ListsDiffering, before_of, cells_in, put_back};
-ghost use Rattle.ps_cells.specs.Changes.{IsChanges};
+ghost use Rattle.ps_cells.specs.Changes.{IsChanged};
 
-use crate::cells::no_flags;
 use crate::room;
+use crate::tables::no_flags;
 use ps_grid::{CELLS, Cell, Refusal};
 use ps_shown::{Kept, Shown};
 use ps_value::{Operand, Value};
@@ -24,21 +24,21 @@ use std::marker::Model;
 /// What each cell shows. Of the cells that were put since it was kept or taken back, what they showed before is kept
 /// aside, so that it can be taken back.
 #[derive(Drop)]
-pub struct Screen {
+pub(crate) struct Screen {
     /// what each cell shows
     shown: Shown,
     /// the cells that were put, each once, with what they showed before; there is room for all
     olds: Vec<(Cell, Kept)>,
     /// whether a cell is among these
     is_put: Vec<bool>,
-    /// the cells of the changes, with room for all
+    /// the cells that were listed last as showing another value, with room for all
     cells: Vec<Cell>,
-    /// the changes that were listed last, with room for all cells
+    /// the values that were listed last, with room for all cells
     changes: Vec<(Cell, Value)>,
 }
 
 impl Model for Screen {
-    ghost use Rattle.std.specs.Prelude.{◌≤◌, vec_capacity};
+    ghost use Rattle.std.specs.Prelude.{◌≤◌, length, vec_capacity};
     ghost use Rattle.ps_grid.specs.declared.size.TheConstants.{CELLS};
     ghost use Rattle.ps_cells.specs.Inside.Screens.{ScreenView, IsNoted};
     ghost use Rattle.ps_cells.specs.ScreenCode.{screen_code};
@@ -47,17 +47,23 @@ impl Model for Screen {
 
     ghost coded = { screen_code };
 
-    ghost view = { λ s. record { kept = s.shown; olds = s.olds.items; changes = s.changes.items } };
+    ghost view = { λ s. record {
+      kept = s.shown;
+      olds = s.olds.items;
+      changed = s.cells.items;
+      changes = s.changes.items;
+    } };
 
     ghost invariant = { λ s. IsNoted s.olds.items s.is_put.items × (CELLS ≤ vec_capacity s.olds)
-        × (CELLS ≤ vec_capacity s.cells) × (CELLS ≤ vec_capacity s.changes) };
+        × (CELLS ≤ vec_capacity s.cells) × (CELLS ≤ vec_capacity s.changes)
+        × (length s.cells.items ≤ CELLS) };
 }
 
 impl Screen {
     /// Where each cell shows nothing.
     ///
     /// Refused only when out of memory.
-    pub fn new(alloc: Global) -> Result<Screen, Refusal>
+    pub(crate) fn new(alloc: Global) -> Result<Screen, Refusal>
         ensures empty { IfOk result (λ s. shown_at s.kept ≡ λ _. Nothing) }
         ensures still { IfOk result (λ s. s.olds ≡ []) }
         ensures memory { IfErr result (λ e. e ≡ Refusal.Memory) }
@@ -77,14 +83,14 @@ impl Screen {
     }
 
     /// All that is shown.
-    pub fn shown(&self) -> &Shown
+    pub(crate) fn shown(&self) -> &Shown
         ensures shown { result.now ≡ self.now.kept }
     {
         &self.shown
     }
 
     /// What a cell shows.
-    pub fn at(&self, cell: Cell) -> Value
+    pub(crate) fn at(&self, cell: Cell) -> Value
         ensures { result ≡ shown_at self.now.kept cell }
     {
         self.shown.at(cell)
@@ -92,7 +98,7 @@ impl Screen {
 
     /// What is kept of a cell.
     #[inline]
-    pub fn kept(&self, cell: Cell) -> &Kept
+    pub(crate) fn kept(&self, cell: Cell) -> &Kept
         ensures { value_kept result.now ≡ shown_at self.now.kept cell }
     {
         self.shown.kept(cell)
@@ -100,14 +106,14 @@ impl Screen {
 
     /// What evaluation reads of what a cell shows.
     #[inline]
-    pub fn operand(&self, cell: Cell) -> Operand
+    pub(crate) fn operand(&self, cell: Cell) -> Operand
         ensures { result ≡ operand_of (shown_at self.now.kept cell) }
     {
         self.shown.operand(cell)
     }
 
     /// Puts what a cell shows from now on.
-    pub fn put(&mut self, cell: Cell, kept: Kept)
+    pub(crate) fn put(&mut self, cell: Cell, kept: Kept)
         ensures shown { shown_at self.new.kept ≡ with_value (shown_at self.old.kept) cell (value_kept kept) }
         ensures before { before_of self.new ≡ before_of self.old }
     {
@@ -115,26 +121,42 @@ impl Screen {
         note(&mut self.olds, &mut self.is_put, cell, old);
     }
 
-    /// The changes that were listed last.
-    pub fn changes(&self) -> &[(Cell, Value)]
+    /// The cells that were listed last.
+    pub(crate) fn changed(&self) -> &[Cell]
+        ensures changed { result.now ≡ self.now.changed }
+    {
+        &self.cells
+    }
+
+    /// The cells whose values were listed last, with these.
+    pub(crate) fn changes(&self) -> &[(Cell, Value)]
         ensures changes { result.now ≡ self.now.changes }
     {
         &self.changes
     }
 
-    /// Lists the cells that show another value than before, ascending, with what they show.
-    pub fn list_changes(&mut self)
+    /// Lists the cells that show another value than before, ascending.
+    pub(crate) fn list_changed(&mut self)
         ensures kept { self.new.kept ≡ self.old.kept }
         ensures olds { self.new.olds ≡ self.old.olds }
-        ensures changes { IsChanges (before_of self.old) (shown_at self.old.kept) self.new.changes }
+        ensures changed { IsChanged (before_of self.old) (shown_at self.old.kept) self.new.changed }
     {
-        list_changed(&self.olds, &self.shown, &mut self.cells);
+        list_differing(&self.olds, &self.shown, &mut self.cells);
         self.cells.sort_unstable();
+    }
+
+    /// Lists the cells that were listed, with what they show.
+    pub(crate) fn list_values(&mut self)
+        ensures kept { self.new.kept ≡ self.old.kept }
+        ensures olds { self.new.olds ≡ self.old.olds }
+        ensures changed { self.new.changed ≡ self.old.changed }
+        ensures values { self.new.changes ≡ map (λ c. (c, shown_at self.old.kept c)) self.old.changed }
+    {
         list_values(&self.cells, &self.shown, &mut self.changes);
     }
 
     /// Forgets what was shown before.
-    pub fn keep(&mut self)
+    pub(crate) fn keep(&mut self)
         ensures kept { self.new.kept ≡ self.old.kept }
         ensures still { self.new.olds ≡ [] }
     {
@@ -142,7 +164,7 @@ impl Screen {
     }
 
     /// Shows again what was shown before.
-    pub fn take_back(&mut self)
+    pub(crate) fn take_back(&mut self)
         ensures shown { shown_at self.new.kept ≡ before_of self.old }
         ensures still { self.new.olds ≡ [] }
     {
@@ -151,7 +173,7 @@ impl Screen {
 }
 
 /// Lists the cells of old values that show another one now.
-fn list_changed(olds: &[(Cell, Kept)], shown: &Shown, cells: &mut Vec<Cell>)
+fn list_differing(olds: &[(Cell, Kept)], shown: &Shown, cells: &mut Vec<Cell>)
     requires once { IsDistinct nat_eq (cells_in olds.now) }
     requires room { length olds.now ≤ vec_capacity cells.old }
     ensures differ { Differ (shown_at shown.now) (put_back olds.now (shown_at shown.now)) cells.new.items }

@@ -32,18 +32,6 @@ fresh_push h d fresh new k lt =
     (rw (here, start) new))
     (cases_lt k (length h))
 
--- and stays a sheet, if what it shows then is settled
-pub sheet_after : (x : SheetView) (d : Entries) (t : State) (history : List Entries) (shown : List Kept)
-    → IsSheet x → ¬ IsBelow (state_of d) (joined_history x.history) → history ≡ x.history ++ d ∷ []
-    → t ≡ joined_history history → IsInGrid t → IsSettled t (shown_at shown)
-    → IsSheet (record { replica = x.replica; history = history; shown = shown })
-sheet_after x d t history shown sheet new pushed after in_grid settled = record {
-  settled = subst (λ (u : State). IsSettled u (shown_at shown)) after settled;
-  fresh = subst IsFresh (sym pushed) (fresh_push x.history d sheet.fresh new);
-  in_grid = subst IsInGrid after in_grid;
-  replica = sheet.replica;
-}
-
 -- a delta below the state changes nothing when it is joined in
 pub below_joined : (s t : State) → IsBelow t s → s ≡ joined_state s t
 below_joined s t below = sym below

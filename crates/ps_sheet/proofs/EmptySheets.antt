@@ -11,10 +11,10 @@ use Rattle.ps_cells.proofs.EmptyCells.{in_grid_empty}
 use Rattle.ps_sheet.specs.Sheet.{IsFresh, IsSheet}
 
 -- a sheet of no delta that shows nothing
-pub sheet_open : (replica : ℕ) (history : List Entries) (shown : List Kept) → history ≡ []
+pub sheet_open : (replica : ℕ) (history : List Entries) (shown : List Kept) (workers : ℕ) → history ≡ []
     → (1 ≤ replica) × (replica ≤ REPLICAS) → IsSettled empty_state (shown_at shown)
-    → IsSheet (record { replica = replica; history = history; shown = shown })
-sheet_open replica history shown none range settled = record {
+    → IsSheet (record { replica = replica; history = history; shown = shown; workers = workers })
+sheet_open replica history shown workers none range settled = record {
   settled = subst (λ (h : List Entries). IsSettled (joined_history h) (shown_at shown)) (sym none)
       (subst (λ (s : State). IsSettled s (shown_at shown)) (sym joined_history-nil) settled);
   fresh = subst IsFresh (sym none) (λ k lt. absurd (omega arith));

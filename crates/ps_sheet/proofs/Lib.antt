@@ -4,5 +4,8 @@ pub mod BatchDeltas
 pub mod EmptySheets
 pub mod FreshCells
 pub mod FreshEdits
-pub mod PreparedChanges
 pub mod SharedDeltas
+pub mod MadeChanges
+pub mod Staged
+pub mod StagedChanges
+pub mod WorkedOut

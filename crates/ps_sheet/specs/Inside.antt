@@ -1,3 +1,2 @@
 -- What a sheet keeps, in words that no public contract cites.
 pub mod Kept
-pub mod Ready

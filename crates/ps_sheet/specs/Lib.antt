@@ -6,3 +6,5 @@ pub mod PreparedCode
 pub mod Reports
 pub mod Sheet
 pub mod SheetCode
+pub mod Staging
+pub mod StagingCode

@@ -23,7 +23,8 @@ use Rattle.ps_sheet.specs.declared.edit.Change.{Change}
 use Rattle.ps_sheet.specs.declared.edit.Change.TheVariants.{Edit, Delta}
 
 -- the sheet's replica and history before the change, the change's delta, whether it is to be appended, what each cell
--- shows after the change, with what some showed before it, which cells show another value, and the report
+-- shows after the change, with what some showed before it, which cells show another value, the report, and the number
+-- of workers
 pub record PreparedView : Type 0 where
   pub replica : ℕ
   pub history : List Entries
@@ -33,6 +34,7 @@ pub record PreparedView : Type 0 where
   pub olds : List (ℕ × Kept)
   pub changes : List (ℕ × Value)
   pub report : Report
+  pub workers : ℕ
 
 -- what each cell shows before the change, and after it
 abbrev pub shown_before : PreparedView → Assignment

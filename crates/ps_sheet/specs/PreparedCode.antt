@@ -14,18 +14,23 @@ use Rattle.ps_sheet.specs.Prepared.{PreparedView}
 -- a prepared change is stored as the tuple of its parts
 abbrev pub prepared_code : Coded PreparedView
 prepared_code =
-    code_by ((ℕ × (List Entries × Entries)) × ((Bool × Report) × ((List Kept × List (ℕ × Kept)) × List (ℕ × Value))))
+    code_by
+    ((ℕ × (List Entries × Entries)) × ((Bool × (Report × ℕ)) × ((List Kept × List (ℕ × Kept)) × List (ℕ × Value))))
     (coded× (coded× coded_ℕ (coded× (coded_list delta.the_row.coded) delta.the_row.coded))
-    (coded× (coded× coded_bool report.the_row.coded)
+    (coded× (coded× coded_bool (coded× report.the_row.coded coded_ℕ))
     (coded× (coded× (coded_list kept.the_row.coded) (coded_list (coded× coded_ℕ kept.the_row.coded)))
     (coded_list (coded× coded_ℕ value.the_row.coded)))))
-    (λ p. ((p.replica, (p.history, p.delta)), ((p.fresh, p.report), ((p.shown, p.olds), p.changes))))
+    (λ p. (
+      (p.replica, (p.history, p.delta)),
+      ((p.fresh, (p.report, p.workers)), ((p.shown, p.olds), p.changes)),
+    ))
     (λ c. record {
       replica = c.0.0;
       history = c.0.1.0;
       delta = c.0.1.1;
       fresh = c.1.0.0;
-      report = c.1.0.1;
+      report = c.1.0.1.0;
+      workers = c.1.0.1.1;
       shown = c.1.1.0.0;
       olds = c.1.1.0.1;
       changes = c.1.1.1;

@@ -8,11 +8,12 @@ use Rattle.ps_delta.specs.Deltas.{Entries, state_of, joined_history}
 use Rattle.ps_grid.specs.declared.parties.TheConstants.{REPLICAS}
 use Rattle.ps_cells.specs.Settled.{IsSettled}
 
--- the replica, the accepted deltas that changed the state, and what each cell shows
+-- the replica, the accepted deltas that changed the state, what each cell shows, and the number of workers
 pub record SheetView : Type 0 where
   pub replica : ℕ
   pub history : List Entries
   pub shown : List Kept
+  pub workers : ℕ
 
 -- no delta is below the join of those before it
 abbrev pub IsFresh : List Entries → Type 0

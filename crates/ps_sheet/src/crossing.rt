@@ -1,8 +1,8 @@
-//! That a sheet may go to another thread.
+//! That a sheet in which a change may be staged may go to another thread.
 //!
-//! The search for this finds no proof over the whole sheet at once, so its parts are taken one after another.
+//! The search for this finds no proof over the whole at once, so its parts are taken one after another.
 ghost use denote.Param.Send.{IsSend, IsSync};
-ghost use Rattle.ps_sheet.specs.contracts.sheet.Sheet as sheet;
+ghost use Rattle.ps_sheet.specs.contracts.staging.Staging as staging;
 
 use ps_cells::cells_cross;
 use ps_delta::Delta;
@@ -13,11 +13,11 @@ fn crosses<T: Send + Sync>()
     ensures sync { IsSync T.row }
 {}
 
-/// A sheet may go to another thread. Who shares a sheet between threads calls this first.
+/// A sheet in which a change may be staged may go to another thread. Who shares one between threads calls this first.
 ///
 /// Cost: none.
-pub fn sheet_crosses()
-    ensures { IsSend sheet.the_row }
+pub fn staging_crosses()
+    ensures { IsSend staging.the_row }
 {
     crosses::<Delta>();
     cells_cross();

@@ -43,8 +43,9 @@ mod laws;
 mod made;
 mod prepared;
 mod sheet;
+mod staging;
 
-pub use crossing::sheet_crosses;
+pub use crossing::staging_crosses;
 pub use edit::{Batch, Change, Edit};
 pub use laws::{
     accepted_deltas_join, cells_outside_show_the_same, edits_are_fresh, quiet_cells_show_the_same,
@@ -53,3 +54,4 @@ pub use laws::{
 };
 pub use prepared::Prepared;
 pub use sheet::{Report, Sheet};
+pub use staging::Staging;

@@ -1,25 +1,18 @@
 //! A change of a sheet that is worked out before it is made.
 
-ghost use Rattle.std.specs.Prelude.{◌≡◌, ◌+◌, ◌<◌, ◌≤◌, ◌⊎◌, ◌∷◌, ◌++◌, [], ℕ, true, false, length, map};
-ghost use Rattle.std.specs.Prelude.{IfOk, IfErr, OnOk, OnErr, if◌then◌else◌, is_some, vec_len, vec_capacity, List};
+ghost use Rattle.std.specs.Prelude.{◌≡◌, ◌+◌, ◌⊎◌, IsSomeAnd, IfOk, IfErr, OnErr};
 ghost use Rattle.std.specs.Arc.{arc_value};
 ghost use Rattle.ps_shown.specs.Shown.{shown_at};
-ghost use Rattle.ps_delta.specs.State.{IsBelow, joined_state, state_at};
-ghost use Rattle.ps_delta.specs.Deltas.{Entries, joined_history, state_of};
-ghost use Rattle.ps_cells.specs.Changes.{IsChanges};
-ghost use Rattle.ps_cells.specs.Recalculated.{IsRecalculated};
+ghost use Rattle.ps_delta.specs.Deltas.{joined_history};
 ghost use Rattle.ps_sheet.specs.Sheet.{IsSheet};
 ghost use Rattle.ps_sheet.specs.Prepared.{IsDeltaOf, IsOf, IsPrepared, IsRefusedBy, IsToAppend};
-ghost use Rattle.ps_cells.specs.Inside.Kept.{IsWhole};
-ghost use Rattle.ps_cells.specs.Inside.Pending.{IsPending};
-ghost use Rattle.ps_sheet.specs.Inside.Ready.{IsHeld};
-ghost use Rattle.ps_cells.specs.Inside.Screens.{before_of};
 ghost use Rattle.ps_sheet.specs.Prepared.{history_after, shown_after, shown_before};
+ghost use Rattle.ps_sheet.specs.Staging.{IsWorkedOut, prepared_of};
+ghost use Rattle.ps_sheet.specs.Inside.Kept.{Prepares};
 
 use crate::edit::Change;
-use crate::made::delta_of;
-use crate::sheet::{Report, Sheet, put};
-use ps_cells::{Cells, Made, Pending};
+use crate::sheet::{Report, Sheet};
+use crate::staging::Staging;
 use ps_delta::Delta;
 use ps_eval::Meter;
 use ps_grid::{Cell, Refusal};
@@ -37,15 +30,8 @@ use std::thread::Threads;
 ///
 /// A contract sees it as its `PreparedView`.
 pub struct Prepared {
-    replica: u8,
-    /// the history before the change, with room for its delta
-    history: Vec<Arc<Delta>>,
-    /// what follows from the history and the change
-    cells: Cells,
-    delta: Arc<Delta>,
-    /// what takes the change back; none where the delta is below the state
-    pending: Option<Pending>,
-    report: Report,
+    /// in which the change is staged
+    staging: Staging,
 }
 
 impl Model for Prepared {
@@ -57,11 +43,11 @@ impl Model for Prepared {
 
     ghost coded = { prepared_code };
 
-    ghost use Rattle.ps_sheet.specs.Inside.Ready.{prepared_of, IsReady};
+    ghost use Rattle.ps_sheet.specs.Inside.Kept.{prepared_by, IsReady};
 
-    ghost view = { prepared_of };
+    ghost view = { λ p. prepared_by p.staging p.staging.staged };
 
-    ghost invariant = { IsReady };
+    ghost invariant = { λ p. IsReady p.staging };
 }
 
 impl Sheet {
@@ -80,6 +66,7 @@ impl Sheet {
         meter: &mut Meter<L>,
     ) -> Result<Prepared, (Sheet, Refusal)>
         ensures prepared { IfOk result IsPrepared }
+        ensures workers { IfOk result (λ p. p.workers ≡ self.workers) }
         ensures of { IfOk result (λ p. (p.replica ≡ self.replica) × (p.history ≡ self.history)
             × (shown_before p ≡ shown_at self.shown)) }
         ensures delta { IfOk result (λ p. IsDeltaOf self.replica (joined_history self.history) change p.delta) }
@@ -106,6 +93,7 @@ impl Sheet {
         meter: &mut Meter<L>,
     ) -> Result<Prepared, (Sheet, Refusal)>
         ensures prepared { IfOk result IsPrepared }
+        ensures workers { IfOk result (λ p. p.workers ≡ self.workers) }
         ensures of { IfOk result (λ p. (p.replica ≡ self.replica) × (p.history ≡ self.history)
             × (shown_before p ≡ shown_at self.shown)) }
         ensures delta { IfOk result (λ p. IsDeltaOf self.replica (joined_history self.history) change p.delta) }
@@ -117,110 +105,26 @@ impl Sheet {
             → IsToAppend self.replica (joined_history self.history) change) }
         ensures unmetered { OnErr result (meter.new ≡ meter.old) }
     {
-        match self.delta_by(alloc, change) {
-            Err(refusal) => Err((self, refusal)),
-            Ok(delta) => self.prepare_delta(rt, gate, alloc, delta, meter),
-        }
-    }
-
-    /// The delta of a change.
-    fn delta_by(&self, alloc: Global, change: Change) -> Result<Arc<Delta>, Refusal>
-        ensures made { IfOk result (λ d. IsDeltaOf self.now.replica (joined_history self.now.history) change
-            (arc_value d)) }
-        ensures refused { IfErr result (λ e. (e ≡ Refusal.Memory)
-            ⊎ IsRefusedBy self.now.replica (joined_history self.now.history) change e) }
-        ensures asked { IfErr result (λ e. e ≡ Refusal.Memory
-            → IsToAppend self.now.replica (joined_history self.now.history) change) }
-    {
-        match change {
-            Change::Edit(edit) => {
-                let delta = delta_of(alloc, &self.cells.grid, self.replica, edit)?;
-                let made = Arc::new(alloc, delta)?;
-                Ok(made)
-            }
-            Change::Delta(delta) => Ok(delta),
-        }
-    }
-
-    /// Works out what a delta changes.
-    fn prepare_delta<R: Threads + Sync, G: Gate, L: Ledger>(
-        self,
-        rt: &R,
-        gate: &G,
-        alloc: Global,
-        delta: Arc<Delta>,
-        meter: &mut Meter<L>,
-    ) -> Result<Prepared, (Sheet, Refusal)>
-        ensures prepared { IfOk result IsPrepared }
-        ensures of { IfOk result (λ p. (p.replica ≡ self.replica) × (p.history ≡ self.history)
-            × (shown_before p ≡ shown_at self.shown)) }
-        ensures delta { IfOk result (λ p. p.delta ≡ arc_value delta) }
-        ensures metered { IfOk result (λ p. meter.new ≡ meter.old + p.report.evaluated) }
-        ensures kept { IfErr result (λ e. e.0 ≡ self) }
-        ensures memory { IfErr result (λ e. e.1 ≡ Refusal.Memory) }
-        ensures asked { IfErr result (λ e. ¬ IsBelow (state_of (arc_value delta)) (joined_history self.history)) }
-        ensures unmetered { OnErr result (meter.new ≡ meter.old) }
-    {
-        if self.cells.grid.covers(&delta) {
-            return Ok(idle(self, delta));
-        }
-        self.prepare_fresh(rt, gate, alloc, delta, meter)
-    }
-
-    /// Works out what a delta that isn't below the state changes.
-    fn prepare_fresh<R: Threads + Sync, G: Gate, L: Ledger>(
-        self,
-        rt: &R,
-        gate: &G,
-        alloc: Global,
-        delta: Arc<Delta>,
-        meter: &mut Meter<L>,
-    ) -> Result<Prepared, (Sheet, Refusal)>
-        requires fresh { ¬ IsBelow (state_of (arc_value delta)) (joined_history self.history) }
-        ensures prepared { IfOk result IsPrepared }
-        ensures of { IfOk result (λ p. (p.replica ≡ self.replica) × (p.history ≡ self.history)
-            × (shown_before p ≡ shown_at self.shown)) }
-        ensures delta { IfOk result (λ p. p.delta ≡ arc_value delta) }
-        ensures metered { IfOk result (λ p. meter.new ≡ meter.old + p.report.evaluated) }
-        ensures kept { IfErr result (λ e. e.0 ≡ self) }
-        ensures memory { IfErr result (λ e. e.1 ≡ Refusal.Memory) }
-        ensures unmetered { OnErr result (meter.new ≡ meter.old) }
-    {
-        let Sheet {
-            replica,
-            mut history,
-            mut cells,
-        } = self;
-        match make(rt, gate, alloc, &mut history, &mut cells, &delta, meter) {
-            Err(refusal) => {
-                let sheet = Sheet {
-                    replica,
-                    history,
-                    cells,
-                };
-                Err((sheet, refusal))
-            }
-            Ok(Made { work, pending }) => {
-                let report = Report {
-                    version: history.len() as u64 + 1,
-                    evaluated: work.evaluated,
-                    cyclic: work.cyclic,
-                    levels: work.levels,
-                };
-                Ok(Prepared {
-                    replica,
-                    history,
-                    cells,
-                    delta,
-                    pending: Some(pending),
-                    report,
-                })
-            }
+        let Sheet { mut staging } = self;
+        match staging.stage(rt, gate, alloc, change, meter) {
+            Err(refusal) => Err((Sheet { staging }, refusal)),
+            Ok(_report) => Ok(Prepared::of(staging)),
         }
     }
 }
 
 impl Prepared {
+    /// The staged change, with the cells that it makes show another value.
+    fn of(mut staging: Staging) -> Prepared
+        requires staged { IsSomeAnd staging.staged (λ p. IsWorkedOut (prepared_of staging p)) }
+        ensures of { IsSomeAnd staging.staged (λ p. Prepares (prepared_of staging p) result) }
+        ensures prepared { IsPrepared result }
+    {
+        staging.list_changed();
+        staging.list_values();
+        Prepared { staging }
+    }
+
     /// The change's delta.
     ///
     /// Cost: constant.
@@ -228,7 +132,7 @@ impl Prepared {
         ensures delta { arc_value result.now ≡ self.now.delta }
         ensures prepared { IsPrepared self.now }
     {
-        &self.delta
+        self.staging.delta()
     }
 
     /// Whether the delta isn't below the state, so that it is to be appended to the history.
@@ -238,7 +142,7 @@ impl Prepared {
         ensures fresh { result ≡ self.now.fresh }
         ensures prepared { IsPrepared self.now }
     {
-        self.pending.is_some()
+        self.staging.fresh()
     }
 
     /// Each cell whose shown value the change makes another one, with the new value; ascending.
@@ -248,7 +152,7 @@ impl Prepared {
         ensures changes { result.now ≡ self.now.changes }
         ensures prepared { IsPrepared self.now }
     {
-        self.cells.shown.changes()
+        self.staging.changes()
     }
 
     /// What each cell shows after the change.
@@ -258,7 +162,7 @@ impl Prepared {
         ensures shown { shown_at result.now ≡ shown_after self.now }
         ensures prepared { IsPrepared self.now }
     {
-        self.cells.shown.shown()
+        self.staging.all_shown()
     }
 
     /// The report of the change.
@@ -268,7 +172,7 @@ impl Prepared {
         ensures report { result ≡ self.now.report }
         ensures prepared { IsPrepared self.now }
     {
-        self.report
+        self.staging.report()
     }
 
     /// Makes the change. It takes no memory.
@@ -276,25 +180,14 @@ impl Prepared {
     /// Cost: the touched cells with their references, and the cells that were put.
     pub fn commit(self) -> (Sheet, Report)
         ensures of { IsOf result.0 self.replica (history_after self) (shown_after self) }
+        ensures workers { result.0.workers ≡ self.workers }
         ensures sheet { IsSheet result.0 }
         ensures report { result.1 ≡ self.report }
         ensures prepared { IsPrepared self }
     {
-        let Prepared {
-            replica,
-            mut history,
-            mut cells,
-            delta,
-            pending,
-            report,
-        } = self;
-        leave(&mut history, &mut cells, delta, pending);
-        let sheet = Sheet {
-            replica,
-            history,
-            cells,
-        };
-        (sheet, report)
+        let Prepared { mut staging } = self;
+        let report = staging.commit();
+        (Sheet { staging }, report)
     }
 
     /// Gives up the change: the sheet has its replica, its history and what it showed. It takes no memory.
@@ -302,123 +195,12 @@ impl Prepared {
     /// Cost: the touched cells with their references, the cells that were put, and those that showed `#CYCLE!`.
     pub fn cancel(self) -> Sheet
         ensures of { IsOf result self.replica self.history (shown_before self) }
+        ensures workers { result.workers ≡ self.workers }
         ensures sheet { IsSheet result }
         ensures prepared { IsPrepared self }
     {
-        let Prepared {
-            replica,
-            history,
-            mut cells,
-            delta: _,
-            pending,
-            report: _,
-        } = self;
-        take_back(&mut cells, pending);
-        Sheet {
-            replica,
-            history,
-            cells,
-        }
-    }
-}
-
-/// A delta below the state, which changes nothing.
-fn idle(sheet: Sheet, delta: Arc<Delta>) -> Prepared
-    requires below { IsBelow (state_of (arc_value delta)) (joined_history sheet.history) }
-    ensures prepared { IsPrepared result }
-    ensures of { (result.replica ≡ sheet.replica) × (result.history ≡ sheet.history)
-        × (shown_before result ≡ shown_at sheet.shown) }
-    ensures delta { result.delta ≡ arc_value delta }
-    ensures idle { result.report.evaluated ≡ 0 }
-{
-    let Sheet {
-        replica,
-        history,
-        mut cells,
-    } = sheet;
-    cells.list_changes();
-    let report = Report {
-        version: history.len() as u64,
-        evaluated: 0,
-        cyclic: 0,
-        levels: 0,
-    };
-    Prepared {
-        replica,
-        history,
-        cells,
-        delta,
-        pending: None,
-        report,
-    }
-}
-
-/// Makes room in a history, and then a delta's change of the cells, which can be taken back.
-fn make<R: Threads + Sync, G: Gate, L: Ledger>(
-    rt: &R,
-    gate: &G,
-    alloc: Global,
-    history: &mut Vec<Arc<Delta>>,
-    cells: &mut Cells,
-    delta: &Delta,
-    meter: &mut Meter<L>,
-) -> Result<Made, Refusal>
-    requires whole { IsWhole cells.old }
-    ensures history { history.new.items ≡ history.old.items }
-    ensures room { OnOk result (vec_len history.new < vec_capacity history.new) }
-    ensures pending { IfOk result (λ m. IsPending (state_at cells.old.grid) cells.new m.pending.olds.items
-        m.pending.cyclic.items) }
-    ensures before { OnOk result (before_of cells.new.shown ≡ shown_at cells.old.shown.kept) }
-    ensures changes { OnOk result (IsChanges (shown_at cells.old.shown.kept) (shown_at cells.new.shown.kept)
-        cells.new.shown.changes) }
-    ensures joined { OnOk result (state_at cells.new.grid
-        ≡ joined_state (state_at cells.old.grid) (state_of delta.now)) }
-    ensures work { IfOk result (λ m. IsRecalculated (state_at cells.old.grid) (state_at cells.new.grid)
-        (shown_at cells.old.shown.kept) (shown_at cells.new.shown.kept) m.work.evaluated m.work.cyclic
-        m.work.levels) }
-    ensures metered { IfOk result (λ m. meter.new ≡ meter.old + m.work.evaluated) }
-    ensures memory { IfErr result (λ e. e ≡ Refusal.Memory) }
-    ensures whole { OnErr result (IsWhole cells.new) }
-    ensures kept { OnErr result ((state_at cells.new.grid ≡ state_at cells.old.grid)
-        × (cells.new.shown ≡ cells.old.shown)) }
-    ensures unmetered { OnErr result (meter.new ≡ meter.old) }
-{
-    history.reserve(1)?;
-    let made = cells.prepare(rt, gate, alloc, delta, meter)?;
-    cells.list_changes();
-    Ok(made)
-}
-
-/// Leaves a change as it was made, where there is one, and appends its delta.
-fn leave(
-    history: &mut Vec<Arc<Delta>>,
-    cells: &mut Cells,
-    delta: Arc<Delta>,
-    pending: Option<Pending>,
-)
-    requires held { IsHeld (map arc_value history.old.items) cells.old pending }
-    requires room { is_some pending ≡ true → vec_len history.old < vec_capacity history.old }
-    ensures whole { IsWhole cells.new }
-    ensures grid { cells.new.grid ≡ cells.old.grid }
-    ensures shown { cells.new.shown.kept ≡ cells.old.shown.kept }
-    ensures history { map arc_value history.new.items ≡ (if is_some pending
-        then (map arc_value history.old.items ++ arc_value delta ∷ [])
-        else map arc_value history.old.items) }
-{
-    if let Some(pending) = pending {
-        cells.commit(pending);
-        put(history, delta);
-    }
-}
-
-/// Takes a change of the cells back, where there is one.
-fn take_back(cells: &mut Cells, pending: Option<Pending>)
-    requires held { (h : List Entries) × IsHeld h cells.old pending }
-    ensures whole { IsWhole cells.new }
-    ensures back { (h : List Entries) → IsHeld h cells.old pending → state_at cells.new.grid ≡ joined_history h }
-    ensures shown { shown_at cells.new.shown.kept ≡ before_of cells.old.shown }
-{
-    if let Some(pending) = pending {
-        cells.cancel(pending);
+        let Prepared { mut staging } = self;
+        staging.cancel();
+        Sheet { staging }
     }
 }

@@ -1,8 +1,9 @@
 //! The sheet of one replica.
 
 ghost use Rattle.std.specs.Prelude.{◌≡◌, ◌+◌, ◌<◌, ◌≤◌, ◌⊎◌, ◌↔◌, ℕ, List, [], ◌∷◌, ◌++◌, length, map};
-ghost use Rattle.std.specs.Prelude.{IfOk, IfErr, IsOk, IsOkAnd, IsErrOf, OnOk, OnErr, vec_len, vec_capacity};
+ghost use Rattle.std.specs.Prelude.{IfOk, IfErr, IsOk, IsOkAnd, IsErrOf, OnOk, OnErr};
 ghost use Rattle.std.specs.Arc.{arc_value};
+ghost use Rattle.std.specs.Option.{option_copied, option_map};
 ghost use Rattle.ps_grid.specs.declared.parties.TheConstants.{WORKERS};
 ghost use Rattle.ps_delta.specs.State.{IsBelow, joined_state};
 ghost use Rattle.ps_delta.specs.Deltas.{joined_history, state_of};
@@ -11,15 +12,15 @@ ghost use Rattle.ps_cells.specs.Settled.{Cyclic};
 ghost use Rattle.ps_sheet.specs.Reports.{IsReport};
 ghost use Rattle.ps_sheet.specs.Edits.{is_clock_full};
 
-use crate::contents;
 use crate::edit::Edit;
-use crate::made::delta_of;
-use ps_cells::Cells;
+use crate::staging::Staging;
+use ps_content::Content;
 use ps_delta::Delta;
 use ps_eval::{Look, Meter};
 use ps_grid::{Cell, REPLICAS, Refusal};
 use ps_shown::Shown;
 use ps_value::{Fault, Operand, Value};
+use ps_workers::Open;
 use std::alloc::Global;
 use std::marker::Model;
 use std::sync::Arc;
@@ -44,11 +45,8 @@ pub struct Report {
 /// A contract sees it as its `SheetView`.
 #[derive(Drop)]
 pub struct Sheet {
-    pub(crate) replica: u8,
-    /// the accepted deltas that changed the state
-    pub(crate) history: Vec<Arc<Delta>>,
-    /// what follows from them
-    pub(crate) cells: Cells,
+    /// in which nothing is staged
+    pub(crate) staging: Staging,
 }
 
 impl Model for Sheet {
@@ -60,11 +58,12 @@ impl Model for Sheet {
 
     ghost coded = { sheet_code };
 
-    ghost use Rattle.ps_sheet.specs.Inside.Kept.{view_of, IsKept};
+    ghost use Rattle.std.specs.Prelude.{◌≡◌, None};
+    ghost use Rattle.ps_sheet.specs.Staging.{sheet_of};
 
-    ghost view = { view_of };
+    ghost view = { λ s. sheet_of s.staging };
 
-    ghost invariant = { IsKept };
+    ghost invariant = { λ s. s.staging.staged ≡ None };
 }
 
 impl Look for Sheet {
@@ -77,7 +76,7 @@ impl Look for Sheet {
     }
 
     fn operand(&self, cell: Cell) -> Operand {
-        self.cells.shown.operand(cell)
+        self.staging.all_shown().operand(cell)
     }
 }
 
@@ -95,17 +94,15 @@ impl Sheet {
         requires workers { (1 ≤ workers) × (workers ≤ WORKERS) }
         ensures opened { IfOk result (λ s. (s.history ≡ []) × (s.replica ≡ replica)) }
         ensures sheet { IfOk result IsSheet }
+        ensures workers { IfOk result (λ s. s.workers ≡ workers) }
         ensures replica { (result ≡ Err Refusal.Replica) ↔ ((replica < 1) ⊎ (REPLICAS < replica)) }
         ensures other { IfErr result (λ e. (e ≡ Refusal.Replica) ⊎ (e ≡ Refusal.Memory)) }
     {
         if replica < 1 || replica > REPLICAS {
             return Err(Refusal::Replica);
         }
-        let cells = Cells::new(alloc, workers)?;
         Ok(Sheet {
-            replica,
-            history: Vec::new(alloc),
-            cells,
+            staging: Staging::open(alloc, replica, workers)?,
         })
     }
 
@@ -139,13 +136,13 @@ impl Sheet {
             (shown_at self.old.shown) (shown_at self.new.shown)) }
         ensures metered { IfOk result (λ r. meter.new ≡ meter.old + r.evaluated) }
         ensures replica { self.new.replica ≡ self.old.replica }
+        ensures workers { self.new.workers ≡ self.old.workers }
         ensures sheet { IsSheet self.new }
         ensures kept { OnErr result (self.new ≡ self.old) }
         ensures unmetered { OnErr result (meter.new ≡ meter.old) }
     {
-        let delta = delta_of(alloc, &self.cells.grid, self.replica, edit)?;
-        let made = Arc::new(alloc, delta)?;
-        self.append(rt, alloc, made, meter)
+        let delta = self.staging.edit_delta(alloc, edit)?;
+        self.append(rt, alloc, delta, meter)
     }
 
     /// Accepts a delta made elsewhere: appends it to the history, unless it is below the state already.
@@ -172,12 +169,13 @@ impl Sheet {
             (shown_at self.old.shown) (shown_at self.new.shown)) }
         ensures metered { IfOk result (λ r. meter.new ≡ meter.old + r.evaluated) }
         ensures replica { self.new.replica ≡ self.old.replica }
+        ensures workers { self.new.workers ≡ self.old.workers }
         ensures sheet { IsSheet self.new }
         ensures memory { IfErr result (λ e. e ≡ Refusal.Memory) }
         ensures kept { OnErr result (self.new ≡ self.old) }
         ensures unmetered { OnErr result (meter.new ≡ meter.old) }
     {
-        if self.cells.grid.covers(&delta) {
+        if self.staging.covers(&delta) {
             return Ok(self.report());
         }
         self.append(rt, alloc, delta, meter)
@@ -201,20 +199,16 @@ impl Sheet {
             (shown_at self.old.shown) (shown_at self.new.shown)) }
         ensures metered { IfOk result (λ r. meter.new ≡ meter.old + r.evaluated) }
         ensures replica { self.new.replica ≡ self.old.replica }
+        ensures workers { self.new.workers ≡ self.old.workers }
         ensures sheet { IsSheet self.new }
         ensures memory { IfErr result (λ e. e ≡ Refusal.Memory) }
         ensures kept { OnErr result (self.new ≡ self.old) }
         ensures unmetered { OnErr result (meter.new ≡ meter.old) }
     {
-        self.history.reserve(1)?;
-        let work = self.cells.take_in(rt, alloc, &delta, meter)?;
-        put(&mut self.history, delta);
-        Ok(Report {
-            version: self.history.len() as u64,
-            evaluated: work.evaluated,
-            cyclic: work.cyclic,
-            levels: work.levels,
-        })
+        // for the facts of each sheet
+        let _ = self.staging.version();
+        self.staging.stage_fresh(rt, &Open, alloc, delta, meter)?;
+        Ok(self.staging.commit())
     }
 
     /// The report of a change that changed nothing.
@@ -224,7 +218,7 @@ impl Sheet {
         ensures sheet { IsSheet self.now }
     {
         Report {
-            version: self.history.len() as u64,
+            version: self.version(),
             evaluated: 0,
             cyclic: 0,
             levels: 0,
@@ -239,7 +233,7 @@ impl Sheet {
         ensures cycle { (result ≡ Value.Err Fault.Cycle) ↔ Cyclic (joined_history self.now.history) cell }
         ensures sheet { IsSheet self.now }
     {
-        self.cells.shown.at(cell)
+        self.staging.all_shown().at(cell)
     }
 
     /// What each cell shows.
@@ -249,7 +243,7 @@ impl Sheet {
         ensures shown { shown_at result.now ≡ shown_at self.now.shown }
         ensures sheet { IsSheet self.now }
     {
-        self.cells.shown.shown()
+        self.staging.all_shown()
     }
 
     /// Whether the cell's register has the last time, so that no edit can give the cell a content any more.
@@ -259,7 +253,18 @@ impl Sheet {
         ensures full { result ≡ is_clock_full (joined_history self.now.history cell) }
         ensures sheet { IsSheet self.now }
     {
-        contents::is_clock_full(self.cells.grid.at(cell))
+        self.staging.is_clock_full(cell)
+    }
+
+    /// What the cell's register holds; none where nothing was assigned to it.
+    ///
+    /// Cost: constant.
+    pub fn content(&self, cell: Cell) -> Option<&Content>
+        ensures held { option_copied result
+            ≡ option_map (λ a. a.content) (joined_history self.now.history cell).register }
+        ensures sheet { IsSheet self.now }
+    {
+        self.staging.content(cell)
     }
 
     /// The accepted deltas that changed the state, in the order in which they came.
@@ -269,7 +274,7 @@ impl Sheet {
         ensures history { map arc_value result.now ≡ self.now.history }
         ensures sheet { IsSheet self.now }
     {
-        &self.history
+        self.staging.history()
     }
 
     /// The length of the history.
@@ -279,7 +284,7 @@ impl Sheet {
         ensures version { result ≡ length self.now.history }
         ensures sheet { IsSheet self.now }
     {
-        self.history.len() as u64
+        self.staging.version()
     }
 
     /// The replica that the sheet was opened with.
@@ -289,14 +294,6 @@ impl Sheet {
         ensures replica { result ≡ self.now.replica }
         ensures sheet { IsSheet self.now }
     {
-        self.replica
+        self.staging.replica()
     }
-}
-
-/// Appends a delta to a history that has room for it.
-pub(crate) fn put(history: &mut Vec<Arc<Delta>>, delta: Arc<Delta>)
-    requires { vec_len history.old < vec_capacity history.old }
-    ensures { map arc_value history.new.items ≡ map arc_value history.old.items ++ arc_value delta ∷ [] }
-{
-    let _ = history.push(delta);
 }

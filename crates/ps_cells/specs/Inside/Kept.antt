@@ -15,11 +15,11 @@ use Rattle.ps_cells.specs.Inside.Formulas.{forms_of}
 use Rattle.ps_cells.specs.Inside.Waiting.{first_value}
 use Rattle.ps_cells.specs.Inside.Steps.{AreListed, flag_at, HasRoom}
 use Rattle.ps_cells.specs.Inside.Walk.{IsChange, IsCount, IsRegionOf, IsWork, InFrame, ListsCyclic, formula_at}
-use Rattle.ps_cells.specs.declared.cells.Cells.{Cells}
+use Rattle.ps_cells.specs.declared.tables.Tables.{Tables}
 
 -- the cyclic cells are listed, with room for all cells of the grid, no cell is flagged, there are workers, and the
 -- region is that of a change of its source
-pub record IsTidy (s : State) (x : Cells) : Type 0 where
+pub record IsTidy (s : State) (x : Tables) : Type 0 where
   pub cyclic : ListsCyclic s x.cyclic.items
   pub room : CELLS ≤ vec_capacity x.cyclic
   pub length : length x.flags.items ≡ CELLS
@@ -29,7 +29,7 @@ pub record IsTidy (s : State) (x : Cells) : Type 0 where
   pub region : IsRegionOf s x.source x.region
 
 -- BETWEEN TWO CHANGES: what is shown is settled, and the index stands for the formulas
-pub record IsWhole (x : Cells) : Type 0 where
+pub record IsWhole (x : Tables) : Type 0 where
   pub in_grid : IsInGrid (state_at x.grid)
   pub settled : IsSettled (state_at x.grid) (shown_at x.shown.kept)
   pub stands : Stands x.index (forms_of (state_at x.grid))
@@ -37,7 +37,7 @@ pub record IsWhole (x : Cells) : Type 0 where
   pub still : x.shown.olds ≡ []
 
 -- WITHIN A CHANGE: the touched cells hold what they are to hold, and nothing else is done
-pub record MayRecalculate (x : Cells) (touched : List ℕ) (first : List (ℕ × Kept)) : Type 0 where
+pub record MayRecalculate (x : Tables) (touched : List ℕ) (first : List (ℕ × Kept)) : Type 0 where
   pub before : State
   pub change : IsChange before (state_at x.grid) (shown_at x.shown.kept) touched
   pub tidy : IsTidy before x
@@ -48,9 +48,10 @@ pub record MayRecalculate (x : Cells) (touched : List ℕ) (first : List (ℕ ×
   pub values : All (λ e. value_kept e.1 ≡ first_value (state_at x.grid e.0)) first
 
 -- AFTER A RECALCULATION: the values are settled, and the work is counted
-pub record Recalculates (x y : Cells) (touched : List ℕ) (evaluated cyclic levels : ℕ) : Type 0 where
+pub record Recalculates (x y : Tables) (touched : List ℕ) (evaluated cyclic levels : ℕ) : Type 0 where
   pub grid : y.grid ≡ x.grid
   pub index : y.index ≡ x.index
+  pub workers : y.workers ≡ x.workers
   pub settled : IsSettled (state_at x.grid) (shown_at y.shown.kept)
   pub tidy : IsTidy (state_at x.grid) y
   pub works : IsCount (IsWork (state_at x.grid) touched (shown_at x.shown.kept) (shown_at y.shown.kept)) evaluated

@@ -12,11 +12,11 @@ use Rattle.ps_cells.specs.Inside.Formulas.{forms_of, with_puts}
 use Rattle.ps_cells.specs.Inside.Kept.{IsTidy}
 use Rattle.ps_cells.specs.Inside.Screens.{before_of}
 use Rattle.ps_cells.specs.Inside.Walk.{ListsCyclic}
-use Rattle.ps_cells.specs.declared.cells.Cells.{Cells}
+use Rattle.ps_cells.specs.declared.tables.Tables.{Tables}
 
 -- PENDING: the touched cells had the states of `olds`, the cyclic cells were those of `cyclic`, and that was the
 -- settled state s; the cells hold and show what they do after the change, and the index has old and new formulas
-pub record IsPending (s : State) (x : Cells) (olds : Entries) (cyclic : List ℕ) : Type 0 where
+pub record IsPending (s : State) (x : Tables) (olds : Entries) (cyclic : List ℕ) : Type 0 where
   pub was_in_grid : IsInGrid s
   pub was_settled : IsSettled s (before_of x.shown)
   pub was_cyclic : ListsCyclic s cyclic

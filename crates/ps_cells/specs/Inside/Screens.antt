@@ -11,10 +11,12 @@ use Rattle.ps_shown.specs.Shown.{shown_at}
 unfoldable pub use Rattle.ps_cells.specs.Changes.{put_back}
 use Rattle.ps_cells.specs.Inside.Steps.{flag_at}
 
--- what is kept of the cells, of those that were put what was kept before, and the changes that were listed last
+-- what is kept of the cells, of those that were put what was kept before, the cells that were listed last as showing
+-- another value, and the cells whose values were listed last, with these
 pub record ScreenView : Type 0 where
   pub kept : List Kept
   pub olds : List (ℕ × Kept)
+  pub changed : List ℕ
   pub changes : List (ℕ × Value)
 
 -- the cells of a list

@@ -1,16 +1,76 @@
--- What a sheet keeps beside what contracts see.
-use Rattle.std.specs.Prelude.{◌≡◌, map}
+-- What a sheet with a staged change keeps beside what contracts see, and what the sheet and the prepared change make of
+-- it.
+use Rattle.std.specs.Prelude.{◌≡◌, ◌≤◌, ◌<◌, ℕ, Bool, true, false, Option, Some, None, is_some, List, [], map}
+use Rattle.std.specs.Prelude.{IsSomeAnd, vec_len, vec_capacity}
 use Rattle.std.specs.Arc.{arc_value}
-use Rattle.ps_delta.specs.State.{state_at}
-use Rattle.ps_delta.specs.Deltas.{joined_history}
-use Rattle.ps_cells.specs.Inside.Kept.{IsWhole}
-use Rattle.ps_sheet.specs.Sheet.{SheetView, IsSheet}
-use Rattle.ps_sheet.specs.declared.sheet.Sheet.TheInside.{Inside}
+use Rattle.ps_grid.specs.declared.parties.TheConstants.{REPLICAS}
+use Rattle.ps_delta.specs.State.{IsInGrid}
+use Rattle.ps_delta.specs.Deltas.{Entries, joined_history}
+use Rattle.ps_cells.specs.Cells.{CellsView, state_before, state_now}
+use Rattle.ps_sheet.specs.Prepared.{PreparedView, IsPrepared, history_after}
+use Rattle.ps_sheet.specs.Sheet.{IsFresh}
+use Rattle.ps_sheet.specs.Staging.{StagedView, StagingView, IsStaging, prepared_of}
+use Rattle.ps_sheet.specs.declared.staging.Staged.{Staged}
+use Rattle.ps_sheet.specs.declared.staging.Staging.TheInside.{Inside}
 
-abbrev pub view_of : Inside → SheetView
-view_of x = record { replica = x.replica; history = map arc_value x.history.items; shown = x.cells.shown.kept }
+abbrev pub staged_of : CellsView → Option Staged → Option StagedView
+staged_of cells None = None
+staged_of cells (Some s) = Some (record {
+  delta = arc_value s.delta;
+  fresh = is_some cells.staged;
+  olds = cells.olds;
+  changed = cells.changed;
+  changes = cells.changes;
+  report = s.report;
+})
+
+abbrev pub view_of : Inside → StagingView
+view_of x = record {
+  replica = x.replica;
+  history = map arc_value x.history.items;
+  shown = x.cells.shown;
+  workers = x.cells.workers;
+  staged = staged_of x.cells x.staged;
+}
+
+-- where a change is staged the cells hold what the history joins to after it; where none is, nothing is staged in them
+abbrev pub IsStagedBy : StagingView → CellsView → Option StagedView → Type 0
+IsStagedBy x cells None = (state_now cells ≡ joined_history x.history) × (cells.staged ≡ None)
+IsStagedBy x cells (Some p) = state_now cells ≡ joined_history (history_after (prepared_of x p))
 
 pub record IsKept (x : Inside) : Type 0 where
-  pub sheet : IsSheet (view_of x)
-  pub joined : state_at x.cells.grid ≡ joined_history (map arc_value x.history.items)
-  pub whole : IsWhole x.cells
+  pub staging : IsStaging (view_of x)
+  pub holds : IsStagedBy (view_of x) x.cells (staged_of x.cells x.staged)
+  pub before : state_before x.cells ≡ joined_history (map arc_value x.history.items)
+  pub room : is_some x.cells.staged ≡ true → vec_len x.history < vec_capacity x.history
+  pub still : x.cells.staged ≡ None → x.cells.olds ≡ []
+  pub fresh : IsFresh (map arc_value x.history.items)
+  pub in_grid : IsInGrid (joined_history (map arc_value x.history.items))
+  pub in_grid_now : IsInGrid (state_now x.cells)
+  pub replica : (1 ≤ x.replica) × (x.replica ≤ REPLICAS)
+
+-- what a prepared change is: the staged one; where none were staged, that of nothing
+abbrev pub prepared_by : StagingView → Option StagedView → PreparedView
+prepared_by x None = prepared_of x (record {
+  delta = [];
+  fresh = false;
+  olds = [];
+  changed = [];
+  changes = [];
+  report = record { version = 0; evaluated = 0; cyclic = 0; levels = 0 };
+})
+prepared_by x (Some p) = prepared_of x p
+
+abbrev pub IsReady : StagingView → Type 0
+IsReady x = IsSomeAnd x.staged (λ p. IsPrepared (prepared_of x p))
+
+-- the prepared change q is the change p, whichever values were listed
+pub record Prepares (p q : PreparedView) : Type 0 where
+  pub replica : q.replica ≡ p.replica
+  pub history : q.history ≡ p.history
+  pub delta : q.delta ≡ p.delta
+  pub fresh : q.fresh ≡ p.fresh
+  pub shown : q.shown ≡ p.shown
+  pub olds : q.olds ≡ p.olds
+  pub report : q.report ≡ p.report
+  pub workers : q.workers ≡ p.workers

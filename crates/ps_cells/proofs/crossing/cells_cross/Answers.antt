@@ -1,7 +1,12 @@
 use denote.Builtin.{bool}
+use denote.RattleType.{RattleType}
 use denote.Hole.{as_row}
-use denote.Param.Send.{IsSend, IsSync, sendable}
+use denote.Param.Send.{IsSend, IsSync, sendable, view_send}
 use denote.Param.SendFields.{declared_send, as_row_send}
+use denote.Struct.Declared as S
+use denote.Struct.Tuple.{Tuple}
+use mathlib.Core.List.{[], ◌∷◌}
+use Rattle.std.proofs.Crossing as crossing
 use Rattle.std.proofs.Crossing.{crosses}
 use Rattle.std.specs.contracts.vec.Vec as Vec
 use Rattle.std.specs.contracts.option.Option as Option
@@ -11,7 +16,9 @@ use Rattle.ps_delta.specs.contracts.grid.Grid as grid
 use Rattle.ps_grid.specs.contracts.cell.Cell as cell
 use Rattle.ps_index.specs.contracts.index.Index as index
 use Rattle.ps_region.specs.contracts.region.Region as region
-use Rattle.ps_cells.specs.contracts.cells.Cells as cells
+use Rattle.ps_cells.specs.contracts.cells.Cells.TheInside as cells_inside
+use Rattle.ps_cells.specs.contracts.tables.Tables as tables
+use Rattle.ps_delta.specs.contracts.cell_state.CellState as cell_state
 use Rattle.ps_cells.specs.contracts.level.Level as level
 use Rattle.ps_cells.specs.contracts.screen.Screen as screen
 use Rattle.ps_cells.proofs.crossing.cells_cross.Goals as goal
@@ -27,9 +34,9 @@ flags_send = search (crosses, sendable) depth 20
 source_send : IsSend (as_row (Option.the_field cell.the_row))
 source_send = search (crosses, sendable) depth 20
 
-cells_send : IsSend grid.the_row → IsSend index.the_row → IsSend screen.the_row → IsSend region.the_row
-    → IsSend level.the_row → IsSend cells.the_row
-cells_send g i s r l = declared_send cells.the_type (
+tables_send : IsSend grid.the_row → IsSend index.the_row → IsSend screen.the_row → IsSend region.the_row
+    → IsSend level.the_row → IsSend tables.the_row
+tables_send g i s r l = declared_send tables.the_type (
   as_row_send grid.the_field g,
   (
     as_row_send index.the_field i,
@@ -49,12 +56,43 @@ cells_send g i s r l = declared_send cells.the_type (
   ),
 )
 
+abbrev olds_row : RattleType
+olds_row = Vec.the_row (Tuple (cell.the_row ∷ cell_state.the_row ∷ [])) Global.the_row ghosts
+
+pair_send : (Q R : RattleType) → IsSend Q → IsSend R → IsSend (Tuple (Q ∷ R ∷ []))
+pair_send Q R q r = search sendable depth 20
+
+option_send : (R : RattleType) → IsSend R → IsSend (Option.the_row R)
+option_send R r = search sendable depth 12
+
+cell_send : IsSend cell.the_row
+cell_send = search (crosses, sendable) depth 20
+
+olds_send : IsSend cell_state.the_row → IsSend olds_row
+olds_send a =
+    crossing.Vec-send (Tuple (cell.the_row ∷ cell_state.the_row ∷ []))
+    (pair_send cell.the_row cell_state.the_row cell_send a)
+
+abbrev staged_row : RattleType
+staged_row = as_row (Option.the_field olds_row)
+
+staged_send : IsSend olds_row → IsSend staged_row
+staged_send a = option_send olds_row a
+
+cells_send : IsSend tables.the_row → IsSend staged_row → IsSend (S.row cells_inside.the_type)
+cells_send t a = declared_send cells_inside.the_type (
+  t,
+  (as_row_send (Vec.the_field cell.the_row Global.the_row ghosts) list_send, (a, tt)),
+)
+
 pub returns : goal.returns
 returns c =
-    let g : IsSend grid.the_row = record { owned = c.crosses.ensures.send.owned; leaving = λ k x w. tt } in
-    let i : IsSend index.the_row = record { owned = c.crosses-2.ensures.send.owned; leaving = λ k x w. tt } in
-    let s : IsSend screen.the_row = record { owned = c.crosses-3.ensures.send.owned; leaving = λ k x w. tt } in
-    let r : IsSend region.the_row = record { owned = c.crosses-4.ensures.send.owned; leaving = λ k x w. tt } in
+    let a : IsSend cell_state.the_row =
+    record { owned = c.crosses.ensures.send.owned; leaving = λ k x w. (tt, (tt, (tt, tt))) } in
+    let g : IsSend grid.the_row = record { owned = c.crosses-2.ensures.send.owned; leaving = λ k x w. tt } in
+    let i : IsSend index.the_row = record { owned = c.crosses-3.ensures.send.owned; leaving = λ k x w. tt } in
+    let s : IsSend screen.the_row = record { owned = c.crosses-4.ensures.send.owned; leaving = λ k x w. tt } in
+    let r : IsSend region.the_row = record { owned = c.crosses-5.ensures.send.owned; leaving = λ k x w. tt } in
     let l : IsSend level.the_row =
-    record { owned = c.crosses-5.ensures.send.owned; leaving = λ k x w. (tt, (tt, tt)) } in
-    cells_send g i s r l
+    record { owned = c.crosses-6.ensures.send.owned; leaving = λ k x w. (tt, (tt, tt)) } in
+    view_send _ _ _ _ _ (cells_send (tables_send g i s r l) (staged_send (olds_send a)))

@@ -1,58 +1,22 @@
-use Rattle.std.proofs.Common.{◌≡◌, ℕ, List, sym, ap, ◌∙◌, subst, arith}
-use Rattle.std.proofs.lemmas.List.{with_items_is}
-use Rattle.ps_delta.specs.State.{State, IsInGrid, state_at}
+use Rattle.std.proofs.Common.{◌≡◌, ℕ, List, Some, sym, ap, ◌∙◌, subst}
+use Rattle.std.specs.Option.{option_map}
+use Rattle.ps_delta.specs.State.{state_at}
 use Rattle.ps_delta.specs.Deltas.{Entries, overlaid}
-use Rattle.ps_index.specs.Stands.{Stands}
-use Rattle.ps_eval.specs.Items.{Assignment}
-use Rattle.ps_cells.specs.Settled.{IsSettled}
-use Rattle.ps_cells.specs.Inside.Formulas.{forms_of}
-use Rattle.ps_cells.specs.Inside.Screens.{before_of}
-use Rattle.ps_cells.specs.Inside.Walk.{ListsCyclic}
-use Rattle.ps_cells.proofs.PendingChanges.{new_formulas_of}
+use Rattle.ps_cells.specs.Inside.Held.{staged_of}
+use Rattle.ps_cells.specs.Inside.Pending.{IsPending}
+use Rattle.ps_cells.proofs.HeldCells.{pending_held}
 use Rattle.ps_cells.proofs.cells.Cells.cancel.Goals as goal
 
-pub take_formulas-requires : goal.take_formulas-requires
-take_formulas-requires c = record {
-  stands = (
-    forms_of c.requires.pending.0,
-    new_formulas_of c.requires.pending.0 (state_at c.args.self.now.grid) c.args.self.now.index c.args.pending.olds.items
-        c.deref_mut.result.now c.exchange.new.cells c.deref.result.now
-        (c.deref.ensures.value
-        ∙ with_items_is c.args.pending.olds c.exchange.new.cells (c.exchange.auto.cells ∙ c.deref_mut.ensures.len))
-        c.exchange.ensures.taken c.deref_mut.ensures.value c.requires.pending.1.stood,
-  );
-}
-
-pub returns-clause-whole : goal.returns-clause-whole
-returns-clause-whole c =
-    let s = c.requires.pending.0 in
-    let p = c.requires.pending.1 in
-    let now : state_at c.exchange.new.self ≡ s =
-    c.exchange.ensures.given
-    ∙ (ap (λ (xs : Entries). overlaid (state_at c.args.self.now.grid) xs) c.deref_mut.ensures.value ∙ p.gives) in
-    let room = p.tidy.room in
-    let more = c.restore.ensures.room in
+pub take_back-requires : goal.take_back-requires
+take_back-requires c =
+    let x = c.self.inside in
+    let s = overlaid (state_at x.tables.grid) c.in-Some.olds.items in
+    let is : staged_of x ≡ Some c.in-Some.olds.items =
+    ap (option_map (λ es. es.items)) (sym c.replace.ensures.value ∙ c.in-Some.is) in
     record {
-      in_grid = subst IsInGrid (sym now) p.was_in_grid;
-      settled = subst (λ (v : Assignment). IsSettled (state_at c.exchange.new.self) v) (sym c.take_back.ensures.shown)
-          (subst (λ (q : State). IsSettled q (before_of c.args.self.now.shown)) (sym now) p.was_settled);
-      stands = subst (λ (q : State). Stands c.take_formulas.new.index (forms_of q)) (sym now)
-          (c.take_formulas.ensures.taken (forms_of s) (new_formulas_of c.requires.pending.0
-          (state_at c.args.self.now.grid) c.args.self.now.index c.args.pending.olds.items
-          c.deref_mut.result.now c.exchange.new.cells c.deref.result.now
-          (c.deref.ensures.value
-          ∙ with_items_is c.args.pending.olds c.exchange.new.cells (c.exchange.auto.cells ∙ c.deref_mut.ensures.len))
-          c.exchange.ensures.taken c.deref_mut.ensures.value c.requires.pending.1.stood));
-      tidy = record {
-        cyclic = subst (λ (q : State). ListsCyclic q c.restore.new.cyclic.items) (sym now)
-            (subst (λ (xs : List ℕ). ListsCyclic s xs) (sym (c.restore.ensures.items ∙ c.deref-2.ensures.value))
-            p.was_cyclic);
-        room = omega (arith, room, more);
-        length = p.tidy.length;
-        off = p.tidy.off;
-        level = p.tidy.level;
-        workers = p.tidy.workers;
-        region = tt;
-      };
-      still = c.take_back.ensures.still;
+      pending = (
+        s,
+        subst (λ (cs : List ℕ). IsPending s x.tables c.in-Some.olds.items cs) (sym c.deref.ensures.value)
+            (pending_held x c.in-Some.olds.items is c.self.invariant),
+      );
     }

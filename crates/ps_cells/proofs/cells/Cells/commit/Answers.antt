@@ -1,35 +1,23 @@
-use Rattle.std.proofs.Common.{sym, subst}
+use Rattle.std.proofs.Common.{◌≡◌, Some, sym, ap, ◌∙◌, subst}
+use Rattle.std.specs.Option.{option_map}
 use Rattle.ps_delta.specs.State.{state_at}
-use Rattle.ps_delta.specs.Deltas.{Entries}
-use Rattle.ps_index.specs.Stands.{Stands}
-use Rattle.ps_shown.specs.declared.kept.Kept.{Kept}
-use Rattle.ps_shown.specs.Shown.{shown_at}
-use Rattle.std.proofs.Common.{List}
-use Rattle.ps_cells.specs.Settled.{IsSettled}
-use Rattle.ps_cells.specs.Inside.Formulas.{forms_of, with_puts}
-use Rattle.ps_cells.proofs.PendingChanges.{tidy_with}
+use Rattle.ps_delta.specs.Deltas.{Entries, overlaid}
+use Rattle.ps_cells.specs.Inside.Held.{staged_of}
+use Rattle.ps_cells.specs.Inside.Pending.{IsPending}
+use Rattle.ps_cells.proofs.HeldCells.{pending_held}
 use Rattle.ps_cells.proofs.cells.Cells.commit.Goals as goal
 
-pub take_formulas-requires : goal.take_formulas-requires
-take_formulas-requires c = record {
-  stands = (
-    forms_of (state_at c.args.self.now.grid),
-    subst (λ (xs : Entries). Stands c.args.self.now.index (with_puts xs (forms_of (state_at c.args.self.now.grid))))
-        (sym c.deref.ensures.value) c.requires.pending.1.stands,
-  );
-}
-
-pub returns-clause-whole : goal.returns-clause-whole
-returns-clause-whole c =
-    let p = c.requires.pending.1 in
-    let t = state_at c.args.self.now.grid in
+pub leave-requires : goal.leave-requires
+leave-requires c =
+    let x = c.self.inside in
+    let s = overlaid (state_at x.tables.grid) c.in-Some.olds.items in
+    let is : staged_of x ≡ Some c.in-Some.olds.items =
+    ap (option_map (λ es. es.items)) (sym c.replace.ensures.value ∙ c.in-Some.is) in
     record {
-      in_grid = p.in_grid;
-      settled = subst (λ (xs : List Kept). IsSettled t (shown_at xs)) (sym c.keep.ensures.kept) p.settled;
-      stands = c.take_formulas.ensures.taken (forms_of t)
-          (subst (λ (xs : Entries). Stands c.args.self.now.index (with_puts xs (forms_of t)))
-          (sym c.deref.ensures.value)
-          p.stands);
-      tidy = tidy_with t c.args.self.now c.args.self.now.grid c.take_formulas.new.index c.keep.new.self p.tidy;
-      still = c.keep.ensures.still;
+      pending = (
+        s,
+        x.were_cyclic.items,
+        subst (λ (es : Entries). IsPending s x.tables es x.were_cyclic.items) (sym c.deref.ensures.value)
+            (pending_held x c.in-Some.olds.items is c.self.invariant),
+      );
     }

@@ -11,4 +11,5 @@ invariant_of-self c =
       omega (arith, room, more),
       c.self.invariant.2,
       c.self.invariant.3,
+      c.self.invariant.4,
     )

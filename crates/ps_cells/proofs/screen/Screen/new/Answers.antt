@@ -1,4 +1,4 @@
-use Rattle.std.proofs.Common.{arith}
+use Rattle.std.proofs.Common.{ap, length, arith}
 use Rattle.ps_cells.proofs.ScreenLemmas.{noted_none}
 use Rattle.ps_cells.proofs.screen.Screen.new.Goals as goal
 
@@ -10,4 +10,5 @@ invariant_of-result c =
       omega (arith, room),
       (let more = c.in_ok-cells.ensures.capacity in omega (arith, more)),
       (let more = c.in_ok-changes.ensures.capacity in omega (arith, more)),
+      (let none = ap length c.in_ok-cells.ensures.items in omega (arith, none)),
     )

@@ -22,6 +22,7 @@ invariant_of-self c =
       omega (arith, room, more),
       c.self.invariant.2,
       c.self.invariant.3,
+      c.self.invariant.4,
     )
 
 pub returns-clause-before : goal.returns-clause-before

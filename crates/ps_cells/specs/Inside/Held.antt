@@ -1,0 +1,34 @@
+-- What cells keep beside what contracts see.
+use Rattle.std.specs.Prelude.{◌≤◌, ℕ, Option, Some, None, List, vec_capacity}
+use Rattle.std.specs.Option.{option_map}
+use Rattle.ps_grid.specs.declared.size.TheConstants.{CELLS}
+use Rattle.ps_delta.specs.State.{state_at}
+use Rattle.ps_delta.specs.Deltas.{Entries, overlaid}
+use Rattle.ps_cells.specs.Cells.{CellsView}
+use Rattle.ps_cells.specs.Inside.Kept.{IsWhole}
+use Rattle.ps_cells.specs.Inside.Pending.{IsPending}
+use Rattle.ps_cells.specs.declared.tables.Tables.{Tables}
+use Rattle.ps_cells.specs.declared.cells.Cells.TheInside.{Inside}
+
+abbrev pub staged_of : Inside → Option Entries
+staged_of x = option_map (λ es. es.items) x.staged
+
+abbrev pub view_of : Inside → CellsView
+view_of x = record {
+  grid = x.tables.grid;
+  shown = x.tables.shown.kept;
+  olds = x.tables.shown.olds;
+  changed = x.tables.shown.changed;
+  changes = x.tables.shown.changes;
+  workers = x.tables.workers;
+  staged = staged_of x;
+}
+
+-- between two changes the tables are whole; a staged change can be taken back
+abbrev pub IsHeldBy : Tables → List ℕ → Option Entries → Type 0
+IsHeldBy t cyclic None = IsWhole t
+IsHeldBy t cyclic (Some olds) = IsPending (overlaid (state_at t.grid) olds) t olds cyclic
+
+pub record IsHeld (x : Inside) : Type 0 where
+  pub held : IsHeldBy x.tables x.were_cyclic.items (staged_of x)
+  pub room : CELLS ≤ vec_capacity x.were_cyclic

@@ -1,0 +1,315 @@
+//! What the cells of a sheet hold and show, and what is kept beside it so that a change costs what its region costs.
+
+ghost use Rattle.std.specs.Prelude.{◌≡◌, ◌+◌, ◌<◌, ◌≤◌, ◌++◌, [], List, ℕ, true, false, filter, length, nat_eq, not};
+ghost use Rattle.std.specs.Prelude.{vec_capacity, IfOk, IfErr, OnOk, OnErr};
+ghost use Rattle.std.specs.List.{list_all, list_any};
+ghost use Rattle.ps_grid.specs.declared.parties.TheConstants.{WORKERS};
+ghost use Rattle.ps_shown.specs.Shown.{shown_at};
+ghost use Rattle.ps_delta.specs.State.{State, empty_state, joined_state, state_at};
+ghost use Rattle.ps_delta.specs.Deltas.{Entries, state_of};
+ghost use Rattle.ps_cells.specs.Recalculated.{IsRecalculated};
+ghost use Rattle.ps_cells.specs.Inside.Steps.{flag_at};
+ghost use Rattle.ps_cells.specs.Inside.Screens.{before_of};
+ghost use Rattle.ps_cells.specs.Inside.Kept.{IsWhole, MayRecalculate, Recalculates};
+ghost use Rattle.ps_cells.specs.Inside.Pending.{IsPending};
+ghost use Rattle.ps_cells.specs.Inside.Alone.{is_alone, is_empty};
+ghost use Rattle.ps_cells.specs.Inside.Walk.{formula_at};
+ghost use Rattle.ps_region.specs.Listed.{listed};
+
+use crate::change::{Plan, begin, take_formulas};
+use crate::contents::holds_formula;
+use crate::level::Level;
+use crate::region::find_region;
+use crate::screen::Screen;
+use crate::walk::{clear, close_all, settle_frame, show_all_first};
+use ps_delta::{CellState, Delta, Grid};
+use ps_eval::Meter;
+use ps_grid::{CELLS, Cell, Refusal};
+use ps_index::Index;
+use ps_region::Region;
+use ps_shown::Kept;
+use ps_workers::Gate;
+use std::alloc::Global;
+use std::sync::ledger::Ledger;
+use std::thread::Threads;
+
+/// What the cells hold and show, and the tables by which that is worked out.
+#[derive(Drop)]
+pub(crate) struct Tables {
+    /// what each cell holds
+    pub(crate) grid: Grid,
+    /// which formulas refer to a cell
+    index: Index,
+    /// what each cell shows
+    pub(crate) shown: Screen,
+    /// the region of the last change
+    region: Region,
+    /// the cell of which this is still the region, where it alone was touched
+    source: Option<Cell>,
+    /// the cells that show `#CYCLE!`, each once
+    pub(crate) cyclic: Vec<Cell>,
+    /// which cells are due, while a change is made
+    flags: Vec<bool>,
+    /// the due cells of one level
+    level: Level,
+    /// how many workers evaluate a level
+    pub(crate) workers: usize,
+}
+
+/// What a recalculation did.
+#[derive(Drop)]
+pub struct Work {
+    /// how many formulas were evaluated
+    pub evaluated: u64,
+    /// how many formula cells of the region are cyclic
+    pub cyclic: u64,
+    /// how many levels the other ones have
+    pub levels: u64,
+}
+
+impl Tables {
+    /// Cells that hold and show nothing.
+    ///
+    /// Refused only when out of memory.
+    pub(crate) fn new(alloc: Global, workers: usize) -> Result<Tables, Refusal>
+        requires workers { (0 < workers) × (workers ≤ WORKERS) }
+        ensures whole { IfOk result IsWhole }
+        ensures empty { IfOk result (λ x. state_at x.grid ≡ empty_state) }
+        ensures workers { IfOk result (λ x. x.workers ≡ workers) }
+        ensures memory { IfErr result (λ e. e ≡ Refusal.Memory) }
+    {
+        let flags = no_flags(alloc, CELLS)?;
+        let cyclic = Vec::with_capacity(alloc, CELLS)?;
+        let level = Level::new(alloc)?;
+        Ok(Tables {
+            grid: Grid::new(alloc)?,
+            index: Index::new(alloc)?,
+            shown: Screen::new(alloc)?,
+            region: Region::new(alloc)?,
+            source: None,
+            cyclic,
+            flags,
+            level,
+            workers,
+        })
+    }
+
+    /// Joins a delta to what the cells hold, and settles again what they show. The work that this was, and the touched
+    /// cells, ascending, each with the state that it had.
+    ///
+    /// Refused only when out of memory, and then the cells hold and show what they did.
+    pub(crate) fn join<R: Threads + Sync, G: Gate, L: Ledger>(
+        &mut self,
+        rt: &R,
+        gate: &G,
+        alloc: Global,
+        delta: &Delta,
+        meter: &mut Meter<L>,
+    ) -> Result<(Work, Vec<(Cell, CellState)>), Refusal>
+        requires whole { IsWhole self.old }
+        ensures pending { IfOk result (λ m. IsPending (state_at self.old.grid) self.new m.1.items
+            self.old.cyclic.items) }
+        ensures before { OnOk result (before_of self.new.shown ≡ shown_at self.old.shown.kept) }
+        ensures joined { OnOk result (state_at self.new.grid
+            ≡ joined_state (state_at self.old.grid) (state_of delta.now)) }
+        ensures work { IfOk result (λ m. IsRecalculated (state_at self.old.grid) (state_at self.new.grid)
+            (shown_at self.old.shown.kept) (shown_at self.new.shown.kept) m.0.evaluated m.0.cyclic m.0.levels) }
+        ensures metered { IfOk result (λ m. meter.new ≡ meter.old + m.0.evaluated) }
+        ensures memory { IfErr result (λ e. e ≡ Refusal.Memory) }
+        ensures workers { self.new.workers ≡ self.old.workers }
+        ensures whole { OnErr result (IsWhole self.new) }
+        ensures cyclic { OnErr result (self.new.cyclic ≡ self.old.cyclic) }
+        ensures kept { OnErr result ((state_at self.new.grid ≡ state_at self.old.grid)
+            × (self.new.shown ≡ self.old.shown)) }
+        ensures unmetered { OnErr result (meter.new ≡ meter.old) }
+    {
+        let change = begin(alloc, &mut self.grid, &mut self.index, delta)?;
+        let Plan {
+            mut raised,
+            touched,
+            first,
+        } = change;
+        self.grid.exchange(&mut raised);
+        let work = self.recalculate(rt, gate, &touched, first, meter);
+        Ok((work, raised))
+    }
+
+    /// Leaves a change as it was made. It takes no memory.
+    pub(crate) fn leave(&mut self, olds: &[(Cell, CellState)])
+        requires pending { (s : State) × (cyclic : List ℕ) × IsPending s self.old olds.now cyclic }
+        ensures whole { IsWhole self.new }
+        ensures grid { self.new.grid ≡ self.old.grid }
+        ensures shown { self.new.shown.kept ≡ self.old.shown.kept }
+        ensures workers { self.new.workers ≡ self.old.workers }
+    {
+        take_formulas(&mut self.index, olds);
+        self.shown.keep();
+    }
+
+    /// Takes a change back, where these were the states of the touched cells, and the cyclic cells. It takes no memory.
+    pub(crate) fn take_back(&mut self, mut olds: Vec<(Cell, CellState)>, cyclic: &[Cell])
+        requires pending { (s : State) × IsPending s self.old olds.items cyclic.now }
+        ensures whole { IsWhole self.new }
+        ensures back { (s : State) → IsPending s self.old olds.items cyclic.now → state_at self.new.grid ≡ s }
+        ensures shown { shown_at self.new.shown.kept ≡ before_of self.old.shown }
+        ensures workers { self.new.workers ≡ self.old.workers }
+    {
+        self.grid.exchange(&mut olds);
+        take_formulas(&mut self.index, &olds);
+        self.shown.take_back();
+        self.source = None;
+        copy_list(cyclic, &mut self.cyclic);
+    }
+
+    /// Settles what the cells show, after the touched cells got what they hold.
+    fn recalculate<R: Threads + Sync, G: Gate, L: Ledger>(
+        &mut self,
+        rt: &R,
+        gate: &G,
+        touched: &[Cell],
+        first: Vec<(Cell, Kept)>,
+        meter: &mut Meter<L>,
+    ) -> Work
+        requires may { MayRecalculate self.old touched.now first.items }
+        ensures done { Recalculates self.old self.new touched.now result.evaluated result.cyclic result.levels }
+        ensures before { before_of self.new.shown ≡ before_of self.old.shown }
+        ensures metered { meter.new ≡ meter.old + result.evaluated }
+    {
+        if self.cyclic.is_empty() && are_alone(&self.grid, &self.index, touched) {
+            self.show_alone(touched, first)
+        } else {
+            self.recalculate_region(rt, gate, touched, first, meter)
+        }
+    }
+
+    /// Settles what the cells show where no touched cell has a formula, no formula refers to one, and no cell was
+    /// cyclic: the touched cells are the region.
+    fn show_alone(&mut self, touched: &[Cell], first: Vec<(Cell, Kept)>) -> Work
+        requires may { MayRecalculate self.old touched.now first.items }
+        requires alone { list_all (is_alone (formula_at (state_at self.old.grid)) (listed self.old.index)) touched.now
+            ≡ true }
+        requires none { self.old.cyclic.items ≡ [] }
+        ensures done { Recalculates self.old self.new touched.now result.evaluated result.cyclic result.levels }
+        ensures before { before_of self.new.shown ≡ before_of self.old.shown }
+        ensures idle { result.evaluated ≡ 0 }
+    {
+        show_all_first(
+            &self.grid,
+            &self.index,
+            first,
+            &mut self.shown,
+            &mut self.flags,
+        );
+        clear(touched, &mut self.flags);
+        self.source = None;
+        Work {
+            evaluated: 0,
+            cyclic: 0,
+            levels: 0,
+        }
+    }
+
+    /// Settles what the cells show, by the region of the change.
+    fn recalculate_region<R: Threads + Sync, G: Gate, L: Ledger>(
+        &mut self,
+        rt: &R,
+        gate: &G,
+        touched: &[Cell],
+        first: Vec<(Cell, Kept)>,
+        meter: &mut Meter<L>,
+    ) -> Work
+        requires { MayRecalculate self.old touched.now first.items }
+        ensures done { Recalculates self.old self.new touched.now result.evaluated result.cyclic result.levels }
+        ensures before { before_of self.new.shown ≡ before_of self.old.shown }
+        ensures metered { meter.new ≡ meter.old + result.evaluated }
+    {
+        find_region(
+            &self.grid,
+            &self.index,
+            touched,
+            &self.cyclic,
+            &mut self.region,
+            &mut self.source,
+        );
+        show_all_first(
+            &self.grid,
+            &self.index,
+            first,
+            &mut self.shown,
+            &mut self.flags,
+        );
+        close_all(self.region.cyclic(), &mut self.shown);
+        let evaluated = settle_frame(
+            rt,
+            self.workers,
+            gate,
+            &self.grid,
+            &self.index,
+            &self.region,
+            &mut self.level,
+            &mut self.shown,
+            &mut self.flags,
+            meter,
+        );
+        clear(self.region.members(), &mut self.flags);
+        renew(&self.region, &mut self.cyclic);
+        Work {
+            evaluated,
+            cyclic: self.region.cyclic().len() as u64,
+            levels: self.region.levels() as u64,
+        }
+    }
+}
+
+/// Whether no formula refers to the cell.
+fn is_unread(index: &Index, cell: Cell) -> bool
+    ensures { result ≡ is_empty (listed index.now cell) }
+{
+    index.dependents(cell).next().is_none()
+}
+
+/// Whether the cell has no formula, and no formula refers to it.
+fn is_alone(grid: &Grid, index: &Index, cell: Cell) -> bool
+    ensures { result ≡ is_alone (formula_at (state_at grid.now)) (listed index.now) cell }
+{
+    !holds_formula(grid.at(cell)) && is_unread(index, cell)
+}
+
+/// Whether no cell of these has a formula, and no formula refers to one.
+fn are_alone(grid: &Grid, index: &Index, cells: &[Cell]) -> bool
+    ensures { result ≡ list_all (is_alone (formula_at (state_at grid.now)) (listed index.now)) cells.now }
+{
+    cells.iter().all(|cell| is_alone(grid, index, *cell))
+}
+
+/// A table of `n` flags, none of which is set.
+pub(crate) fn no_flags(alloc: Global, n: usize) -> Result<Vec<bool>, Refusal>
+    ensures length { IfOk result (λ v. length v.items ≡ n) }
+    ensures off { IfOk result (λ v. (c : ℕ) → flag_at v.items c ≡ false) }
+    ensures memory { IfErr result (λ e. e ≡ Refusal.Memory) }
+{
+    let flags = vec![in alloc; false; n]?;
+    Ok(flags)
+}
+
+/// Brings the list of the cyclic cells up to date: those outside the region stay, and those of the region come after.
+fn renew(region: &Region, cyclic: &mut Vec<Cell>)
+    requires room { length (filter (λ c. not (list_any (nat_eq c) region.now.members)) cyclic.old.items)
+        + length region.now.cyclic ≤ vec_capacity cyclic.old }
+    ensures items { cyclic.new.items ≡ filter (λ c. not (list_any (nat_eq c) region.now.members)) cyclic.old.items
+        ++ region.now.cyclic }
+    ensures room { vec_capacity cyclic.old ≤ vec_capacity cyclic.new }
+{
+    cyclic.retain(|c| !region.contains(*c));
+    let _ = cyclic.extend_from_slice(region.cyclic());
+}
+
+/// Makes a list the same as another one.
+pub(crate) fn copy_list(cells: &[Cell], list: &mut Vec<Cell>)
+    requires room { length cells.now ≤ vec_capacity list.old }
+    ensures items { list.new.items ≡ cells.now }
+    ensures room { vec_capacity list.old ≤ vec_capacity list.new }
+{
+    list.clear();
+    let _ = list.extend_from_slice(cells);
+}

@@ -1,0 +1,53 @@
+use Rattle.std.proofs.Common.{rules, ◌≡◌, ◌+◌, ◌<◌, ◌≤◌, ◌⊎◌, ◌↔◌, ◌∷◌, ◌++◌, [], ℕ, true, false, is_some, length, map, None, Ok, Err, IfOk, IfErr, IsErrOf, IsOk, IsSomeAnd, IsTrue, OnOk, OnErr, vec_len, vec_capacity, ◌-◌, ◌*◌, ◌/◌, ◌%◌, Bool, nat_eq, nat_lt, List, slice_index_or, slice_set, bit_and, bit_or, Fits, w8, w32, w64, Bor, MutBor}
+use Rattle.std.specs.Arc.{arc_value}
+use Rattle.ps_grid.specs.declared.parties.TheConstants.{WORKERS}
+use Rattle.ps_shown.specs.Shown.{shown_at}
+use Rattle.ps_delta.specs.State.{IsBelow}
+use Rattle.ps_delta.specs.Deltas.{joined_history, state_of}
+use Rattle.ps_cells.specs.Changes.{IsChanged}
+use Rattle.ps_sheet.specs.Edits.{delta_of_edit, is_clock_full}
+use Rattle.ps_sheet.specs.Prepared.{IsDeltaOf, IsOf, IsRefusedBy, IsToAppend, history_after, shown_before}
+use Rattle.ps_sheet.specs.Sheet.{IsSheet}
+use Rattle.ps_sheet.specs.Staging.{IsListed, IsStaging, IsWorkedOut, Stages, prepared_of, sheet_of, staging_of}
+use Rattle.std.proofs.Common.{Some, refl, sym, ap, ◌∙◌, arith}
+use Rattle.std.proofs.lemmas.List.{length-map}
+use Rattle.ps_delta.specs.State.{joined_state}
+use Rattle.ps_delta.specs.Deltas.{Entries}
+use Rattle.ps_cells.specs.Cells.{state_now}
+use Rattle.ps_sheet.specs.declared.sheet.Report.{Report}
+use Rattle.ps_sheet.specs.declared.staging.Staged.{Staged}
+use Rattle.ps_sheet.proofs.StagedChanges.{kept_staged_fresh, stages_fresh}
+use Rattle.ps_sheet.proofs.staging.Staging.stage_fresh.Goals as goal
+
+pub invariant_of-self-2 : goal.invariant_of-self-2
+invariant_of-self-2 g c =
+    let x = c.self.inside in
+    let work = c.in_ok-work.work in
+    let said = c.in_ok-work.ensures in
+    let report : Report = record { version = c.len.result + 1; evaluated = work.evaluated; cyclic = work.cyclic; levels = work.levels } in
+    let staged : Staged = record { delta = c.args.delta; report = report } in
+    kept_staged_fresh x
+    (record { replica = x.replica; history = c.reserve.new.self; cells = c.stage.new.self; staged = Some staged })
+    c.args.self.now c.self.view_is c.requires.none c.self.invariant staged c.len.result work.evaluated work.cyclic
+    work.levels refl refl refl (ap (map arc_value) c.reserve.ensures.items)
+    (let n = c.len.ensures in let m = length-map c.reserve.new.self.items arc_value in omega (arith, n, m))
+    c.requires.fresh
+    (said.joined ∙ ap (λ (d : Entries). joined_state (state_now x.cells) (state_of d)) c.deref.ensures)
+    said.settled said.staged said.before said.workers said.work
+    (let room = c.in_ok-reserve.ensures.ok in omega (arith, room)) said.in_grid
+
+pub returns-clause-staged : goal.returns-clause-staged
+returns-clause-staged g c =
+    let x = c.self.inside in
+    let work = c.in_ok-work.work in
+    let said = c.in_ok-work.ensures in
+    let report : Report = record { version = c.len.result + 1; evaluated = work.evaluated; cyclic = work.cyclic; levels = work.levels } in
+    let staged : Staged = record { delta = c.args.delta; report = report } in
+    stages_fresh x
+    (record { replica = x.replica; history = c.reserve.new.self; cells = c.stage.new.self; staged = Some staged })
+    c.args.self.now c.self.view_is c.requires.none c.self.invariant staged c.len.result work.evaluated work.cyclic
+    work.levels refl refl refl (ap (map arc_value) c.reserve.ensures.items)
+    (let n = c.len.ensures in let m = length-map c.reserve.new.self.items arc_value in omega (arith, n, m))
+    c.requires.fresh
+    (said.joined ∙ ap (λ (d : Entries). joined_state (state_now x.cells) (state_of d)) c.deref.ensures)
+    said.settled said.staged said.before said.workers said.work

@@ -1,0 +1,444 @@
+//! A sheet in which at most one change is staged.
+
+ghost use Rattle.std.specs.Prelude.{◌≡◌, ◌+◌, ◌<◌, ◌≤◌, ◌⊎◌, ◌↔◌, ◌∷◌, ◌++◌, [], ℕ, true, false, is_some, length, map};
+ghost use Rattle.std.specs.Prelude.{None, Ok, Err, IfOk, IfErr, IsErrOf, IsOk, IsSomeAnd, IsTrue, OnOk, OnErr};
+ghost use Rattle.std.specs.Prelude.{vec_len, vec_capacity};
+ghost use Rattle.std.specs.Arc.{arc_value};
+ghost use Rattle.std.specs.Option.{option_copied, option_map};
+ghost use Rattle.ps_grid.specs.declared.parties.TheConstants.{WORKERS};
+ghost use Rattle.ps_shown.specs.Shown.{shown_at};
+ghost use Rattle.ps_delta.specs.State.{IsBelow};
+ghost use Rattle.ps_delta.specs.Deltas.{joined_history, state_of};
+ghost use Rattle.ps_cells.specs.Changes.{IsChanged};
+ghost use Rattle.ps_sheet.specs.Edits.{delta_of_edit, is_clock_full};
+ghost use Rattle.ps_sheet.specs.Prepared.{IsDeltaOf, IsOf, IsRefusedBy, IsToAppend, history_after, shown_before};
+ghost use Rattle.ps_sheet.specs.Sheet.{IsSheet};
+ghost use Rattle.ps_sheet.specs.Staging.{IsListed, IsStaging, IsWorkedOut, Stages, prepared_of, sheet_of, staging_of};
+
+use crate::contents;
+use crate::edit::{Change, Edit};
+use crate::made::delta_of;
+use crate::sheet::{Report, Sheet};
+use ps_cells::{Cells, content};
+use ps_content::Content;
+use ps_delta::Delta;
+use ps_eval::Meter;
+use ps_grid::{Cell, REPLICAS, Refusal};
+use ps_shown::Shown;
+use ps_value::Value;
+use ps_workers::Gate;
+use std::alloc::Global;
+use std::marker::Model;
+use std::mem;
+use std::sync::Arc;
+use std::sync::ledger::Ledger;
+use std::thread::Threads;
+
+/// A sheet in which a change may be staged: worked out, and not yet made. It is then committed or cancelled, and the
+/// next one may be staged.
+///
+/// A contract sees it as its `StagingView`.
+#[derive(Drop)]
+pub struct Staging {
+    replica: u8,
+    /// the accepted deltas that changed the state, without that of the staged change, for which there is room
+    history: Vec<Arc<Delta>>,
+    /// what follows from them and from the staged change
+    cells: Cells,
+    /// the staged change; where its delta is below the state, nothing is staged in the cells
+    staged: Option<Staged>,
+}
+
+/// The delta of a staged change, and its report.
+#[derive(Drop)]
+pub(crate) struct Staged {
+    delta: Arc<Delta>,
+    report: Report,
+}
+
+impl Model for Staging {
+    ghost use Rattle.ps_sheet.specs.Staging.{StagingView};
+
+    ghost Value = { StagingView };
+
+    ghost use Rattle.ps_sheet.specs.StagingCode.{staging_code};
+
+    ghost coded = { staging_code };
+
+    ghost use Rattle.ps_sheet.specs.Inside.Kept.{view_of, IsKept};
+
+    ghost view = { view_of };
+
+    ghost invariant = { IsKept };
+}
+
+impl Staging {
+    /// The empty sheet of a replica.
+    ///
+    /// Refused only when out of memory.
+    pub(crate) fn open(alloc: Global, replica: u8, workers: usize) -> Result<Staging, Refusal>
+        requires workers { (1 ≤ workers) × (workers ≤ WORKERS) }
+        requires replica { (1 ≤ replica) × (replica ≤ REPLICAS) }
+        ensures opened { IfOk result (λ s. (s.history ≡ []) × (s.replica ≡ replica) × (s.workers ≡ workers)
+            × (s.staged ≡ None)) }
+        ensures sheet { IfOk result (λ s. IsSheet (sheet_of s)) }
+        ensures memory { IfErr result (λ e. e ≡ Refusal.Memory) }
+    {
+        let cells = Cells::new(alloc, workers)?;
+        Ok(Staging {
+            replica,
+            history: Vec::new(alloc),
+            cells,
+            staged: None,
+        })
+    }
+
+    /// The sheet, so that changes may be staged in it.
+    ///
+    /// Cost: none.
+    pub fn new(sheet: Sheet) -> Staging
+        ensures staging { result ≡ staging_of sheet }
+        ensures sheet { IsSheet sheet }
+    {
+        let Sheet { staging } = sheet;
+        // for the facts of each sheet
+        let _ = staging.version();
+        staging
+    }
+
+    /// The sheet, where nothing is staged.
+    ///
+    /// Cost: none.
+    pub fn into_sheet(self) -> Sheet
+        requires none { self.staged ≡ None }
+        ensures same { result ≡ sheet_of self }
+        ensures sheet { IsSheet result }
+    {
+        // for the facts of each sheet
+        let _ = self.version();
+        Sheet { staging: self }
+    }
+
+    /// Works out a change, after every growth that it needs. A delta below the state changes nothing, and is staged as
+    /// one that isn't fresh. Each worker passes the gate before each of its evaluations; the formulas are evaluated and
+    /// counted here, whether the change is then committed or cancelled.
+    ///
+    /// Refused as [`Sheet::edit`] or [`Sheet::receive`] would be, and then nothing is staged.
+    ///
+    /// Cost: that of [`Sheet::edit`] or [`Sheet::receive`], and of the gate.
+    pub fn stage<R: Threads + Sync, G: Gate, L: Ledger>(
+        &mut self,
+        rt: &R,
+        gate: &G,
+        alloc: Global,
+        change: Change,
+        meter: &mut Meter<L>,
+    ) -> Result<Report, Refusal>
+        requires none { self.old.staged ≡ None }
+        ensures staged { IfOk result (λ r. Stages self.old self.new r) }
+        ensures delta { OnOk result (IsSomeAnd self.new.staged
+            (λ p. IsDeltaOf self.old.replica (joined_history self.old.history) change p.delta)) }
+        ensures metered { IfOk result (λ r. meter.new ≡ meter.old + r.evaluated) }
+        ensures kept { OnErr result (self.new ≡ self.old) }
+        ensures refused { IfErr result (λ e. (e ≡ Refusal.Memory)
+            ⊎ IsRefusedBy self.old.replica (joined_history self.old.history) change e) }
+        ensures asked { IfErr result (λ e. e ≡ Refusal.Memory
+            → IsToAppend self.old.replica (joined_history self.old.history) change) }
+        ensures unmetered { OnErr result (meter.new ≡ meter.old) }
+    {
+        match change {
+            Change::Edit(edit) => {
+                let delta = self.edit_delta(alloc, edit)?;
+                self.stage_fresh(rt, gate, alloc, delta, meter)
+            }
+            Change::Delta(delta) => self.stage_delta(rt, gate, alloc, delta, meter),
+        }
+    }
+
+    /// Stages a delta, whether it is below the state or not.
+    fn stage_delta<R: Threads + Sync, G: Gate, L: Ledger>(
+        &mut self,
+        rt: &R,
+        gate: &G,
+        alloc: Global,
+        delta: Arc<Delta>,
+        meter: &mut Meter<L>,
+    ) -> Result<Report, Refusal>
+        requires none { self.old.staged ≡ None }
+        ensures staged { IfOk result (λ r. Stages self.old self.new r) }
+        ensures delta { OnOk result (IsSomeAnd self.new.staged (λ p. p.delta ≡ arc_value delta)) }
+        ensures metered { IfOk result (λ r. meter.new ≡ meter.old + r.evaluated) }
+        ensures kept { OnErr result (self.new ≡ self.old) }
+        ensures memory { IfErr result (λ e. e ≡ Refusal.Memory) }
+        ensures asked { IfErr result (λ e. ¬ IsBelow (state_of (arc_value delta)) (joined_history self.old.history)) }
+        ensures unmetered { OnErr result (meter.new ≡ meter.old) }
+    {
+        if self.covers(&delta) {
+            return Ok(self.stage_idle(delta));
+        }
+        self.stage_fresh(rt, gate, alloc, delta, meter)
+    }
+
+    /// Stages a delta that isn't below the state.
+    pub(crate) fn stage_fresh<R: Threads + Sync, G: Gate, L: Ledger>(
+        &mut self,
+        rt: &R,
+        gate: &G,
+        alloc: Global,
+        delta: Arc<Delta>,
+        meter: &mut Meter<L>,
+    ) -> Result<Report, Refusal>
+        requires none { self.old.staged ≡ None }
+        requires fresh { ¬ IsBelow (state_of (arc_value delta)) (joined_history self.old.history) }
+        ensures staged { IfOk result (λ r. Stages self.old self.new r) }
+        ensures delta { OnOk result (IsSomeAnd self.new.staged
+            (λ p. (p.delta ≡ arc_value delta) × (p.fresh ≡ true))) }
+        ensures metered { IfOk result (λ r. meter.new ≡ meter.old + r.evaluated) }
+        ensures kept { OnErr result (self.new ≡ self.old) }
+        ensures memory { IfErr result (λ e. e ≡ Refusal.Memory) }
+        ensures unmetered { OnErr result (meter.new ≡ meter.old) }
+    {
+        self.history.reserve(1)?;
+        let work = self.cells.stage(rt, gate, alloc, &delta, meter)?;
+        let report = Report {
+            version: self.history.len() as u64 + 1,
+            evaluated: work.evaluated,
+            cyclic: work.cyclic,
+            levels: work.levels,
+        };
+        self.staged = Some(Staged { delta, report });
+        Ok(report)
+    }
+
+    /// Stages a delta below the state, which changes nothing.
+    fn stage_idle(&mut self, delta: Arc<Delta>) -> Report
+        requires none { self.old.staged ≡ None }
+        requires below { IsBelow (state_of (arc_value delta)) (joined_history self.old.history) }
+        ensures staged { Stages self.old self.new result }
+        ensures delta { IsSomeAnd self.new.staged (λ p. p.delta ≡ arc_value delta) }
+        ensures idle { result.evaluated ≡ 0 }
+    {
+        let report = Report {
+            version: self.history.len() as u64,
+            evaluated: 0,
+            cyclic: 0,
+            levels: 0,
+        };
+        self.staged = Some(Staged { delta, report });
+        report
+    }
+
+    /// The delta of an edit over the sheet.
+    pub(crate) fn edit_delta(&self, alloc: Global, edit: Edit) -> Result<Arc<Delta>, Refusal>
+        requires none { self.now.staged ≡ None }
+        ensures made { IfOk result (λ d. delta_of_edit self.now.replica (joined_history self.now.history) edit
+            ≡ Ok (arc_value d)) }
+        ensures fresh { IfOk result (λ d. ¬ IsBelow (state_of (arc_value d)) (joined_history self.now.history)) }
+        ensures refused { IfErr result (λ e. (e ≡ Refusal.Memory)
+            ⊎ (delta_of_edit self.now.replica (joined_history self.now.history) edit ≡ Err e)) }
+        ensures asked { IsErrOf result Refusal.Memory
+            → IsOk (delta_of_edit self.now.replica (joined_history self.now.history) edit) }
+        ensures staging { IsStaging self.now }
+    {
+        let delta = delta_of(alloc, self.cells.grid(), self.replica, edit)?;
+        let made = Arc::new(alloc, delta)?;
+        Ok(made)
+    }
+
+    /// Whether a delta is below the state.
+    pub(crate) fn covers(&self, delta: &Delta) -> bool
+        requires none { self.now.staged ≡ None }
+        ensures { IsTrue result ↔ IsBelow (state_of delta.now) (joined_history self.now.history) }
+    {
+        self.cells.grid().covers(delta)
+    }
+
+    /// Whether the cell's register has the last time.
+    pub(crate) fn is_clock_full(&self, cell: Cell) -> bool
+        requires none { self.now.staged ≡ None }
+        ensures full { result ≡ is_clock_full (joined_history self.now.history cell) }
+        ensures staging { IsStaging self.now }
+    {
+        contents::is_clock_full(self.cells.grid().at(cell))
+    }
+
+    /// What the cell's register holds, where nothing is staged; none where nothing was assigned to it.
+    ///
+    /// Cost: constant.
+    pub fn content(&self, cell: Cell) -> Option<&Content>
+        requires none { self.now.staged ≡ None }
+        ensures held { option_copied result
+            ≡ option_map (λ a. a.content) (joined_history self.now.history cell).register }
+        ensures staging { IsStaging self.now }
+    {
+        content(self.cells.grid().at(cell))
+    }
+
+    /// Makes the staged change. It takes no memory.
+    ///
+    /// Cost: the touched cells with their references, and the cells that were put.
+    pub fn commit(&mut self) -> Report
+        requires staged { is_some self.old.staged ≡ true }
+        ensures of { IsSomeAnd self.old.staged (λ p. IsOf (sheet_of self.new) self.old.replica
+            (history_after (prepared_of self.old p)) (shown_at self.old.shown)) }
+        ensures report { IsSomeAnd self.old.staged (λ p. p.report ≡ result) }
+        ensures none { self.new.staged ≡ None }
+        ensures workers { self.new.workers ≡ self.old.workers }
+        ensures sheet { IsSheet (sheet_of self.new) }
+    {
+        let Some(staged) = mem::replace(&mut self.staged, None) else {
+            unreachable!()
+        };
+        let Staged { delta, report } = staged;
+        if self.cells.is_staged() {
+            self.cells.commit();
+            put(&mut self.history, delta);
+        }
+        report
+    }
+
+    /// Gives up the staged change: the sheet has its replica, its history and what it showed. It takes no memory.
+    ///
+    /// Cost: the touched cells with their references, the cells that were put, and those that showed `#CYCLE!`.
+    pub fn cancel(&mut self)
+        requires staged { is_some self.old.staged ≡ true }
+        ensures of { IsSomeAnd self.old.staged (λ p. IsOf (sheet_of self.new) self.old.replica self.old.history
+            (shown_before (prepared_of self.old p))) }
+        ensures none { self.new.staged ≡ None }
+        ensures workers { self.new.workers ≡ self.old.workers }
+        ensures sheet { IsSheet (sheet_of self.new) }
+    {
+        self.staged = None;
+        if self.cells.is_staged() {
+            self.cells.cancel();
+        }
+    }
+
+    /// Lists the cells whose shown value the staged change makes another one, for [`Staging::changed`].
+    ///
+    /// Cost: that of sorting them, and the cells that were put.
+    pub fn list_changed(&mut self)
+        requires staged { is_some self.old.staged ≡ true }
+        ensures changed { IsSomeAnd self.new.staged (λ p.
+            IsChanged (shown_before (prepared_of self.new p)) (shown_at self.new.shown) p.changed) }
+        ensures same { IsListed self.old self.new }
+    {
+        self.cells.list_changed();
+    }
+
+    /// Lists what the listed cells show, for [`Staging::changes`].
+    pub(crate) fn list_values(&mut self)
+        requires staged { is_some self.old.staged ≡ true }
+        ensures values { IsSomeAnd self.new.staged (λ p. p.changes ≡ map (λ c. (c, shown_at self.new.shown c)) p.changed) }
+        ensures changed { IsSomeAnd self.old.staged (λ p. IsSomeAnd self.new.staged (λ q. q.changed ≡ p.changed)) }
+        ensures same { IsListed self.old self.new }
+    {
+        self.cells.list_values();
+    }
+
+    /// The delta of the staged change.
+    ///
+    /// Cost: constant.
+    pub fn delta(&self) -> &Arc<Delta>
+        requires staged { is_some self.now.staged ≡ true }
+        ensures delta { IsSomeAnd self.now.staged (λ p. arc_value result.now ≡ p.delta) }
+        ensures staging { IsStaging self.now }
+    {
+        let Some(staged) = &self.staged else {
+            unreachable!()
+        };
+        &staged.delta
+    }
+
+    /// The report of the staged change.
+    ///
+    /// Cost: constant.
+    pub fn report(&self) -> Report
+        requires staged { is_some self.now.staged ≡ true }
+        ensures report { IsSomeAnd self.now.staged (λ p. result ≡ p.report) }
+        ensures staging { IsStaging self.now }
+    {
+        let Some(staged) = &self.staged else {
+            unreachable!()
+        };
+        staged.report
+    }
+
+    /// Whether the delta of the staged change isn't below the state, so that it is to be appended to the history.
+    ///
+    /// Cost: constant.
+    pub fn fresh(&self) -> bool
+        requires staged { is_some self.now.staged ≡ true }
+        ensures fresh { IsSomeAnd self.now.staged (λ p. result ≡ p.fresh) }
+        ensures staging { IsStaging self.now }
+    {
+        self.cells.is_staged()
+    }
+
+    /// The cells that [`Staging::list_changed`] listed, ascending.
+    ///
+    /// Cost: constant.
+    pub fn changed(&self) -> &[Cell]
+        requires staged { is_some self.now.staged ≡ true }
+        ensures changed { IsSomeAnd self.now.staged (λ p. result.now ≡ p.changed) }
+        ensures staging { IsStaging self.now }
+    {
+        self.cells.changed()
+    }
+
+    /// The cells whose values were listed, with these.
+    pub(crate) fn changes(&self) -> &[(Cell, Value)]
+        requires staged { is_some self.now.staged ≡ true }
+        ensures changes { IsSomeAnd self.now.staged (λ p. result.now ≡ p.changes) }
+    {
+        self.cells.changes()
+    }
+
+    /// What each cell shows, with the staged change.
+    ///
+    /// Cost: constant.
+    pub fn all_shown(&self) -> &Shown
+        ensures shown { shown_at result.now ≡ shown_at self.now.shown }
+        ensures staging { IsStaging self.now }
+    {
+        self.cells.shown()
+    }
+
+    /// The accepted deltas that changed the state, in the order in which they came, without that of the staged change.
+    ///
+    /// Cost: constant.
+    pub fn history(&self) -> &[Arc<Delta>]
+        ensures history { map arc_value result.now ≡ self.now.history }
+        ensures staging { IsStaging self.now }
+    {
+        &self.history
+    }
+
+    /// The length of the history.
+    ///
+    /// Cost: constant.
+    pub fn version(&self) -> u64
+        ensures version { result ≡ length self.now.history }
+        ensures staging { IsStaging self.now }
+    {
+        self.history.len() as u64
+    }
+
+    /// The replica that the sheet was opened with.
+    ///
+    /// Cost: constant.
+    pub fn replica(&self) -> u8
+        ensures replica { result ≡ self.now.replica }
+        ensures staging { IsStaging self.now }
+    {
+        self.replica
+    }
+}
+
+/// Appends a delta to a history that has room for it.
+fn put(history: &mut Vec<Arc<Delta>>, delta: Arc<Delta>)
+    requires { vec_len history.old < vec_capacity history.old }
+    ensures { map arc_value history.new.items ≡ map arc_value history.old.items ++ arc_value delta ∷ [] }
+{
+    let _ = history.push(delta);
+}
