@@ -1,15 +1,17 @@
-"""The hunt of `./test --hunt`, from a fixed seed: a fixed number of scripts, and faults that are planted for it.
+"""The hunt of `./test --hunt`, from a fixed seed: a fixed number of plans of each part, and planted faults of scripts.
 
-What is compared is the same in each run. It takes some half a minute.
+The plans are the same in each run. It takes some half a minute.
 """
 import subprocess
 
-from hunt import faults
+from hunt import faults, finds
 from hunt.finds import Hunt
+from hunt.parts import PARTS, Scripts
 from program import LIMIT, TOP, ProgramTest
 
 SEED = 15
-SCRIPTS = 600
+# How many plans of each part are run.
+PLANS = {"scripts": 500, "replicas": 40}
 # Each planted fault has to be found among so many scripts, and its script to be left with so few lines.
 FEW_SCRIPTS, FEW_LINES = 60, 12
 
@@ -21,35 +23,47 @@ class Command(ProgramTest):
         return subprocess.run([TOP / "test", *words], **how)
 
     def test_it_counts_what_it_compared(self):
-        ran = self.start("--hunt", "0.01", "--seed", str(SEED))
+        ran = self.start("--hunt", "0.05", "--seed", str(SEED))
         self.assertEqual((ran.returncode, ran.stderr), (0, ""))
-        self.assertRegex(ran.stdout, r"(?s)^hunt: seed 15\nhunt: \d+ scripts with .*\n[1-9]\d* passed, 0 failed\n$")
+        told = r"(?s)^hunt: seed 15\nhunt: \d+ scripts \(.*\n[1-9]\d* passed, 0 failed\n$"
+        self.assertRegex(ran.stdout, told)
 
-    def test_minutes_that_are_none_are_refused(self):
-        for words in (["--hunt"], ["--hunt", "long"], ["--hunt", "1", "--seed", "x"]):
+    def test_one_part_alone(self):
+        for part in PARTS:
+            with self.subTest(part=part.name):
+                ran = self.start("--hunt", "0.01", "--seed", str(SEED), "--only", part.name)
+                self.assertEqual((ran.returncode, ran.stderr), (0, ""))
+                told = rf"^hunt: seed 15\nhunt: \d+ {part.name}[^;\n]*\n[1-9]\d* passed, 0 failed\n$"
+                self.assertRegex(ran.stdout, told)
+
+    def test_words_that_have_no_sense_are_refused(self):
+        for words in (["--hunt"], ["--hunt", "long"], ["--hunt", "1", "--seed", "x"], ["--hunt", "1", "--only", "x"],
+                      ["--hunt", "1", "--replay", "x"]):
             with self.subTest(words=words):
                 self.assertEqual(self.start(*words).returncode, 2)
 
 
 class Fixed(ProgramTest):
-    def test_the_program_replies_as_the_model_does(self):
-        hunt = Hunt(SEED)
-        finds = [find for number in range(SCRIPTS) if (find := hunt.compare(number)) is not None]
-        if finds:
-            _, about = hunt.keep(finds[0], self.folder())
-            self.fail(f"{len(finds)} of {SCRIPTS} scripts differ; the first one, made smaller:\n{about}")
+    def test_no_part_finds_anything(self):
+        for part in PARTS:
+            with self.subTest(part=part.name):
+                hunt = Hunt(SEED, [part()])
+                find = hunt.first(hunt.parts[0], PLANS[part.name])
+                if find is not None:
+                    self.fail(hunt.keep(find, self.folder())[1])
 
 
 class Planted(ProgramTest):
     def assert_found(self, by_program):
-        """What stands in for the program is found, and the script made smaller."""
-        hunt = Hunt(SEED, by_program)
-        finds = (hunt.compare(number) for number in range(FEW_SCRIPTS))
-        find = next((it for it in finds if it is not None), None)
+        """What stands in for the program is found, and the script made smaller; replayed, it shows the trouble again."""
+        hunt = Hunt(SEED, [Scripts(by_program)])
+        find = hunt.first(hunt.parts[0], FEW_SCRIPTS)
         self.assertIsNotNone(find)
         folder, _ = hunt.keep(find, self.folder())
         self.assertLessEqual((folder / "given").read_bytes().count(b"\n"), FEW_LINES)
-        self.assertNotEqual((folder / "expected").read_bytes(), (folder / "written").read_bytes())
+        name, plan = finds.read(folder / "plan")
+        self.assertEqual(name, "scripts")
+        self.assertIsNotNone(hunt.parts[0].trouble(plan))
 
     def test_each_fault_of_a_sheet_is_found(self):
         for kind in faults.SHEETS:

@@ -1,8 +1,11 @@
-"""The hunt: scripts by chance, whose replies by a plain model are compared byte for byte with those of the program.
+"""The hunt: what the program does is looked at by chance, and compared with what a plain model of it does.
 
 The model says what `docs/FORMATS.md` says, and nothing of how the program works: `session` and `tables`, over `model`,
 `records`, `deltas`, `contents`, `formulas`, `functions`, `tokens` and `places`; each names the sections that it is of.
-`themes` makes scripts, over `scripts`, `tables_by_chance`, `delta_lines`, `entries` and `chance`. `runs` runs them,
-`finds` compares, `shrink` makes a find smaller, and `faults` has what is planted for the hunt's own test. `command` is
-`./test --hunt MINUTES`.
+
+`parts` has the parts of the hunt. Scripts: `themes` makes them, over `scripts`, `tables_by_chance`, `delta_lines`,
+`entries` and `chance`, and `runs` runs them. Replicas: `replicas_by_chance` makes plans of them, which `replicas` runs,
+over `processes`. `finds` runs plans and keeps those that show a trouble, `plans` writes them down, `shrink` makes them
+smaller. `faults` and `replica_faults` have what is planted for the hunt's own tests. `command` is
+`./test --hunt MINUTES`; `docs/HUNT.md` tells more.
 """

@@ -1,7 +1,5 @@
-"""The command `./test --hunt MINUTES [--seed NUMBER]`."""
+"""The command `./test --hunt MINUTES [--seed NUMBER] [--only PART]`, and `./test --hunt --replay FILE`."""
 import argparse
-import functools
-import itertools
 import random
 import subprocess
 import tempfile
@@ -9,25 +7,26 @@ import time
 
 from program import TOP
 
-from . import runs
+from . import finds, runs
 from .finds import Hunt
+from .parts import PARTS
 
 # So many finds end a hunt, and each so many seconds it tells how far it is.
 MOST_FINDS, TELLS = 20, 60
+NAMES = [part.name for part in PARTS]
 
 
 def asked(words):
     """What the words ask for."""
-    parser = argparse.ArgumentParser(prog="./test", description="Compares scripts by chance with a plain model.")
-    parser.add_argument("--hunt", metavar="MINUTES", type=float, required=True, help="how long")
-    parser.add_argument("--seed", metavar="NUMBER", type=int, help="which scripts; any where it isn't given")
-    return parser.parse_args(words)
-
-
-def told(hunt, seconds):
-    """How far the hunt is after so many seconds."""
-    rate = f"{hunt.scripts / seconds:.0f} scripts and {hunt.lines / seconds:.0f} lines a second"
-    return f"hunt: {hunt.scripts} scripts with {hunt.lines} lines, {rate}"
+    parser = argparse.ArgumentParser(prog="./test", description="Looks for trouble by chance; docs/HUNT.md.")
+    parser.add_argument("--hunt", metavar="MINUTES", type=float, nargs="?", help="how long")
+    parser.add_argument("--seed", metavar="NUMBER", type=int, help="which plans; any where it isn't given")
+    parser.add_argument("--only", metavar="PART", choices=NAMES, help=f"one part alone: {', '.join(NAMES)}")
+    parser.add_argument("--replay", metavar="FILE", help="runs the plan of a find once more")
+    ask = parser.parse_args(words)
+    if (ask.hunt is None) == (ask.replay is None):
+        parser.error("either how long has to be told, or what to replay")
+    return ask
 
 
 def found(hunt, find, folder):
@@ -37,6 +36,50 @@ def found(hunt, find, folder):
     return path.parent
 
 
+class Turns:
+    """Whose turn it is: that of the part that has had the least time."""
+
+    def __init__(self, parts):
+        self.parts = parts
+        self.had = dict.fromkeys(parts, 0.0)
+
+    def next(self):
+        """The part whose turn it is."""
+        return min(self.parts, key=self.had.get)
+
+    def take(self, part, work):
+        """What the work of a part gives, whose time is counted."""
+        begun = time.monotonic()
+        try:
+            return work(part)
+        finally:
+            self.had[part] += time.monotonic() - begun
+
+
+def hunted(hunt, seconds):
+    """Hunts as long as that, and returns how many finds there are."""
+    turns, count, folder = Turns(hunt.parts), 0, None
+    begun = told_at = time.monotonic()
+    while (now := time.monotonic()) <= begun + seconds and count < MOST_FINDS:
+        if now > told_at + TELLS:
+            print(hunt.told(), flush=True)
+            told_at = now
+        find = turns.take(turns.next(), hunt.compare)
+        if find is not None:
+            folder = found(hunt, find, folder)
+            count += 1
+    return count
+
+
+def replayed(file):
+    """Runs the plan of a find once more, and returns how many finds there are."""
+    name, plan = finds.read(file)
+    trouble = PARTS[NAMES.index(name)]().trouble(plan)
+    if trouble is not None:
+        print(trouble)
+    return int(trouble is not None)
+
+
 def main(words):
     """Hunts as the words ask, and returns the exit status."""
     ask = asked(words)
@@ -44,23 +87,16 @@ def main(words):
     if built.returncode != 0:
         print("hunt: the program isn't built\n0 passed, 1 failed")
         return 1
+    # (the program that there is, which may be that of the released code)
+    runs.PROGRAM = built.stdout.strip()
+    if ask.replay is not None:
+        count = replayed(ask.replay)
+        print(f"{1 - count} passed, {count} failed")
+        return count
     seed = random.randrange(1_000_000) if ask.seed is None else ask.seed
     print(f"hunt: seed {seed}", flush=True)
-    # (the program that there is, which may be that of the released code)
-    by_program = functools.partial(runs.by_program, program=built.stdout.strip())
-    hunt, finds, folder = Hunt(seed, by_program), 0, None
-    begun = told_at = time.monotonic()
-    for number in itertools.count():
-        now = time.monotonic()
-        if now > begun + ask.hunt * 60 or finds == MOST_FINDS:
-            break
-        if now > told_at + TELLS:
-            print(told(hunt, now - begun), flush=True)
-            told_at = now
-        find = hunt.compare(number)
-        if find is not None:
-            folder = found(hunt, find, folder)
-            finds += 1
-    print(told(hunt, max(time.monotonic() - begun, 1e-3)))
-    print(f"{hunt.scripts - finds} passed, {finds} failed")
-    return 1 if finds else 0
+    hunt = Hunt(seed, [part() for part in PARTS if ask.only in (None, part.name)])
+    count = hunted(hunt, ask.hunt * 60)
+    print(hunt.told())
+    print(f"{sum(hunt.numbers.values()) - count} passed, {count} failed")
+    return 1 if count else 0

@@ -1,98 +1,87 @@
-"""The hunt itself: it runs one script after another by the model and by the program, and keeps those that differ."""
-import os
-import shlex
+"""The hunt itself: it runs one plan after another of its parts, and keeps those that show a trouble."""
+import sys
 from pathlib import Path
 from typing import NamedTuple
 
-from program import TOP, Ended
+from program import TOP
 
-from . import runs, shrink
+from . import plans, shrink
 from .scripts import Script
-from .themes import script
 
 ABOUT = """\
-Script {number} of seed {seed}, made smaller: {lines} lines are left of {all_lines}.
-$ ./sheet {words}
-{cuts}It differs first at line {place} of the output, where the model has
-{model}
-and the program
-{program}
-"""
-CUTS = "The input is cut into pieces of at most {} bytes, and differs only so: `by_program` of `tests/hunt/runs.py`.\n"
-REPLAY = """\
-#!/bin/sh
-# Says nothing where the program now replies as the model does.
-cd {folder} && {sheet} {words} < given | diff -a expected -
+{trouble}
+
+It is {part} {number} of seed {seed}, made smaller: {length} steps or lines are left of {whole}. Once more:
+$ {test} --hunt --replay {path}
 """
 
 
 class Find(NamedTuple):
-    """A script with its number, how it ends by the model, and how by the program."""
+    """A plan of a part that shows a trouble, with its number."""
 
+    part: object
     number: int
-    script: Script
-    model: Ended
-    program: Ended
+    plan: object
+    trouble: str
 
 
-def compared(number, made, by_program):
-    """The find that this script is, or nothing where both end the same."""
-    model, program = runs.by_model(made), by_program(made)
-    return None if model == program else Find(number, made, model, program)
+def shrunk(find):
+    """The same find with a smaller plan, or as it is where it doesn't come again."""
+    plan = shrink.shrunk(find.plan, lambda it: find.part.trouble(it) is not None)
+    trouble = find.part.trouble(plan)
+    return find if trouble is None else find._replace(plan=plan, trouble=trouble)
 
 
-def shrunk(find, by_program):
-    """The same find with a smaller script, or as it is where it doesn't come again."""
-    def differs(made):
-        return compared(find.number, made, by_program) is not None
-    return compared(find.number, shrink.shrunk(find.script, differs), by_program) or find
-
-
-def first_difference(model, program):
-    """The number of the first line that differs, from 1 on, and what both have there."""
-    one, other = (ended.output.split(b"\n") for ended in (model, program))
-    for place, (left, right) in enumerate(zip(one, other), 1):
-        if left != right:
-            return place, left, right
-    return min(len(one), len(other)), model._replace(output=b"..."), program._replace(output=b"...")
-
-
-def write_down(find, seed, all_lines, folder):
+def write_down(find, seed, whole, folder):
     """Writes the find into a folder of its own in this one, and returns the folder's path and what it is about."""
-    folder = Path(folder) / f"seed-{seed}-script-{find.number}"
+    folder = Path(folder) / f"seed-{seed}-{find.part.name}-{find.number}"
     folder.mkdir()
-    words = shlex.join(find.script.words)
-    place, model, program = first_difference(find.model, find.program)
-    cuts = CUTS.format(find.script.piece) if find.script.piece else ""
-    about = ABOUT.format(number=find.number, seed=seed, lines=len(find.script.parts), all_lines=all_lines, words=words,
-                         cuts=cuts, place=place, model=model, program=program)
+    path = folder / "plan"
+    path.write_text(plans.written(find.part.name, find.plan))
+    about = ABOUT.format(trouble=find.trouble, part=find.part.name, number=find.number, seed=seed,
+                         length=len(find.plan.parts), whole=whole, test=TOP / "test", path=path)
     (folder / "about").write_text(about)
-    (folder / "given").write_bytes(find.script.given())
-    (folder / "expected").write_bytes(find.model.output)
-    (folder / "written").write_bytes(find.program.output)
-    replay = folder / "replay"
-    sheet = shlex.quote(str(TOP / "sheet"))
-    replay.write_text(REPLAY.format(folder=shlex.quote(str(folder)), sheet=sheet, words=words))
-    os.chmod(replay, 0o755)
+    if isinstance(find.plan, Script):
+        (folder / "given").write_bytes(find.plan.given())
     return folder, about
 
 
+def read(path):
+    """The name of the part, and the plan, that this file has."""
+    return plans.read(Path(path).read_text())
+
+
 class Hunt:
-    """Compares scripts of a seed, one after another, and counts."""
+    """Runs plans of a seed, each part's one after another, and counts."""
 
-    def __init__(self, seed, by_program=runs.by_program):
+    def __init__(self, seed, parts):
         self.seed = seed
-        self.by_program = by_program
-        self.scripts = 0
-        self.lines = 0
+        self.parts = parts
+        self.numbers = dict.fromkeys([part.name for part in parts], 0)
 
-    def compare(self, number):
-        """The find that the script with this number is, or nothing."""
-        made = script(self.seed, number)
-        self.scripts += 1
-        self.lines += len(made.parts)
-        return compared(number, made, self.by_program)
+    def compare(self, part):
+        """The find that the part's next plan is, or nothing."""
+        number = self.numbers[part.name]
+        self.numbers[part.name] += 1
+        plan = part.plan(self.seed, number)
+        try:
+            trouble = part.trouble(plan)
+        except Exception as error:
+            # what the hunt itself didn't reckon with is a find too
+            print(f"hunt: {part.name} {number} of seed {self.seed}", file=sys.stderr)
+            trouble = f"{type(error).__name__}: {error}"
+        return None if trouble is None else Find(part, number, plan, trouble)
+
+    def first(self, part, most):
+        """The first find among the part's next plans, of which there are so many at most, or nothing."""
+        finds = (self.compare(part) for _ in range(most))
+        return next((find for find in finds if find is not None), None)
 
     def keep(self, find, folder):
         """Makes the find smaller and writes it into the folder; returns the path, and what it is about."""
-        return write_down(shrunk(find, self.by_program), self.seed, len(find.script.parts), folder)
+        return write_down(shrunk(find), self.seed, len(find.plan.parts), folder)
+
+    def told(self):
+        """What was run so far."""
+        plans_run = (f"{self.numbers[part.name]} {part.name}{part.told()}" for part in self.parts)
+        return f"hunt: {'; '.join(plans_run)}"

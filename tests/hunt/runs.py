@@ -71,8 +71,9 @@ def in_pieces(script, program, output):
         return session.returncode, error
 
 
-def by_program(script, program=PROGRAM):
+def by_program(script, program=None):
     """How the program ends that is given the script, or what stands in for it."""
+    program = program or PROGRAM
     with file_of() as output:
         try:
             status, error = (in_pieces if script.piece else at_once)(script, program, output)

@@ -32,6 +32,13 @@ class Script(NamedTuple):
         """The whole input."""
         return b"".join(self.parts)
 
+    def simpler(self):
+        """Changes that make it simpler, besides leaving parts out: an option less, or no cuts."""
+        for place in range(1, len(self.words), 2):
+            yield {"words": self.words[:place] + self.words[place + 2:]}
+        if self.piece:
+            yield {"piece": 0}
+
 
 def corner_names(chance):
     """The names of the few cells that a script is about, which lie in a rectangle, mostly at an end of the grid."""

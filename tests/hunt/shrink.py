@@ -1,8 +1,9 @@
-"""Makes a script smaller while something still holds of it."""
+"""Makes a script or a plan smaller while something still holds of it."""
 import json
+import time
 
-# So many trials end the work, whatever is left.
-TRIALS = 2_000
+# So many trials end the work, or so many seconds, whatever is left.
+TRIALS, SECONDS = 2_000, 40
 
 
 def cells_of(line):
@@ -26,22 +27,22 @@ class Shrinker:
         self.script = script
         self.holds = holds
         self.trials = 0
+        self.deadline = time.monotonic() + SECONDS
 
     def takes(self, **changes):
         """Whether it still holds with these changes; then they stay."""
         changed = self.script._replace(**changes)
         self.trials += 1
-        if changed == self.script or self.trials > TRIALS or not self.holds(changed):
+        is_over = self.trials > TRIALS or time.monotonic() > self.deadline
+        if changed == self.script or is_over or not self.holds(changed):
             return False
         self.script = changed
         return True
 
-    def leave_out_options(self):
-        """Leaves out the options, and then the cuts, of which it doesn't need any."""
-        for option in self.script.words[1::2]:
-            place = self.script.words.index(option)
-            self.takes(words=self.script.words[:place] + self.script.words[place + 2:])
-        self.takes(piece=0)
+    def simplify(self):
+        """Leaves out what holds for all of its parts, as options and cuts, where it doesn't need it."""
+        while any(self.takes(**changes) for changes in self.script.simpler()):
+            pass
 
     def leave_out_parts(self, length):
         """Leaves out so many neighbouring parts at a time, from the last ones on."""
@@ -52,7 +53,7 @@ class Shrinker:
     def leave_out_cells(self):
         """Leaves out cells of the deltas that are pushed."""
         for place, part in enumerate(self.script.parts):
-            cells = cells_of(part)
+            cells = cells_of(part) if type(part) is bytes else []
             for cell in cells[::-1]:
                 fewer = [it for it in cells if it is not cell]
                 parts = self.script.parts
@@ -61,7 +62,7 @@ class Shrinker:
 
     def shrunk(self):
         """The script as small as it became: no single part of it can be left out, unless the trials were too few."""
-        self.leave_out_options()
+        self.simplify()
         before = None
         while before != self.script:
             before = self.script

@@ -1,0 +1,82 @@
+"""The parts of the hunt: each makes plans by chance, and tells what is wrong with what comes of one."""
+from . import processes, replicas, replicas_by_chance, runs, themes
+
+DIFFERS = """\
+$ ./sheet {words}
+{cuts}It differs first at line {place} of the output, where the model has
+{model}
+and the program
+{program}"""
+CUTS = "The input is cut into pieces of at most {} bytes.\n"
+
+
+def first_difference(model, program):
+    """The number of the first line that differs, from 1 on, and what both have there."""
+    one, other = (ended.output.split(b"\n") for ended in (model, program))
+    for place, (left, right) in enumerate(zip(one, other), 1):
+        if left != right:
+            return place, left, right
+    return min(len(one), len(other)), model._replace(output=b"..."), program._replace(output=b"...")
+
+
+class Part:
+    """A part of the hunt."""
+
+    name = ""
+
+    def __init__(self):
+        self.counts = {}
+
+    def told(self):
+        """What it has counted."""
+        counts = ", ".join(f"{count} {name}" for name, count in self.counts.items())
+        return f" ({counts})" if counts else ""
+
+    def plan(self, seed, number):
+        """The plan with this number."""
+        raise NotImplementedError
+
+    def trouble(self, plan):
+        """What is wrong with what comes of the plan, or nothing."""
+        raise NotImplementedError
+
+
+class Scripts(Part):
+    """Scripts and tables, whose replies are compared with the model's byte for byte."""
+
+    name = "scripts"
+
+    def __init__(self, by_program=runs.by_program):
+        super().__init__()
+        self.by_program = by_program
+
+    def plan(self, seed, number):
+        return themes.script(seed, number)
+
+    def trouble(self, plan):
+        self.counts["lines"] = self.counts.get("lines", 0) + len(plan.parts)
+        model, program = runs.by_model(plan), self.by_program(plan)
+        if model == program:
+            return None
+        place, left, right = first_difference(model, program)
+        cuts = CUTS.format(plan.piece) if plan.piece else ""
+        return DIFFERS.format(words=" ".join(plan.words), cuts=cuts, place=place, model=left, program=right)
+
+
+class Replicas(Part):
+    """Replicas that edit apart and meet again."""
+
+    name = "replicas"
+
+    def __init__(self, start=None):
+        super().__init__()
+        self.start = start or (lambda *words: processes.Process(runs.PROGRAM, *words))
+
+    def plan(self, seed, number):
+        return replicas_by_chance.plan(seed, number)
+
+    def trouble(self, plan):
+        return replicas.trouble(plan, self.start, self.counts)
+
+
+PARTS = (Scripts, Replicas)

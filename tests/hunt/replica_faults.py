@@ -1,0 +1,120 @@
+"""Faults that are planted among replicas for the hunt's own test, each in what stands in for their processes.
+
+Those of a sheet (`faults.SHEETS`) are planted too.
+"""
+from . import deltas, faults
+from .model import Sheet
+from .processes import StandIn
+
+
+class LastComes(Sheet):
+    """Of two contents that which came last stays, whatever their stamps."""
+
+    def append(self, delta):
+        super().append(delta)
+        for cell, state in delta.items():
+            if state.register:
+                self.states[cell] = self.states[cell]._replace(register=state.register)
+
+
+class LesserReplica(Sheet):
+    """Of two contents of one time that of the lesser replica stays."""
+
+    def append(self, delta):
+        before = {cell: self.state(cell).register for cell in delta}
+        super().append(delta)
+        for cell, register in before.items():
+            new = delta[cell].register
+            if register and new and register[0] == new[0]:
+                lesser = min(register, new, key=lambda it: it[1])
+                self.states[cell] = self.states[cell]._replace(register=lesser)
+
+
+class Summed(Sheet):
+    """What comes of a replica's counts is added to what is there."""
+
+    def append(self, delta):
+        before = {cell: self.state(cell).counts for cell in delta}
+        super().append(delta)
+        for cell, state in delta.items():
+            both = {replica: (own[0] + before[cell][replica][0], own[1] + before[cell][replica][1])
+                    for replica, own in state.counts.items() if replica in before[cell] and replica != self.replica}
+            self.states[cell] = self.states[cell]._replace(counts={**self.states[cell].counts, **both})
+
+
+class OwnIgnored(Sheet):
+    """What comes back of the replica's own pairs is taken for known already."""
+
+    def receive(self, delta):
+        own = {cell: state._replace(pairs={pair: gone for pair, gone in state.pairs.items() if pair[1] != self.replica})
+               for cell, state in delta.items()}
+        super().receive({cell: state for cell, state in own.items() if state != deltas.EMPTY})
+
+
+class Revoked(Sheet):
+    """Taking an option out takes out pairs of it that come later, too."""
+
+    def append(self, delta):
+        super().append(delta)
+        for cell in delta:
+            pairs = self.states[cell].pairs
+            gone = {(option, replica) for (option, replica, _), is_gone in pairs.items() if is_gone}
+            pairs = {pair: int(is_gone or pair[:2] in gone) for pair, is_gone in pairs.items()}
+            self.states[cell] = self.states[cell]._replace(pairs=pairs)
+
+
+SHEETS = (*(kind for kind in faults.SHEETS if kind is not faults.Unlimited), LastComes, LesserReplica, Summed,
+          OwnIgnored, Revoked)
+
+
+def on_sheet(kind):
+    """How a replica is started on a sheet with a fault."""
+    return lambda *words: StandIn(kind, *words)
+
+
+class Repeats(StandIn):
+    """Each line that is pushed is pushed once more, which changes nothing: this is no fault."""
+
+    def ask(self, line):
+        if line.startswith(b"push "):
+            super().ask(line)
+        return super().ask(line)
+
+
+class LosesLast(StandIn):
+    """A pull leaves out the last cell of a line of several."""
+
+    def ask(self, line):
+        reply = super().ask(line)
+        if not reply.startswith(b"delta "):
+            return reply
+        word, version, text = reply.split(b" ", 2)
+        cells = deltas.read_delta(text)
+        fewer = dict(sorted(cells.items())[:-1]) or cells
+        return b" ".join((word, version, deltas.delta_line(fewer)))
+
+
+class Fixed(StandIn):
+    """A pull of 16 goes on by 16, though its line goes less far, or the history does."""
+
+    def ask(self, line):
+        words = line.split(b" ")
+        reply = super().ask(line)
+        if words[0] == b"pull" and reply.startswith(b"delta "):
+            return b"delta %d %s" % (int(words[1]) + int(words[2]), reply.split(b" ", 2)[2])
+        return reply
+
+
+class EndsBadly(StandIn):
+    """It ends with another status."""
+
+    def end(self):
+        return super().end()._replace(status=1)
+
+
+PROCESSES = (LosesLast, Fixed, EndsBadly)
+
+
+def by_process(kind):
+    """How a replica is started whose process has a fault."""
+    return lambda *words: kind(Sheet, *words)

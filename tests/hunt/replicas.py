@@ -1,0 +1,220 @@
+"""Replicas that edit apart and meet: a plan of a simulated network, and what is wrong with what comes of it.
+
+A replica is a process of the program, with the model's session beside it; each reply has to be that of the model. What
+one replica has is carried to another as delta lines, which wait on their way until the plan delivers, repeats, drops or
+joins them, in any order. A replica that is stopped has kept the lines that it had handed out until then, and once it is
+started they are pushed again before all else. When the network heals, each replica hands all that it has to the next
+one, twice round; then all have to show what the model shows of the join of all lines that were handed out.
+"""
+from . import deltas
+from .model import Sheet
+from .processes import Gone
+from .session import Session
+
+# How a replica stops: its input ends, it is killed, or it is killed with lines that it hasn't kept.
+ENDS, KILLED, FORGETS = range(3)
+
+
+class Trouble(Exception):
+    """What is wrong; the argument tells it."""
+
+
+class Replica:
+    """A replica that runs or is stopped: its process, the model's session beside it, and the lines that it keeps."""
+
+    def __init__(self, number, start, workers):
+        self.number = number
+        self.words = ("--replica", str(number), "--workers", str(workers))
+        self.start_process = start
+        self.process = None
+        self.session = None
+        self.kept = []
+        self.kept_to = 0
+
+    def ask(self, line):
+        """The program's reply, which has to be that of the model."""
+        self.start()
+        try:
+            reply = self.process.ask(line)
+        except Gone as gone:
+            raise Trouble(f"replica {self.number} is asked {line!r}: {gone.args[0]}") from None
+        wanted = self.session.reply(line)
+        if reply != wanted:
+            raise Trouble(f"replica {self.number} is asked {line!r}, and replies\n{reply!r}\nthe model\n{wanted!r}")
+        return reply
+
+    def start(self):
+        """Starts it, where it is stopped, and pushes what it has kept."""
+        if self.process is not None:
+            return
+        self.process, self.session = self.start_process(*self.words), Session(self.number)
+        for line in self.kept:
+            self.ask(b"push " + line)
+        # (it has all of these, and hands them out in other groups)
+        self.kept_to = len(self.session.sheet.history)
+
+    def handed_out(self, begin, most=16):
+        """The lines of all deltas after a version."""
+        while True:
+            word, version, *line = self.ask(b"pull %d %d" % (begin, most)).split(b" ", 2)
+            if word != b"delta":
+                return
+            begin = int(version)
+            yield line[0]
+
+    def keep(self):
+        """Keeps the lines of what is new."""
+        self.kept += self.handed_out(self.kept_to)
+        self.kept_to = len(self.session.sheet.history)
+
+    def stop(self, how):
+        """Stops it."""
+        if self.process is None:
+            return
+        if how != FORGETS:
+            self.keep()
+        process, self.process = self.process, None
+        if how != ENDS:
+            process.kill()
+            return
+        ended = process.end()
+        if (ended.status, ended.output, ended.error) != (0, b"", b""):
+            raise Trouble(f"replica {self.number} ends with {ended}")
+
+    def close(self):
+        """Ends its process, whatever it does."""
+        if self.process is not None:
+            self.process.kill()
+
+
+class Network:
+    """The replicas of a plan, and the lines that are on their way between them."""
+
+    def __init__(self, settings, start):
+        numbers = range(1, settings["replicas"] + 1)
+        self.replicas = [Replica(number, start, settings["workers"]) for number in numbers]
+        self.shown = settings["shown"].encode()
+        self.ways, self.told = {}, {}
+        self.groups = 0
+        self.counts = {"steps": 0, "deltas carried": 0, "stops": 0, "heals": 0}
+
+    def way(self, one, other):
+        """The lines on their way from one replica to another."""
+        return self.ways.setdefault((one, other), [])
+
+    def is_cut(self, one, other):
+        """Whether the two lie apart: the bits of a number tell to which of two groups each replica belongs."""
+        return (self.groups >> one) % 2 != (self.groups >> other) % 2
+
+    # -- Steps
+
+    def line(self, one, line):
+        """A line of a session."""
+        self.replicas[one].ask(line)
+
+    def carry(self, one, other, most):
+        """Sends what the one has and hasn't sent to the other on its way, as one line of so many deltas at most."""
+        begin = min(self.told.get((one, other), 0), self.version(one))
+        for line in self.replicas[one].handed_out(begin, most):
+            self.way(one, other).append(line)
+            break
+        self.told[one, other] = min(begin + most, self.version(one))
+
+    def version(self, one):
+        """How many deltas a replica has."""
+        self.replicas[one].start()
+        return len(self.replicas[one].session.sheet.history)
+
+    def deliver(self, one, other, place, is_last=True):
+        """Hands over a line that is on its way, of which this is the last time or not."""
+        way = self.way(one, other)
+        if way and not self.is_cut(one, other) and self.replicas[other].process is not None:
+            line = way.pop(place % len(way)) if is_last else way[place % len(way)]
+            self.counts["deltas carried"] += 1
+            self.replicas[other].ask(b"push " + line)
+
+    def repeat(self, one, other, place):
+        """Hands over a line that stays on its way."""
+        self.deliver(one, other, place, False)
+
+    def drop(self, one, other, place):
+        """Loses a line that is on its way."""
+        way = self.way(one, other)
+        if way:
+            del way[place % len(way)]
+
+    def join(self, one, other, place):
+        """Makes one line of two that are on their way, where it has room."""
+        way = self.way(one, other)
+        if len(way) >= 2:
+            place %= len(way) - 1
+            line = deltas.delta_line(deltas.joined_deltas(map(deltas.read_delta, way[place:place + 2])))
+            if len(line) <= deltas.LONGEST_DELTA:
+                way[place:place + 2] = [line]
+
+    def stop(self, one, how):
+        """Stops a replica."""
+        self.counts["stops"] += 1
+        self.replicas[one].stop(how)
+
+    def start(self, one):
+        """Starts a replica."""
+        self.replicas[one].start()
+
+    def cut(self, groups):
+        """Cuts the network into two groups."""
+        self.groups = groups
+
+    def heal(self):
+        """Joins all groups: what is on its way arrives, all hand on what they have, and all show the same."""
+        self.groups = 0
+        self.counts["heals"] += 1
+        for replica in self.replicas:
+            replica.start()
+        for (one, other), way in self.ways.items():
+            while way:
+                self.deliver(one, other, len(way) // 2)
+        lines = [line for _ in range(2) for one in range(len(self.replicas)) for line in self.hand_on(one)]
+        self.compare(lines)
+
+    def hand_on(self, one):
+        """Hands all that a replica has to the next one, and returns its lines."""
+        lines = [*self.replicas[one].handed_out(0)]
+        following = self.replicas[(one + 1) % len(self.replicas)]
+        for line in lines:
+            self.counts["deltas carried"] += 1
+            following.ask(b"push " + line)
+        return lines
+
+    def compare(self, lines):
+        """All replicas show what a sheet shows that took these lines from their end on."""
+        both = Session()
+        both.sheet = Sheet()
+        for line in reversed(lines):
+            both.reply(b"push " + line)
+        wanted = both.reply(b"rows " + self.shown)
+        for replica in self.replicas:
+            shown = replica.ask(b"rows " + self.shown)
+            if shown != wanted:
+                raise Trouble(f"replica {replica.number} shows\n{shown!r}\nand all that was handed out\n{wanted!r}")
+
+    STEPS = {"line": line, "carry": carry, "deliver": deliver, "repeat": repeat, "drop": drop, "join": join,
+             "stop": stop, "start": start, "cut": cut, "heal": heal}
+
+
+def trouble(plan, start, counts=None):
+    """What is wrong with what comes of the plan, or nothing; `start` starts a process with these words."""
+    network = Network(plan.settings, start)
+    try:
+        for word, *rest in plan.parts:
+            network.counts["steps"] += 1
+            network.STEPS[word](network, *rest)
+        network.heal()
+    except Trouble as found:
+        return found.args[0]
+    finally:
+        for replica in network.replicas:
+            replica.close()
+        for name, count in network.counts.items() if counts is not None else ():
+            counts[name] = counts.get(name, 0) + count
+    return None
