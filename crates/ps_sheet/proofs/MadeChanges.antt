@@ -117,10 +117,13 @@ appended_report x y z v q (Some p) is history worked before made told =
     (λ (w : Assignment). IsReport (joined_history v.history) (joined_history z.history) w (shown_at y.shown) p.report)
     (before ∙ ap (λ (w : SheetView). shown_at w.shown) is)
     (subst
-    (λ (h : List Entries). IsReport (joined_history v.history) (joined_history h) (shown_before change) (shown_at y.shown) p.report)
+    (λ (h : List Entries).
+    IsReport (joined_history v.history) (joined_history h) (shown_before change) (shown_at y.shown) p.report)
     (sym made.history)
     (subst
-    (λ (h : List Entries). IsReport (joined_history h) (joined_history (history_after change)) (shown_before change) (shown_at y.shown) p.report)
+    (λ (h : List Entries).
+    IsReport (joined_history h) (joined_history (history_after change)) (shown_before change) (shown_at y.shown)
+    p.report)
     (history ∙ ap (λ (w : SheetView). w.history) is) worked.report))))
 
 -- the report of a change that changed nothing

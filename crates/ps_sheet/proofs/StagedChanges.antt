@@ -42,7 +42,8 @@ kept_idle x none sheet holds unstaged still = record {
   staging = subst (IsStagedAs (view_of x)) (sym (ap (staged_of x.cells) none)) sheet;
   holds = subst (IsStagedBy (view_of x) x.cells) (sym (ap (staged_of x.cells) none)) (holds, unstaged);
   before = idle_before x.cells unstaged ∙ holds;
-  room = λ on. absurd (let f : is_some x.cells.staged ≡ false = ap is_some unstaged in let g : true ≡ false = sym on ∙ f in cc);
+  room = λ on. absurd (let f : is_some x.cells.staged ≡ false = ap is_some unstaged in
+      let g : true ≡ false = sym on ∙ f in cc);
   still = λ e. still;
   fresh = sheet.fresh;
   in_grid = sheet.in_grid;
@@ -98,10 +99,12 @@ module _ (x y : Inside) (s : Staged) (is : x.staged ≡ Some s) (fresh : true �
   pub committed_sheet : IsSheet (sheet_of (view_of y))
   committed_sheet = record {
     settled = subst (λ (h : List Entries). IsSettled (joined_history h) (shown_at y.cells.shown)) (sym after_push)
-        (subst (λ (ks : List Kept). IsSettled (joined_history (history_after (change_of x s))) (shown_at ks)) (sym shown)
+        (subst (λ (ks : List Kept). IsSettled (joined_history (history_after (change_of x s))) (shown_at ks))
+        (sym shown)
         (kept_worked x s is kept).after);
     fresh = subst IsFresh (sym after_push)
-        (after_fresh (history_of x) (arc_value s.delta) (is_some x.cells.staged) kept.fresh (kept_worked x s is kept).fresh.0);
+        (after_fresh (history_of x) (arc_value s.delta) (is_some x.cells.staged) kept.fresh
+        (kept_worked x s is kept).fresh.0);
     in_grid = subst IsInGrid (kept_state x s is kept ∙ ap joined_history (sym after_push)) kept.in_grid_now;
     replica = subst (λ (r : ℕ). (1 ≤ r) × (r ≤ REPLICAS)) (sym replica) kept.replica;
   }
@@ -180,7 +183,8 @@ kept_staged y s is worked holds before room still fresh in_grid in_grid_now repl
 -- a change below the state
 module _ (x : Inside) (v : StagingView) (is : view_of x ≡ v) (none : v.staged ≡ None) (kept : IsKept x) (s : Staged)
     (n : ℕ) (report : s.report ≡ record { version = n; evaluated = 0; cyclic = 0; levels = 0 })
-    (version : n ≡ length (history_of x)) (below : IsBelow (state_of (arc_value s.delta)) (joined_history v.history)) where
+    (version : n ≡ length (history_of x))
+    (below : IsBelow (state_of (arc_value s.delta)) (joined_history v.history)) where
   abbrev pub idle_staging : Inside
   idle_staging = record { replica = x.replica; history = x.history; cells = x.cells; staged = Some s }
 
@@ -210,7 +214,8 @@ module _ (x : Inside) (v : StagingView) (is : view_of x ≡ v) (none : v.staged 
   pub kept_staged_idle : IsKept idle_staging
   kept_staged_idle = kept_staged idle_staging s refl idle_worked
       (after_joined (history_of x) (arc_value s.delta) (is_some x.cells.staged) (state_now x.cells)
-      (λ on. absurd (let f : is_some x.cells.staged ≡ false = ap is_some unstaged in let g : true ≡ false = sym on ∙ f in cc))
+      (λ on. absurd (let f : is_some x.cells.staged ≡ false = ap is_some unstaged in
+      let g : true ≡ false = sym on ∙ f in cc))
       (λ off. (idle_holds x v is none kept).0))
       kept.before kept.room kept.still kept.fresh kept.in_grid kept.in_grid_now kept.replica
 
@@ -277,7 +282,8 @@ module _ (x y : Inside) (v : StagingView) (is : view_of x ≡ v) (none : v.stage
       (after_joined (history_of y) (arc_value s.delta) (is_some y.cells.staged) (state_now y.cells) (λ e. becomes)
       (λ off. absurd (let g : true ≡ false = sym on ∙ off in cc)))
       (before.0 ∙ was) (λ e. room)
-      (λ off. absurd (let f : is_some y.cells.staged ≡ false = ap is_some off in let g : true ≡ false = sym on ∙ f in cc))
+      (λ off. absurd (let f : is_some y.cells.staged ≡ false = ap is_some off in
+      let g : true ≡ false = sym on ∙ f in cc))
       (subst IsFresh (sym history) kept.fresh)
       (subst (λ (h : List Entries). IsInGrid (joined_history h)) (sym history) kept.in_grid) in_grid
       (subst (λ (r : ℕ). (1 ≤ r) × (r ≤ REPLICAS)) (sym replica) kept.replica)

@@ -20,7 +20,8 @@ use Rattle.ps_cells.proofs.ScreenLemmas.{back_none}
 
 -- a delta below the state
 pub worked_idle : (r : ℕ) (h : List Entries) (d : Entries) (shown : List Kept) (olds : List (ℕ × Kept))
-    (changes : List (ℕ × Value)) (n workers : ℕ) (b : Bool) → b ≡ false → olds ≡ [] → IsSettled (joined_history h) (shown_at shown) → IsBelow (state_of d) (joined_history h) → n ≡ length h
+    (changes : List (ℕ × Value)) (n workers : ℕ) (b : Bool) → b ≡ false → olds ≡ []
+    → IsSettled (joined_history h) (shown_at shown) → IsBelow (state_of d) (joined_history h) → n ≡ length h
     → IsWorkedOut (record {
       replica = r;
       history = h;
@@ -32,7 +33,8 @@ pub worked_idle : (r : ℕ) (h : List Entries) (d : Entries) (shown : List Kept)
       report = record { version = n; evaluated = 0; cyclic = 0; levels = 0 };
       workers = workers;
     })
-worked_idle r h d shown olds changes n workers true off none settled below version = absurd (let f : true ≡ false = off in cc)
+worked_idle r h d shown olds changes n workers true off none settled below version =
+    absurd (let f : true ≡ false = off in cc)
 worked_idle r h d shown olds changes n workers false off none settled below version =
     let same : put_back olds (shown_at shown) ≡ shown_at shown = back_none olds (shown_at shown) (ap length none) in
     record {

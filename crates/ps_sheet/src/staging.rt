@@ -329,7 +329,8 @@ impl Staging {
     /// Lists what the listed cells show, for [`Staging::changes`].
     pub(crate) fn list_values(&mut self)
         requires staged { is_some self.old.staged ≡ true }
-        ensures values { IsSomeAnd self.new.staged (λ p. p.changes ≡ map (λ c. (c, shown_at self.new.shown c)) p.changed) }
+        ensures values { IsSomeAnd self.new.staged
+            (λ p. p.changes ≡ map (λ c. (c, shown_at self.new.shown c)) p.changed) }
         ensures changed { IsSomeAnd self.old.staged (λ p. IsSomeAnd self.new.staged (λ q. q.changed ≡ p.changed)) }
         ensures same { IsListed self.old self.new }
     {

@@ -1,15 +1,6 @@
-use Rattle.std.proofs.Common.{rules, ◌≡◌, ◌+◌, ◌<◌, ◌≤◌, ◌⊎◌, ◌↔◌, ◌∷◌, ◌++◌, [], ℕ, true, false, is_some, length, map, None, Ok, Err, IfOk, IfErr, IsErrOf, IsOk, IsSomeAnd, IsTrue, OnOk, OnErr, vec_len, vec_capacity, ◌-◌, ◌*◌, ◌/◌, ◌%◌, Bool, nat_eq, nat_lt, List, slice_index_or, slice_set, bit_and, bit_or, Fits, w8, w32, w64, Bor, MutBor}
-use Rattle.std.specs.Arc.{arc_value}
-use Rattle.ps_grid.specs.declared.parties.TheConstants.{WORKERS}
-use Rattle.ps_shown.specs.Shown.{shown_at}
+use Rattle.std.proofs.Common.{◌≡◌, sym, ap, ◌∙◌, subst}
 use Rattle.ps_delta.specs.State.{IsBelow}
 use Rattle.ps_delta.specs.Deltas.{joined_history, state_of}
-use Rattle.ps_cells.specs.Changes.{IsChanged}
-use Rattle.ps_sheet.specs.Edits.{delta_of_edit, is_clock_full}
-use Rattle.ps_sheet.specs.Prepared.{IsDeltaOf, IsOf, IsRefusedBy, IsToAppend, history_after, shown_before}
-use Rattle.ps_sheet.specs.Sheet.{IsSheet}
-use Rattle.ps_sheet.specs.Staging.{IsListed, IsStaging, IsWorkedOut, Stages, prepared_of, sheet_of, staging_of}
-use Rattle.std.proofs.Common.{sym, ap, ◌∙◌, subst}
 use Rattle.ps_delta.specs.State.{State, state_at}
 use Rattle.ps_delta.specs.Deltas.{Entries}
 use Rattle.ps_sheet.proofs.FreshEdits.{edits_are_fresh}
@@ -24,5 +15,6 @@ returns-clause-fresh c =
     let fresh : ¬ IsBelow (state_of c.in_ok-delta.delta) (state_at c.grid.result.now) =
     edits_are_fresh x.replica (state_at c.grid.result.now) c.args.edit c.in_ok-delta.delta c.in_ok-delta.ensures.delta
     c.in_ok-delta.ensures.made in
-    subst (λ (d : Entries). ¬ IsBelow (state_of d) (joined_history c.args.self.now.history)) (sym c.in_ok-made.ensures.ok)
+    subst (λ (d : Entries). ¬ IsBelow (state_of d) (joined_history c.args.self.now.history))
+    (sym c.in_ok-made.ensures.ok)
     (subst (λ (s : State). ¬ IsBelow (state_of c.in_ok-delta.delta) s) state_is fresh)

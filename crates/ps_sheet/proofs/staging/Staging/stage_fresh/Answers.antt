@@ -1,15 +1,6 @@
-use Rattle.std.proofs.Common.{rules, ◌≡◌, ◌+◌, ◌<◌, ◌≤◌, ◌⊎◌, ◌↔◌, ◌∷◌, ◌++◌, [], ℕ, true, false, is_some, length, map, None, Ok, Err, IfOk, IfErr, IsErrOf, IsOk, IsSomeAnd, IsTrue, OnOk, OnErr, vec_len, vec_capacity, ◌-◌, ◌*◌, ◌/◌, ◌%◌, Bool, nat_eq, nat_lt, List, slice_index_or, slice_set, bit_and, bit_or, Fits, w8, w32, w64, Bor, MutBor}
+use Rattle.std.proofs.Common.{◌+◌, map, Some, refl, ap, ◌∙◌, arith}
 use Rattle.std.specs.Arc.{arc_value}
-use Rattle.ps_grid.specs.declared.parties.TheConstants.{WORKERS}
-use Rattle.ps_shown.specs.Shown.{shown_at}
-use Rattle.ps_delta.specs.State.{IsBelow}
-use Rattle.ps_delta.specs.Deltas.{joined_history, state_of}
-use Rattle.ps_cells.specs.Changes.{IsChanged}
-use Rattle.ps_sheet.specs.Edits.{delta_of_edit, is_clock_full}
-use Rattle.ps_sheet.specs.Prepared.{IsDeltaOf, IsOf, IsRefusedBy, IsToAppend, history_after, shown_before}
-use Rattle.ps_sheet.specs.Sheet.{IsSheet}
-use Rattle.ps_sheet.specs.Staging.{IsListed, IsStaging, IsWorkedOut, Stages, prepared_of, sheet_of, staging_of}
-use Rattle.std.proofs.Common.{Some, refl, sym, ap, ◌∙◌, arith}
+use Rattle.ps_delta.specs.Deltas.{state_of}
 use Rattle.std.proofs.lemmas.List.{length-map}
 use Rattle.ps_delta.specs.State.{joined_state}
 use Rattle.ps_delta.specs.Deltas.{Entries}
@@ -24,7 +15,12 @@ invariant_of-self-2 g c =
     let x = c.self.inside in
     let work = c.in_ok-work.work in
     let said = c.in_ok-work.ensures in
-    let report : Report = record { version = c.len.result + 1; evaluated = work.evaluated; cyclic = work.cyclic; levels = work.levels } in
+    let report : Report = record {
+      version = c.len.result + 1;
+      evaluated = work.evaluated;
+      cyclic = work.cyclic;
+      levels = work.levels;
+    } in
     let staged : Staged = record { delta = c.args.delta; report = report } in
     kept_staged_fresh x
     (record { replica = x.replica; history = c.reserve.new.self; cells = c.stage.new.self; staged = Some staged })
@@ -41,7 +37,12 @@ returns-clause-staged g c =
     let x = c.self.inside in
     let work = c.in_ok-work.work in
     let said = c.in_ok-work.ensures in
-    let report : Report = record { version = c.len.result + 1; evaluated = work.evaluated; cyclic = work.cyclic; levels = work.levels } in
+    let report : Report = record {
+      version = c.len.result + 1;
+      evaluated = work.evaluated;
+      cyclic = work.cyclic;
+      levels = work.levels;
+    } in
     let staged : Staged = record { delta = c.args.delta; report = report } in
     stages_fresh x
     (record { replica = x.replica; history = c.reserve.new.self; cells = c.stage.new.self; staged = Some staged })
