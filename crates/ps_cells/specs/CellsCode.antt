@@ -17,7 +17,8 @@ cells_code =
     code_by
     ((Blocks × (List Kept × List (ℕ × Kept))) × ((List ℕ × List (ℕ × Value)) × (ℕ × Option Entries)))
     (coded×
-    (coded× grid.the_row.coded (coded× (coded_list kept.the_row.coded) (coded_list (coded× coded_ℕ kept.the_row.coded))))
+    (coded× grid.the_row.coded
+    (coded× (coded_list kept.the_row.coded) (coded_list (coded× coded_ℕ kept.the_row.coded))))
     (coded×
     (coded× (coded_list coded_ℕ) (coded_list (coded× coded_ℕ value.the_row.coded)))
     (coded× coded_ℕ (coded_option delta.the_row.coded))))

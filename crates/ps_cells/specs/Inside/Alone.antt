@@ -1,4 +1,4 @@
--- Tables that no formula reads and that have none.
+-- Cells that no formula reads and that have none.
 use Rattle.std.specs.Prelude.{ℕ, Bool, true, false, not, ◌&&◌, List, [], ◌∷◌}
 
 abbrev pub is_empty : List ℕ → Bool
