@@ -38,6 +38,7 @@ pub(crate) fn apply<R: Threads + Sync, L: Ledger>(
     ensures memory { IfErr result (λ f. (f.refusal ≡ Refusal.Memory) × (f.reader_error ≡ None)) }
     ensures none { IfErr result (λ f. f.applied ≡ 0 → (sheet.new ≡ sheet.old) × (meter.new ≡ meter.old)) }
     ensures replica { sheet.new.replica ≡ sheet.old.replica }
+    ensures workers { sheet.new.workers ≡ sheet.old.workers }
     ensures sheet { IsSheet sheet.new }
 {
     let mut applied = 0;
@@ -72,6 +73,7 @@ fn assign<R: Threads + Sync, L: Ledger>(
     ensures refused { IfErr result (λ e. (e ≡ Refusal.Memory)
         ⊎ (delta_of_edit sheet.old.replica (joined_history sheet.old.history) (SetAll cells.items) ≡ Err e)) }
     ensures replica { sheet.new.replica ≡ sheet.old.replica }
+    ensures workers { sheet.new.workers ≡ sheet.old.workers }
     ensures sheet { IsSheet sheet.new }
     ensures kept { OnErr result (sheet.new ≡ sheet.old) }
     ensures unmetered { OnErr result (meter.new ≡ meter.old) }

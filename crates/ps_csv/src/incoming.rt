@@ -74,6 +74,7 @@ pub fn import<R: Threads + Sync, S: Source, L: Ledger>(
         × Consumes (S.remaining source.old) (S.remaining source.new) bytes × IsAtEnd (S.remaining source.new)
         × StopsAfter bytes f.applied sheet.old sheet.new) }
     ensures replica { sheet.new.replica ≡ sheet.old.replica }
+    ensures workers { sheet.new.workers ≡ sheet.old.workers }
     ensures sheet { IsSheet sheet.new }
 {
     let table = match checked(alloc, source, sheet) {

@@ -15,6 +15,7 @@ loop-cells-init g c = (
       c.into_iter-cells-iterator.ensures.into_iter_gives.0 refl
       c.requires.said.1,
   refl,
+  refl,
   c.requires.sheet,
   λ none. (refl, refl),
 )
@@ -43,6 +44,7 @@ loop-cells-preserved g c =
       applying_goes_on _ _ _ _ _ _ _ c.in-Some.cells.items
           (applying_next _ _ _ _ _ _ _ c.in-Some.cells c.in-Some.ensures.steps.0 inv.2) one,
       c.in-Ok.ensures.replica ∙ inv.3,
+      c.in-Ok.ensures.workers ∙ inv.4,
       c.in-Ok.ensures.sheet,
       λ e. absurd (omega (arith, e)),
     )

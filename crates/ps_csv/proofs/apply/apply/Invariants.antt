@@ -12,5 +12,6 @@ invariant-loop-cells g l =
     × IsApplying l.fn.sheet.replica l.fn.sheet.history (cells_of_each l.fn.batches.items) l.applied
     (cells_of_each (into_iter_items l.cells-iterator)) l.sheet.history
     × (l.sheet.replica ≡ l.fn.sheet.replica)
+    × (l.sheet.workers ≡ l.fn.sheet.workers)
     × IsSheet l.sheet
     × (l.applied ≡ 0 → (l.sheet ≡ l.fn.sheet) × (l.meter ≡ l.fn.meter))
