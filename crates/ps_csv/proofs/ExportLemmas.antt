@@ -9,43 +9,41 @@ use Rattle.csv.specs.Writing.{default_writer, row_text}
 use Rattle.csv.specs.declared.writer.Writer.{Writer}
 use Rattle.ps_grid.specs.declared.refusal.Refusal.{Refusal}
 use Rattle.ps_grid.specs.Rectangle.{Area, cell_within}
-use Rattle.ps_value.specs.Shown.{shown_text}
-use Rattle.ps_eval.specs.Items.{Assignment}
-use Rattle.ps_csv.specs.Exports.{shown_record, shown_records, table_text}
+use Rattle.ps_csv.specs.Exports.{CellTexts, row_record, row_records, table_text}
 use Rattle.ps_csv.specs.Inside.{HasWritten}
 
 -- the first fields of a row's record
-abbrev pub first_fields : Assignment → Area → ℕ → ℕ → List (List ℕ)
-first_fields v a k n = map (λ j. shown_text (v (cell_within a j k))) (range_with_len 0 n)
+abbrev pub first_fields : CellTexts → Area → ℕ → ℕ → List (List ℕ)
+first_fields v a k n = map (λ j. v (cell_within a j k)) (range_with_len 0 n)
 
-pub first_fields-more : (v : Assignment) (a : Area) (k n : ℕ)
-    → first_fields v a k (n + 1) ≡ first_fields v a k n ++ shown_text (v (cell_within a n k)) ∷ []
-first_fields-more v a k n = map-range_with_len_more (λ j. shown_text (v (cell_within a j k))) 0 n n (omega arith)
+pub first_fields-more : (v : CellTexts) (a : Area) (k n : ℕ)
+    → first_fields v a k (n + 1) ≡ first_fields v a k n ++ v (cell_within a n k) ∷ []
+first_fields-more v a k n = map-range_with_len_more (λ j. v (cell_within a j k)) 0 n n (omega arith)
 
-pub first_fields-all : (v : Assignment) (a : Area) (k : ℕ) → first_fields v a k a.width ≡ shown_record v a k
-unfolding shown_record
+pub first_fields-all : (v : CellTexts) (a : Area) (k : ℕ) → first_fields v a k a.width ≡ row_record v a k
+unfolding row_record
 first_fields-all v a k = refl
 
 -- the text of the first records of a table
-abbrev pub first_records : Assignment → Area → ℕ → List ℕ
-first_records v a n = table_text (map (shown_record v a) (range_with_len 0 n))
+abbrev pub first_records : CellTexts → Area → ℕ → List ℕ
+first_records v a n = table_text (map (row_record v a) (range_with_len 0 n))
 
-pub first_records-none : (v : Assignment) (a : Area) → first_records v a 0 ≡ []
+pub first_records-none : (v : CellTexts) (a : Area) → first_records v a 0 ≡ []
 unfolding table_text
 first_records-none v a = refl
 
-pub first_records-more : (v : Assignment) (a : Area) (n : ℕ)
-    → first_records v a (n + 1) ≡ first_records v a n ++ row_text default_writer (shown_record v a n)
+pub first_records-more : (v : CellTexts) (a : Area) (n : ℕ)
+    → first_records v a (n + 1) ≡ first_records v a n ++ row_text default_writer (row_record v a n)
 unfolding table_text
 first_records-more v a n =
-    let before = map (shown_record v a) (range_with_len 0 n) in
-    let one = row_text default_writer (shown_record v a n) in
-    ap (flat_map (row_text default_writer)) (map-range_with_len_more (shown_record v a) 0 n n (omega arith))
-    ∙ flat_map-append (row_text default_writer) before (shown_record v a n ∷ [])
+    let before = map (row_record v a) (range_with_len 0 n) in
+    let one = row_text default_writer (row_record v a n) in
+    ap (flat_map (row_text default_writer)) (map-range_with_len_more (row_record v a) 0 n n (omega arith))
+    ∙ flat_map-append (row_text default_writer) before (row_record v a n ∷ [])
     ∙ ap (λ (t : List ℕ). flat_map (row_text default_writer) before ++ t) (append-nil one)
 
-pub first_records-all : (v : Assignment) (a : Area) → first_records v a a.height ≡ table_text (shown_records v a)
-unfolding shown_records
+pub first_records-all : (v : CellTexts) (a : Area) → first_records v a a.height ≡ table_text (row_records v a)
+unfolding row_records
 first_records-all v a = refl
 
 -- the text that a finished writer gives

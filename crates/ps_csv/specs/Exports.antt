@@ -1,23 +1,51 @@
--- The table that the shown values of a rectangle make, as `csv` writes it.
+-- The table that a rectangle makes, as `csv` writes it: of what its cells show, or of what they hold.
 use Rattle.std.specs.Prelude.{ℕ, List, map}
 use Rattle.std.specs.List.{flat_map, range_with_len}
 use Rattle.csv.specs.Writing.{default_writer, row_text}
 use Rattle.ps_grid.specs.Rectangle.{Area, cell_within}
 use Rattle.ps_value.specs.Shown.{shown_text}
 use Rattle.ps_eval.specs.Items.{Assignment}
+use Rattle.ps_content.specs.Content.{canonical_text}
+use Rattle.ps_content.specs.declared.content.Content.{Content}
+use Rattle.ps_delta.specs.Deltas.{Entries, joined_history}
+use Rattle.ps_cells.specs.Settled.{content_of}
 
--- what the cells of the k-th row show, from the left to the right
-unfoldable pub shown_record : Assignment → Area → ℕ → List (List ℕ)
-shown_record v a k = map (λ j. shown_text (v (cell_within a j k))) (range_with_len 0 a.width)
+-- a text for each cell
+abbrev pub CellTexts : Type 0
+CellTexts = ℕ → List ℕ
+
+-- the texts of the cells of the k-th row, from the left to the right
+unfoldable pub row_record : CellTexts → Area → ℕ → List (List ℕ)
+row_record text a k = map (λ j. text (cell_within a j k)) (range_with_len 0 a.width)
 
 -- a record for each row of the rectangle, from the upper to the lower
-unfoldable pub shown_records : Assignment → Area → List (List (List ℕ))
-shown_records v a = map (shown_record v a) (range_with_len 0 a.height)
+unfoldable pub row_records : CellTexts → Area → List (List (List ℕ))
+row_records text a = map (row_record text a) (range_with_len 0 a.height)
 
 -- the text of a table: each of its records as `csv` writes it by its defaults
 unfoldable pub table_text : List (List (List ℕ)) → List ℕ
 table_text table = flat_map (row_text default_writer) table
 
+-- THE TABLE of a rectangle whose cells have these texts
+abbrev pub tabled : CellTexts → Area → List ℕ
+tabled text a = table_text (row_records text a)
+
 -- THE EXPORT of a rectangle where the cells show v
 abbrev pub exported : Assignment → Area → List ℕ
-exported v a = table_text (shown_records v a)
+exported v a = tabled (λ c. shown_text (v c)) a
+
+-- what each cell holds
+abbrev pub Holdings : Type 0
+Holdings = ℕ → Content
+
+-- what each cell's register holds once these deltas were accepted; blank where nothing was assigned to it
+abbrev pub held_in : List Entries → Holdings
+held_in history c = content_of (joined_history history c)
+
+-- the entry of each cell: the canonical text of what it holds
+abbrev pub entry_text : Holdings → CellTexts
+entry_text held c = canonical_text (held c)
+
+-- THE ENTRIES of a rectangle where the cells hold these contents
+abbrev pub exported_entries : Holdings → Area → List ℕ
+exported_entries held a = tabled (entry_text held) a

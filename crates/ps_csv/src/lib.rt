@@ -18,13 +18,18 @@
 
 mod apply;
 mod bytes;
+mod entries;
 mod fault;
 mod fields;
+mod holds;
 mod incoming;
+mod rows;
 mod shown;
 mod table;
 
 pub use bytes::LONGEST_TABLE;
+pub use entries::{entries_text, entry_of, export_entries};
 pub use fault::ImportFault;
+pub use holds::Holds;
 pub use incoming::{Imported, import};
 pub use shown::{export, exported_text};

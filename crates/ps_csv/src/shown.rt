@@ -1,22 +1,17 @@
 //! A rectangle of shown values as a table.
 
-ghost use Rattle.std.specs.Prelude.{◌≡◌, ◌⊎◌, ◌<◌, ◌∷◌, ◌++◌, [], ℕ, List, length, take, IfOk, IfErr, OnOk, OnErr};
+ghost use Rattle.std.specs.Prelude.{◌≡◌, ◌⊎◌, ◌<◌, ℕ, length, take, IfOk, IfErr, OnOk};
 ghost use Rattle.std.specs.Io.KnownBytes.{Appends};
-ghost use Rattle.ps_grid.specs.Blanks.{IsBlankOf};
-ghost use Rattle.csv.specs.Records.{fields_of, partial_of};
 ghost use Rattle.ps_value.specs.Shown.{shown_text};
-ghost use Rattle.csv.specs.Writing.{default_writer, row_text};
-ghost use Rattle.ps_csv.specs.Exports.{exported, shown_record};
-ghost use Rattle.ps_csv.specs.Inside.{HasWritten};
+ghost use Rattle.ps_csv.specs.Exports.{exported};
 
-use csv::{ByteRecord, Writer, WriterBuilder};
+use crate::rows::{CellText, rows_text};
 use ps_device::{MemorySink, Sink, put_all};
 use ps_eval::Look;
-use ps_grid::{Rect, Refusal};
-use ps_value::{Value, write_shown};
+use ps_grid::{Cell, Rect, Refusal};
+use ps_value::write_shown;
 use std::alloc::Global;
-use std::marker::Brand;
-use std::sync::ledger::{Blank, Ledger};
+use std::sync::ledger::Ledger;
 
 /// Writes the shown values of a rectangle: a record for each row, a field for each cell, each record ended by LF.
 ///
@@ -56,97 +51,22 @@ pub fn exported_text<G: Look>(alloc: Global, look: &G, rect: Rect) -> Result<Vec
     ensures text { IfOk result (λ t. t.items ≡ exported (G.value_at look.now) rect) }
     ensures memory { IfErr result (λ e. e ≡ Refusal.Memory) }
 {
-    text_with::<G, Brand>(Blank::new(1), alloc, look, rect)
+    rows_text(alloc, &ShownTexts { look }, rect)
 }
 
-/// The text, with a ledger for the sink that the fields are put into.
-fn text_with<G: Look, L: Ledger>(
-    blank: Blank,
-    alloc: Global,
-    look: &G,
-    rect: Rect,
-) -> Result<Vec<u8>, Refusal>
-    requires { IsBlankOf blank L.name L.parts }
-    ensures text { IfOk result (λ t. t.items ≡ exported (G.value_at look.now) rect) }
-    ensures memory { IfErr result (λ e. e ≡ Refusal.Memory) }
-{
-    let mut shown = MemorySink::<L>::new(alloc, blank);
-    let mut row = ByteRecord::new(alloc);
-    let mut writer = new_writer(alloc);
-    for k in 0..rect.height() {
-        fill(look, rect, k, &mut shown, &mut row)?;
-        put_record(&row, &mut writer)?;
+/// What cells show, as fields of records.
+#[derive(Drop)]
+struct ShownTexts<'a, G: Look> {
+    look: &'a G,
+}
+
+impl<G: Look> CellText for ShownTexts<'_, G> {
+    ghost text_at = { λ s c. shown_text (G.value_at s.look.now c) };
+
+    fn put<L: Ledger>(&self, cell: Cell, text: &mut MemorySink<L>) -> Result<(), Refusal> {
+        match write_shown(self.look.at(cell), text) {
+            Ok(()) => Ok(()),
+            Err(_) => Err(Refusal::Memory),
+        }
     }
-    finish(writer)
-}
-
-/// A writer that has written nothing.
-fn new_writer(alloc: Global) -> Writer<Vec<u8>>
-    ensures { HasWritten result [] }
-{
-    WriterBuilder::new().from_writer(Vec::new(alloc))
-}
-
-/// Writes a record.
-fn put_record(row: &ByteRecord, writer: &mut Writer<Vec<u8>>) -> Result<(), Refusal>
-    ensures written { OnOk result ((text : List ℕ) → HasWritten writer.old text
-        → HasWritten writer.new (text ++ row_text default_writer (fields_of row.now))) }
-    ensures memory { IfErr result (λ e. e ≡ Refusal.Memory) }
-{
-    match writer.write_byte_record(row) {
-        Ok(()) => Ok(()),
-        Err(_) => Err(Refusal::Memory),
-    }
-}
-
-/// The text that was written.
-fn finish(writer: Writer<Vec<u8>>) -> Result<Vec<u8>, Refusal>
-    ensures text { IfOk result (λ t. (text : List ℕ) → HasWritten writer text → t.items ≡ text) }
-    ensures memory { IfErr result (λ e. e ≡ Refusal.Memory) }
-{
-    match writer.into_inner() {
-        Ok(text) => Ok(text),
-        Err(_) => Err(Refusal::Memory),
-    }
-}
-
-/// Makes the record of what the cells of the k-th row show.
-fn fill<G: Look, L: Ledger>(
-    look: &G,
-    rect: Rect,
-    k: usize,
-    shown: &mut MemorySink<L>,
-    row: &mut ByteRecord,
-) -> Result<(), Refusal>
-    requires { k < rect.height }
-    ensures fields { OnOk result (fields_of row.new ≡ shown_record (G.value_at look.now) rect k) }
-    ensures memory { IfErr result (λ e. e ≡ Refusal.Memory) }
-{
-    row.clear();
-    for j in 0..rect.width() {
-        let cell = rect.at(j, k);
-        let value = look.at(cell);
-        push_shown(value, shown, row)?;
-    }
-    Ok(())
-}
-
-/// Appends what is shown as a field.
-fn push_shown<L: Ledger>(
-    value: Value,
-    shown: &mut MemorySink<L>,
-    row: &mut ByteRecord,
-) -> Result<(), Refusal>
-    requires { partial_of row.old ≡ [] }
-    ensures field { OnOk result (fields_of row.new ≡ fields_of row.old ++ shown_text value ∷ []) }
-    ensures whole { OnOk result (partial_of row.new ≡ []) }
-    ensures memory { IfErr result (λ e. e ≡ Refusal.Memory) }
-{
-    shown.bytes.clear();
-    match write_shown(value, shown) {
-        Ok(()) => {}
-        Err(_) => return Err(Refusal::Memory),
-    }
-    row.push_field(shown.bytes.as_slice())?;
-    Ok(())
 }

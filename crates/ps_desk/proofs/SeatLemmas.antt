@@ -11,7 +11,8 @@ use Rattle.ps_session.specs.Boards.{BoardAnswers, HandsOn, Obeyed}
 use Rattle.ps_session.specs.Commands.{Read, ReadsLine}
 use Rattle.ps_session.specs.Replies.{refusal_text}
 use Rattle.ps_session.specs.declared.command.Command.{Command}
-use Rattle.ps_session.specs.declared.command.Command.TheVariants.{Edit, Get, Pull, Push, Rows}
+use Rattle.ps_session.specs.declared.command.Command.TheVariants.{Edit, Entries as AllEntries, Entry, Get, Pull, Push}
+use Rattle.ps_session.specs.declared.command.Command.TheVariants.{Rows}
 use Rattle.ps_session.proofs.AnswerLemmas.{memory_or_other}
 use Rattle.ps_session.proofs.PulledDeltas.{hands_out}
 use Rattle.ps_desk.specs.Passes.{PassView}
@@ -107,6 +108,12 @@ module _ (r : ℕ) (h : List Entries) where
   answer_of old new line text (Ok (Rows first last)) reads did =
       answer_of_command old new line text (Rows first last) reads
       (subst (λ (t : List ℕ). Does (Ok (Rows first last)) old t new) (sym did.2) did.1.0) did.1.1
+  answer_of old new line text (Ok (Entry cell)) reads did =
+      answer_of_command old new line text (Entry cell) reads
+      (subst (λ (t : List ℕ). Does (Ok (Entry cell)) old t new) (sym did.2) did.1.0) did.1.1
+  answer_of old new line text (Ok (AllEntries first last)) reads did =
+      answer_of_command old new line text (AllEntries first last) reads
+      (subst (λ (t : List ℕ). Does (Ok (AllEntries first last)) old t new) (sym did.2) did.1.0) did.1.1
   answer_of old new line text (Ok (Pull from most)) reads did =
       answer_of_command old new line text (Pull from most) reads
       (pulled old new from (unwrap_or most 1) text did.0 did.1 did.2)

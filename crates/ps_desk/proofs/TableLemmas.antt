@@ -10,7 +10,7 @@ use Rattle.ps_value.specs.Shown.{shown_text}
 use Rattle.ps_value.specs.declared.value.Value.{Value}
 use Rattle.ps_value.specs.declared.value.Value.TheVariants.{Empty}
 use Rattle.ps_eval.specs.Items.{Assignment}
-use Rattle.ps_csv.specs.Exports.{exported, shown_record, shown_records, table_text}
+use Rattle.ps_csv.specs.Exports.{exported, row_record, row_records, table_text}
 use Rattle.ps_face.specs.Values.{in_order}
 use Rattle.ps_face.proofs.Orders.{get-listed}
 
@@ -26,15 +26,16 @@ module _ (v w : Assignment) (a : Area) (inside : LiesInGrid a) (same : (c : ℕ)
   cell_in_grid : (j k : ℕ) → j < a.width → k < a.height → cell_within a j k < CELLS
   cell_in_grid j k across down = omega (arith, across, down, inside.within_columns, inside.within_rows)
 
-  record_same : (k : ℕ) → k < a.height → shown_record v a k ≡ shown_record w a k
-  unfolding shown_record
+  record_same : (k : ℕ) → k < a.height → row_record (λ c. shown_text (v c)) a k ≡ row_record (λ c. shown_text (w c)) a k
+  unfolding row_record
   record_same k down =
       map_same (λ j. shown_text (v (cell_within a j k))) (λ j. shown_text (w (cell_within a j k))) a.width
       (λ j across. ap shown_text (same (cell_within a j k) (cell_in_grid j k across down)))
 
   exported_same : exported v a ≡ exported w a
-  unfolding shown_records
-  exported_same = ap table_text (map_same (shown_record v a) (shown_record w a) a.height record_same)
+  unfolding row_records
+  exported_same = ap table_text (map_same (row_record (λ c. shown_text (v c)) a) (row_record (λ c. shown_text (w c)) a)
+      a.height record_same)
 
 -- so the values in order give the table of what they are the values of
 pub table_of_values : (v : Assignment) (values : List Value) (a : Area) → LiesInGrid a → values ≡ in_order v

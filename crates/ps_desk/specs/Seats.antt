@@ -12,16 +12,17 @@ use Rattle.ps_delta.specs.Deltas.{Entries, joined_history}
 use Rattle.ps_cells.specs.Settled.{IsSettled}
 use Rattle.ps_sheet.specs.Edits.{delta_of_edit}
 use Rattle.ps_sheet.specs.declared.edit.Edit.{Edit as SheetEdit}
-use Rattle.ps_csv.specs.Exports.{exported}
+use Rattle.ps_csv.specs.Exports.{Holdings, entry_text, exported, exported_entries, held_in}
 use Rattle.ps_face.specs.Legal.{IsLegal, history_of}
 use Rattle.ps_session.specs.Answers.{TakesMemory}
 use Rattle.ps_session.specs.Boards.{BoardAnswers, Calls, told}
 use Rattle.ps_session.specs.Commands.{Read, ReadsLine}
 use Rattle.ps_session.specs.Handing.{HandsOut}
-use Rattle.ps_session.specs.Replies.{done_text, refusal_text, rows_text, value_text}
+use Rattle.ps_session.specs.Replies.{done_text, entries_reply, entry_reply, refusal_text, rows_text, value_text}
 use Rattle.ps_session.specs.Transcript.{Answering, Lines}
 use Rattle.ps_session.specs.declared.command.Command.{Command}
-use Rattle.ps_session.specs.declared.command.Command.TheVariants.{Edit, Get, Pull, Push, Rows}
+use Rattle.ps_session.specs.declared.command.Command.TheVariants.{Edit, Entries as AllEntries, Entry, Get, Pull, Push}
+use Rattle.ps_session.specs.declared.command.Command.TheVariants.{Rows}
 use Rattle.ps_desk.specs.Passes.{PassView}
 use Rattle.ps_desk.specs.Receipts.{IsAppended, Tells}
 use Rattle.ps_desk.specs.declared.receipt.Receipt.{Receipt}
@@ -64,6 +65,14 @@ pub record IsGone (old : PassView) (text : List ℕ) (new : PassView) : Type 0 w
   pub same : new.list ≡ old.list
   pub counted : new.appended ≡ old.appended
 
+-- the cells were asked for what they hold, by the history of all that is published
+pub record IsHeld (h : List Entries) (reply : Holdings → List ℕ) (old : PassView) (text : List ℕ) (new : PassView) :
+    Type 0 where
+  pub legal : IsLegal h new.list
+  pub told : text ≡ reply (held_in (history_of h new.list))
+  pub counted : new.appended ≡ old.appended
+  pub entered : new.enters ≡ old.enters
+
 -- deltas were handed out, of all that is published
 pub record IsHandedOut (h : List Entries) (from most : ℕ) (old : PassView) (text : List ℕ) (new : PassView) : Type 0
   where
@@ -89,6 +98,9 @@ SeatObeys r h (Ok (Get cell)) old text new = IsLook h (λ v. value_text (v cell)
 SeatObeys r h (Ok (Rows first last)) old text new =
     IsLook h (λ v. rows_text ((spanned first last).height) (exported v (spanned first last))) old text new
     ⊎ IsGone old text new
+SeatObeys r h (Ok (Entry cell)) old text new = IsHeld h (λ held. entry_reply (entry_text held cell)) old text new
+SeatObeys r h (Ok (AllEntries first last)) old text new = IsHeld h
+    (λ held. entries_reply ((spanned first last).height) (exported_entries held (spanned first last))) old text new
 SeatObeys r h (Ok (Pull from most)) old text new = IsHandedOut h from (unwrap_or most 1) old text new
 SeatObeys r h (Ok (Push delta)) old text new = IsTakenIn h delta old text new
 SeatObeys r h (Err refusal) old text new = (new ≡ old) × (text ≡ refusal_text refusal)
@@ -146,6 +158,19 @@ Tabled h old rect answer new =
 abbrev pub SeatTables : List Entries → PassView → Area → Read (List ℕ) → PassView → Type 0
 SeatTables h old rect answer new = Tabled h old rect answer new × GoesOn old new
 
+abbrev pub SeatHolds : List Entries → PassView → ℕ → Read (List ℕ) → PassView → Type 0
+SeatHolds h old cell answer new =
+    (IsHeld h (λ held. entry_reply (entry_text held cell)) old (told entry_reply answer) new
+    ⊎ IsLacking ⊤ old (told entry_reply answer) new)
+    × GoesOn old new
+
+abbrev pub SeatLists : List Entries → PassView → Area → Read (List ℕ) → PassView → Type 0
+SeatLists h old rect answer new =
+    (IsHeld h (λ held. entries_reply rect.height (exported_entries held rect)) old
+        (told (entries_reply rect.height) answer) new
+    ⊎ IsLacking ⊤ old (told (entries_reply rect.height) answer) new)
+    × GoesOn old new
+
 abbrev pub SeatPulls : List Entries → PassView → ℕ → ℕ → Read (List Entries) → PassView → Type 0
 SeatPulls h old from most (Ok deltas) new = IsPulled h from most deltas old new × GoesOn old new
 SeatPulls h old from most (Err refusal) new = IsUnpulled h from refusal old new × GoesOn old new
@@ -156,6 +181,8 @@ SeatCalls r h = record {
   receives = SeatReceives h;
   shows = SeatShows h;
   tables = SeatTables h;
+  holds = SeatHolds h;
+  lists = SeatLists h;
   pulls = SeatPulls h;
 }
 

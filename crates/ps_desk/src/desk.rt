@@ -9,6 +9,7 @@ ghost use Rattle.ps_delta.specs.State.{IsBelow};
 ghost use Rattle.ps_delta.specs.Deltas.{joined_history, state_of};
 ghost use Rattle.ps_sheet.specs.Edits.{delta_of_edit};
 ghost use Rattle.ps_sheet.specs.Prepared.{IsDeltaOf, IsRefusedBy, IsToAppend};
+ghost use Rattle.ps_csv.specs.Exports.{entry_text, exported_entries, held_in};
 ghost use Rattle.ps_face.specs.Legal.{IsLegal, history_of};
 ghost use Rattle.ps_desk.specs.Receipts.{IsAppended, Tells};
 
@@ -17,9 +18,10 @@ use crate::held::Held;
 use crate::name::DeskName;
 use crate::pass::Pass;
 use crate::receipt::Receipt;
+use ps_csv::{entries_text, entry_of};
 use ps_delta::Delta;
 use ps_eval::Meter;
-use ps_grid::Refusal;
+use ps_grid::{Cell, Rect, Refusal};
 use ps_sheet::{Change, Edit, edits_are_fresh};
 use std::alloc::Global;
 use std::marker::Model;
@@ -176,6 +178,50 @@ impl<L: DeskName, W: Wait + Drop> Desk<L, W> {
         let deltas = held.deltas_after(alloc, from, at_most);
         *guard = Some(held);
         deltas
+    }
+
+    /// What a cell holds: its entry. The pass has then seen all that is published.
+    ///
+    /// Refused only when out of memory. It may wait for other calls.
+    ///
+    /// Cost: the bytes of the entry.
+    pub fn entry<V: Wait>(&self, wait: &V, alloc: Global, pass: &mut Pass<L>, cell: Cell) -> Result<Vec<u8>, Refusal>
+        ensures later { IsPrefix pass.old.list pass.new.list }
+        ensures legal { IsLegal L.opening pass.new.list }
+        ensures text { IfOk result (λ t. t.items ≡ entry_text (held_in (history_of L.opening pass.new.list)) cell) }
+        ensures memory { IfErr result (λ e. e ≡ Memory) }
+        ensures same { (pass.new.appended ≡ pass.old.appended) × (pass.new.seat ≡ pass.old.seat)
+            × (pass.new.enters ≡ pass.old.enters) }
+    {
+        let mut guard = self.held.lock(wait);
+        let held = take_out(wait, guard.take());
+        pass.catch_up(wait, held.front());
+        let text = entry_of(alloc, &held, cell);
+        *guard = Some(held);
+        text
+    }
+
+    /// What the cells of a rectangle hold: their entries, as the text of a table. The pass has then seen all that is
+    /// published.
+    ///
+    /// Refused only when out of memory. It may wait for other calls.
+    ///
+    /// Cost: the cells of the rectangle and the bytes of the text.
+    pub fn entries<V: Wait>(&self, wait: &V, alloc: Global, pass: &mut Pass<L>, rect: Rect) -> Result<Vec<u8>, Refusal>
+        ensures later { IsPrefix pass.old.list pass.new.list }
+        ensures legal { IsLegal L.opening pass.new.list }
+        ensures text { IfOk result (λ t. t.items
+            ≡ exported_entries (held_in (history_of L.opening pass.new.list)) rect) }
+        ensures memory { IfErr result (λ e. e ≡ Memory) }
+        ensures same { (pass.new.appended ≡ pass.old.appended) × (pass.new.seat ≡ pass.old.seat)
+            × (pass.new.enters ≡ pass.old.enters) }
+    {
+        let mut guard = self.held.lock(wait);
+        let held = take_out(wait, guard.take());
+        pass.catch_up(wait, held.front());
+        let text = entries_text(alloc, &held, rect);
+        *guard = Some(held);
+        text
     }
 
     /// Makes a change under the lock.

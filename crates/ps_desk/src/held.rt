@@ -18,10 +18,12 @@ use crate::name::DeskName;
 use crate::pass::Pass;
 use crate::patch::patch_of;
 use crate::receipt::Receipt;
+use ps_content::Content;
+use ps_csv::Holds;
 use ps_delta::Delta;
 use ps_eval::Meter;
 use ps_face::{FaceWriter, Front};
-use ps_grid::Refusal;
+use ps_grid::{Cell, Refusal};
 use ps_sheet::{Change, Prepared, Sheet};
 use std::alloc::Global;
 use std::marker::Model;
@@ -177,6 +179,17 @@ impl<L: DeskName, W: Wait + Drop> Held<L, W> {
             copies,
             book,
         }
+    }
+}
+
+impl<L: DeskName, W: Wait + Drop> Holds for Held<L, W> {
+    ghost use Rattle.ps_csv.specs.Exports.{held_in};
+    ghost use Rattle.ps_face.specs.Legal.{history_of};
+
+    ghost held_at = { λ h. held_in (history_of L.opening h) };
+
+    fn held(&self, cell: Cell) -> Option<&Content> {
+        self.sheet.content(cell)
     }
 }
 

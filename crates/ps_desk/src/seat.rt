@@ -114,6 +114,14 @@ impl<L: DeskName, W: Wait + Drop, V: Wait, M: Ledger> Board<Meter<M>> for Seat<'
         self.table_of(alloc, rect)
     }
 
+    fn entry(&mut self, alloc: Global, cell: Cell) -> Result<Vec<u8>, Refusal> {
+        self.desk.entry(self.wait, alloc, &mut self.pass, cell)
+    }
+
+    fn entries(&mut self, alloc: Global, rect: Rect) -> Result<Vec<u8>, Refusal> {
+        self.desk.entries(self.wait, alloc, &mut self.pass, rect)
+    }
+
     fn pull(&mut self, alloc: Global, from: u64, most: usize) -> Result<Vec<Arc<Delta>>, Refusal> {
         self.desk.pull(self.wait, alloc, &mut self.pass, from, most)
     }

@@ -11,7 +11,7 @@ use Rattle.ps_sheet.specs.Sheet.{SheetView}
 use Rattle.ps_session.specs.Boards.{BoardAnswers, Obeyed}
 use Rattle.ps_session.specs.Commands.{Read, ReadsLine, with_part}
 use Rattle.ps_session.specs.Answers.{Answers, Edited, Obeys, TakesMemory}
-use Rattle.ps_session.specs.Replies.{done_text, refusal_text, rows_text, value_text}
+use Rattle.ps_session.specs.Replies.{done_text, entries_reply, entry_reply, refusal_text, rows_text, value_text}
 use Rattle.ps_session.specs.SheetBoard.{SheetCalls, SheetPulls}
 use Rattle.ps_session.specs.declared.command.Command.{Command}
 use Rattle.ps_session.specs.declared.command.Command.TheVariants as commands
@@ -93,6 +93,15 @@ module _ (old new : SheetView) (line text : List ℕ) where
       (replica_stays look.1)
   obeyed (Ok (commands.Rows first last)) reads (Err refusal, memory, told) =
       lacks (Ok (commands.Rows first last)) reads tt (told ∙ ap refusal_text memory.0) memory.1
+  obeyed (Ok (commands.Entry cell)) reads (Ok entry, held, told) =
+      serves (commands.Entry cell) reads (stays held.1, told ∙ ap entry_reply held.0) (replica_stays held.1)
+  obeyed (Ok (commands.Entry cell)) reads (Err refusal, memory, told) =
+      lacks (Ok (commands.Entry cell)) reads tt (told ∙ ap refusal_text memory.0) memory.1
+  obeyed (Ok (commands.Entries first last)) reads (Ok table, held, told) =
+      serves (commands.Entries first last) reads
+      (stays held.1, told ∙ ap (entries_reply ((spanned first last).height)) held.0) (replica_stays held.1)
+  obeyed (Ok (commands.Entries first last)) reads (Err refusal, memory, told) =
+      lacks (Ok (commands.Entries first last)) reads tt (told ∙ ap refusal_text memory.0) memory.1
   obeyed (Ok (commands.Pull from most)) reads (Ok deltas, pulled, told) =
       elim (hands_out old.history from (unwrap_or most 1) (max (unwrap_or most 1) 1) deltas text pulled.1 pulled.0
       (omega arith) (omega arith) told) [

@@ -14,14 +14,15 @@ use Rattle.ps_wire.proofs.ShorterLemmas.{decoded_fit}
 use Rattle.ps_sheet.specs.declared.edit.Edit.{Edit}
 use Rattle.ps_sheet.specs.declared.edit.Edit.TheVariants as edits
 use Rattle.ps_sheet.specs.Edits.{assigned, delta_of_edit}
-use Rattle.ps_session.specs.Commands.{AtNumber, Read, ReadsChange, ReadsCorners, ReadsGet, ReadsLine, ReadsPair}
-use Rattle.ps_session.specs.Commands.{ReadsPull, ReadsPush, ReadsRows, ReadsSet, ReadsVerb, group_size, verb_of}
+use Rattle.ps_session.specs.Commands.{AsksOfCell, AsksOfRectangle, AtNumber, Read, ReadsChange, ReadsLine, ReadsPair}
+use Rattle.ps_session.specs.Commands.{ReadsPull, ReadsPush, ReadsSet, ReadsVerb, group_size, verb_of}
 use Rattle.ps_session.specs.EditLines.{HasLine, IsEdit, named_count}
 use Rattle.ps_session.specs.Words.{after_word, first_word, parts, words, whole_number}
 use Rattle.ps_session.specs.declared.command.Command.{Command}
 use Rattle.ps_session.specs.declared.command.Command.TheVariants as commands
 use Rattle.ps_session.specs.declared.verb.Verb.{Verb}
-use Rattle.ps_session.specs.declared.verb.Verb.TheVariants.{Add, Choose, Get, Pull, Push, Rows, Set, Sub, Unchoose}
+use Rattle.ps_session.specs.declared.verb.Verb.TheVariants.{Add, Choose, Entries as AllEntries, Entry, Get, Pull, Push}
+use Rattle.ps_session.specs.declared.verb.Verb.TheVariants.{Rows, Set, Sub, Unchoose}
 use Rattle.ps_session.proofs.EditLineLemmas.{add_passes, batch_passes, choose_passes, sub_passes, unchoose_passes}
 use Rattle.ps_session.proofs.EntryLemmas.{content_read}
 
@@ -46,6 +47,8 @@ abbrev pub AsksInRange : Read Command → Type 0
 AsksInRange (Ok (commands.Edit edit)) = EditsCell edit
 AsksInRange (Ok (commands.Get c)) = Unit {0}
 AsksInRange (Ok (commands.Rows c d)) = Unit {0}
+AsksInRange (Ok (commands.Entry c)) = Unit {0}
+AsksInRange (Ok (commands.Entries c d)) = Unit {0}
 AsksInRange (Ok (commands.Pull from most)) = Unit {0}
 AsksInRange (Ok (commands.Push d)) = HasLine d
 AsksInRange (Err refusal) = Unit {0}
@@ -81,24 +84,15 @@ set_in_range (cell ∷ others) entry read (Some c, names, (Ok content, reads, is
     subst AsksInRange (sym is) (((names c).0 refl).0, content_read entry content reads)
 set_in_range (cell ∷ others) entry read (Some c, names, (Err e, reads, is)) = subst AsksInRange (sym is) tt
 
-get_in_range : (others : List (List ℕ)) (read : Read Command) → ReadsGet others read → AsksInRange read
-get_in_range [] read is = subst AsksInRange (sym is) tt
-get_in_range (cell ∷ []) read (None, names, is) = subst AsksInRange (sym is) tt
-get_in_range (cell ∷ []) read (Some c, names, is) = subst AsksInRange (sym is) tt
-get_in_range (cell ∷ number ∷ others) read is = subst AsksInRange (sym is) tt
+cell_in_range : (question : ℕ → Command) (others : List (List ℕ)) (read : Read Command)
+    → ((c : ℕ) → AsksInRange (Ok (question c))) → AsksOfCell question others read → AsksInRange read
+cell_in_range question others read each (Ok c, reads, is) = subst AsksInRange (sym is) (each c)
+cell_in_range question others read each (Err e, reads, is) = subst AsksInRange (sym is) tt
 
-corners_in_range : (corners : List (List ℕ)) (read : Read Command) → ReadsCorners corners read → AsksInRange read
-corners_in_range [] read is = subst AsksInRange (sym is) tt
-corners_in_range (first ∷ []) read is = subst AsksInRange (sym is) tt
-corners_in_range (first ∷ last ∷ []) read (None, names, is) = subst AsksInRange (sym is) tt
-corners_in_range (first ∷ last ∷ []) read (Some c, names, (None, named, is)) = subst AsksInRange (sym is) tt
-corners_in_range (first ∷ last ∷ []) read (Some c, names, (Some d, named, is)) = subst AsksInRange (sym is) tt
-corners_in_range (first ∷ last ∷ third ∷ more) read is = subst AsksInRange (sym is) tt
-
-rows_in_range : (others : List (List ℕ)) (read : Read Command) → ReadsRows others read → AsksInRange read
-rows_in_range [] read is = subst AsksInRange (sym is) tt
-rows_in_range (corners ∷ []) read reads = corners_in_range (parts 58 corners) read reads
-rows_in_range (corners ∷ second ∷ more) read is = subst AsksInRange (sym is) tt
+rectangle_in_range : (question : ℕ → ℕ → Command) (others : List (List ℕ)) (read : Read Command)
+    → ((c d : ℕ) → AsksInRange (Ok (question c d))) → AsksOfRectangle question others read → AsksInRange read
+rectangle_in_range question others read each (Ok p, reads, is) = subst AsksInRange (sym is) (each p.0 p.1)
+rectangle_in_range question others read each (Err e, reads, is) = subst AsksInRange (sym is) tt
 
 group_in_range : (n : ℕ) (most : Option ℕ) (read : Read Command)
     → AtNumber most read (λ m. read ≡ Ok (commands.Pull n (Some m))) → AsksInRange read
@@ -128,7 +122,7 @@ push_in_range (word ∷ others) line read (Err e, reads, is) = subst AsksInRange
 verb_in_range : (verb : Option Verb) (others : List (List ℕ)) (rest : List ℕ) (read : Read Command)
     → ReadsVerb verb others rest read → AsksInRange read
 verb_in_range None others rest read is = subst AsksInRange (sym is) tt
-verb_in_range (Some Get) others rest read reads = get_in_range others read reads
+verb_in_range (Some Get) others rest read reads = cell_in_range (λ c. commands.Get c) others read (λ c. tt) reads
 verb_in_range (Some Set) others rest read reads = set_in_range others (after_word rest) read reads
 verb_in_range (Some Add) others rest read reads =
     change_in_range (λ c n. edits.Add c n) refusals.Amount others read (λ c n lt. lt) reads
@@ -138,7 +132,12 @@ verb_in_range (Some Choose) others rest read reads =
     change_in_range (λ c n. edits.Choose c n) refusals.OptionRange others read (λ c n lt. lt) reads
 verb_in_range (Some Unchoose) others rest read reads =
     change_in_range (λ c n. edits.Unchoose c n) refusals.OptionRange others read (λ c n lt. lt) reads
-verb_in_range (Some Rows) others rest read reads = rows_in_range others read reads
+verb_in_range (Some Rows) others rest read reads =
+    rectangle_in_range (λ c d. commands.Rows c d) others read (λ c d. tt) reads
+verb_in_range (Some Entry) others rest read reads =
+    cell_in_range (λ c. commands.Entry c) others read (λ c. tt) reads
+verb_in_range (Some AllEntries) others rest read reads =
+    rectangle_in_range (λ c d. commands.Entries c d) others read (λ c d. tt) reads
 verb_in_range (Some Push) others rest read reads = push_in_range others rest read reads
 verb_in_range (Some Pull) others rest read reads = pull_in_range others read reads
 

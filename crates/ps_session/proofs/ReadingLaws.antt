@@ -11,14 +11,15 @@ use Rattle.ps_content.specs.Entry.Kind.{too_long, empty, formula, tally, choice,
 use Rattle.ps_content.specs.declared.content.Content.{Content}
 use Rattle.ps_content.specs.declared.content.Content.TheVariants as contents
 use Rattle.ps_sheet.specs.declared.edit.Edit.{Edit}
-use Rattle.ps_session.specs.Commands.{group_size, AtCell, AtNumber, Assigns, NamesCell, Read, ReadsChange, ReadsCorners}
-use Rattle.ps_session.specs.Commands.{ReadsGet, ReadsLine, ReadsPair, ReadsPull, ReadsRows, ReadsSet, ReadsVerb}
-use Rattle.ps_session.specs.Commands.{verb_of, with_part, ReadsDelta, ReadsPush}
+use Rattle.ps_session.specs.Commands.{group_size, AsksOfCell, AsksOfRectangle, AtCell, AtNumber, Assigns, NamesCell}
+use Rattle.ps_session.specs.Commands.{Read, ReadsChange, ReadsCorners, ReadsDelta, ReadsLine, ReadsOneCell, ReadsPair}
+use Rattle.ps_session.specs.Commands.{ReadsPull, ReadsPush, ReadsRectangle, ReadsSet, ReadsVerb, verb_of, with_part}
 use Rattle.ps_delta.specs.Deltas.{Entries}
 use Rattle.ps_session.specs.Words.{after_word, first_word, parts, whole_number, words}
 use Rattle.ps_session.specs.declared.command.Command.{Command}
 use Rattle.ps_session.specs.declared.verb.Verb.{Verb}
-use Rattle.ps_session.specs.declared.verb.Verb.TheVariants.{Add, Choose, Get, Pull, Push, Rows, Set, Sub, Unchoose}
+use Rattle.ps_session.specs.declared.verb.Verb.TheVariants.{Add, Choose, Entries as AllEntries, Entry, Get, Pull, Push}
+use Rattle.ps_session.specs.declared.verb.Verb.TheVariants.{Rows, Set, Sub, Unchoose}
 
 -- memory was ample
 abbrev IsAmple : {X : Type 0} → Read X → Type 0
@@ -106,10 +107,15 @@ change_once : (change : ℕ → ℕ → Edit) (refusal : Refusal) (others : List
 change_once change refusal others a b x y =
     x.2 ∙ ap (with_part _) (pair_once refusal others x.0 y.0 x.1 y.1) ∙ sym y.2
 
-get_once : (others : List (List ℕ)) (a b : Read Command) → ReadsGet others a → ReadsGet others b → a ≡ b
-get_once [] a b x y = x ∙ sym y
-get_once (cell ∷ []) a b x y = at_cell_once cell a b _ _ x y (λ c p q. p ∙ sym q)
-get_once (cell ∷ second ∷ more) a b x y = x ∙ sym y
+one_cell_once : (others : List (List ℕ)) (a b : Read ℕ) → ReadsOneCell others a → ReadsOneCell others b → a ≡ b
+one_cell_once [] a b x y = x ∙ sym y
+one_cell_once (cell ∷ []) a b x y = at_cell_once cell a b _ _ x y (λ c p q. p ∙ sym q)
+one_cell_once (cell ∷ second ∷ more) a b x y = x ∙ sym y
+
+cell_once : (question : ℕ → Command) (others : List (List ℕ)) (a b : Read Command) → AsksOfCell question others a
+    → AsksOfCell question others b → a ≡ b
+cell_once question others a b x y =
+    x.2 ∙ ap (with_part _) (one_cell_once others x.0 y.0 x.1 y.1) ∙ sym y.2
 
 assigned_once : (c : ℕ) (entry : List ℕ) (a b : Read Command) → Assigns c entry a → Assigns c entry b → IsAmple a
     → IsAmple b → a ≡ b
@@ -123,7 +129,7 @@ set_once [] entry a b x y ample_a ample_b = x ∙ sym y
 set_once (cell ∷ more) entry a b x y ample_a ample_b =
     at_cell_once cell a b _ _ x y (λ c p q. assigned_once c entry a b p q ample_a ample_b)
 
-corners_once : (corners : List (List ℕ)) (a b : Read Command) → ReadsCorners corners a → ReadsCorners corners b
+corners_once : (corners : List (List ℕ)) (a b : Read (ℕ × ℕ)) → ReadsCorners corners a → ReadsCorners corners b
     → a ≡ b
 corners_once [] a b x y = x ∙ sym y
 corners_once (first ∷ []) a b x y = x ∙ sym y
@@ -131,10 +137,16 @@ corners_once (first ∷ last ∷ []) a b x y =
     at_cell_once first a b _ _ x y (λ c p q. at_cell_once last a b _ _ p q (λ d r s. r ∙ sym s))
 corners_once (first ∷ last ∷ third ∷ more) a b x y = x ∙ sym y
 
-rows_once : (others : List (List ℕ)) (a b : Read Command) → ReadsRows others a → ReadsRows others b → a ≡ b
-rows_once [] a b x y = x ∙ sym y
-rows_once (corners ∷ []) a b x y = corners_once (parts 58 corners) a b x y
-rows_once (corners ∷ second ∷ more) a b x y = x ∙ sym y
+both_once : (others : List (List ℕ)) (a b : Read (ℕ × ℕ)) → ReadsRectangle others a → ReadsRectangle others b
+    → a ≡ b
+both_once [] a b x y = x ∙ sym y
+both_once (corners ∷ []) a b x y = corners_once (parts 58 corners) a b x y
+both_once (corners ∷ second ∷ more) a b x y = x ∙ sym y
+
+rectangle_once : (question : ℕ → ℕ → Command) (others : List (List ℕ)) (a b : Read Command)
+    → AsksOfRectangle question others a → AsksOfRectangle question others b → a ≡ b
+rectangle_once question others a b x y =
+    x.2 ∙ ap (with_part _) (both_once others x.0 y.0 x.1 y.1) ∙ sym y.2
 
 delta_refused : (e f : Refusal) → (e ≡ refusals.Delta) ⊎ (e ≡ refusals.Memory)
     → (f ≡ refusals.Delta) ⊎ (f ≡ refusals.Memory) → IsAmple {X = Entries} (Err e) → IsAmple {X = Entries} (Err f)
@@ -173,14 +185,16 @@ pull_once (from ∷ most ∷ third ∷ more) a b x y = x ∙ sym y
 verb_once : (verb : Option Verb) (others : List (List ℕ)) (rest : List ℕ) (a b : Read Command)
     → ReadsVerb verb others rest a → ReadsVerb verb others rest b → IsAmple a → IsAmple b → a ≡ b
 verb_once None others rest a b x y ample_a ample_b = x ∙ sym y
-verb_once (Some Get) others rest a b x y ample_a ample_b = get_once others a b x y
+verb_once (Some Get) others rest a b x y ample_a ample_b = cell_once _ others a b x y
 verb_once (Some Set) others rest a b x y ample_a ample_b =
     set_once others (after_word rest) a b x y ample_a ample_b
 verb_once (Some Add) others rest a b x y ample_a ample_b = change_once _ refusals.Amount others a b x y
 verb_once (Some Sub) others rest a b x y ample_a ample_b = change_once _ refusals.Amount others a b x y
 verb_once (Some Choose) others rest a b x y ample_a ample_b = change_once _ refusals.OptionRange others a b x y
 verb_once (Some Unchoose) others rest a b x y ample_a ample_b = change_once _ refusals.OptionRange others a b x y
-verb_once (Some Rows) others rest a b x y ample_a ample_b = rows_once others a b x y
+verb_once (Some Rows) others rest a b x y ample_a ample_b = rectangle_once _ others a b x y
+verb_once (Some Entry) others rest a b x y ample_a ample_b = cell_once _ others a b x y
+verb_once (Some AllEntries) others rest a b x y ample_a ample_b = rectangle_once _ others a b x y
 verb_once (Some Push) others rest a b x y ample_a ample_b = push_once others rest a b x y ample_a ample_b
 verb_once (Some Pull) others rest a b x y ample_a ample_b = pull_once others a b x y
 

@@ -58,6 +58,8 @@ obeyed_once r history next after (Ok (commands.Rows c d)) text told inside a b =
       a.3 ∙ ap (λ (v : Assignment). rows_text ((spanned c d).height) (exported v (spanned c d))) same ∙ sym b.3,
       a.0 ∙ sym b.0,
     )
+obeyed_once r history next after (Ok (commands.Entry c)) text told inside a b = (a.1 ∙ sym b.1, a.0 ∙ sym b.0)
+obeyed_once r history next after (Ok (commands.Entries c d)) text told inside a b = (a.1 ∙ sym b.1, a.0 ∙ sym b.0)
 obeyed_once r history next after (Ok (commands.Pull from most)) text told inside a b =
     (hands_once history from (unwrap_or most 1) text told a.1 b.1, a.0 ∙ sym b.0)
 obeyed_once r history next after (Ok (commands.Push d)) text told inside a b =
@@ -93,6 +95,10 @@ obeyed_in_grid r history next (Ok (commands.Edit edit)) text asks inside obeys =
 obeyed_in_grid r history next (Ok (commands.Get c)) text asks inside obeys =
     subst (λ (h : List Entries). IsInGrid (joined_history h)) (sym obeys.0) inside
 obeyed_in_grid r history next (Ok (commands.Rows c d)) text asks inside obeys =
+    subst (λ (h : List Entries). IsInGrid (joined_history h)) (sym obeys.0) inside
+obeyed_in_grid r history next (Ok (commands.Entry c)) text asks inside obeys =
+    subst (λ (h : List Entries). IsInGrid (joined_history h)) (sym obeys.0) inside
+obeyed_in_grid r history next (Ok (commands.Entries c d)) text asks inside obeys =
     subst (λ (h : List Entries). IsInGrid (joined_history h)) (sym obeys.0) inside
 obeyed_in_grid r history next (Ok (commands.Pull from most)) text asks inside obeys =
     subst (λ (h : List Entries). IsInGrid (joined_history h)) (sym obeys.0) inside

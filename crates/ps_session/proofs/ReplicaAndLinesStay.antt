@@ -52,6 +52,10 @@ obeyed_lines r history next (Ok (commands.Get c)) text low high asks obeys have 
     same_lines history next obeys.0 have
 obeyed_lines r history next (Ok (commands.Rows c d)) text low high asks obeys have =
     same_lines history next obeys.0 have
+obeyed_lines r history next (Ok (commands.Entry c)) text low high asks obeys have =
+    same_lines history next obeys.0 have
+obeyed_lines r history next (Ok (commands.Entries c d)) text low high asks obeys have =
+    same_lines history next obeys.0 have
 obeyed_lines r history next (Ok (commands.Pull from most)) text low high asks obeys have =
     same_lines history next obeys.0 have
 obeyed_lines r history next (Ok (commands.Push d)) text low high asks obeys have =

@@ -2,23 +2,24 @@
 use Rattle.std.proofs.Common.{◌≡◌, ℕ, List, [], ◌∷◌, Some, Err, refl}
 use Rattle.ps_grid.specs.declared.refusal.Refusal.{Refusal}
 use Rattle.ps_grid.specs.declared.refusal.Refusal.TheVariants as refusals
-use Rattle.ps_session.specs.Commands.{verb_of, ReadsCorners, ReadsGet, ReadsLine, ReadsPair, ReadsPull, ReadsRows}
-use Rattle.ps_session.specs.Commands.{Read, ReadsPush, ReadsVerb, Pushes}
+use Rattle.ps_session.specs.Commands.{verb_of, ReadsCorners, ReadsLine, ReadsOneCell, ReadsPair, ReadsPull}
+use Rattle.ps_session.specs.Commands.{Read, ReadsPush, ReadsRectangle, ReadsVerb, Pushes}
 use Rattle.ps_session.specs.declared.command.Command.{Command}
 use Rattle.ps_session.specs.Words.{after_word, first_word, parts, words}
 use Rattle.ps_session.specs.declared.verb.Verb.{Verb}
-use Rattle.ps_session.specs.declared.verb.Verb.TheVariants.{Add, Choose, Get, Pull, Push, Rows, Set, Sub, Unchoose}
+use Rattle.ps_session.specs.declared.verb.Verb.TheVariants.{Add, Choose, Entries as AllEntries, Entry, Get, Pull, Push}
+use Rattle.ps_session.specs.declared.verb.Verb.TheVariants.{Rows, Set, Sub, Unchoose}
 use Rattle.ps_session.proofs.WordLemmas.{parts_are_some}
 
-pub get_more : (word rest : List ℕ) → ReadsGet (word ∷ words rest) (Err refusals.Command)
-get_more word rest = rw (parts_are_some 32 rest).are refl
+pub cell_more : (word rest : List ℕ) → ReadsOneCell (word ∷ words rest) (Err refusals.Command)
+cell_more word rest = rw (parts_are_some 32 rest).are refl
 
 pub pair_more : (refusal : Refusal) (word digits rest : List ℕ)
     → ReadsPair refusal (word ∷ digits ∷ words rest) (Err refusals.Command)
 pair_more refusal word digits rest = rw (parts_are_some 32 rest).are refl
 
-pub rows_more : (word rest : List ℕ) → ReadsRows (word ∷ words rest) (Err refusals.Command)
-rows_more word rest = rw (parts_are_some 32 rest).are refl
+pub rectangle_more : (word rest : List ℕ) → ReadsRectangle (word ∷ words rest) (Err refusals.Command)
+rectangle_more word rest = rw (parts_are_some 32 rest).are refl
 
 -- two colons
 pub corners_more : (first last rest : List ℕ) → ReadsCorners (first ∷ last ∷ parts 58 rest) (Err refusals.Cell)
@@ -31,13 +32,15 @@ pub push_reads : (line : List ℕ) (read : Read Command) → Pushes line read �
 push_reads line read reads = rw (parts_are_some 32 line).are reads
 
 pub verb_alone : (verb : Verb) (entry : List ℕ) → ReadsVerb (Some verb) [] entry (Err refusals.Command)
-verb_alone Get entry = refl
+verb_alone Get entry = (Err refusals.Command, refl, refl)
 verb_alone Set entry = refl
 verb_alone Add entry = (Err refusals.Command, refl, refl)
 verb_alone Sub entry = (Err refusals.Command, refl, refl)
 verb_alone Choose entry = (Err refusals.Command, refl, refl)
 verb_alone Unchoose entry = (Err refusals.Command, refl, refl)
-verb_alone Rows entry = refl
+verb_alone Rows entry = (Err refusals.Command, refl, refl)
+verb_alone Entry entry = (Err refusals.Command, refl, refl)
+verb_alone AllEntries entry = (Err refusals.Command, refl, refl)
 verb_alone Push entry = refl
 verb_alone Pull entry = refl
 

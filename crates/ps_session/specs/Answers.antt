@@ -10,13 +10,14 @@ use Rattle.ps_delta.specs.Deltas.{Entries, joined_history}
 use Rattle.ps_cells.specs.Settled.{IsSettled}
 use Rattle.ps_sheet.specs.Edits.{delta_of_edit}
 use Rattle.ps_sheet.specs.Sheet.{SheetView, Takes}
-use Rattle.ps_csv.specs.Exports.{exported}
+use Rattle.ps_csv.specs.Exports.{entry_text, exported, exported_entries, held_in}
 use Rattle.ps_session.specs.Handing.{HandsOut}
 use Rattle.ps_session.specs.Commands.{Read, ReadsLine}
-use Rattle.ps_session.specs.Replies.{done_text, refusal_text, rows_text, value_text}
+use Rattle.ps_session.specs.Replies.{done_text, entries_reply, entry_reply, refusal_text, rows_text, value_text}
 use Rattle.ps_session.specs.Transcript.{Answering, Lines}
 use Rattle.ps_session.specs.declared.command.Command.{Command}
-use Rattle.ps_session.specs.declared.command.Command.TheVariants.{Edit, Get, Pull, Push, Rows}
+use Rattle.ps_session.specs.declared.command.Command.TheVariants.{Edit, Entries as AllEntries, Entry, Get, Pull, Push}
+use Rattle.ps_session.specs.declared.command.Command.TheVariants.{Rows}
 
 -- what was made of an edit: its delta ends the history, and the reply is the new version; or it is refused
 abbrev pub Edited : Result Entries Refusal → List Entries → List ℕ → List Entries → Type 0
@@ -32,6 +33,10 @@ Obeys replica history (Ok (Get cell)) text next =
 Obeys replica history (Ok (Rows first last)) text next = (next ≡ history) × (v : Assignment)
     × IsSettled (joined_history history) v
     × (text ≡ rows_text ((spanned first last).height) (exported v (spanned first last)))
+Obeys replica history (Ok (Entry cell)) text next =
+    (next ≡ history) × (text ≡ entry_reply (entry_text (held_in history) cell))
+Obeys replica history (Ok (AllEntries first last)) text next = (next ≡ history)
+    × (text ≡ entries_reply ((spanned first last).height) (exported_entries (held_in history) (spanned first last)))
 Obeys replica history (Ok (Pull from most)) text next =
     (next ≡ history) × HandsOut history from (unwrap_or most 1) text
 Obeys replica history (Ok (Push delta)) text next = Takes delta history next × (text ≡ done_text (length next))
@@ -45,12 +50,14 @@ pub record Serves (old : SheetView) (line text : List ℕ) (new : SheetView) : T
   pub obeys : Obeys old.replica old.history asked text new.history
   pub replica : new.replica ≡ old.replica
 
--- what was asked for takes memory, at a replica with a history: an edit where its delta is made, a table, a delta
--- that is handed out or taken in; never a look at a cell, and no edit that is refused
+-- what was asked for takes memory, at a replica with a history: an edit where its delta is made, a table, an entry, a
+-- delta that is handed out or taken in; never a look at a cell, and no edit that is refused
 abbrev pub TakesMemory : ℕ → List Entries → Read Command → Type 0
 TakesMemory replica history (Ok (Edit edit)) = IsOk (delta_of_edit replica (joined_history history) edit)
 TakesMemory replica history (Ok (Get cell)) = ⊥
 TakesMemory replica history (Ok (Rows first last)) = ⊤
+TakesMemory replica history (Ok (Entry cell)) = ⊤
+TakesMemory replica history (Ok (AllEntries first last)) = ⊤
 TakesMemory replica history (Ok (Pull from most)) = from < length history
 TakesMemory replica history (Ok (Push delta)) = ⊤
 TakesMemory replica history (Err refusal) = refusal ≡ refusals.Memory

@@ -7,10 +7,12 @@ use Rattle.ps_delta.specs.Deltas.{Entries}
 use Rattle.ps_sheet.specs.declared.edit.Edit.{Edit as SheetEdit}
 use Rattle.ps_session.specs.Commands.{Read, ReadsLine}
 use Rattle.ps_session.specs.Handing.{HandsGroup}
-use Rattle.ps_session.specs.Replies.{done_text, end_text, refusal_text, rows_text, value_text}
+use Rattle.ps_session.specs.Replies.{done_text, end_text, entries_reply, entry_reply, refusal_text, rows_text}
+use Rattle.ps_session.specs.Replies.{value_text}
 use Rattle.ps_session.specs.Transcript.{Answering, Lines}
 use Rattle.ps_session.specs.declared.command.Command.{Command}
-use Rattle.ps_session.specs.declared.command.Command.TheVariants.{Edit, Get, Pull, Push, Rows}
+use Rattle.ps_session.specs.declared.command.Command.TheVariants.{Edit, Entries as AllEntries, Entry, Get, Pull, Push}
+use Rattle.ps_session.specs.declared.command.Command.TheVariants.{Rows}
 
 -- what the calls of a board answer, or why they refuse: the state before, what was asked for, the answer, the state
 -- after
@@ -23,6 +25,10 @@ pub record Calls (State : Type 0) : Type 1 where
   pub shows : State → ℕ → Read Value → State → Type 0
   -- a rectangle is looked at: the text of its values as a table
   pub tables : State → Area → Read (List ℕ) → State → Type 0
+  -- a cell is asked for what it holds: its entry
+  pub holds : State → ℕ → Read (List ℕ) → State → Type 0
+  -- a rectangle is asked for what it holds: the text of its entries as a table
+  pub lists : State → Area → Read (List ℕ) → State → Type 0
   -- the deltas after a number, at most so many
   pub pulls : State → ℕ → ℕ → Read (List Entries) → State → Type 0
 
@@ -50,6 +56,9 @@ Obeyed calls old (Ok (Edit edit)) reply new = Tells (λ answer. calls.edits old 
 Obeyed calls old (Ok (Get cell)) reply new = Tells (λ answer. calls.shows old cell answer new) value_text reply
 Obeyed calls old (Ok (Rows first last)) reply new =
     Tells (λ answer. calls.tables old (spanned first last) answer new) (rows_text ((spanned first last).height)) reply
+Obeyed calls old (Ok (Entry cell)) reply new = Tells (λ answer. calls.holds old cell answer new) entry_reply reply
+Obeyed calls old (Ok (AllEntries first last)) reply new = Tells
+    (λ answer. calls.lists old (spanned first last) answer new) (entries_reply ((spanned first last).height)) reply
 Obeyed calls old (Ok (Pull from most)) reply new = (answer : Read (List Entries))
     × calls.pulls old from (max (unwrap_or most 1) 1) answer new × HandsOn from (unwrap_or most 1) answer reply
 Obeyed calls old (Ok (Push delta)) reply new =

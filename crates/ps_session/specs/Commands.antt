@@ -17,7 +17,8 @@ use Rattle.ps_session.specs.declared.command.Command.{Command}
 use Rattle.ps_session.specs.declared.command.TheConstants.{LARGEST_GROUP}
 use Rattle.ps_session.specs.declared.command.Command.TheVariants as commands
 use Rattle.ps_session.specs.declared.verb.Verb.{Verb}
-use Rattle.ps_session.specs.declared.verb.Verb.TheVariants.{Add, Choose, Get, Pull, Push, Rows, Set, Sub, Unchoose}
+use Rattle.ps_session.specs.declared.verb.Verb.TheVariants.{Add, Choose, Entries as AllEntries, Entry, Get, Pull, Push}
+use Rattle.ps_session.specs.declared.verb.Verb.TheVariants.{Rows, Set, Sub, Unchoose}
 
 -- the verb that a word is
 unfoldable pub verb_of : List ℕ → Option Verb
@@ -29,6 +30,8 @@ verb_of word =
     else if bytes_eq word (codes "choose") then Some Choose
     else if bytes_eq word (codes "unchoose") then Some Unchoose
     else if bytes_eq word (codes "rows") then Some Rows
+    else if bytes_eq word (codes "entry") then Some Entry
+    else if bytes_eq word (codes "entries") then Some AllEntries
     else if bytes_eq word (codes "push") then Some Push
     else if bytes_eq word (codes "pull") then Some Pull
     else None
@@ -51,10 +54,15 @@ abbrev pub AtCell : {X : Type 0} → List ℕ → Read X → (ℕ → Type 0) �
 AtCell word read Decides =
     (found : Option ℕ) × NamesCell word found × MatchOption found (read ≡ Err refusals.Cell) Decides
 
--- `get`: one word, a cell
-abbrev pub ReadsGet : List (List ℕ) → Read Command → Type 0
-ReadsGet (cell ∷ []) read = AtCell cell read (λ c. read ≡ Ok (commands.Get c))
-ReadsGet _ read = read ≡ Err refusals.Command
+-- one word, a cell
+abbrev pub ReadsOneCell : List (List ℕ) → Read ℕ → Type 0
+ReadsOneCell (cell ∷ []) read = AtCell cell read (λ c. read ≡ Ok c)
+ReadsOneCell _ read = read ≡ Err refusals.Command
+
+-- a cell is asked about
+abbrev pub AsksOfCell : (ℕ → Command) → List (List ℕ) → Read Command → Type 0
+AsksOfCell question others read =
+    (cell : Read ℕ) × ReadsOneCell others cell × (read ≡ with_part question cell)
 
 -- the cell is given what the entry is read as
 abbrev pub Assigns : ℕ → List ℕ → Read Command → Type 0
@@ -78,15 +86,19 @@ ReadsChange change refusal others read = (pair : Read (ℕ × ℕ)) × ReadsPair
     × (read ≡ with_part (λ p. commands.Edit (change p.0 p.1)) pair)
 
 -- two cells with a colon between
-abbrev pub ReadsCorners : List (List ℕ) → Read Command → Type 0
-ReadsCorners (first ∷ last ∷ []) read =
-    AtCell first read (λ c. AtCell last read (λ d. read ≡ Ok (commands.Rows c d)))
+abbrev pub ReadsCorners : List (List ℕ) → Read (ℕ × ℕ) → Type 0
+ReadsCorners (first ∷ last ∷ []) read = AtCell first read (λ c. AtCell last read (λ d. read ≡ Ok (c, d)))
 ReadsCorners _ read = read ≡ Err refusals.Cell
 
--- `rows`: one word, two corners of a rectangle
-abbrev pub ReadsRows : List (List ℕ) → Read Command → Type 0
-ReadsRows (corners ∷ []) read = ReadsCorners (parts 58 corners) read
-ReadsRows _ read = read ≡ Err refusals.Command
+-- one word, two corners of a rectangle
+abbrev pub ReadsRectangle : List (List ℕ) → Read (ℕ × ℕ) → Type 0
+ReadsRectangle (corners ∷ []) read = ReadsCorners (parts 58 corners) read
+ReadsRectangle _ read = read ≡ Err refusals.Command
+
+-- a rectangle is asked about
+abbrev pub AsksOfRectangle : (ℕ → ℕ → Command) → List (List ℕ) → Read Command → Type 0
+AsksOfRectangle question others read = (pair : Read (ℕ × ℕ)) × ReadsRectangle others pair
+    × (read ≡ with_part (λ p. question p.0 p.1) pair)
 
 -- the delta that bytes are a line of; bytes that are no line are refused
 pub record ReadsDelta (bytes : List ℕ) (read : Read Entries) : Type 0 where
@@ -124,14 +136,16 @@ ReadsPull _ read = read ≡ Err refusals.Command
 -- a verb, the words after it, and all that stands there
 abbrev pub ReadsVerb : Option Verb → List (List ℕ) → List ℕ → Read Command → Type 0
 ReadsVerb None others rest read = read ≡ Err refusals.Command
-ReadsVerb (Some Get) others rest read = ReadsGet others read
+ReadsVerb (Some Get) others rest read = AsksOfCell (λ c. commands.Get c) others read
 ReadsVerb (Some Set) others rest read = ReadsSet others (after_word rest) read
 ReadsVerb (Some Add) others rest read = ReadsChange (λ c n. edits.Add c n) refusals.Amount others read
 ReadsVerb (Some Sub) others rest read = ReadsChange (λ c n. edits.Sub c n) refusals.Amount others read
 ReadsVerb (Some Choose) others rest read = ReadsChange (λ c n. edits.Choose c n) refusals.OptionRange others read
 ReadsVerb (Some Unchoose) others rest read =
     ReadsChange (λ c n. edits.Unchoose c n) refusals.OptionRange others read
-ReadsVerb (Some Rows) others rest read = ReadsRows others read
+ReadsVerb (Some Rows) others rest read = AsksOfRectangle (λ c d. commands.Rows c d) others read
+ReadsVerb (Some Entry) others rest read = AsksOfCell (λ c. commands.Entry c) others read
+ReadsVerb (Some AllEntries) others rest read = AsksOfRectangle (λ c d. commands.Entries c d) others read
 ReadsVerb (Some Push) others rest read = ReadsPush others rest read
 ReadsVerb (Some Pull) others rest read = ReadsPull others read
 

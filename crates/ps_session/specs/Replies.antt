@@ -3,7 +3,7 @@ use Rattle.std.specs.Prelude.{ℕ, List, [], ◌∷◌, ◌++◌, codes, decimal
 use Rattle.ps_grid.specs.Refusals.{number_of, name_of}
 use Rattle.ps_grid.specs.declared.refusal.Refusal.{Refusal}
 use Rattle.ps_session.specs.declared.reply.Reply.{Reply}
-use Rattle.ps_session.specs.declared.reply.Reply.TheVariants.{Delta, Done, End, Refused, Rows, Shown}
+use Rattle.ps_session.specs.declared.reply.Reply.TheVariants.{Delta, Done, End, Entries, Entry, Refused, Rows, Shown}
 use Rattle.ps_value.specs.declared.value.Value.{Value}
 use Rattle.ps_value.specs.Shown.{shown_text}
 
@@ -16,6 +16,14 @@ value_text value = codes "val " ++ (shown_text value ++ 10 ∷ [])
 -- the number of a table's lines, and the lines
 abbrev pub rows_text : ℕ → List ℕ → List ℕ
 rows_text count table = codes "rows " ++ decimal count ++ 10 ∷ table
+
+-- the entry of a cell
+abbrev pub entry_reply : List ℕ → List ℕ
+entry_reply entry = codes "entry " ++ (entry ++ 10 ∷ [])
+
+-- .. and the number of lines of a table of entries, and the lines
+abbrev pub entries_reply : ℕ → List ℕ → List ℕ
+entries_reply count table = codes "entries " ++ decimal count ++ 10 ∷ table
 
 -- the version after a delta, and its line
 abbrev pub handed_text : ℕ → List ℕ → List ℕ
@@ -31,6 +39,8 @@ abbrev pub reply_text : Reply → List ℕ
 reply_text (Done version) = done_text version
 reply_text (Shown value) = value_text value
 reply_text (Rows count table) = rows_text count table.items
+reply_text (Entry entry) = entry_reply entry.items
+reply_text (Entries count table) = entries_reply count table.items
 reply_text (Delta last line) = handed_text last line.items
 reply_text (End version) = end_text version
 reply_text (Refused refusal) = refusal_text refusal

@@ -9,7 +9,7 @@ use Rattle.ps_cells.specs.Settled.{IsSettled}
 use Rattle.ps_sheet.specs.Edits.{delta_of_edit}
 use Rattle.ps_sheet.specs.Sheet.{SheetView, Takes}
 use Rattle.ps_sheet.specs.declared.edit.Edit.{Edit}
-use Rattle.ps_csv.specs.Exports.{exported}
+use Rattle.ps_csv.specs.Exports.{entry_text, exported, exported_entries, held_in}
 use Rattle.ps_session.specs.Boards.{Calls}
 use Rattle.ps_session.specs.Commands.{Read}
 
@@ -45,6 +45,15 @@ abbrev pub SheetTables : SheetView → Area → Read (List ℕ) → SheetView �
 SheetTables old rect (Ok text) new = Looks old (λ v. text ≡ exported v rect) new
 SheetTables old rect (Err refusal) new = (refusal ≡ refusals.Memory) × (new ≡ old)
 
+-- the entries of what the cells hold by the history
+abbrev pub SheetHolds : SheetView → ℕ → Read (List ℕ) → SheetView → Type 0
+SheetHolds old cell (Ok text) new = (text ≡ entry_text (held_in old.history) cell) × (new ≡ old)
+SheetHolds old cell (Err refusal) new = (refusal ≡ refusals.Memory) × (new ≡ old)
+
+abbrev pub SheetLists : SheetView → Area → Read (List ℕ) → SheetView → Type 0
+SheetLists old rect (Ok text) new = (text ≡ exported_entries (held_in old.history) rect) × (new ≡ old)
+SheetLists old rect (Err refusal) new = (refusal ≡ refusals.Memory) × (new ≡ old)
+
 -- the deltas of the history after a number that isn't beyond its end; out of memory only where there is one
 abbrev pub SheetPulls : SheetView → ℕ → ℕ → Read (List Entries) → SheetView → Type 0
 SheetPulls old from most (Ok deltas) new =
@@ -60,5 +69,7 @@ SheetCalls = record {
   receives = SheetReceives;
   shows = SheetShows;
   tables = SheetTables;
+  holds = SheetHolds;
+  lists = SheetLists;
   pulls = SheetPulls;
 }

@@ -59,6 +59,18 @@ pub trait Board<M> {
     fn table(&mut self, alloc: Global, rect: Rect) -> Result<Vec<u8>, Refusal>
         ensures shown { calls.tables self.old rect (with_part (λ text. text.items) result) self.new };
 
+    /// What a cell holds: its entry.
+    ///
+    /// Cost: the bytes of the entry.
+    fn entry(&mut self, alloc: Global, cell: Cell) -> Result<Vec<u8>, Refusal>
+        ensures held { calls.holds self.old cell (with_part (λ text. text.items) result) self.new };
+
+    /// What the cells of a rectangle hold: their entries, as the text of a table.
+    ///
+    /// Cost: the cells of the rectangle and the bytes of the text.
+    fn entries(&mut self, alloc: Global, rect: Rect) -> Result<Vec<u8>, Refusal>
+        ensures held { calls.lists self.old rect (with_part (λ text. text.items) result) self.new };
+
     /// The deltas after the number `from`, in order, at most so many.
     ///
     /// Cost: the deltas that are handed out.

@@ -2,8 +2,9 @@
 ghost use Rattle.std.specs.Prelude.{◌≡◌, ◌∷◌, Err, Ok, Some};
 ghost use Rattle.std.specs.Option.{ok_or};
 ghost use Rattle.ps_session.specs.Words.{after_word, parts, whole_number, words};
-ghost use Rattle.ps_session.specs.Commands.{AtCell, ReadsCorners, ReadsGet, ReadsLine, ReadsPair, ReadsPull};
-ghost use Rattle.ps_session.specs.Commands.{ReadsRows, ReadsSet, ReadsVerb, Pushes, TakesMemoryToRead, group_size};
+ghost use Rattle.ps_session.specs.Commands.{AtCell, ReadsCorners, ReadsLine, ReadsOneCell, ReadsPair, ReadsPull};
+ghost use Rattle.ps_session.specs.Commands.{ReadsRectangle, ReadsSet, ReadsVerb, Pushes, TakesMemoryToRead};
+ghost use Rattle.ps_session.specs.Commands.{group_size};
 
 use crate::verb::Verb;
 use crate::words::{read_whole, split_part, split_word};
@@ -23,6 +24,10 @@ pub enum Command {
     Get(Cell),
     /// To show a rectangle, by two opposite corners.
     Rows(Cell, Cell),
+    /// To tell what a cell holds.
+    Entry(Cell),
+    /// To tell what the cells of a rectangle hold, by two opposite corners.
+    Entries(Cell, Cell),
     /// To hand out what was accepted after a version: one delta, or at most so many as one.
     Pull {
         /// The version.
@@ -45,6 +50,7 @@ impl Command {
     /// - `add <cell> <amount>` and `sub <cell> <amount>`, to change its counter;
     /// - `choose <cell> <option>` and `unchoose <cell> <option>`, to change its set;
     /// - `rows <cell>:<cell>`, to show a rectangle;
+    /// - `entry <cell>` and `entries <cell>:<cell>`, to tell what a cell holds, and what a rectangle does;
     /// - `pull <from>` and `pull <from> <most>`, to hand out deltas;
     /// - `push <line>`, to take in the delta that all after the space is a line of.
     ///
@@ -75,7 +81,7 @@ fn read_rest(alloc: Global, verb: Verb, rest: &[u8]) -> Result<Command, Refusal>
     ensures { ReadsVerb (Some verb) (words rest.now) rest.now result }
 {
     match verb {
-        Verb::Get => read_get(rest),
+        Verb::Get => Ok(Command::Get(read_one_cell(rest)?)),
         Verb::Set => read_set(alloc, rest),
         Verb::Add => {
             let (cell, amount) = read_change(rest, Refusal::Amount)?;
@@ -93,7 +99,15 @@ fn read_rest(alloc: Global, verb: Verb, rest: &[u8]) -> Result<Command, Refusal>
             let (cell, option) = read_change(rest, Refusal::OptionRange)?;
             Ok(Command::Edit(Edit::Unchoose(cell, option)))
         }
-        Verb::Rows => read_rows(rest),
+        Verb::Rows => {
+            let (first, last) = read_rectangle(rest)?;
+            Ok(Command::Rows(first, last))
+        }
+        Verb::Entry => Ok(Command::Entry(read_one_cell(rest)?)),
+        Verb::Entries => {
+            let (first, last) = read_rectangle(rest)?;
+            Ok(Command::Entries(first, last))
+        }
         Verb::Push => read_push(alloc, rest),
         Verb::Pull => read_pull(rest),
     }
@@ -109,15 +123,12 @@ fn read_cell(word: &[u8]) -> Result<Cell, Refusal>
     }
 }
 
-/// `get`: a cell, and no more words.
-fn read_get(rest: &[u8]) -> Result<Command, Refusal>
-    ensures { ReadsGet (words rest.now) result }
+/// A cell, and no more words.
+fn read_one_cell(rest: &[u8]) -> Result<Cell, Refusal>
+    ensures { ReadsOneCell (words rest.now) result }
 {
     match split_word(rest) {
-        (word, None) => {
-            let cell = read_cell(word)?;
-            Ok(Command::Get(cell))
-        }
+        (word, None) => read_cell(word),
         (_, Some(_)) => Err(Refusal::Command),
     }
 }
@@ -158,9 +169,9 @@ fn read_pair(word: &[u8], number: &[u8], refusal: Refusal) -> Result<(Cell, u64)
     }
 }
 
-/// `rows`: two corners, and no more words.
-fn read_rows(rest: &[u8]) -> Result<Command, Refusal>
-    ensures { ReadsRows (words rest.now) result }
+/// Two corners, and no more words.
+fn read_rectangle(rest: &[u8]) -> Result<(Cell, Cell), Refusal>
+    ensures { ReadsRectangle (words rest.now) result }
 {
     match split_word(rest) {
         (corners, None) => read_corners(corners),
@@ -169,7 +180,7 @@ fn read_rows(rest: &[u8]) -> Result<Command, Refusal>
 }
 
 /// Two cells with one colon between.
-fn read_corners(corners: &[u8]) -> Result<Command, Refusal>
+fn read_corners(corners: &[u8]) -> Result<(Cell, Cell), Refusal>
     ensures { ReadsCorners (parts 58 corners.now) result }
 {
     let (first, rest) = split_part(corners, b':');
@@ -177,7 +188,7 @@ fn read_corners(corners: &[u8]) -> Result<Command, Refusal>
         return Err(Refusal::Cell);
     };
     match split_part(rest, b':') {
-        (last, None) => Ok(Command::Rows(read_cell(first)?, read_cell(last)?)),
+        (last, None) => Ok((read_cell(first)?, read_cell(last)?)),
         (_, Some(_)) => Err(Refusal::Cell),
     }
 }

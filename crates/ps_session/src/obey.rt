@@ -4,7 +4,7 @@ ghost use Rattle.std.specs.Arc.{arc_value};
 ghost use Rattle.ps_delta.specs.Deltas.{Entries};
 ghost use Rattle.ps_session.specs.Boards.{BoardAnswers, HandsOn, Obeyed, Tells};
 ghost use Rattle.ps_session.specs.Commands.{Read};
-ghost use Rattle.ps_session.specs.Replies.{done_text, refusal_text, reply_text, rows_text};
+ghost use Rattle.ps_session.specs.Replies.{done_text, entries_reply, refusal_text, reply_text, rows_text};
 
 use crate::board::Board;
 use crate::command::Command;
@@ -52,6 +52,11 @@ fn obey<R: Threads + Sync, B: Board<M>, M>(
             Err(refusal) => Reply::Refused(refusal),
         },
         Command::Rows(first, last) => show_table(alloc, Rect::new(first, last), board),
+        Command::Entry(cell) => match board.entry(alloc, cell) {
+            Ok(entry) => Reply::Entry(entry),
+            Err(refusal) => Reply::Refused(refusal),
+        },
+        Command::Entries(first, last) => list_entries(alloc, Rect::new(first, last), board),
         Command::Pull { from, most } => hand_out(alloc, from, most.unwrap_or(1) as usize, board),
         Command::Push(delta) => take_in(rt, alloc, delta, board, meter),
     }
@@ -64,6 +69,17 @@ fn show_table<B: Board<M>, M>(alloc: Global, rect: Rect, board: &mut B) -> Reply
 {
     match board.table(alloc, rect) {
         Ok(table) => Reply::Rows(rect.height() as u64, table),
+        Err(refusal) => Reply::Refused(refusal),
+    }
+}
+
+/// The entries of a rectangle as a table.
+fn list_entries<B: Board<M>, M>(alloc: Global, rect: Rect, board: &mut B) -> Reply
+    ensures { Tells (λ answer. B.calls.lists board.old rect answer board.new) (entries_reply rect.height)
+        (reply_text result) }
+{
+    match board.entries(alloc, rect) {
+        Ok(table) => Reply::Entries(rect.height() as u64, table),
         Err(refusal) => Reply::Refused(refusal),
     }
 }

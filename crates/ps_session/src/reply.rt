@@ -2,7 +2,7 @@
 ghost use Rattle.std.specs.Prelude.{◌≡◌, ◌<◌, ◌++◌, ◌∷◌, [], OnErr, OnOk, codes, decimal, flat_map};
 ghost use Rattle.ps_device.specs.Device.{Sends};
 ghost use Rattle.ps_value.specs.Shown.{shown_text};
-ghost use Rattle.ps_session.specs.Replies.{reply_text, rows_text};
+ghost use Rattle.ps_session.specs.Replies.{entry_reply, reply_text};
 
 use itoa::Buffer;
 use ps_device::{Failed, Sink, put_all};
@@ -18,6 +18,10 @@ pub enum Reply {
     Shown(Value),
     /// `rows` and how many lines a table has, and then the lines, each with its line feed.
     Rows(u64, Vec<u8>),
+    /// `entry` and what the cell holds.
+    Entry(Vec<u8>),
+    /// `entries` and how many lines a table of entries has, and then the lines, each with its line feed.
+    Entries(u64, Vec<u8>),
     /// `delta`, the version after it and its line.
     Delta(u64, Vec<u8>),
     /// `end` and the version.
@@ -75,7 +79,9 @@ pub fn send<K: Sink>(reply: &Reply, sink: &mut K) -> Result<(), Failed>
     match reply {
         Reply::Done(version) => send_number(b"ok ", *version, sink),
         Reply::Shown(value) => send_shown(*value, sink),
-        Reply::Rows(count, table) => send_rows(*count, table, sink),
+        Reply::Rows(count, table) => send_table(b"rows ", *count, table, sink),
+        Reply::Entry(entry) => send_entry(entry, sink),
+        Reply::Entries(count, table) => send_table(b"entries ", *count, table, sink),
         Reply::Delta(last, line) => send_words(b"delta ", *last, line, sink),
         Reply::End(version) => send_number(b"end ", *version, sink),
         Reply::Refused(refusal) => send_words(
@@ -111,13 +117,24 @@ fn send_words<K: Sink>(word: &[u8], number: u64, text: &[u8], sink: &mut K) -> R
     send_pieces(pieces.as_slice(), sink)
 }
 
-/// Writes how many lines a table has, and the table.
-fn send_rows<K: Sink>(count: u64, table: &[u8], sink: &mut K) -> Result<(), Failed>
-    ensures sent { Sends (K.contents sink.old) (K.contents sink.new) result (rows_text count table.now) }
+/// Writes the entry of a cell.
+fn send_entry<K: Sink>(entry: &[u8], sink: &mut K) -> Result<(), Failed>
+    ensures sent { Sends (K.contents sink.old) (K.contents sink.new) result (entry_reply entry.now) }
+    ensures calm { OnOk result (K.failures sink.new ≡ K.failures sink.old) }
+    ensures failed { OnErr result (K.failures sink.old < K.failures sink.new) }
+{
+    let pieces: [&[u8]; 3] = [b"entry ", entry, b"\n"];
+    send_pieces(pieces.as_slice(), sink)
+}
+
+/// Writes a word with its space, how many lines a table has, and the table.
+fn send_table<K: Sink>(word: &[u8], count: u64, table: &[u8], sink: &mut K) -> Result<(), Failed>
+    ensures sent { Sends (K.contents sink.old) (K.contents sink.new) result
+        (word.now ++ decimal count ++ 10 ∷ table.now) }
     ensures calm { OnOk result (K.failures sink.new ≡ K.failures sink.old) }
     ensures failed { OnErr result (K.failures sink.old < K.failures sink.new) }
 {
     let mut buffer = Buffer::new();
-    let pieces: [&[u8]; 4] = [b"rows ", buffer.format(count).as_bytes(), b"\n", table];
+    let pieces: [&[u8]; 4] = [word, buffer.format(count).as_bytes(), b"\n", table];
     send_pieces(pieces.as_slice(), sink)
 }

@@ -3,7 +3,7 @@ ghost use Rattle.std.specs.Prelude.{◌≡◌, IfErr, IfOk, map};
 ghost use Rattle.std.specs.Arc.{arc_value};
 
 use crate::board::Board;
-use ps_csv::exported_text;
+use ps_csv::{entries_text, entry_of, exported_text};
 use ps_delta::Delta;
 use ps_eval::Meter;
 use ps_grid::{Cell, Rect, Refusal};
@@ -53,6 +53,14 @@ impl<L: Ledger> Board<Meter<L>> for Sheet {
         // the call brings that the sheet is one, so that what it shows is settled
         let _ = self.version();
         exported_text(alloc, self, rect)
+    }
+
+    fn entry(&mut self, alloc: Global, cell: Cell) -> Result<Vec<u8>, Refusal> {
+        entry_of(alloc, self, cell)
+    }
+
+    fn entries(&mut self, alloc: Global, rect: Rect) -> Result<Vec<u8>, Refusal> {
+        entries_text(alloc, self, rect)
     }
 
     fn pull(&mut self, alloc: Global, from: u64, most: usize) -> Result<Vec<Arc<Delta>>, Refusal> {

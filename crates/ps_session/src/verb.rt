@@ -12,6 +12,8 @@ pub(crate) enum Verb {
     Choose,
     Unchoose,
     Rows,
+    Entry,
+    Entries,
     Push,
     Pull,
 }
@@ -36,6 +38,10 @@ impl Verb {
             Some(Verb::Unchoose)
         } else if word == b"rows".as_slice() {
             Some(Verb::Rows)
+        } else if word == b"entry".as_slice() {
+            Some(Verb::Entry)
+        } else if word == b"entries".as_slice() {
+            Some(Verb::Entries)
         } else if word == b"push".as_slice() {
             Some(Verb::Push)
         } else if word == b"pull".as_slice() {

@@ -1,0 +1,94 @@
+//! A rectangle of entries as a table.
+
+ghost use Rattle.std.specs.Prelude.{◌≡◌, ◌⊎◌, ◌<◌, ◌++◌, ℕ, length, take, IfOk, IfErr, OnOk};
+ghost use Rattle.std.specs.Io.KnownBytes.{Appends};
+ghost use Rattle.ps_csv.specs.Exports.{entry_text, exported_entries};
+
+use crate::holds::Holds;
+use crate::rows::{CellText, rows_text};
+use ps_device::{MemorySink, Sink, put_all};
+use ps_grid::{Cell, Rect, Refusal};
+use std::alloc::Global;
+use std::sync::ledger::Ledger;
+
+/// Writes the entries of a rectangle, the canonical texts of what its cells hold: a record for each row, a field for
+/// each cell, each record ended by LF.
+///
+/// `Memory` where memory ran out, and then nothing was written; `Device` where the sink failed, and then a beginning of
+/// the text was written.
+///
+/// Cost: c + b, for c cells of the rectangle and b bytes of the text, which is built in memory before it is written.
+pub fn export_entries<H: Holds, K: Sink>(
+    alloc: Global,
+    holds: &H,
+    rect: Rect,
+    sink: &mut K,
+) -> Result<(), Refusal>
+    ensures written { OnOk result (Appends (K.contents sink.old) (K.contents sink.new)
+        (exported_entries (H.held_at holds.now) rect)) }
+    ensures calm { OnOk result (K.failures sink.new ≡ K.failures sink.old) }
+    ensures device { IfErr result (λ e. e ≡ Refusal.Device → (count : ℕ)
+        × (count < length (exported_entries (H.held_at holds.now) rect))
+        × Appends (K.contents sink.old) (K.contents sink.new)
+        (take count (exported_entries (H.held_at holds.now) rect))) }
+    ensures failed { IfErr result (λ e. e ≡ Refusal.Device → K.failures sink.old < K.failures sink.new) }
+    ensures memory { IfErr result (λ e. e ≡ Refusal.Memory → sink.new ≡ sink.old) }
+    ensures refused { IfErr result (λ e. (e ≡ Refusal.Memory) ⊎ (e ≡ Refusal.Device)) }
+{
+    let text = entries_text(alloc, holds, rect)?;
+    match put_all(sink, &text) {
+        Ok(()) => Ok(()),
+        Err(_) => Err(Refusal::Device),
+    }
+}
+
+/// The text that `export_entries` writes, for a caller that has to have it before it writes anything.
+///
+/// Refused only where memory ran out.
+///
+/// Cost: c + b, for c cells of the rectangle and b bytes of the text, and memory for b bytes.
+pub fn entries_text<H: Holds>(alloc: Global, holds: &H, rect: Rect) -> Result<Vec<u8>, Refusal>
+    ensures text { IfOk result (λ t. t.items ≡ exported_entries (H.held_at holds.now) rect) }
+    ensures memory { IfErr result (λ e. e ≡ Refusal.Memory) }
+{
+    rows_text(alloc, &EntryTexts { holds }, rect)
+}
+
+/// The entry of a cell: the canonical text of what it holds.
+///
+/// Refused only where memory ran out.
+///
+/// Cost: the bytes of the text, and memory for them.
+pub fn entry_of<H: Holds>(alloc: Global, holds: &H, cell: Cell) -> Result<Vec<u8>, Refusal>
+    ensures text { IfOk result (λ t. t.items ≡ entry_text (H.held_at holds.now) cell) }
+    ensures memory { IfErr result (λ e. e ≡ Refusal.Memory) }
+{
+    let mut text = Vec::new(alloc);
+    append_entry(holds, cell, &mut text)?;
+    Ok(text)
+}
+
+/// Appends the entry of a cell.
+fn append_entry<H: Holds>(holds: &H, cell: Cell, text: &mut Vec<u8>) -> Result<(), Refusal>
+    ensures appended { OnOk result (text.new.items ≡ text.old.items ++ entry_text (H.held_at holds.now) cell) }
+    ensures memory { IfErr result (λ e. e ≡ Refusal.Memory) }
+{
+    match holds.held(cell) {
+        Some(content) => content.canonical(text),
+        None => Ok(()),
+    }
+}
+
+/// The entries of cells, as fields of records.
+#[derive(Drop)]
+struct EntryTexts<'a, H: Holds> {
+    holds: &'a H,
+}
+
+impl<H: Holds> CellText for EntryTexts<'_, H> {
+    ghost text_at = { λ s. entry_text (H.held_at s.holds.now) };
+
+    fn put<L: Ledger>(&self, cell: Cell, text: &mut MemorySink<L>) -> Result<(), Refusal> {
+        append_entry(self.holds, cell, &mut text.bytes)
+    }
+}

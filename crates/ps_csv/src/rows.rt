@@ -1,0 +1,127 @@
+//! A rectangle as a table: a record for each row, a field for each cell.
+
+ghost use Rattle.std.specs.Prelude.{◌≡◌, ◌<◌, ◌∷◌, ◌++◌, [], ℕ, List, IfOk, IfErr, OnOk};
+ghost use Rattle.ps_grid.specs.Blanks.{IsBlankOf};
+ghost use Rattle.csv.specs.Records.{fields_of, partial_of};
+ghost use Rattle.csv.specs.Writing.{default_writer, row_text};
+ghost use Rattle.ps_csv.specs.Exports.{CellTexts, row_record, tabled};
+ghost use Rattle.ps_csv.specs.Inside.{HasWritten};
+
+use csv::{ByteRecord, Writer, WriterBuilder};
+use ps_device::MemorySink;
+use ps_grid::{Cell, Rect, Refusal};
+use std::alloc::Global;
+use std::marker::Brand;
+use std::sync::ledger::{Blank, Ledger};
+
+/// Whoever has a text for each cell.
+pub(crate) trait CellText {
+    /// The text of each cell.
+    ghost text_at: { Self → CellTexts };
+
+    /// Puts the text of a cell after what the sink has. Refused only where memory ran out.
+    fn put<L: Ledger>(&self, cell: Cell, text: &mut MemorySink<L>) -> Result<(), Refusal>
+        ensures put { OnOk result (text.new.bytes.items ≡ text.old.bytes.items ++ text_at self.now cell) }
+        ensures memory { IfErr result (λ e. e ≡ Refusal.Memory) };
+}
+
+/// The table of the texts of a rectangle's cells. Refused only where memory ran out.
+pub(crate) fn rows_text<T: CellText>(
+    alloc: Global,
+    texts: &T,
+    rect: Rect,
+) -> Result<Vec<u8>, Refusal>
+    ensures text { IfOk result (λ t. t.items ≡ tabled (T.text_at texts.now) rect) }
+    ensures memory { IfErr result (λ e. e ≡ Refusal.Memory) }
+{
+    text_with::<T, Brand>(Blank::new(1), alloc, texts, rect)
+}
+
+/// The table, with a ledger for the sink that the fields are put into.
+fn text_with<T: CellText, L: Ledger>(
+    blank: Blank,
+    alloc: Global,
+    texts: &T,
+    rect: Rect,
+) -> Result<Vec<u8>, Refusal>
+    requires { IsBlankOf blank L.name L.parts }
+    ensures text { IfOk result (λ t. t.items ≡ tabled (T.text_at texts.now) rect) }
+    ensures memory { IfErr result (λ e. e ≡ Refusal.Memory) }
+{
+    let mut field = MemorySink::<L>::new(alloc, blank);
+    let mut row = ByteRecord::new(alloc);
+    let mut writer = new_writer(alloc);
+    for k in 0..rect.height() {
+        fill(texts, rect, k, &mut field, &mut row)?;
+        put_record(&row, &mut writer)?;
+    }
+    finish(writer)
+}
+
+/// A writer that has written nothing.
+fn new_writer(alloc: Global) -> Writer<Vec<u8>>
+    ensures { HasWritten result [] }
+{
+    WriterBuilder::new().from_writer(Vec::new(alloc))
+}
+
+/// Writes a record.
+fn put_record(row: &ByteRecord, writer: &mut Writer<Vec<u8>>) -> Result<(), Refusal>
+    ensures written { OnOk result ((text : List ℕ) → HasWritten writer.old text
+        → HasWritten writer.new (text ++ row_text default_writer (fields_of row.now))) }
+    ensures memory { IfErr result (λ e. e ≡ Refusal.Memory) }
+{
+    match writer.write_byte_record(row) {
+        Ok(()) => Ok(()),
+        Err(_) => Err(Refusal::Memory),
+    }
+}
+
+/// The text that was written.
+fn finish(writer: Writer<Vec<u8>>) -> Result<Vec<u8>, Refusal>
+    ensures text { IfOk result (λ t. (text : List ℕ) → HasWritten writer text → t.items ≡ text) }
+    ensures memory { IfErr result (λ e. e ≡ Refusal.Memory) }
+{
+    match writer.into_inner() {
+        Ok(text) => Ok(text),
+        Err(_) => Err(Refusal::Memory),
+    }
+}
+
+/// Makes the record of the texts of the k-th row's cells.
+fn fill<T: CellText, L: Ledger>(
+    texts: &T,
+    rect: Rect,
+    k: usize,
+    field: &mut MemorySink<L>,
+    row: &mut ByteRecord,
+) -> Result<(), Refusal>
+    requires { k < rect.height }
+    ensures fields { OnOk result (fields_of row.new ≡ row_record (T.text_at texts.now) rect k) }
+    ensures memory { IfErr result (λ e. e ≡ Refusal.Memory) }
+{
+    row.clear();
+    for j in 0..rect.width() {
+        let cell = rect.at(j, k);
+        push_text(texts, cell, field, row)?;
+    }
+    Ok(())
+}
+
+/// Appends the text of a cell as a field.
+fn push_text<T: CellText, L: Ledger>(
+    texts: &T,
+    cell: Cell,
+    field: &mut MemorySink<L>,
+    row: &mut ByteRecord,
+) -> Result<(), Refusal>
+    requires { partial_of row.old ≡ [] }
+    ensures field { OnOk result (fields_of row.new ≡ fields_of row.old ++ T.text_at texts.now cell ∷ []) }
+    ensures whole { OnOk result (partial_of row.new ≡ []) }
+    ensures memory { IfErr result (λ e. e ≡ Refusal.Memory) }
+{
+    field.bytes.clear();
+    texts.put(cell, field)?;
+    row.push_field(field.bytes.as_slice())?;
+    Ok(())
+}
