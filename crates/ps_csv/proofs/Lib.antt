@@ -1,6 +1,9 @@
 pub mod ApplyLemmas
+pub mod EntriesComeBack
+pub mod EntriesHeld
 pub mod ExportLemmas
 pub mod ExtentLemmas
 pub mod FaultLemmas
+pub mod ReadsWritten
 pub mod RecordLemmas
 pub mod TableLemmas

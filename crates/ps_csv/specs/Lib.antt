@@ -2,4 +2,5 @@ pub mod Exports
 pub mod Faults
 pub mod Imports
 pub mod Inside
+pub mod Laws
 pub mod Records

@@ -112,9 +112,9 @@ one_cell_once [] a b x y = x ∙ sym y
 one_cell_once (cell ∷ []) a b x y = at_cell_once cell a b _ _ x y (λ c p q. p ∙ sym q)
 one_cell_once (cell ∷ second ∷ more) a b x y = x ∙ sym y
 
-cell_once : (question : ℕ → Command) (others : List (List ℕ)) (a b : Read Command) → AsksOfCell question others a
+of_cell_once : (question : ℕ → Command) (others : List (List ℕ)) (a b : Read Command) → AsksOfCell question others a
     → AsksOfCell question others b → a ≡ b
-cell_once question others a b x y =
+of_cell_once question others a b x y =
     x.2 ∙ ap (with_part _) (one_cell_once others x.0 y.0 x.1 y.1) ∙ sym y.2
 
 assigned_once : (c : ℕ) (entry : List ℕ) (a b : Read Command) → Assigns c entry a → Assigns c entry b → IsAmple a
@@ -143,9 +143,9 @@ both_once [] a b x y = x ∙ sym y
 both_once (corners ∷ []) a b x y = corners_once (parts 58 corners) a b x y
 both_once (corners ∷ second ∷ more) a b x y = x ∙ sym y
 
-rectangle_once : (question : ℕ → ℕ → Command) (others : List (List ℕ)) (a b : Read Command)
+of_rectangle_once : (question : ℕ → ℕ → Command) (others : List (List ℕ)) (a b : Read Command)
     → AsksOfRectangle question others a → AsksOfRectangle question others b → a ≡ b
-rectangle_once question others a b x y =
+of_rectangle_once question others a b x y =
     x.2 ∙ ap (with_part _) (both_once others x.0 y.0 x.1 y.1) ∙ sym y.2
 
 delta_refused : (e f : Refusal) → (e ≡ refusals.Delta) ⊎ (e ≡ refusals.Memory)
@@ -185,16 +185,16 @@ pull_once (from ∷ most ∷ third ∷ more) a b x y = x ∙ sym y
 verb_once : (verb : Option Verb) (others : List (List ℕ)) (rest : List ℕ) (a b : Read Command)
     → ReadsVerb verb others rest a → ReadsVerb verb others rest b → IsAmple a → IsAmple b → a ≡ b
 verb_once None others rest a b x y ample_a ample_b = x ∙ sym y
-verb_once (Some Get) others rest a b x y ample_a ample_b = cell_once _ others a b x y
+verb_once (Some Get) others rest a b x y ample_a ample_b = of_cell_once _ others a b x y
 verb_once (Some Set) others rest a b x y ample_a ample_b =
     set_once others (after_word rest) a b x y ample_a ample_b
 verb_once (Some Add) others rest a b x y ample_a ample_b = change_once _ refusals.Amount others a b x y
 verb_once (Some Sub) others rest a b x y ample_a ample_b = change_once _ refusals.Amount others a b x y
 verb_once (Some Choose) others rest a b x y ample_a ample_b = change_once _ refusals.OptionRange others a b x y
 verb_once (Some Unchoose) others rest a b x y ample_a ample_b = change_once _ refusals.OptionRange others a b x y
-verb_once (Some Rows) others rest a b x y ample_a ample_b = rectangle_once _ others a b x y
-verb_once (Some Entry) others rest a b x y ample_a ample_b = cell_once _ others a b x y
-verb_once (Some AllEntries) others rest a b x y ample_a ample_b = rectangle_once _ others a b x y
+verb_once (Some Rows) others rest a b x y ample_a ample_b = of_rectangle_once _ others a b x y
+verb_once (Some Entry) others rest a b x y ample_a ample_b = of_cell_once _ others a b x y
+verb_once (Some AllEntries) others rest a b x y ample_a ample_b = of_rectangle_once _ others a b x y
 verb_once (Some Push) others rest a b x y ample_a ample_b = push_once others rest a b x y ample_a ample_b
 verb_once (Some Pull) others rest a b x y ample_a ample_b = pull_once others a b x y
 

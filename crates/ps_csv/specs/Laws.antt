@@ -1,0 +1,17 @@
+-- LAWS of tables.
+use Rattle.std.specs.Prelude.{◌≡◌, ℕ, ◌<◌, []}
+use Rattle.ps_grid.specs.Rectangle.{Area, cell_within}
+use Rattle.ps_content.specs.Content.{IsContent}
+use Rattle.ps_sheet.specs.Sheet.{SheetView}
+use Rattle.ps_csv.specs.Exports.{Holdings, entry_text, exported_entries, held_in}
+use Rattle.ps_csv.specs.Imports.{ImportsTable}
+use Rattle.ps_csv.specs.Records.{place}
+
+-- LAW: the entries of a rectangle, taken into an empty sheet as a table, are the entries of its cells there, from the
+-- first cell of the grid on
+abbrev pub EntriesComeBack : Type 0
+EntriesComeBack =
+    (held : Holdings) (a : Area) (records fields : ℕ) (old new : SheetView) → ((c : ℕ) → IsContent (held c))
+    → old.history ≡ [] → ImportsTable (exported_entries held a) records fields old new
+    → (j k : ℕ) → j < a.width → k < a.height
+    → entry_text (held_in new.history) (place k j) ≡ entry_text held (cell_within a j k)
