@@ -82,7 +82,7 @@ class Help(ProgramTest):
         self.assert_tells(["--help"], "Usage: sheet <COMMAND>", "run", "table", "serve", "sync")
 
     def test_help_of_run_names_its_options_and_each_line(self):
-        verbs = ["set", "add", "sub", "get", "choose", "unchoose", "rows", "pull", "push"]
+        verbs = ["set", "add", "sub", "get", "choose", "unchoose", "rows", "entry", "entries", "pull", "push"]
         self.assert_tells(["run", "--help"], "Usage: sheet run", "--workers", "--replica", *(f"{it} " for it in verbs))
 
     def test_help_of_table_names_its_option(self):

@@ -91,6 +91,10 @@ fn lines_are_answered(rt: HostRuntime) -> Result<(), Fail> {
             b"set A1 5\nset B1 x,y\nset C2 =[.A1]+1\nrows C2:A1\nrows A1",
             b"ok 1\nok 2\nok 3\nrows 2\n5,\"x,y\",\n,,6\nerr 1 cell\n",
         ),
+        (
+            b"set A1 5\nset B1 x,y\nset C2 =[.A1]+1\nentries C2:A1\nentry C2\nentry A2\nentries A1",
+            b"ok 1\nok 2\nok 3\nentries 2\n5,\"'x,y\",\n,,=[.A1]+1\nentry =[.A1]+1\nentry \nerr 1 cell\n",
+        ),
     ] {
         let mut source = MemorySource::new(text);
         let found = answered::<_, MemorySource, Brand, Brand>(

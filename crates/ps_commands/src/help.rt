@@ -32,6 +32,8 @@ Each line of standard input is a command, and has a reply on standard output:
   choose D1 7           .. with option 7 in it       ok 7
   unchoose D1 7         .. and taken out again       ok 8
   rows A1:B1            a table of what cells show   rows 1, then 5,10
+  entry B1              what was typed into it       entry =[.A1]*2
+  entries A1:B1         a table of what was typed    entries 1, then 5,=[.A1]*2
   pull 0 16             what was done, as one line   delta 8 [[\"A1\", ..
   push [[\"A1\", ..       .. taken in elsewhere        ok 1
 

@@ -167,7 +167,7 @@ SeatHolds h old cell answer new =
 abbrev pub SeatLists : List Entries → PassView → Area → Read (List ℕ) → PassView → Type 0
 SeatLists h old rect answer new =
     (IsHeld h (λ held. entries_reply rect.height (exported_entries held rect)) old
-        (told (entries_reply rect.height) answer) new
+    (told (entries_reply rect.height) answer) new
     ⊎ IsLacking ⊤ old (told (entries_reply rect.height) answer) new)
     × GoesOn old new
 

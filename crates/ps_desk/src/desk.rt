@@ -185,7 +185,13 @@ impl<L: DeskName, W: Wait + Drop> Desk<L, W> {
     /// Refused only when out of memory. It may wait for other calls.
     ///
     /// Cost: the bytes of the entry.
-    pub fn entry<V: Wait>(&self, wait: &V, alloc: Global, pass: &mut Pass<L>, cell: Cell) -> Result<Vec<u8>, Refusal>
+    pub fn entry<V: Wait>(
+        &self,
+        wait: &V,
+        alloc: Global,
+        pass: &mut Pass<L>,
+        cell: Cell,
+    ) -> Result<Vec<u8>, Refusal>
         ensures later { IsPrefix pass.old.list pass.new.list }
         ensures legal { IsLegal L.opening pass.new.list }
         ensures text { IfOk result (λ t. t.items ≡ entry_text (held_in (history_of L.opening pass.new.list)) cell) }
@@ -207,7 +213,13 @@ impl<L: DeskName, W: Wait + Drop> Desk<L, W> {
     /// Refused only when out of memory. It may wait for other calls.
     ///
     /// Cost: the cells of the rectangle and the bytes of the text.
-    pub fn entries<V: Wait>(&self, wait: &V, alloc: Global, pass: &mut Pass<L>, rect: Rect) -> Result<Vec<u8>, Refusal>
+    pub fn entries<V: Wait>(
+        &self,
+        wait: &V,
+        alloc: Global,
+        pass: &mut Pass<L>,
+        rect: Rect,
+    ) -> Result<Vec<u8>, Refusal>
         ensures later { IsPrefix pass.old.list pass.new.list }
         ensures legal { IsLegal L.opening pass.new.list }
         ensures text { IfOk result (λ t. t.items

@@ -17,7 +17,7 @@ use Rattle.ps_sheet.specs.Edits.{assigned, delta_of_edit}
 use Rattle.ps_session.specs.Commands.{AsksOfCell, AsksOfRectangle, AtNumber, Read, ReadsChange, ReadsLine, ReadsPair}
 use Rattle.ps_session.specs.Commands.{ReadsPull, ReadsPush, ReadsSet, ReadsVerb, group_size, verb_of}
 use Rattle.ps_session.specs.EditLines.{HasLine, IsEdit, named_count}
-use Rattle.ps_session.specs.Words.{after_word, first_word, parts, words, whole_number}
+use Rattle.ps_session.specs.Words.{after_word, first_word, words, whole_number}
 use Rattle.ps_session.specs.declared.command.Command.{Command}
 use Rattle.ps_session.specs.declared.command.Command.TheVariants as commands
 use Rattle.ps_session.specs.declared.verb.Verb.{Verb}
