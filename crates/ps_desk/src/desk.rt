@@ -201,7 +201,8 @@ impl<L: DeskName, W: Wait + Drop> Desk<L, W> {
     {
         let mut guard = self.held.lock(wait);
         let held = take_out(wait, guard.take());
-        pass.catch_up(wait, held.front());
+        let front = held.front();
+        pass.catch_up(wait, front);
         let text = entry_of(alloc, &held, cell);
         *guard = Some(held);
         text
@@ -230,7 +231,8 @@ impl<L: DeskName, W: Wait + Drop> Desk<L, W> {
     {
         let mut guard = self.held.lock(wait);
         let held = take_out(wait, guard.take());
-        pass.catch_up(wait, held.front());
+        let front = held.front();
+        pass.catch_up(wait, front);
         let text = entries_text(alloc, &held, rect);
         *guard = Some(held);
         text
