@@ -27,7 +27,6 @@ mod change;
 mod grow;
 mod laws;
 mod levels;
-mod mark;
 mod members;
 mod outside;
 mod region;

@@ -10,7 +10,11 @@ ghost use Rattle.ps_region.specs.Found.{IsFound, has_left, level_cells, level_co
 ghost use Rattle.ps_region.specs.Listed.{listed};
 
 use crate::after::After;
-use crate::mark::mark_parts;
+use crate::change::Change;
+use crate::grow::grow;
+use crate::levels::{first_level, list_held, settle};
+use crate::members::{clear, note_touched};
+use crate::outside::count_outside;
 use ps_grid::{CELLS, Cell, Refusal};
 use ps_index::Index;
 use std::alloc::Global;
@@ -107,22 +111,33 @@ impl Region {
             → IsCyclic (A.refers after.now) c → In cyclic.now c }
         ensures found { IsFound (A.refers after.now) (A.formula after.now) touched.now self.new }
     {
-        mark_parts(
+        let marks: &mut [bool] = &mut self.marks;
+        let fresh: &mut [bool] = &mut self.fresh;
+        let plain: &mut [bool] = &mut self.plain;
+        let left: &mut [u32] = &mut self.left;
+        let level: &mut [u32] = &mut self.level;
+        let sole: &mut [u32] = &mut self.sole;
+        let members = &mut self.members;
+        let order = &mut self.order;
+        let starts = &mut self.starts;
+        clear(marks, fresh, plain, members);
+        note_touched(after, touched, fresh, plain);
+        let change = Change {
             index,
             after,
             touched,
-            cyclic,
-            &mut self.marks,
-            &mut self.fresh,
-            &mut self.plain,
-            &mut self.left,
-            &mut self.level,
-            &mut self.sole,
-            &mut self.members,
-            &mut self.order,
-            &mut self.starts,
-            &mut self.cyclic,
-        );
+            outside: cyclic,
+            fresh,
+            plain,
+        };
+        grow(&change, marks, left, members, sole);
+        count_outside(&change, marks, left);
+        order.clear();
+        first_level(plain, left, level, members, order);
+        starts.clear();
+        settle(&change, marks, sole, left, level, order, starts);
+        self.cyclic.clear();
+        list_held(plain, left, members, &mut self.cyclic);
     }
 
     /// Whether the cell is of the region.

@@ -1,36 +1,101 @@
-use Rattle.std.proofs.Common.{◌≡◌, ℕ, List, Vec, length, sym, ap, ◌∙◌, eqb, not}
+use Rattle.std.proofs.Common.{◌≡◌, ◌≤◌, ℕ, Bool, List, Vec, get_or, arith, length, sym, ap, ◌∙◌, ◌==◌, eqb, not}
 use Rattle.std.specs.List.{list_any}
 use Rattle.std.proofs.lemmas.List.{with_items_is}
 use Rattle.std.specs.Vec.{with_items}
 use Rattle.ps_grid.specs.Chains.{In}
 use Rattle.ps_grid.specs.declared.size.TheConstants.{CELLS}
 use Rattle.ps_grid.proofs.RegionLemmas.{InRegion-touched}
-use Rattle.ps_region.proofs.CountLemmas.{and_true_left}
+use Rattle.ps_region.specs.Inside.Cells.{Marked}
 use Rattle.ps_region.specs.Inside.Counts.{is_in}
+use Rattle.ps_region.specs.Listed.{listed}
+use Rattle.ps_region.proofs.CellListLemmas.{marked_le}
+use Rattle.ps_region.proofs.CountLemmas.{and_true_left}
 use Rattle.ps_region.proofs.FoundLemmas.{is_found}
+use Rattle.ps_region.proofs.GrowthCounts.{counts_by_marks}
+use Rattle.ps_region.proofs.QueueStart.{marks_closed, starting}
+use Rattle.ps_region.proofs.TouchedLemmas.{fresh_known, formula_cells}
 use Rattle.ps_region.proofs.region.Region.mark.Goals as goal
+
+-- there are no more members than cells
+few_members : (marks : List Bool) (members : List ℕ) → Marked marks members → length marks ≡ CELLS
+    → length members ≤ CELLS
+few_members marks members marked long = omega (arith, marked_le marks members marked, long)
 
 -- a table that was lent whole and came back: it has what came back, a place for each cell
 table : {X Z : Type 0} (v : Vec X Z) (lent new : List X) → length new ≡ length lent → length lent ≡ v.len
     → lent ≡ v.items → length v.items ≡ CELLS → ((with_items v new).items ≡ new) × (length new ≡ CELLS)
 table v lent new same whole is size = (with_items_is v new (same ∙ whole), same ∙ (ap length is ∙ size))
 
+pub count_outside-requires-clause-counted : goal.count_outside-requires-clause-counted
+count_outside-requires-clause-counted g c =
+    counts_by_marks (g.A.After.refers c.args.after.now) (g.A.After.formula c.args.after.now) c.grow.new.marks
+    c.grow.new.members.items c.grow.new.left CELLS
+    c.grow.ensures.marked c.grow.ensures.counts
+
+pub first_level-requires-clause-room : goal.first_level-requires-clause-room
+first_level-requires-clause-room g c =
+    let few = few_members c.grow.new.marks c.grow.new.members.items c.grow.ensures.marked
+    (c.grow.auto.marks ∙ (c.clear.auto.marks ∙ (ap length c.deref_mut-marks.ensures.value
+    ∙ c.self.invariant.marks_length))) in
+    rw c.deref.ensures.value (omega (arith, few, c.clear-2.ensures.capacity, c.self.invariant.order_room))
+
+pub settle-requires-clause-closed : goal.settle-requires-clause-closed
+settle-requires-clause-closed g c =
+    marks_closed (g.A.After.refers c.args.after.now) c.args.touched.now c.grow.new.members.items c.grow.new.marks
+    c.grow.ensures.marked
+    c.grow.ensures.sound c.grow.ensures.complete
+
+pub settle-requires-clause-starting : goal.settle-requires-clause-starting
+settle-requires-clause-starting g c =
+    let formula = g.A.After.formula c.args.after.now in
+    let refers = g.A.After.refers c.args.after.now in
+    let members = c.grow.new.members.items in
+    let left = c.count_outside.new.left in
+    let long : length c.grow.new.marks ≡ CELLS =
+    c.grow.auto.marks ∙ (c.clear.auto.marks ∙ (ap length c.deref_mut-marks.ensures.value
+    ∙ c.self.invariant.marks_length)) in
+    let size : length left ≡ CELLS =
+    c.count_outside.auto.left ∙ (c.grow.auto.left ∙ (ap length c.deref_mut-left.ensures.value
+    ∙ c.self.invariant.left_length)) in
+    let same = formula_cells refers formula c.note_touched.new.plain c.args.touched.now members
+    (g.met.A.After.refers_formula c.args.after.now) c.note_touched.ensures.plain c.grow.ensures.sound
+    (λ q. get_or left q 0 == 0) in
+    starting refers formula (is_in c.args.cyclic.now)
+    c.grow.new.marks members left c.first_level.new.level c.first_level.new.order.items CELLS size
+    (g.met.A.After.refers_below c.args.after.now)
+    (g.met.A.After.refers_formula c.args.after.now)
+    (settle-requires-clause-closed g c)
+    c.grow.ensures.marked long
+    c.count_outside.ensures.counts
+    ((rw c.deref.ensures.value at c.first_level.ensures.order) ∙ same)
+    c.first_level.ensures.level
+
+pub list_held-requires-clause-room : goal.list_held-requires-clause-room
+list_held-requires-clause-room g c =
+    let few = few_members c.grow.new.marks c.grow.new.members.items c.grow.ensures.marked
+    (c.grow.auto.marks ∙ (c.clear.auto.marks ∙ (ap length c.deref_mut-marks.ensures.value
+    ∙ c.self.invariant.marks_length))) in
+    rw c.deref-2.ensures.value (omega (arith, few, c.clear-4.ensures.capacity, c.self.invariant.cyclic_room))
+
 pub invariant_of-self : goal.invariant_of-self
 invariant_of-self g c =
-    let marks = table c.self.inside.marks _ _ c.mark_parts.auto.marks
-    c.deref_mut.ensures.len c.deref_mut.ensures.value c.self.invariant.marks_length in
-    let fresh = table c.self.inside.fresh _ _ c.mark_parts.auto.fresh
-    c.deref_mut-2.ensures.len c.deref_mut-2.ensures.value c.self.invariant.fresh_length in
-    let plain = table c.self.inside.plain _ _ c.mark_parts.auto.plain
-    c.deref_mut-3.ensures.len c.deref_mut-3.ensures.value c.self.invariant.plain_length in
-    let left = table c.self.inside.left _ _ c.mark_parts.auto.left
-    c.deref_mut-4.ensures.len c.deref_mut-4.ensures.value c.self.invariant.left_length in
-    let level = table c.self.inside.level _ _ c.mark_parts.auto.level
-    c.deref_mut-5.ensures.len c.deref_mut-5.ensures.value c.self.invariant.level_length in
-    let sole = table c.self.inside.sole _ _ c.mark_parts.auto.sole
-    c.deref_mut-6.ensures.len c.deref_mut-6.ensures.value c.self.invariant.sole_length in
-    let sound : (x : ℕ) → In c.args.touched.now x → In c.mark_parts.new.members.items x =
-    λ x t. c.mark_parts.ensures.complete x
+    let marks = table c.self.inside.marks _ _ (c.grow.auto.marks ∙ c.clear.auto.marks)
+    c.deref_mut-marks.ensures.len c.deref_mut-marks.ensures.value c.self.invariant.marks_length in
+    let fresh = table c.self.inside.fresh _ _ (c.note_touched.auto.fresh ∙ c.clear.auto.fresh)
+    c.deref_mut-fresh.ensures.len c.deref_mut-fresh.ensures.value c.self.invariant.fresh_length in
+    let plain = table c.self.inside.plain _ _ (c.note_touched.auto.plain ∙ c.clear.auto.plain)
+    c.deref_mut-plain.ensures.len c.deref_mut-plain.ensures.value c.self.invariant.plain_length in
+    let left = table c.self.inside.left _ _ (c.settle.auto.left ∙ (c.count_outside.auto.left ∙ c.grow.auto.left))
+    c.deref_mut-left.ensures.len c.deref_mut-left.ensures.value c.self.invariant.left_length in
+    let level = table c.self.inside.level _ _ (c.settle.auto.level ∙ c.first_level.auto.level)
+    c.deref_mut-level.ensures.len c.deref_mut-level.ensures.value c.self.invariant.level_length in
+    let sole = table c.self.inside.sole _ _ c.grow.auto.sole
+    c.deref_mut-sole.ensures.len c.deref_mut-sole.ensures.value c.self.invariant.sole_length in
+    let cyclic = c.list_held.ensures.room in
+    let empty = c.clear-4.ensures.capacity in
+    let room = c.self.invariant.cyclic_room in
+    let sound : (x : ℕ) → In c.args.touched.now x → In c.grow.new.members.items x =
+    λ x t. c.grow.ensures.complete x
     (InRegion-touched (g.A.After.refers c.args.after.now) c.args.touched.now x t) in
     record {
       marks_length = rw marks.0 marks.1;
@@ -39,38 +104,43 @@ invariant_of-self g c =
       left_length = rw left.0 left.1;
       level_length = rw level.0 level.1;
       sole_length = rw sole.0 sole.1;
-      marked = rw marks.0 c.mark_parts.ensures.marked;
-      fresh_members = rw fresh.0 (λ x t. sound x (sym (c.mark_parts.ensures.fresh x) ∙ t));
+      marked = rw marks.0 c.grow.ensures.marked;
+      fresh_members = rw fresh.0 (λ x t. sound x (sym (c.note_touched.ensures.fresh x) ∙ t));
       plain_members = rw plain.0 (λ x t. sound x (and_true_left (list_any (eqb x) c.args.touched.now)
-          (not (g.A.After.formula c.args.after.now x)) (sym (c.mark_parts.ensures.plain x) ∙ t)));
-      members_room = c.mark_parts.ensures.members_room;
-      order_room = c.mark_parts.ensures.order_room;
-      starts_room = c.mark_parts.ensures.starts_room;
-      cyclic_room = c.mark_parts.ensures.cyclic_room;
-      levels = rw level.0 c.mark_parts.ensures.levels;
+          (not (g.A.After.formula c.args.after.now x)) (sym (c.note_touched.ensures.plain x) ∙ t)));
+      members_room = c.grow.ensures.room;
+      order_room = c.settle.ensures.room;
+      starts_room = c.settle.ensures.room_starts;
+      cyclic_room = omega (arith, cyclic, empty, room);
+      levels = rw level.0 c.settle.ensures.levels;
     }
 
 pub returns : goal.returns
 returns g c =
-    let marks = table c.self.inside.marks _ _ c.mark_parts.auto.marks
-    c.deref_mut.ensures.len c.deref_mut.ensures.value c.self.invariant.marks_length in
-    let plain = table c.self.inside.plain _ _ c.mark_parts.auto.plain
-    c.deref_mut-3.ensures.len c.deref_mut-3.ensures.value c.self.invariant.plain_length in
-    let left = table c.self.inside.left _ _ c.mark_parts.auto.left
-    c.deref_mut-4.ensures.len c.deref_mut-4.ensures.value c.self.invariant.left_length in
+    let marks = table c.self.inside.marks _ _ (c.grow.auto.marks ∙ c.clear.auto.marks)
+    c.deref_mut-marks.ensures.len c.deref_mut-marks.ensures.value c.self.invariant.marks_length in
+    let plain = table c.self.inside.plain _ _ (c.note_touched.auto.plain ∙ c.clear.auto.plain)
+    c.deref_mut-plain.ensures.len c.deref_mut-plain.ensures.value c.self.invariant.plain_length in
+    let left = table c.self.inside.left _ _ (c.settle.auto.left ∙ (c.count_outside.auto.left ∙ c.grow.auto.left))
+    c.deref_mut-left.ensures.len c.deref_mut-left.ensures.value c.self.invariant.left_length in
     record {
       found = rw (left.0, plain.0)
           (is_found (g.A.After.refers c.args.after.now) (g.A.After.formula c.args.after.now) (is_in c.args.cyclic.now)
           c.args.touched.now
-          c.mark_parts.new.members.items c.mark_parts.new.marks CELLS
+          c.grow.new.members.items c.grow.new.marks CELLS
           (g.met.A.After.refers_below c.args.after.now)
           (g.met.A.After.below c.args.after.now)
           (g.met.A.After.refers_formula c.args.after.now)
-          c.requires.outside_yes c.requires.outside_no c.mark_parts.ensures.marked marks.1
-          c.mark_parts.ensures.sound c.mark_parts.ensures.complete
-          c.mark_parts.new.left c.mark_parts.new.level c.mark_parts.new.order.items c.mark_parts.new.starts.items
-          c.mark_parts.new.cyclic.items
-          c.mark_parts.new.plain c.mark_parts.ensures.plain
-          c.mark_parts.ensures.ended c.mark_parts.ensures.levels
-          c.mark_parts.ensures.whole c.mark_parts.ensures.cyclic);
+          c.requires.outside_yes c.requires.outside_no c.grow.ensures.marked marks.1
+          c.grow.ensures.sound c.grow.ensures.complete
+          c.settle.new.left c.settle.new.level c.settle.new.order.items c.settle.new.starts.items
+          c.list_held.new.cyclic.items
+          c.note_touched.new.plain c.note_touched.ensures.plain
+          c.settle.ensures.ended c.settle.ensures.levels
+          c.settle.ensures.whole
+          ((rw c.deref-2.ensures.value at c.list_held.ensures.cyclic)
+          ∙ formula_cells (g.A.After.refers c.args.after.now) (g.A.After.formula c.args.after.now)
+          c.note_touched.new.plain c.args.touched.now c.grow.new.members.items
+          (g.met.A.After.refers_formula c.args.after.now) c.note_touched.ensures.plain c.grow.ensures.sound
+          (λ q. not (get_or c.settle.new.left q 0 == 0))));
     }
