@@ -86,7 +86,7 @@ fn stays(grid: &Grid, region: &Region, source: Option<Cell>, touched: &[Cell]) -
     let Some(cell) = source else {
         return false;
     };
-    if sole(touched) != Some(cell) || region.left(cell).is_some() {
+    if sole(touched) != Some(cell) || region.is_formula(cell) {
         return false;
     }
     !holds_formula(grid.at(cell))
