@@ -7,7 +7,7 @@ use Rattle.ps_face.specs.Legal.{history_of, delta_of}
 use Rattle.ps_desk.specs.Passes.{PassView, owned_by}
 use Rattle.ps_desk.specs.Closing.{EndsAt, ListBegins, HistoryBegins}
 
-deltas : (xs ys : List Note) → map delta_of (xs ++ ys) ≡ map delta_of xs ++ map delta_of ys
+pub deltas : (xs ys : List Note) → map delta_of (xs ++ ys) ≡ map delta_of xs ++ map delta_of ys
 deltas [] ys = refl
 deltas (x ∷ xs) ys = ap (λ ds. x.delta ∷ ds) (deltas xs ys)
 

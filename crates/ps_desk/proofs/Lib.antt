@@ -1,4 +1,5 @@
 mod Closes
+mod Locked
 mod Receipted
 mod Noted
 mod Owners

@@ -1,15 +1,72 @@
--- The changes of a patch are those of the change that it tells.
-use Rattle.std.proofs.Common.{◌≡◌, [], ◌∷◌, map, refl, sym, All}
-use Rattle.std.proofs.lemmas.List.Elements.{All-head, All-tail}
+-- The change that is staged in a sheet, and its patch.
+use Rattle.std.proofs.Common.{◌≡◌, ℕ, true, false, List, [], ◌∷◌, map, refl, sym, ap, ◌∙◌, subst, All}
+use Rattle.std.proofs.Common.{Option, Some, None, is_some}
+use Rattle.std.specs.Prelude.{IsSomeAnd, unwrap_or}
+use Rattle.std.specs.List.Sorted.{IsStrictlyIncreasing}
+use Rattle.std.proofs.lemmas.List.Elements.{All-cons, All-nil}
+use Rattle.ps_grid.specs.Chains.{In}
+use Rattle.ps_value.specs.declared.value.Value.{Value}
 use Rattle.ps_eval.specs.Items.{Assignment}
-use Rattle.ps_face.specs.Values.{Changes}
-use Rattle.ps_desk.specs.Patches.{shown_of}
+use Rattle.ps_cells.specs.Changes.{IsChanged, IsChanges}
+use Rattle.ps_sheet.specs.Prepared.{PreparedView, shown_after, shown_before}
+use Rattle.ps_sheet.specs.Staging.{IsStagedAs, IsStaging, IsWorkedOut, StagedView, StagingView, prepared_of}
+use Rattle.ps_face.specs.Legal.{Follows}
+use Rattle.ps_face.specs.declared.patch.Note.{Note}
+use Rattle.ps_face.proofs.Noted.{prepared_follows}
+use Rattle.ps_desk.specs.Patches.{change_in, no_change, note_of, shown_of, staged_in}
 
--- the cells of changes, with what each shows, are the changes
-pub shown_same : (w : Assignment) (changes : Changes) → All (λ e. e.1 ≡ w e.0) changes
-    → map (shown_of w) changes ≡ changes
-shown_same w [] gives = refl
-shown_same w (e ∷ changes) gives =
-    let is = All-head (λ x. x.1 ≡ w x.0) e changes gives in
-    let rest = shown_same w changes (All-tail (λ x. x.1 ≡ w x.0) e changes gives) in
-    λ i. (e.0, sym is i) ∷ rest i
+-- what is said of the change that is there is said of `staged_in`
+pub at_staged : (P : StagedView → Type 0) (o : Option StagedView) → IsSomeAnd o P → P (unwrap_or o no_change)
+at_staged P None h = absurd h
+at_staged P (Some p) h = h
+
+pub is_there : (P : StagedView → Type 0) (o : Option StagedView) → IsSomeAnd o P → is_some o ≡ true
+is_there P None h = absurd h
+is_there P (Some p) h = refl
+
+staged_as : (x : StagingView) (o : Option StagedView) → is_some o ≡ true → IsStagedAs x o
+    → IsWorkedOut (prepared_of x (unwrap_or o no_change))
+staged_as x None there is = absurd (let f : false ≡ true = there in cc)
+staged_as x (Some p) there is = is
+
+pub worked_out : (x : StagingView) → is_some x.staged ≡ true → IsStaging x → IsWorkedOut (change_in x)
+worked_out x there is = staged_as x x.staged there is
+
+-- cells with what they show are the changes of the cells
+firsts_of : (w : Assignment) (cells : List ℕ) → map (λ (e : ℕ × Value). e.0) (map (shown_of w) cells) ≡ cells
+firsts_of w [] = refl
+firsts_of w (c ∷ cells) = ap (λ xs. c ∷ xs) (firsts_of w cells)
+
+values_of : (w : Assignment) (cells : List ℕ) → All (λ (e : ℕ × Value). e.1 ≡ w e.0) (map (shown_of w) cells)
+values_of w [] = All-nil (λ (e : ℕ × Value). e.1 ≡ w e.0)
+values_of w (c ∷ cells) =
+    All-cons (λ (e : ℕ × Value). e.1 ≡ w e.0) (shown_of w c) (map (shown_of w) cells) refl (values_of w cells)
+
+changes_of : (v w : Assignment) (cells : List ℕ) → IsChanged v w cells → IsChanges v w (map (shown_of w) cells)
+changes_of v w cells is =
+    let same = firsts_of w cells in
+    record {
+      ascending = subst IsStrictlyIncreasing (sym same) is.ascending;
+      exact = λ c. (
+        (λ i. (is.exact c).0 (subst (λ xs. In xs c) same i)),
+        (λ ne. subst (λ xs. In xs c) (sym same) ((is.exact c).1 ne)),
+      );
+      values = values_of w cells;
+    }
+
+-- the patch of a fresh change whose cells are listed follows the history of the sheet
+pub staged_follows : (x : StagingView) (seat : ℕ) → IsWorkedOut (change_in x) → (change_in x).fresh ≡ true
+    → IsChanged (shown_before (change_in x)) (shown_after (change_in x)) (staged_in x).changed
+    → Follows x.history (note_of x seat)
+staged_follows x seat is fresh listed =
+    let changes = (note_of x seat).changes in
+    let p : PreparedView = record (change_in x) { changes = changes } in
+    prepared_follows p (note_of x seat) (record {
+      takes = is.takes;
+      fresh = is.fresh;
+      before = is.before;
+      after = is.after;
+      version = is.version;
+      report = is.report;
+      changes = changes_of (shown_before (change_in x)) (shown_after (change_in x)) (staged_in x).changed listed;
+    }) fresh refl refl refl

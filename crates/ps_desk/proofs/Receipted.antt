@@ -1,21 +1,22 @@
 -- What a receipt tells stays told of a list that was seen earlier.
 use Rattle.std.proofs.Common.{◌≡◌, ℕ, ◌+◌, Bool, true, false, List, [], ◌∷◌, ◌++◌, length, refl, sym, ap, ◌∙◌}
-use Rattle.std.proofs.Common.{subst, length-append, Result, Ok, Err}
-use Rattle.std.specs.Prelude.{MatchBool, IfOk, OnErr}
+use Rattle.std.proofs.Common.{subst, length-append, Result, Ok, Err, ⊎_elim}
+use Rattle.std.specs.Prelude.{MatchBool, IfOk, OnErr, OnOk, if◌then◌else◌}
 use Rattle.std.specs.Arc.{arc_value}
 use mathlib.Core.List.{IsPrefix}
 use Rattle.ps_grid.specs.declared.refusal.Refusal.{Refusal}
-use Rattle.ps_delta.specs.State.{State}
-use Rattle.ps_delta.specs.Deltas.{Entries, joined_history}
+use Rattle.ps_delta.specs.State.{State, IsBelow}
+use Rattle.ps_delta.specs.Deltas.{Entries, joined_history, state_of}
 use Rattle.ps_sheet.specs.declared.edit.Change.{Change}
-use Rattle.ps_sheet.specs.Prepared.{IsDeltaOf, IsPrepared, PreparedView}
+use Rattle.ps_sheet.specs.Prepared.{IsDeltaOf, PreparedView, history_after}
+use Rattle.ps_sheet.specs.Staging.{IsWorkedOut}
 use Rattle.ps_face.specs.declared.patch.Note.{Note}
 use Rattle.ps_face.specs.Legal.{history_of}
 use Rattle.ps_face.proofs.Beginnings.{begins_itself, begins_trans}
 use Rattle.ps_face.proofs.Noted.{after_fresh}
 use Rattle.ps_desk.specs.declared.receipt.Receipt.{Receipt}
 use Rattle.ps_desk.specs.Passes.{PassView}
-use Rattle.ps_desk.specs.Patches.{note_of}
+use Rattle.ps_desk.specs.Patches.{IsNoted}
 use Rattle.ps_desk.specs.Receipts.{IsAppended, IsCovered, Tells}
 
 on_both : (b : Bool) (P Q R S : Type 0) → (P → R) → (Q → S) → MatchBool b P Q → MatchBool b R S
@@ -49,39 +50,67 @@ tells_more M N h seen mid now seat r weaker later t =
 
 -- what a fresh receipt tells
 tells_fresh : (h : List Entries) (p : PreparedView) (seen now : List Note) (seat : ℕ) (r : Receipt)
-    → IsPrepared p → p.fresh ≡ true → p.history ≡ history_of h seen → now ≡ seen ++ note_of p seat ∷ []
+    → IsWorkedOut p → p.fresh ≡ true → p.history ≡ history_of h seen → IsNoted p seat seen now
     → r.number ≡ p.report.version → arc_value r.delta ≡ p.delta → r.fresh ≡ true
     → Tells (λ s d. (s ≡ joined_history p.history) × (d ≡ p.delta)) h seen now seat r
-tells_fresh h p seen now seat r is fresh history last number delta new =
+tells_fresh h p seen now seat r is fresh history noted number delta new =
     let Made : State → Entries → Type 0 = λ s d. (s ≡ joined_history p.history) × (d ≡ p.delta) in
     subst (λ b. MatchBool b (IsAppended Made h seen now seat r) (IsCovered Made h now r)) (sym new) (record {
       before = seen;
-      patch = note_of p seat;
-      last = last;
+      patch = noted.patch;
+      last = noted.last;
       later = begins_itself seen;
       number = number ∙ is.version ∙ ap length (after_fresh p p.delta fresh refl)
           ∙ length-append p.history (p.delta ∷ []) ∙ ap (λ (ds : List Entries). length ds + 1) history;
-      numbered = sym number;
-      delta = sym delta;
-      owner = refl;
+      numbered = noted.number ∙ sym number;
+      delta = noted.delta ∙ sym delta;
+      owner = noted.owner;
+      made = (ap joined_history (sym history), delta);
+    })
+
+-- a change that isn't fresh has a delta below the state, and leaves the history
+below_state : (p : PreparedView) → IsWorkedOut p → p.fresh ≡ false → IsBelow (state_of p.delta) (joined_history p.history)
+below_state p is idle =
+    ⊎_elim (λ t. t.0) (λ t. absurd (let f : false ≡ true = sym idle ∙ is.fresh.1 t.0 in cc)) is.takes
+
+pub history_kept : (p : PreparedView) → p.fresh ≡ false → history_after p ≡ p.history
+history_kept p idle = ap (λ b. if b then (p.history ++ p.delta ∷ []) else p.history) idle
+
+-- what another receipt tells
+pub tells_covered : (h : List Entries) (p : PreparedView) (seen : List Note) (seat : ℕ) (r : Receipt)
+    → IsWorkedOut p → p.fresh ≡ false → p.history ≡ history_of h seen → r.number ≡ p.report.version
+    → arc_value r.delta ≡ p.delta → r.fresh ≡ false
+    → Tells (λ s d. (s ≡ joined_history p.history) × (d ≡ p.delta)) h seen seen seat r
+tells_covered h p seen seat r is idle history number delta old =
+    let Made : State → Entries → Type 0 = λ s d. (s ≡ joined_history p.history) × (d ≡ p.delta) in
+    subst (λ b. MatchBool b (IsAppended Made h seen seen seat r) (IsCovered Made h seen r)) (sym old) (record {
+      number = number ∙ is.version ∙ ap length (history_kept p idle) ∙ ap length history;
+      below = subst (λ (z : Entries × List Entries). IsBelow (state_of z.0) (joined_history z.1))
+          (λ i. (sym delta i, history i)) (below_state p is idle);
       made = (ap joined_history (sym history), delta);
     })
 
 -- a change that was appended or given up leaves what was seen a beginning
-pub later_either : (A : Type 0) (res : Result Receipt Refusal) (old new : PassView) (note : Note)
-    → IfOk res (λ _. new.list ≡ old.list ++ note ∷ []) → OnErr res (A × (new ≡ old)) → IsPrefix old.list new.list
-later_either A (Ok r) old new note p k = (note ∷ [], sym p)
-later_either A (Err e) old new note p k =
+pub later_either : (A : Type 0) (p : PreparedView) (seat : ℕ) (res : Result Receipt Refusal) (old new : PassView)
+    → OnOk res (IsNoted p seat old.list new.list) → OnErr res (A × (new ≡ old)) → IsPrefix old.list new.list
+later_either A p seat (Ok r) old new noted k = (noted.patch ∷ [], sym noted.last)
+later_either A p seat (Err e) old new noted k =
     subst (IsPrefix old.list) (sym (ap (λ (q : PassView). q.list) k.1)) (begins_itself old.list)
 
 pub tells_if_fresh : (h : List Entries) (p : PreparedView) (res : Result Receipt Refusal) (seen now : List Note)
-    (seat : ℕ) → IsPrepared p → p.fresh ≡ true → p.history ≡ history_of h seen
-    → IfOk res (λ _. now ≡ seen ++ note_of p seat ∷ [])
+    (seat : ℕ) → IsWorkedOut p → p.fresh ≡ true → p.history ≡ history_of h seen
+    → OnOk res (IsNoted p seat seen now)
     → IfOk res (λ r. (r.number ≡ p.report.version) × (arc_value r.delta ≡ p.delta) × (r.fresh ≡ true))
     → IfOk res (Tells (λ s d. (s ≡ joined_history p.history) × (d ≡ p.delta)) h seen now seat)
-tells_if_fresh h p (Ok r) seen now seat is fresh history last t =
-    tells_fresh h p seen now seat r is fresh history last t.0 t.1 t.2
-tells_if_fresh h p (Err e) seen now seat is fresh history last t = tt
+tells_if_fresh h p (Ok r) seen now seat is fresh history noted t =
+    tells_fresh h p seen now seat r is fresh history noted t.0 t.1 t.2
+tells_if_fresh h p (Err e) seen now seat is fresh history noted t = tt
+
+-- a refusal of a fresh change is of one that isn't below the state
+pub refused_fresh : (res : Result Receipt Refusal) (p : PreparedView) → IsWorkedOut p → p.fresh ≡ true
+    → OnErr res (¬ IsBelow (state_of p.delta) (joined_history p.history))
+refused_fresh (Ok r) p is fresh = tt
+refused_fresh (Err e) p is fresh = is.fresh.0 fresh
 
 -- what a pass that was told of a list has seen begins with what it had seen, and its seat stays
 module _ (list : List Note) (old new : PassView) where

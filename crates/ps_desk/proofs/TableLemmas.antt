@@ -1,18 +1,27 @@
 -- The table of a rectangle, made of the values of all cells in order.
-use Rattle.std.proofs.Common.{◌≡◌, ◌<◌, ℕ, List, [], map, ap, ◌∙◌, arith}
-use Rattle.std.specs.Prelude.{slice_index_or}
+use Rattle.std.proofs.Common.{◌≡◌, ◌+◌, ◌<◌, ℕ, List, [], map, ap, ◌∙◌, arith, inl, inr, Result, Ok, Err}
+use Rattle.std.specs.Global.{Vec}
+use Rattle.std.specs.Prelude.{IfErr, IfOk, slice_index_or}
 use Rattle.std.specs.List.{range_with_len}
 use Rattle.std.proofs.lemmas.List.FromFn.{fill_by_all, get_or-map-range_with_len}
 use Rattle.std.proofs.lemmas.List.FromFn.{length-map-range_with_len}
+use Rattle.ps_grid.specs.declared.refusal.Refusal.{Refusal}
+use Rattle.ps_grid.specs.declared.refusal.Refusal.TheVariants.{Memory}
 use Rattle.ps_grid.specs.declared.size.TheConstants.{CELLS}
 use Rattle.ps_grid.specs.Rectangle.{Area, LiesInGrid, cell_within}
 use Rattle.ps_value.specs.Shown.{shown_text}
 use Rattle.ps_value.specs.declared.value.Value.{Value}
 use Rattle.ps_value.specs.declared.value.Value.TheVariants.{Empty}
 use Rattle.ps_eval.specs.Items.{Assignment}
+use Rattle.ps_delta.specs.Deltas.{Entries}
 use Rattle.ps_csv.specs.Exports.{exported, row_record, row_records, table_text}
+use Rattle.ps_face.specs.Legal.{IsLegal, Shows, history_of}
 use Rattle.ps_face.specs.Values.{in_order}
 use Rattle.ps_face.proofs.Orders.{get-listed}
+use Rattle.ps_session.specs.Commands.{with_part}
+use Rattle.ps_session.specs.Replies.{refusal_text, rows_text}
+use Rattle.ps_desk.specs.Passes.{PassView}
+use Rattle.ps_desk.specs.Seats.{Tabled}
 
 -- functions that agree below n give one list
 map_same : {X : Type 0} (f g : ℕ → List X) (n : ℕ) → ((k : ℕ) → k < n → f k ≡ g k)
@@ -43,3 +52,20 @@ pub table_of_values : (v : Assignment) (values : List Value) (a : Area) → Lies
 table_of_values v values a inside is =
     exported_same (λ c. slice_index_or values c Empty) v a inside
     (λ c below. ap (λ (vs : List Value). slice_index_or vs c Empty) is ∙ get-listed v CELLS c Empty below)
+
+-- what a look that makes a table comes to, where the list is `new.list` and these are the values in order
+pub tabled : (h : List Entries) (old new : PassView) (a : Area) (values : List Value) (made : Result (Vec ℕ) Refusal)
+    → LiesInGrid a → IsLegal h new.list → Shows (history_of h new.list) values
+    → IfOk made (λ t. t.items ≡ exported (λ c. slice_index_or values c Empty) a) → IfErr made (λ e. e ≡ Memory)
+    → new.appended ≡ old.appended → new.enters ≡ old.enters + 1 → Tabled h old a (with_part (λ text. text.items) made) new
+tabled h old new a values (Ok t) inside legal shows text memory counted entered =
+    inl (inl (record {
+      legal = legal;
+      values = shows.0;
+      settled = shows.1;
+      told = ap (rows_text a.height) (text ∙ table_of_values shows.0 values a inside shows.2);
+      counted = counted;
+      entered = entered;
+    }))
+tabled h old new a values (Err e) inside legal shows text memory counted entered =
+    inr (record { some = tt; told = ap refusal_text memory; counted = counted })

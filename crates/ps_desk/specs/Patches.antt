@@ -1,14 +1,57 @@
--- The patch of a prepared change.
-use Rattle.std.specs.Prelude.{ℕ}
+-- The change that is staged in a sheet, and its patch.
+use Rattle.std.specs.Prelude.{◌≡◌, ℕ, true, false, List, [], ◌∷◌, ◌++◌, is_some, map, unwrap_or}
 use Rattle.ps_value.specs.declared.value.Value.{Value}
 use Rattle.ps_eval.specs.Items.{Assignment}
+use Rattle.ps_shown.specs.Shown.{shown_at}
 use Rattle.ps_sheet.specs.Prepared.{PreparedView}
+use Rattle.ps_sheet.specs.Staging.{StagedView, StagingView, prepared_of}
 use Rattle.ps_face.specs.declared.patch.Note.{Note}
 
--- the patch of a fresh change that the call of a seat made
-abbrev pub note_of : PreparedView → ℕ → Note
-note_of p seat = record { number = p.report.version; delta = p.delta; changes = p.changes; owner = seat }
+-- a change of nothing
+abbrev pub no_change : StagedView
+no_change = record {
+  delta = [];
+  fresh = false;
+  olds = [];
+  changed = [];
+  changes = [];
+  report = record { version = 0; evaluated = 0; cyclic = 0; levels = 0 };
+}
 
--- the cell of a change with what it shows
-abbrev pub shown_of : Assignment → ℕ × Value → ℕ × Value
-shown_of v e = (e.0, v e.0)
+-- what is staged in a sheet; where nothing is, a change of nothing
+abbrev pub staged_in : StagingView → StagedView
+staged_in x = unwrap_or x.staged no_change
+
+-- .. with the sheet before it and after it
+abbrev pub change_in : StagingView → PreparedView
+change_in x = prepared_of x (staged_in x)
+
+-- a cell with what it shows
+abbrev pub shown_of : Assignment → ℕ → ℕ × Value
+shown_of v c = (c, v c)
+
+-- the patch of the change that is staged, with the cells that are listed, made by the call of a seat
+abbrev pub note_of : StagingView → ℕ → Note
+note_of x seat = record {
+  number = (staged_in x).report.version;
+  delta = (staged_in x).delta;
+  changes = map (shown_of (shown_at x.shown)) (staged_in x).changed;
+  owner = seat;
+}
+
+-- in y the same change is staged as in x, over the same history
+pub record KeepsChange (x y : StagingView) : Type 0 where
+  pub staged : is_some y.staged ≡ true
+  pub replica : y.replica ≡ x.replica
+  pub history : y.history ≡ x.history
+  pub delta : (staged_in y).delta ≡ (staged_in x).delta
+  pub fresh : (staged_in y).fresh ≡ (staged_in x).fresh
+  pub report : (staged_in y).report ≡ (staged_in x).report
+
+-- NOTED: the list `now` is `seen` with one patch more, which is of the change and of the call of a seat
+pub record IsNoted (p : PreparedView) (seat : ℕ) (seen now : List Note) : Type 0 where
+  pub patch : Note
+  pub last : now ≡ seen ++ patch ∷ []
+  pub number : patch.number ≡ p.report.version
+  pub delta : patch.delta ≡ p.delta
+  pub owner : patch.owner ≡ seat

@@ -6,7 +6,6 @@ ghost use Rattle.ps_face.specs.Legal.{IsLegal};
 ghost use Rattle.ps_desk.specs.Closing.{EndsAt, HistoryBegins, IsClosed, appended_of};
 
 use crate::desk::Desk;
-use crate::held::Held;
 use crate::name::DeskName;
 use crate::pass::Pass;
 use ps_face::Front;
@@ -30,23 +29,9 @@ impl<L: DeskName, W: Wait + Drop> Desk<L, W> {
         ensures one { IsClosed L.opening result.history passes.items }
         ensures sheet { IsSheet result }
     {
-        let held = take_out(wait, self.into_held());
-        let mut all = gather(wait, held.front(), passes);
-        held.end(&mut all)
-    }
-}
-
-/// What lay under the lock. It is out only while a call is under way.
-pub(crate) fn take_out<L: DeskName, W: Wait + Drop, V: Wait>(
-    wait: &V,
-    slot: Option<Held<L, W>>,
-) -> Held<L, W> {
-    match slot {
-        Some(held) => held,
-        None => {
-            for _ in wait.forever() {}
-            unreachable!()
-        }
+        let state = self.into_state();
+        let mut all = gather(wait, state.front(), passes);
+        state.end(&mut all)
     }
 }
 

@@ -3,11 +3,11 @@
 //! The search for this finds no proof over the whole desk at once, so its parts are taken one after another.
 ghost use denote.Param.Send.{IsSend, IsSync};
 ghost use Rattle.ps_desk.specs.contracts.desk.Desk as desk;
-ghost use Rattle.ps_desk.specs.contracts.held.Held as held;
+ghost use Rattle.ps_desk.specs.contracts.state.DeskState as state;
 
 use crate::name::DeskName;
 use ps_face::writer_crosses;
-use ps_sheet::sheet_crosses;
+use ps_sheet::staging_crosses;
 use std::sync::Wait;
 use std::sync::ledger::Book;
 
@@ -17,11 +17,11 @@ fn goes<T: Send>()
 {}
 
 /// What lies under the lock of a desk may go to another thread.
-fn held_crosses<L: DeskName, W: Wait + Drop + Send>()
-    ensures { IsSend (held.the_row L.row W.row (record { replica = L.replica })
+fn state_crosses<L: DeskName, W: Wait + Drop + Send>()
+    ensures { IsSend (state.the_row L.row W.row (record { replica = L.replica })
         (record { book = L.book; opening = L.opening }) L.Ledger) }
 {
-    sheet_crosses();
+    staging_crosses();
     writer_crosses::<L, W>();
     goes::<Book<L>>();
 }
@@ -33,5 +33,5 @@ pub fn desk_crosses<L: DeskName, W: Wait + Drop + Send>()
     ensures { IsSync (desk.the_row L.row W.row (record { replica = L.replica })
         (record { book = L.book; opening = L.opening }) L.Ledger) }
 {
-    held_crosses::<L, W>();
+    state_crosses::<L, W>();
 }

@@ -13,12 +13,10 @@ ghost use Rattle.ps_csv.specs.Exports.{entry_text, exported_entries, held_in};
 ghost use Rattle.ps_face.specs.Legal.{IsLegal, history_of};
 ghost use Rattle.ps_desk.specs.Receipts.{IsAppended, Tells};
 
-use crate::close::take_out;
-use crate::held::Held;
 use crate::name::DeskName;
 use crate::pass::Pass;
 use crate::receipt::Receipt;
-use ps_csv::{entries_text, entry_of};
+use crate::state::DeskState;
 use ps_delta::Delta;
 use ps_eval::Meter;
 use ps_grid::{Cell, Rect, Refusal};
@@ -32,8 +30,7 @@ use std::thread::Threads;
 /// A sheet that several sessions share, each by its pass. A contract sees it as the number of its seats.
 #[derive(Drop)]
 pub struct Desk<L: DeskName, W: Wait + Drop> {
-    /// empty only while a call is under way
-    held: Mutex<Option<Held<L, W>>>,
+    state: Mutex<DeskState<L, W>>,
     seats: usize,
 }
 
@@ -49,24 +46,24 @@ impl<L: DeskName, W: Wait + Drop> Model for Desk<L, W> {
 
 impl<L: DeskName, W: Wait + Drop> Desk<L, W> {
     /// A desk of what is to lie under its lock.
-    pub(crate) fn new(held: Held<L, W>, seats: usize) -> Desk<L, W>
+    pub(crate) fn new(state: DeskState<L, W>, seats: usize) -> Desk<L, W>
         requires parts { seats ≡ L.parts }
         requires some { 1 ≤ seats }
         ensures { result ≡ seats }
     {
         Desk {
-            held: Mutex::new(Some(held)),
+            state: Mutex::new(state),
             seats,
         }
     }
 
     /// What lies under the lock.
-    pub(crate) fn into_held(self) -> Option<Held<L, W>>
+    pub(crate) fn into_state(self) -> DeskState<L, W>
         ensures parts { self ≡ L.parts }
         ensures some { 1 ≤ self }
     {
-        let Desk { held, seats: _ } = self;
-        held.into_inner()
+        let Desk { state, seats: _ } = self;
+        state.into_inner()
     }
 
     /// For how many sessions the desk is.
@@ -172,12 +169,9 @@ impl<L: DeskName, W: Wait + Drop> Desk<L, W> {
         ensures same { (pass.new.appended ≡ pass.old.appended) × (pass.new.seat ≡ pass.old.seat)
             × (pass.new.enters ≡ pass.old.enters) }
     {
-        let mut guard = self.held.lock(wait);
-        let held = take_out(wait, guard.take());
-        pass.catch_up(wait, held.front());
-        let deltas = held.deltas_after(alloc, from, at_most);
-        *guard = Some(held);
-        deltas
+        let state = self.state.lock(wait);
+        pass.catch_up(wait, state.front());
+        state.deltas_after(alloc, from, at_most)
     }
 
     /// What a cell holds: its entry. The pass has then seen all that is published.
@@ -199,13 +193,10 @@ impl<L: DeskName, W: Wait + Drop> Desk<L, W> {
         ensures same { (pass.new.appended ≡ pass.old.appended) × (pass.new.seat ≡ pass.old.seat)
             × (pass.new.enters ≡ pass.old.enters) }
     {
-        let mut guard = self.held.lock(wait);
-        let held = take_out(wait, guard.take());
-        let front = held.front();
+        let state = self.state.lock(wait);
+        let front = state.front();
         pass.catch_up(wait, front);
-        let text = entry_of(alloc, &held, cell);
-        *guard = Some(held);
-        text
+        state.entry(alloc, cell)
     }
 
     /// What the cells of a rectangle hold: their entries, as the text of a table. The pass has then seen all that is
@@ -229,13 +220,10 @@ impl<L: DeskName, W: Wait + Drop> Desk<L, W> {
         ensures same { (pass.new.appended ≡ pass.old.appended) × (pass.new.seat ≡ pass.old.seat)
             × (pass.new.enters ≡ pass.old.enters) }
     {
-        let mut guard = self.held.lock(wait);
-        let held = take_out(wait, guard.take());
-        let front = held.front();
+        let state = self.state.lock(wait);
+        let front = state.front();
         pass.catch_up(wait, front);
-        let text = entries_text(alloc, &held, rect);
-        *guard = Some(held);
-        text
+        state.entries(alloc, rect)
     }
 
     /// Makes a change under the lock.
@@ -261,10 +249,8 @@ impl<L: DeskName, W: Wait + Drop> Desk<L, W> {
         ensures uncounted { OnErr result (pass.new.appended ≡ pass.old.appended) }
         ensures seat { (pass.new.seat ≡ pass.old.seat) × (pass.new.enters ≡ pass.old.enters) }
     {
-        let mut guard = self.held.lock(wait);
-        let held = take_out(wait, guard.take());
-        let (held, answer) = held.make(rt, wait, alloc, pass, change, meter);
-        *guard = Some(held);
-        answer
+        self.state
+            .lock(wait)
+            .make(rt, wait, alloc, pass, change, meter)
     }
 }

@@ -30,13 +30,14 @@
 //! one. On a seat with this pass the line `set A1 5` is answered `ok 5`.
 //!
 //! Cost: a change costs what preparing it does, and twice the cells that show another value. A read of one cell is
-//! constant, and a pull costs what it hands out. The line `rows` looks at all cells of the grid.
+//! constant, and a pull costs what it hands out. The line `rows` costs the
+//! cells of its rectangle.
 #![tactic(auto)]
 
+mod change;
 mod close;
 mod crossing;
 mod desk;
-mod held;
 mod laws;
 mod name;
 mod open;
@@ -46,7 +47,7 @@ mod patch;
 mod receipt;
 mod seat;
 mod shot;
-mod table;
+mod state;
 
 pub use crossing::desk_crosses;
 pub use desk::Desk;

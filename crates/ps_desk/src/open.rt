@@ -7,10 +7,10 @@ ghost use Rattle.ps_face.specs.Rules.{newcomer};
 ghost use Rattle.ps_desk.specs.Opening.{IsNamed, new_passes};
 
 use crate::desk::Desk;
-use crate::held::Held;
 use crate::name::DeskName;
 use crate::parts::Parts;
 use crate::pass::Pass;
+use crate::state::DeskState;
 use ps_face::{FaceReader, FaceWriter, Opened};
 use ps_grid::Refusal;
 use ps_sheet::Sheet;
@@ -44,7 +44,10 @@ impl<L: DeskName, W: Wait + Drop> Desk<L, W> {
         } = parts;
         let (book, all) = blank.open::<L>();
         match open_copies(keep, alloc, opened, &sheet, all, seats) {
-            Ok((copies, passes)) => Ok((Desk::new(Held::new(sheet, copies, book), seats), passes)),
+            Ok((copies, passes)) => {
+                let state = DeskState::new(sheet, copies, book);
+                Ok((Desk::new(state, seats), passes))
+            }
             Err(refusal) => Err((sheet, refusal)),
         }
     }

@@ -2,16 +2,21 @@
 
 ghost use Rattle.std.specs.Prelude.{◌≡◌, ◌+◌, ◌<◌, ◌≤◌, ◌^◌, length, IfNone, IfSome};
 ghost use mathlib.Core.List.{IsPrefix};
+ghost use Rattle.ps_grid.specs.Rectangle.{LiesInGrid};
 ghost use Rattle.ps_grid.specs.declared.size.TheConstants.{CELLS};
 ghost use Rattle.ps_face.specs.Legal.{IsLegal, Shows, history_of};
+ghost use Rattle.ps_session.specs.Commands.{with_part};
 ghost use Rattle.ps_desk.specs.Closing.{EndsAt};
 ghost use Rattle.ps_desk.specs.Passes.{IsShown, owned_by};
+ghost use Rattle.ps_desk.specs.Seats.{GoesOn, Tabled};
 
 use crate::name::DeskName;
 use crate::shot::Shot;
+use ps_csv::exported_text;
 use ps_face::{FaceReader, Front, Seen};
-use ps_grid::Cell;
+use ps_grid::{Cell, Rect, Refusal};
 use ps_value::Value;
+use std::alloc::Global;
 use std::marker::Model;
 use std::sync::Wait;
 use std::sync::ledger::{Book, Share};
@@ -132,6 +137,29 @@ impl<L: DeskName> Pass<L> {
             Err(reader) => {
                 self.reader = Some(reader);
                 None
+            }
+        }
+    }
+
+    /// What the cells of a rectangle show now, as a table, by one look at the published copies.
+    ///
+    /// Refused where the desk is gone, and when out of memory.
+    ///
+    /// Cost: the cells of the rectangle, and the bytes of the table; no lock and no wait.
+    pub(crate) fn table(&mut self, alloc: Global, rect: Rect) -> Result<Vec<u8>, Refusal>
+        requires in_grid { LiesInGrid rect }
+        ensures shown { Tabled L.opening self.old rect (with_part (λ text. text.items) result) self.new }
+        ensures goes_on { GoesOn self.old self.new }
+    {
+        match self.reader.take().unwrap().enter() {
+            Ok(seen) => {
+                let table = exported_text(alloc, &seen, rect);
+                self.reader = Some(seen.leave());
+                table
+            }
+            Err(reader) => {
+                self.reader = Some(reader);
+                Err(Refusal::Seat)
             }
         }
     }

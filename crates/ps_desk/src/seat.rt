@@ -1,18 +1,13 @@
 //! A session at a desk.
 
 ghost use Rattle.std.specs.Prelude.{◌≡◌};
-ghost use Rattle.ps_grid.specs.Rectangle.{LiesInGrid};
-ghost use Rattle.ps_session.specs.Commands.{with_part};
-ghost use Rattle.ps_desk.specs.Seats.{GoesOn, Tabled};
 
 use crate::desk::Desk;
 use crate::name::DeskName;
 use crate::pass::Pass;
-use crate::table::AllShown;
-use ps_csv::exported_text;
 use ps_delta::Delta;
 use ps_eval::Meter;
-use ps_grid::{CELLS, Cell, Rect, Refusal};
+use ps_grid::{Cell, Rect, Refusal};
 use ps_session::Board;
 use ps_sheet::Edit;
 use ps_value::Value;
@@ -111,7 +106,7 @@ impl<L: DeskName, W: Wait + Drop, V: Wait, M: Ledger> Board<Meter<M>> for Seat<'
     fn table(&mut self, alloc: Global, rect: Rect) -> Result<Vec<u8>, Refusal> {
         // for the fact that it lies in the grid
         let _ = rect.area();
-        self.table_of(alloc, rect)
+        self.pass.table(alloc, rect)
     }
 
     fn entry(&mut self, alloc: Global, cell: Cell) -> Result<Vec<u8>, Refusal> {
@@ -124,26 +119,5 @@ impl<L: DeskName, W: Wait + Drop, V: Wait, M: Ledger> Board<Meter<M>> for Seat<'
 
     fn pull(&mut self, alloc: Global, from: u64, most: usize) -> Result<Vec<Arc<Delta>>, Refusal> {
         self.desk.pull(self.wait, alloc, &mut self.pass, from, most)
-    }
-}
-
-impl<L: DeskName, W: Wait + Drop, V: Wait> Seat<'_, L, W, V> {
-    /// The shown values of a rectangle as a table, by one look at all cells.
-    fn table_of(&mut self, alloc: Global, rect: Rect) -> Result<Vec<u8>, Refusal>
-        requires in_grid { LiesInGrid rect }
-        ensures shown { Tabled L.opening self.old rect (with_part (λ text. text.items) result) self.new }
-        ensures goes_on { GoesOn self.old self.new }
-    {
-        let mut values = match vec![in alloc; Value::Empty; CELLS] {
-            Ok(values) => values,
-            Err(_) => return Err(Refusal::Memory),
-        };
-        let Some(_) = self.pass.read_all(&mut values) else {
-            return Err(Refusal::Seat);
-        };
-        match exported_text(alloc, &AllShown::new(values), rect) {
-            Ok(table) => Ok(table),
-            Err(refusal) => Err(refusal),
-        }
     }
 }

@@ -11,8 +11,9 @@ use crate::front::Front;
 use crate::name::Named;
 use crate::rule::{Enter, Law, View};
 use left_right::reader::{Reader, Reading};
+use ps_eval::Look;
 use ps_grid::Cell;
-use ps_value::Value;
+use ps_value::{Operand, Value};
 use std::marker::Model;
 
 /// A reader that isn't reading. A contract sees it as the list that it has seen, and how often it has entered.
@@ -167,5 +168,20 @@ impl<L: Named> Seen<L> {
             reader: reading.leave(),
             front,
         }
+    }
+}
+
+impl<L: Named> Look for Seen<L> {
+    ghost use Rattle.std.specs.Prelude.{slice_index_or};
+    ghost use Rattle.ps_value.specs.declared.value.Value.TheVariants.{Empty};
+
+    ghost value_at = { λ s c. slice_index_or s.values c Empty };
+
+    fn at(&self, cell: Cell) -> Value {
+        self.reading.get().at(cell)
+    }
+
+    fn operand(&self, cell: Cell) -> Operand {
+        self.reading.get().at(cell).operand()
     }
 }

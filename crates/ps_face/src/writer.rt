@@ -1,7 +1,7 @@
 //! The one writer of the copies.
 
-ghost use Rattle.std.specs.Prelude.{◌≡◌, ◌⊎◌, ◌+◌, ◌<◌, ◌≤◌, ◌++◌, ◌∷◌, [], All, IfOk, IfErr, MatchResult, drop, fold};
-ghost use Rattle.std.specs.Prelude.{length, vec_len};
+ghost use Rattle.std.specs.Prelude.{◌≡◌, ◌⊎◌, ◌+◌, ◌<◌, ◌≤◌, ◌++◌, ◌∷◌, [], All, IfOk, IfErr, MatchResult, OnOk, OnErr};
+ghost use Rattle.std.specs.Prelude.{drop, fold, length, vec_len};
 ghost use Rattle.ps_grid.specs.declared.parties.TheConstants.{SEATS as MOST};
 ghost use Rattle.ps_grid.specs.declared.refusal.Refusal.TheVariants.{Memory, Seat};
 ghost use Rattle.ps_delta.specs.State.{IsInGrid};
@@ -19,10 +19,11 @@ use crate::name::Named;
 use crate::patch::Patch;
 use crate::reader::FaceReader;
 use crate::rule::{Law, Publish, View};
+use core::mem::replace_with;
 use left_right::writer::Writer;
 use ps_grid::Refusal;
 use ps_shown::Shown;
-use std::alloc::Global;
+use std::alloc::{AllocError, Global};
 use std::marker::Model;
 use std::sync::Wait;
 
@@ -118,31 +119,24 @@ impl<L: Named, R: Wait + Drop> FaceWriter<L, R> {
     /// published before the last patch.
     ///
     /// Cost: twice the changes of the patch; no memory.
-    pub fn publish(self) -> FaceWriter<L, R>
-        requires one { length self.pending ≡ 1 }
-        ensures { result ≡ record { list = self.list ++ self.pending; pending = [] } }
+    pub fn publish(&mut self)
+        requires one { length self.old.pending ≡ 1 }
+        ensures { self.new ≡ record { list = self.old.list ++ self.old.pending; pending = [] } }
     {
         let FaceWriter {
             copies,
             head,
             front,
-            mut staged,
+            staged,
             rt,
         } = self;
         let patch = staged.pop().unwrap();
         // for the fact that its cells are in the grid
         let _ = patch.delta();
-        let front = add_to(&rt, &head, front, &patch);
+        add_to(rt, head, front, &patch);
         let operation = Operation::new(patch, front.again());
-        let copies = hand_over(&rt, copies, operation);
-        let copies = show(&rt, copies);
-        FaceWriter {
-            copies,
-            head,
-            front,
-            staged,
-            rt,
-        }
+        hand_over(rt, copies, operation);
+        show(rt, copies);
     }
 
     /// The published list.
@@ -196,7 +190,8 @@ fn open_copies<L: Named, R: Wait>(
         copies.take(rt);
         return Err(Refusal::Memory);
     }
-    Ok(show(rt, copies))
+    show(rt, &mut copies);
+    Ok(copies)
 }
 
 /// Makes so many readers.
@@ -222,28 +217,28 @@ fn make_readers<L: Named>(
 }
 
 /// Adds the patch to the book, of which this is the one writer.
-fn add_to<R: Wait>(rt: &R, head: &Head, mut front: Front, patch: &Patch) -> Front
-    requires book { head.now ≡ front.book }
-    ensures { result ≡ record front { list = front.list ++ patch.now ∷ [] } }
+fn add_to<R: Wait>(rt: &R, head: &Head, front: &mut Front, patch: &Patch)
+    requires book { head.now ≡ front.old.book }
+    ensures { front.new ≡ record front.old { list = front.old.list ++ patch.now ∷ [] } }
 {
     for _ in rt.forever() {
         if front.add(head, patch) {
-            return front;
+            return;
         }
     }
     unreachable!()
 }
 
 /// Hands the operation to the copies. Their queue has had room since they were made.
-fn hand_over<L: Named, R: Wait>(rt: &R, mut copies: Copies<L>, operation: Operation) -> Copies<L>
-    requires queue { drop copies.behind copies.log.items ≡ [] }
-    ensures queue { drop result.behind result.log.items ≡ operation ∷ [] }
-    ensures desk { result.desk ≡ copies.desk }
+fn hand_over<L: Named, R: Wait>(rt: &R, copies: &mut Copies<L>, operation: Operation)
+    requires queue { drop copies.old.behind copies.old.log.items ≡ [] }
+    ensures queue { drop copies.new.behind copies.new.log.items ≡ operation ∷ [] }
+    ensures desk { copies.new.desk ≡ copies.old.desk }
 {
     let mut operation = operation;
     for _ in rt.forever() {
         match copies.append(operation) {
-            Ok(()) => return copies,
+            Ok(()) => return,
             Err(back) => operation = back,
         }
     }
@@ -251,19 +246,29 @@ fn hand_over<L: Named, R: Wait>(rt: &R, mut copies: Copies<L>, operation: Operat
 }
 
 /// Shows readers a copy that has taken in all. It tries again where a text has as many owners as can be counted.
-fn show<L: Named, R: Wait>(rt: &R, mut copies: Copies<L>) -> Copies<L>
-    requires { MayShow L.opening L.book copies.desk.shown.value (drop copies.behind copies.log.items) }
-    ensures shown { result.desk.shown.value
-        ≡ fold turned copies.desk.shown.value (drop copies.behind copies.log.items) }
-    ensures stands { Stands L.opening L.book result.desk.shown.value }
-    ensures queue { drop result.behind result.log.items ≡ [] }
+fn show<L: Named, R: Wait>(rt: &R, copies: &mut Copies<L>)
+    requires { MayShow L.opening L.book copies.old.desk.shown.value (drop copies.old.behind copies.old.log.items) }
+    ensures shown { copies.new.desk.shown.value
+        ≡ fold turned copies.old.desk.shown.value (drop copies.old.behind copies.old.log.items) }
+    ensures stands { Stands L.opening L.book copies.new.desk.shown.value }
+    ensures queue { drop copies.new.behind copies.new.log.items ≡ [] }
 {
     for _ in rt.forever() {
-        let (next, answer) = copies.publish_as::<Publish, R>(rt);
-        copies = next;
-        if answer.is_ok() {
-            return copies;
+        if replace_with(copies, rt, show_once::<L, R>).is_ok() {
+            return;
         }
     }
     unreachable!()
+}
+
+/// Shows readers a copy that has taken in all, or nothing new where a text has as many owners as can be counted.
+fn show_once<L: Named, R: Wait>(copies: Copies<L>, rt: &R) -> (Copies<L>, Result<(), AllocError>)
+    requires { MayShow L.opening L.book copies.desk.shown.value (drop copies.behind copies.log.items) }
+    ensures shown { OnOk result.1 (result.0.desk.shown.value
+        ≡ fold turned copies.desk.shown.value (drop copies.behind copies.log.items)) }
+    ensures queue { OnOk result.1 (drop result.0.behind result.0.log.items ≡ []) }
+    ensures kept { OnErr result.1 ((result.0.desk.shown.value ≡ copies.desk.shown.value)
+        × (drop result.0.behind result.0.log.items ≡ drop copies.behind copies.log.items)) }
+{
+    copies.publish_as::<Publish, R>(rt)
 }

@@ -168,9 +168,9 @@ impl<L: Named, R: Wait + Drop> Published<L, R> {
             reader,
         } = self;
         let prepared = prepared::<T, Brand>(rt, Blank::new(1), alloc, sheet, edit);
-        let writer = append(rt, alloc, writer, &prepared);
+        let mut writer = append(rt, alloc, writer, &prepared);
         let (reader, before) = read(rt, reader, cell);
-        let writer = writer.publish();
+        writer.publish();
         let (sheet, _) = prepared.commit();
         let (reader, after) = read(rt, reader, cell);
         let published = Published {

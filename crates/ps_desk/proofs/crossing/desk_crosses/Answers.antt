@@ -4,14 +4,10 @@ use denote.Param.Send.{IsSend, IsSync, sendable}
 use denote.Param.SendFields.{declared_sync, as_row_sync}
 use denote.Struct.Declared as S
 use Rattle.std.proofs.Crossing.{crosses}
-use Rattle.std.specs.contracts.option.Option as Option
 use Rattle.std.specs.contracts.sync.Mutex as Mutex
-use Rattle.ps_desk.specs.contracts.held.Held as held
+use Rattle.ps_desk.specs.contracts.state.DeskState as state
 use Rattle.ps_desk.specs.contracts.desk.Desk.TheInside as inside
 use Rattle.ps_desk.proofs.crossing.desk_crosses.Goals as goal
-
-option_send : (R : RattleType) → IsSend R → IsSend (Option.the_row R)
-option_send R s = search sendable depth 12
 
 lock_sync : (R : RattleType) → IsSend R → IsSync (Mutex.the_row R)
 lock_sync R s = search (crosses, sendable, s)
@@ -21,11 +17,11 @@ pub returns : goal.returns
 returns g c =
     let L : RattleType = param 0 g.row.L in
     let W : RattleType = param 1 g.row.W in
-    let R : RattleType = held.the_row L W g.L.DeskName g.L.Named g.L.Ledger in
-    let h : IsSend R = record { owned = c.held_crosses.ensures.owned; leaving = λ k x w. tt } in
+    let R : RattleType = state.the_row L W g.L.DeskName g.L.Named g.L.Ledger in
+    let h : IsSend R = record { owned = c.state_crosses.ensures.owned; leaving = λ k x w. tt } in
     let whole : IsSync (S.row (inside.the_type L W g.L.DeskName g.L.Named g.L.Ledger)) =
     declared_sync (inside.the_type L W g.L.DeskName g.L.Named g.L.Ledger) (
-      as_row_sync (Mutex.the_field (Option.the_row R)) (lock_sync (Option.the_row R) (option_send R h)),
+      as_row_sync (Mutex.the_field R) (lock_sync R h),
       (search sendable, tt),
     ) in
     record { shared = λ d b o κ x. (whole.shared x.0 b o κ, tt) }

@@ -1,20 +1,22 @@
-use Rattle.std.proofs.Common.{◌∙◌, map, refl, subst, sym}
-use Rattle.ps_sheet.specs.Prepared.{PreparedView, shown_after}
+use Rattle.std.proofs.Common.{◌≡◌, ◌∙◌, map, subst, sym, List, ℕ}
+use Rattle.std.specs.Arc.{arc_value}
+use Rattle.ps_sheet.specs.Staging.{StagedView, StagingView}
 use Rattle.ps_face.specs.Legal.{Follows}
-use Rattle.ps_face.proofs.Noted.{prepared_follows}
 use Rattle.ps_desk.specs.Patches.{note_of, shown_of}
-use Rattle.ps_desk.proofs.Noted.{shown_same}
+use Rattle.ps_desk.proofs.Noted.{at_staged, staged_follows, worked_out}
 use Rattle.ps_desk.proofs.patch.patch_of.Goals as goal
 
 pub returns-clause-patch : goal.returns-clause-patch
 returns-clause-patch c =
-    let p : PreparedView = c.args.prepared.now in
-    let changes = c.in_ok-changes.ensures.copied
-    ∙ (λ i. map (shown_of (c.shown_after.ensures.shown i)) (c.changes.ensures.changes i))
-    ∙ shown_same (shown_after p) p.changes c.report.ensures.prepared.changes.values in
-    let delta = c.in_ok-delta.ensures.cases ∙ c.delta.ensures.delta in
+    let x : StagingView = c.args.sheet.now in
+    let report = at_staged (λ (p : StagedView). c.report.result ≡ p.report) x.staged c.report.ensures.report in
+    let delta = c.in_ok-delta.ensures.cases
+    ∙ at_staged (λ (p : StagedView). arc_value c.delta.result.now ≡ p.delta) x.staged c.delta.ensures.delta in
+    let cells : List ℕ = c.changed.result.now in
+    let changed = at_staged (λ (p : StagedView). cells ≡ p.changed) x.staged c.changed.ensures.changed in
+    let changes = c.in_ok-changes.ensures.copied ∙ (λ i. map (shown_of (c.all_shown.ensures.shown i)) (changed i)) in
     c.new.ensures ∙ (λ i. record {
-      number = (c.report.ensures.report i).version;
+      number = (report i).version;
       delta = delta i;
       changes = changes i;
       owner = c.args.owner;
@@ -22,6 +24,7 @@ returns-clause-patch c =
 
 pub returns-clause-follows : goal.returns-clause-follows
 returns-clause-follows c =
-    let p : PreparedView = c.args.prepared.now in
-    subst (Follows p.history) (sym (returns-clause-patch c))
-    (prepared_follows p (note_of p c.args.owner) c.report.ensures.prepared c.requires.fresh refl refl refl)
+    let x : StagingView = c.args.sheet.now in
+    subst (Follows x.history) (sym (returns-clause-patch c))
+    (staged_follows x c.args.owner (worked_out x c.requires.staged c.report.ensures.staging) c.requires.fresh
+    c.requires.listed)

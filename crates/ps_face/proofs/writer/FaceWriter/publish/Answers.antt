@@ -9,8 +9,8 @@ use Rattle.ps_face.specs.Published.{Published}
 use Rattle.ps_face.proofs.Turned.{may_show, only_one}
 use Rattle.ps_face.proofs.writer.FaceWriter.publish.Goals as goal
 
-pub show-copies-requires : goal.show-copies-requires
-show-copies-requires g c =
+pub show-requires : goal.show-requires
+show-requires g c =
     let h : List Entries = g.L.Named.opening in
     let b : Book = g.L.Named.book in
     let w = c.self.inside in
@@ -23,29 +23,29 @@ show-copies-requires g c =
     let follows : Follows (history_of h front) patch =
     All-head (Follows (history_of h front)) patch [] (subst (All (Follows (history_of h front))) one.1 i.follows) in
     let made = c.new-operation.ensures in
-    let told = c.again.ensures ∙ c.add_to-front.ensures in
+    let told = c.again.ensures ∙ c.add_to.ensures in
     may_show h b w.copies.desk.shown.value _ c.new-operation.result _ front patch i.stands i.same
-    (ap (λ d. d.shown.value) c.hand_over-copies.ensures.desk) c.hand_over-copies.ensures.queue
+    (ap (λ d. d.shown.value) c.hand_over.ensures.desk) c.hand_over.ensures.queue
     (ap (λ (t : Turn). t.book) made ∙ ap (λ (t : Told). t.book) told ∙ i.book)
     (ap (λ (t : Turn). t.list) made ∙ ap (λ (t : Told). t.list) told)
     (ap (λ (t : Turn). t.version) made) (ap (λ (t : Turn). t.changes) made)
     c.delta.ensures.in_grid follows
 
-pub invariant_of-result : goal.invariant_of-result
-invariant_of-result g c =
+pub invariant_of-self : goal.invariant_of-self
+invariant_of-self g c =
     let i = c.self.invariant in
-    let x : Copy = c.hand_over-copies.result.desk.shown.value in
+    let x : Copy = c.hand_over.new.copies.desk.shown.value in
     let one = only_one c.self.inside.staged.items c.pop.new.self.items c.pop.result c.unwrap-patch.result
     (ap (λ (p : Published). length p.pending) c.self.view_is ∙ c.requires.one) c.pop.ensures.items
     c.unwrap-patch.ensures in
-    let shown = c.show-copies.ensures.shown ∙ ap (λ (ts : List Turn). fold turned x ts) c.hand_over-copies.ensures.queue
+    let shown = c.show.ensures.shown ∙ ap (λ (ts : List Turn). fold turned x ts) c.hand_over.ensures.queue
     in record {
       same = ap (λ (y : Copy). y.list) shown ∙ ap (λ (t : Turn). t.list) c.new-operation.ensures
           ∙ ap (λ (t : Told). t.list) c.again.ensures;
-      stands = c.show-copies.ensures.stands;
-      book = ap (λ (t : Told). t.book) c.add_to-front.ensures ∙ i.book;
+      stands = c.show.ensures.stands;
+      book = ap (λ (t : Told). t.book) c.add_to.ensures ∙ i.book;
       head = i.head;
-      queue = c.show-copies.ensures.queue;
-      follows = subst (All (Follows (history_of g.L.Named.opening c.add_to-front.result.list))) (sym one.0)
+      queue = c.show.ensures.queue;
+      follows = subst (All (Follows (history_of g.L.Named.opening c.add_to.new.front.list))) (sym one.0)
           (λ k d lt. absurd (omega arith));
     }

@@ -3,10 +3,10 @@ use denote.Param.Send.{IsSend}
 use denote.Param.SendFields.{declared_send, as_row_send}
 use denote.Struct.Declared as S
 use Rattle.std.specs.contracts.sync.ledger.Book as book
-use Rattle.ps_sheet.specs.contracts.sheet.Sheet as sheet
+use Rattle.ps_sheet.specs.contracts.staging.Staging as staging
 use Rattle.ps_face.specs.contracts.writer.FaceWriter as writer
-use Rattle.ps_desk.specs.contracts.held.Held.TheInside as inside
-use Rattle.ps_desk.proofs.crossing.held_crosses.Goals as goal
+use Rattle.ps_desk.specs.contracts.state.DeskState.TheInside as inside
+use Rattle.ps_desk.proofs.crossing.state_crosses.Goals as goal
 
 -- from what is known of the parts that the whole may go to another thread
 pub returns : goal.returns
@@ -15,7 +15,7 @@ returns g c =
     record { owned = c.writer_crosses.ensures.owned; leaving = λ k x w. tt } in
     let whole : IsSend (S.row (inside.the_type g.row.L g.row.W g.L.DeskName g.L.Named g.L.Ledger)) =
     declared_send (inside.the_type g.row.L g.row.W g.L.DeskName g.L.Named g.L.Ledger) (
-      as_row_send sheet.the_field c.sheet_crosses.ensures,
+      as_row_send staging.the_field c.staging_crosses.ensures,
       (
         as_row_send (writer.the_field g.row.L g.row.W g.L.Named g.L.Ledger) w,
         (

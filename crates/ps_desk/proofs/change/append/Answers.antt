@@ -1,0 +1,73 @@
+use Rattle.std.proofs.Common.{◌≡◌, ◌+◌, ◌++◌, ◌∷◌, [], List, ap, sym, subst, ◌≤◌, ◌∙◌}
+use Rattle.ps_sheet.specs.declared.sheet.Report.{Report}
+use Rattle.ps_sheet.specs.Prepared.{IsOf, history_after}
+use Rattle.ps_sheet.specs.Staging.{StagedView, StagingView, prepared_of, sheet_of}
+use Rattle.ps_face.specs.declared.patch.Note.{Note}
+use Rattle.ps_face.specs.Published.{Published}
+use Rattle.ps_face.specs.Seen.{Told}
+use Rattle.ps_desk.specs.Patches.{note_of}
+use Rattle.ps_desk.specs.Passes.{PassView, owned_by}
+use Rattle.ps_desk.specs.UnderLock.{IsUnderLock}
+use Rattle.ps_desk.proofs.Locked.{appended_locked, room_left, same_locked}
+use Rattle.ps_desk.proofs.Noted.{at_staged}
+use Rattle.ps_desk.proofs.Owners.{owned_next}
+use Rattle.ps_desk.proofs.change.append.Goals as goal
+
+pub count-requires-clause-room : goal.count-requires-clause-room
+count-requires-clause-room g c =
+    room_left g.L.DeskName.replica g.L.Named.opening c.args.sheet.now c.args.copies.now c.args.book.now.total
+    c.requires.under_lock c.in-Ok.receipt.number c.requires.worked_out c.requires.fresh c.in-Ok.ensures.receipt.0
+    c.ranges.in-Ok.receipt.number
+
+pub count-requires-clause-owned : goal.count-requires-clause-owned
+count-requires-clause-owned g c =
+    let pass : PassView = c.args.pass.now in
+    let patch : Note = note_of c.tell.new.sheet c.seat.result in
+    let published : c.front.result.now.list ≡ pass.list ++ patch ∷ [] =
+    ap (λ (t : Told). t.list) c.front.ensures.front ∙ ap (λ (p : Published). p.list) c.publish.ensures
+    ∙ ap (λ (p : Published). p.list ++ p.pending) c.in-Ok.ensures.pending
+    ∙ ap (λ (l : List Note). l ++ patch ∷ []) (sym c.requires.seen) in
+    owned_next pass c.catch_up.new.self c.front.result.now.list patch c.catch_up.ensures.pass published c.seat.ensures
+    (subst (λ n. n ≤ owned_by pass.seat pass.list) c.appended.ensures.appended c.appended.ensures.owned)
+
+pub returns-in-Ok-clause-under_lock : goal.returns-in-Ok-clause-under_lock
+returns-in-Ok-clause-under_lock g c =
+    let y : StagingView = c.tell.new.sheet in
+    let new : StagingView = c.commit.new.self in
+    let of = at_staged (λ (p : StagedView). IsOf (sheet_of new) y.replica (history_after (prepared_of y p)) _) y.staged
+    c.commit.ensures.of in
+    let published = c.publish.ensures ∙ (λ i. record {
+      list = (c.in-Ok.ensures.pending i).list ++ (c.in-Ok.ensures.pending i).pending;
+      pending = [];
+    }) in
+    appended_locked g.L.DeskName.replica g.L.Named.opening c.args.sheet.now c.args.copies.now c.args.book.now.total
+    c.requires.under_lock y (sheet_of new) _ c.publish.new.self c.count.new.book.total c.seat.result
+    c.tell.ensures.same c.requires.fresh of published c.count.ensures.book
+
+pub returns-in-Ok-clause-published : goal.returns-in-Ok-clause-published
+returns-in-Ok-clause-published g c =
+    let keeps = c.tell.ensures.same in
+    let patch : Note = note_of c.tell.new.sheet c.seat.result in
+    record {
+      patch = patch;
+      last = ap (λ (q : PassView). q.list) (c.count.ensures.pass ∙ (λ i. record (c.catch_up.ensures.pass i) {
+        appended = (c.catch_up.ensures.pass i).appended + 1;
+      }))
+          ∙ ap (λ (t : Told). t.list) c.front.ensures.front ∙ ap (λ (p : Published). p.list) c.publish.ensures
+          ∙ ap (λ (p : Published). p.list ++ p.pending) c.in-Ok.ensures.pending
+          ∙ ap (λ (l : List Note). l ++ patch ∷ []) (sym c.requires.seen);
+      number = ap (λ (r : Report). r.version) keeps.report;
+      delta = keeps.delta;
+      owner = c.seat.ensures;
+    }
+
+pub returns-in-Err-clause-under_lock : goal.returns-in-Err-clause-under_lock
+returns-in-Err-clause-under_lock g c =
+    let y : StagingView = c.tell.new.sheet in
+    let new : StagingView = c.cancel.new.self in
+    let keeps = c.tell.ensures.same in
+    let of = at_staged (λ (p : StagedView). IsOf (sheet_of new) y.replica y.history _) y.staged c.cancel.ensures.of in
+    subst (λ (p : Published). IsUnderLock g.L.DeskName.replica g.L.Named.opening new.replica new.history p
+    c.args.book.now.total) (sym c.in-Err.ensures.pending)
+    (same_locked g.L.DeskName.replica g.L.Named.opening c.args.sheet.now c.args.copies.now c.args.book.now.total
+    c.requires.under_lock new.replica new.history (of.replica ∙ keeps.replica) (of.history ∙ keeps.history))

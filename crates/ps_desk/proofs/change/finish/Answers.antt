@@ -1,0 +1,62 @@
+use Rattle.std.proofs.Common.{◌≡◌, refl, ap, sym, ◌∙◌}
+use Rattle.std.specs.Arc.{arc_value}
+use Rattle.ps_sheet.specs.declared.sheet.Report.{Report}
+use Rattle.ps_sheet.specs.Prepared.{IsOf, history_after}
+use Rattle.ps_sheet.specs.Staging.{StagedView, StagingView, prepared_of, sheet_of}
+use Rattle.ps_face.specs.Legal.{history_of}
+use Rattle.ps_desk.specs.Patches.{change_in}
+use Rattle.ps_desk.proofs.Locked.{same_locked}
+use Rattle.ps_desk.proofs.Noted.{at_staged, worked_out}
+use Rattle.ps_desk.proofs.Receipted.{history_kept, later_either, refused_fresh, tells_covered, tells_if_fresh}
+use Rattle.ps_desk.proofs.change.finish.Goals as goal
+
+pub append-requires-clause-fresh : goal.append-requires-clause-fresh
+append-requires-clause-fresh g c =
+    sym (at_staged (λ (p : StagedView). c.fresh.result ≡ p.fresh) _ c.fresh.ensures.fresh) ∙ c.if-fresh.true
+
+pub append-requires-clause-worked_out : goal.append-requires-clause-worked_out
+append-requires-clause-worked_out g c = worked_out c.args.sheet.now c.requires.staged c.fresh.ensures.staging
+
+pub returns-then-fresh-clause-later : goal.returns-then-fresh-clause-later
+returns-then-fresh-clause-later g c =
+    later_either _ (change_in c.args.sheet.now) c.args.pass.now.seat c.append.result c.args.pass.now c.append.new.pass
+    c.append.ensures.published c.append.ensures.kept
+
+pub returns-then-fresh-clause-receipt : goal.returns-then-fresh-clause-receipt
+returns-then-fresh-clause-receipt g c =
+    let x : StagingView = c.args.sheet.now in
+    tells_if_fresh g.L.Named.opening (change_in x) c.append.result c.args.pass.now.list c.append.new.pass.list
+    c.args.pass.now.seat (worked_out x c.requires.staged c.fresh.ensures.staging)
+    (sym (at_staged (λ (p : StagedView). c.fresh.result ≡ p.fresh) x.staged c.fresh.ensures.fresh) ∙ c.if-fresh.true)
+    (c.requires.under_lock.history ∙ ap (history_of g.L.Named.opening) (sym c.requires.seen))
+    c.append.ensures.published c.append.ensures.receipt
+
+pub returns-then-fresh-clause-asked : goal.returns-then-fresh-clause-asked
+returns-then-fresh-clause-asked g c =
+    let x : StagingView = c.args.sheet.now in
+    refused_fresh c.append.result (change_in x) (worked_out x c.requires.staged c.fresh.ensures.staging)
+    (sym (at_staged (λ (p : StagedView). c.fresh.result ≡ p.fresh) x.staged c.fresh.ensures.fresh) ∙ c.if-fresh.true)
+
+pub returns-else-fresh-clause-under_lock : goal.returns-else-fresh-clause-under_lock
+returns-else-fresh-clause-under_lock g c =
+    let x : StagingView = c.args.sheet.now in
+    let new : StagingView = c.commit.new.self in
+    let idle = sym (at_staged (λ (p : StagedView). c.fresh.result ≡ p.fresh) x.staged c.fresh.ensures.fresh)
+    ∙ c.if-fresh.false in
+    let of = at_staged (λ (p : StagedView). IsOf (sheet_of new) x.replica (history_after (prepared_of x p)) _) x.staged
+    c.commit.ensures.of in
+    same_locked g.L.DeskName.replica g.L.Named.opening x c.args.copies.now c.args.book.now.total c.requires.under_lock
+    new.replica new.history of.replica (of.history ∙ history_kept (change_in x) idle)
+
+pub returns-else-fresh-clause-receipt : goal.returns-else-fresh-clause-receipt
+returns-else-fresh-clause-receipt g c =
+    let x : StagingView = c.args.sheet.now in
+    let idle = sym (at_staged (λ (p : StagedView). c.fresh.result ≡ p.fresh) x.staged c.fresh.ensures.fresh)
+    ∙ c.if-fresh.false in
+    tells_covered g.L.Named.opening (change_in x) c.args.pass.now.list c.args.pass.now.seat _
+    (worked_out x c.requires.staged c.fresh.ensures.staging) idle
+    (c.requires.under_lock.history ∙ ap (history_of g.L.Named.opening) (sym c.requires.seen))
+    (ap (λ (r : Report). r.version)
+    (at_staged (λ (p : StagedView). c.report.result ≡ p.report) x.staged c.report.ensures.report))
+    (c.share.ensures ∙ at_staged (λ (p : StagedView). arc_value c.delta.result.now ≡ p.delta) x.staged c.delta.ensures.delta)
+    refl

@@ -1,0 +1,149 @@
+//! A staged change is told to those who read, and made; or it is given up.
+
+ghost use Rattle.std.specs.Prelude.{◌≡◌, ◌+◌, ◌++◌, ◌∷◌, [], true, false, None, if◌then◌else◌, is_some};
+ghost use Rattle.std.specs.Prelude.{IfOk, IfErr, OnOk, OnErr, MatchResult};
+ghost use Rattle.std.specs.Arc.{arc_value};
+ghost use mathlib.Core.List.{IsPrefix};
+ghost use Rattle.ps_grid.specs.declared.refusal.Refusal.TheVariants.{Memory};
+ghost use Rattle.ps_delta.specs.State.{IsBelow};
+ghost use Rattle.ps_delta.specs.Deltas.{joined_history, state_of};
+ghost use Rattle.ps_sheet.specs.Staging.{IsWorkedOut};
+ghost use Rattle.ps_face.specs.Legal.{history_of};
+ghost use Rattle.ps_desk.specs.UnderLock.{IsUnderLock};
+ghost use Rattle.ps_desk.specs.Patches.{IsNoted, KeepsChange, change_in, note_of};
+ghost use Rattle.ps_desk.specs.Receipts.{Tells};
+
+use crate::name::DeskName;
+use crate::pass::Pass;
+use crate::patch::patch_of;
+use crate::receipt::Receipt;
+use ps_delta::Delta;
+use ps_face::FaceWriter;
+use ps_grid::Refusal;
+use ps_sheet::Staging;
+use std::alloc::Global;
+use std::sync::ledger::Book;
+use std::sync::{Arc, Wait};
+
+/// Makes the change that is staged, and shows it to all who read, or gives it up where there is no memory to tell of
+/// it. Then nothing is staged any more.
+pub(crate) fn finish<L: DeskName, W: Wait + Drop, V: Wait>(
+    wait: &V,
+    alloc: Global,
+    sheet: &mut Staging,
+    copies: &mut FaceWriter<L, W>,
+    book: &mut Book<L>,
+    pass: &mut Pass<L>,
+) -> Result<Receipt, Refusal>
+    requires staged { is_some sheet.old.staged ≡ true }
+    requires under_lock { IsUnderLock L.replica L.opening sheet.old.replica sheet.old.history copies.old book.old.total }
+    requires seen { pass.old.list ≡ copies.old.list }
+    ensures idle { sheet.new.staged ≡ None }
+    ensures under_lock { IsUnderLock L.replica L.opening sheet.new.replica sheet.new.history copies.new book.new.total }
+    ensures later { IsPrefix pass.old.list pass.new.list }
+    ensures all { pass.new.list ≡ copies.new.list }
+    ensures receipt { IfOk result (Tells (λ s d. (s ≡ joined_history sheet.old.history)
+        × (d ≡ (change_in sheet.old).delta)) L.opening pass.old.list pass.new.list pass.old.seat) }
+    ensures memory { IfErr result (λ e. e ≡ Memory) }
+    ensures asked { OnErr result (¬ IsBelow (state_of ((change_in sheet.old).delta))
+        (joined_history sheet.old.history)) }
+    ensures kept { OnErr result ((copies.new ≡ copies.old) × (pass.new ≡ pass.old)) }
+    ensures counted { IfOk result (λ r. pass.new.appended ≡ pass.old.appended + (if r.fresh then 1 else 0)) }
+    ensures seat { (pass.new.seat ≡ pass.old.seat) × (pass.new.enters ≡ pass.old.enters) }
+{
+    if sheet.fresh() {
+        return append(wait, alloc, sheet, copies, book, pass);
+    }
+    let receipt = Receipt {
+        number: sheet.report().version,
+        delta: share(wait, sheet.delta()),
+        fresh: false,
+    };
+    sheet.commit();
+    Ok(receipt)
+}
+
+/// Publishes a fresh change and makes it, or gives it up where it can't be told.
+fn append<L: DeskName, W: Wait + Drop, V: Wait>(
+    wait: &V,
+    alloc: Global,
+    sheet: &mut Staging,
+    copies: &mut FaceWriter<L, W>,
+    book: &mut Book<L>,
+    pass: &mut Pass<L>,
+) -> Result<Receipt, Refusal>
+    requires staged { is_some sheet.old.staged ≡ true }
+    requires worked_out { IsWorkedOut (change_in sheet.old) }
+    requires fresh { (change_in sheet.old).fresh ≡ true }
+    requires under_lock { IsUnderLock L.replica L.opening sheet.old.replica sheet.old.history copies.old book.old.total }
+    requires seen { pass.old.list ≡ copies.old.list }
+    ensures idle { sheet.new.staged ≡ None }
+    ensures under_lock { IsUnderLock L.replica L.opening sheet.new.replica sheet.new.history copies.new book.new.total }
+    ensures all { pass.new.list ≡ copies.new.list }
+    ensures published { OnOk result (IsNoted (change_in sheet.old) pass.old.seat pass.old.list pass.new.list) }
+    ensures receipt { IfOk result (λ r. (r.number ≡ (change_in sheet.old).report.version)
+        × (arc_value r.delta ≡ (change_in sheet.old).delta) × (r.fresh ≡ true)) }
+    ensures memory { IfErr result (λ e. e ≡ Memory) }
+    ensures kept { OnErr result ((copies.new ≡ copies.old) × (pass.new ≡ pass.old)) }
+    ensures counted { OnOk result (pass.new.appended ≡ pass.old.appended + 1) }
+    ensures seat { (pass.new.seat ≡ pass.old.seat) × (pass.new.enters ≡ pass.old.enters) }
+{
+    match tell(alloc, sheet, copies, pass.seat()) {
+        Ok(receipt) => {
+            // for the fact that the pass has seen what it appended
+            let _ = pass.appended();
+            copies.publish();
+            pass.catch_up(wait, copies.front());
+            pass.count(book);
+            sheet.commit();
+            Ok(receipt)
+        }
+        Err(refusal) => {
+            sheet.cancel();
+            Err(refusal)
+        }
+    }
+}
+
+/// Hands the writer the patch of a fresh change, and answers the receipt. Refused only when out of memory, and then
+/// nothing is pending.
+fn tell<L: DeskName, W: Wait + Drop>(
+    alloc: Global,
+    sheet: &mut Staging,
+    copies: &mut FaceWriter<L, W>,
+    seat: u64,
+) -> Result<Receipt, Refusal>
+    requires staged { is_some sheet.old.staged ≡ true }
+    requires fresh { (change_in sheet.old).fresh ≡ true }
+    requires history { sheet.old.history ≡ history_of L.opening copies.old.list }
+    requires none { copies.old.pending ≡ [] }
+    ensures same { KeepsChange sheet.old sheet.new }
+    ensures pending { MatchResult result
+        (λ _. copies.new ≡ record copies.old { pending = note_of sheet.new seat ∷ [] })
+        (λ _. copies.new ≡ copies.old) }
+    ensures receipt { IfOk result (λ r. (r.number ≡ (change_in sheet.old).report.version)
+        × (arc_value r.delta ≡ (change_in sheet.old).delta) × (r.fresh ≡ true)) }
+    ensures memory { IfErr result (λ e. e ≡ Memory) }
+{
+    sheet.list_changed();
+    let receipt = Receipt {
+        number: sheet.report().version,
+        delta: sheet.delta().clone()?,
+        fresh: true,
+    };
+    let patch = patch_of(alloc, sheet, seat)?;
+    copies.append(patch)?;
+    Ok(receipt)
+}
+
+/// One more owner of a delta. It tries again where a delta has as many owners as can be counted.
+fn share<V: Wait>(wait: &V, delta: &Arc<Delta>) -> Arc<Delta>
+    ensures { arc_value result ≡ arc_value delta.now }
+{
+    for _ in wait.forever() {
+        if let Ok(shared) = delta.clone() {
+            return shared;
+        }
+    }
+    unreachable!()
+}

@@ -1,0 +1,209 @@
+//! What lies under the lock of a desk.
+
+ghost use Rattle.std.specs.Prelude.{◌≡◌, ◌⊎◌, ◌↔◌, ◌+◌, ◌<◌, ◌≤◌, ◌^◌, [], if◌then◌else◌};
+ghost use Rattle.std.specs.Prelude.{drop, length, map, take, Err, IfOk, IfErr, OnErr};
+ghost use Rattle.std.specs.Arc.{arc_value};
+ghost use mathlib.Core.List.{IsPrefix};
+ghost use Rattle.ps_grid.specs.declared.refusal.Refusal.TheVariants.{Memory, Version};
+ghost use Rattle.ps_delta.specs.Deltas.{joined_history};
+ghost use Rattle.ps_csv.specs.Exports.{entry_text, exported_entries, held_in};
+ghost use Rattle.ps_sheet.specs.Prepared.{IsDeltaOf, IsRefusedBy, IsToAppend};
+ghost use Rattle.ps_sheet.specs.Sheet.{IsSheet};
+ghost use Rattle.ps_face.specs.Legal.{IsLegal, history_of};
+ghost use Rattle.ps_desk.specs.Receipts.{Tells};
+
+use crate::change::finish;
+use crate::name::DeskName;
+use crate::pass::Pass;
+use crate::receipt::Receipt;
+use ps_content::Content;
+use ps_csv::{Holds, entries_text, entry_of};
+use ps_delta::Delta;
+use ps_eval::Meter;
+use ps_face::{FaceWriter, Front};
+use ps_grid::{Cell, Rect, Refusal};
+use ps_sheet::{Change, Sheet, Staging};
+use ps_workers::Open;
+use std::alloc::Global;
+use std::marker::Model;
+use std::sync::ledger::{Book, Ledger, Share};
+use std::sync::{Arc, Wait};
+use std::thread::Threads;
+
+/// The sheet, the writer of its published copies, and the book of what was appended. A contract sees it as the
+/// published list. Nothing is staged in the sheet between two calls.
+#[derive(Drop)]
+pub(crate) struct DeskState<L: DeskName, W: Wait + Drop> {
+    sheet: Staging,
+    copies: FaceWriter<L, W>,
+    book: Book<L>,
+}
+
+impl<L: DeskName, W: Wait + Drop> Model for DeskState<L, W> {
+    ghost use Rattle.std.specs.Prelude.{◌≡◌, List, None};
+    ghost use Rattle.std.specs.Coded.{codes};
+    ghost use Rattle.ps_face.specs.declared.patch.Note.{Note};
+    ghost use Rattle.ps_face.specs.contracts.patch.Note as note;
+    ghost use Rattle.ps_desk.specs.UnderLock.{IsUnderLock};
+
+    ghost Value = { List Note };
+
+    ghost coded = { Prim.hlevel (codes, note.the_row.coded) };
+
+    ghost view = { λ d. d.copies.list };
+
+    ghost invariant = { λ d. (d.sheet.staged ≡ None)
+        × IsUnderLock L.replica L.opening d.sheet.replica d.sheet.history d.copies d.book.total };
+}
+
+impl<L: DeskName, W: Wait + Drop> DeskState<L, W> {
+    /// What lies under the lock of a desk that opens.
+    pub(crate) fn new(sheet: Sheet, copies: FaceWriter<L, W>, book: Book<L>) -> DeskState<L, W>
+        requires replica { sheet.replica ≡ L.replica }
+        requires history { sheet.history ≡ L.opening }
+        requires copies { copies ≡ record { list = []; pending = [] } }
+        requires book { book.total ≡ 0 }
+        ensures { result ≡ [] }
+    {
+        DeskState {
+            sheet: Staging::new(sheet),
+            copies,
+            book,
+        }
+    }
+
+    /// The published list.
+    pub(crate) fn front(&self) -> &Front
+        ensures front { result.now ≡ record { book = L.book; list = self.now } }
+        ensures legal { IsLegal L.opening self.now }
+    {
+        self.copies.front()
+    }
+
+    /// Ends it, where the shares of all passes are gathered.
+    pub(crate) fn end(self, all: &mut Share<L>) -> Sheet
+        requires all { all.old.parts ≡ L.parts }
+        ensures replica { result.replica ≡ L.replica }
+        ensures history { result.history ≡ history_of L.opening self }
+        ensures grown { length self ≡ all.old.amount }
+        ensures sheet { IsSheet result }
+    {
+        let DeskState {
+            sheet,
+            copies: _,
+            mut book,
+        } = self;
+        book.audit(all);
+        sheet.into_sheet()
+    }
+
+    /// Makes a change for the session of a pass, which has then seen all that is published.
+    ///
+    /// Refused as the sheet refuses the change, and when out of memory, where the change was to be appended; then
+    /// nothing is published.
+    pub(crate) fn make<R: Threads + Sync, V: Wait, M: Ledger>(
+        &mut self,
+        rt: &R,
+        wait: &V,
+        alloc: Global,
+        pass: &mut Pass<L>,
+        change: Change,
+        meter: &mut Meter<M>,
+    ) -> Result<Receipt, Refusal>
+        ensures later { IsPrefix pass.old.list pass.new.list }
+        ensures all { pass.new.list ≡ self.new }
+        ensures legal { IsLegal L.opening pass.new.list }
+        ensures receipt { IfOk result (Tells (λ s d. IsDeltaOf L.replica s change d) L.opening pass.old.list
+            pass.new.list pass.old.seat) }
+        ensures refused { IfErr result (λ e. (e ≡ Memory)
+            ⊎ IsRefusedBy L.replica (joined_history (history_of L.opening pass.new.list)) change e) }
+        ensures asked { IfErr result (λ e. e ≡ Memory
+            → IsToAppend L.replica (joined_history (history_of L.opening pass.new.list)) change) }
+        ensures kept { OnErr result (self.new ≡ self.old) }
+        ensures counted { IfOk result (λ r. pass.new.appended
+            ≡ pass.old.appended + (if r.fresh then 1 else 0)) }
+        ensures uncounted { OnErr result (pass.new.appended ≡ pass.old.appended) }
+        ensures seat { (pass.new.seat ≡ pass.old.seat) × (pass.new.enters ≡ pass.old.enters) }
+    {
+        let DeskState {
+            sheet,
+            copies,
+            book,
+        } = self;
+        pass.catch_up(wait, copies.front());
+        let _report = sheet.stage(rt, &Open, alloc, change, meter)?;
+        finish(wait, alloc, sheet, copies, book, pass)
+    }
+
+    /// The deltas of the history after a number, in order, at most so many.
+    ///
+    /// Refused where the history is shorter than the number, and when out of memory, where there are such deltas.
+    pub(crate) fn deltas_after(
+        &self,
+        alloc: Global,
+        from: u64,
+        at_most: usize,
+    ) -> Result<Vec<Arc<Delta>>, Refusal>
+        ensures deltas { IfOk result (λ ds. map arc_value ds.items
+            ≡ take at_most (drop from (history_of L.opening self.now))) }
+        ensures above { (result ≡ Err Version) ↔ (length (history_of L.opening self.now) < from) }
+        ensures other { IfErr result (λ e. (e ≡ Version) ⊎ (e ≡ Memory)) }
+        ensures asked { result ≡ Err Memory → from < length (history_of L.opening self.now) }
+        ensures bound { length (history_of L.opening self.now) < 2 ^ 64 }
+    {
+        let history = self.sheet.history();
+        if from > history.len() as u64 {
+            return Err(Refusal::Version);
+        }
+        if from == history.len() as u64 {
+            return Ok(Vec::new(alloc));
+        }
+        let later = &history[from as usize..];
+        if at_most < later.len() {
+            return copy_deltas(alloc, &later[..at_most]);
+        }
+        copy_deltas(alloc, later)
+    }
+}
+
+impl<L: DeskName, W: Wait + Drop> DeskState<L, W> {
+    /// The entry of a cell. Refused only when out of memory.
+    pub(crate) fn entry(&self, alloc: Global, cell: Cell) -> Result<Vec<u8>, Refusal>
+        ensures text { IfOk result (λ t. t.items ≡ entry_text (held_in (history_of L.opening self.now)) cell) }
+        ensures memory { IfErr result (λ e. e ≡ Memory) }
+    {
+        entry_of(alloc, self, cell)
+    }
+
+    /// The entries of a rectangle, as the text of a table. Refused only when out of memory.
+    pub(crate) fn entries(&self, alloc: Global, rect: Rect) -> Result<Vec<u8>, Refusal>
+        ensures text { IfOk result (λ t. t.items
+            ≡ exported_entries (held_in (history_of L.opening self.now)) rect) }
+        ensures memory { IfErr result (λ e. e ≡ Memory) }
+    {
+        entries_text(alloc, self, rect)
+    }
+}
+
+impl<L: DeskName, W: Wait + Drop> Holds for DeskState<L, W> {
+    ghost use Rattle.ps_csv.specs.Exports.{held_in};
+    ghost use Rattle.ps_face.specs.Legal.{history_of};
+
+    ghost held_at = { λ d. held_in (history_of L.opening d) };
+
+    fn held(&self, cell: Cell) -> Option<&Content> {
+        self.sheet.content(cell)
+    }
+}
+
+/// The same deltas once more. Refused only when out of memory.
+fn copy_deltas(alloc: Global, deltas: &[Arc<Delta>]) -> Result<Vec<Arc<Delta>>, Refusal>
+    ensures copied { IfOk result (λ c. map arc_value c.items ≡ map arc_value deltas.now) }
+    ensures memory { IfErr result (λ e. e ≡ Memory) }
+{
+    let mut copied = Vec::with_capacity(alloc, deltas.len())?;
+    for delta in deltas {
+        copied.push(delta.clone()?)?;
+    }
+    Ok(copied)
+}
