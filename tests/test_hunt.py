@@ -11,7 +11,7 @@ from program import LIMIT, TOP, ProgramTest
 
 SEED = 15
 # How many plans of each part are run.
-PLANS = {"scripts": 500, "replicas": 40}
+PLANS = {"scripts": 400, "replicas": 30, "sessions": 25}
 # Each planted fault has to be found among so many scripts, and its script to be left with so few lines.
 FEW_SCRIPTS, FEW_LINES = 60, 12
 
@@ -55,7 +55,7 @@ class Fixed(ProgramTest):
 
 class Planted(ProgramTest):
     def assert_found(self, by_program):
-        """What stands in for the program is found, and the script made smaller; replayed, it shows the trouble again."""
+        """What stands in for the program is found, the script made smaller, and the trouble shown again by it."""
         hunt = Hunt(SEED, [Scripts(by_program)])
         find = hunt.first(hunt.parts[0], FEW_SCRIPTS)
         self.assertIsNotNone(find)

@@ -1,5 +1,5 @@
 """The parts of the hunt: each makes plans by chance, and tells what is wrong with what comes of one."""
-from . import processes, replicas, replicas_by_chance, runs, themes
+from . import channels, processes, replicas, replicas_by_chance, runs, sessions, sessions_by_chance, themes
 
 DIFFERS = """\
 $ ./sheet {words}
@@ -79,4 +79,26 @@ class Replicas(Part):
         return replicas.trouble(plan, self.start, self.counts)
 
 
-PARTS = (Scripts, Replicas)
+def serve(count, words, _):
+    """A server of the program."""
+    return channels.Server(runs.PROGRAM, count, words)
+
+
+class Sessions(Part):
+    """Sessions side by side at one or two servers."""
+
+    name = "sessions"
+
+    def __init__(self, start=serve, sync=None):
+        super().__init__()
+        self.start = start
+        self.sync = sync or (lambda *servers: sessions.synced(runs.PROGRAM)(*servers))
+
+    def plan(self, seed, number):
+        return sessions_by_chance.plan(seed, number)
+
+    def trouble(self, plan):
+        return sessions.trouble(plan, self.start, self.sync, self.counts)
+
+
+PARTS = (Scripts, Replicas, Sessions)

@@ -53,6 +53,10 @@ class Planner:
         if kind < 0.65 and self.tallies:
             name = chance.of(self.names[:2 * len(self.tallies)])
             return b"set %s %s" % (name, b"@tally" if name in self.tallies else b"@choice")
+        if kind > 0.93:
+            # a total that is in no cycle by itself
+            name, other = self.names[-1], chance.of(self.names[:-1])
+            return b"set %s =%s([.%s:.%s])" % (name, chance.of(entries.OF_ITEMS), self.names[0], other)
         return b"set %s %s" % (chance.of(self.names), chance.of(self.pool))
 
     def line(self):
@@ -62,6 +66,10 @@ class Planner:
             return self.one(), self.edit()
         if kind < 0.9:
             return self.one(), b"get " + self.chance.of(self.names)
+        return self.hostile()
+
+    def hostile(self):
+        """A delta that nobody made, at one of the replicas."""
         texts = [entries.canonical(entry) for entry in self.pool]
         return self.one(), b"push " + delta_lines.hostile(self.chance, self.names, texts, Sheet())
 

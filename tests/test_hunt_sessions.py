@@ -1,0 +1,44 @@
+"""The hunt among sessions: it finds each fault that is planted there, and takes none for one that is harmless."""
+from hunt import desks, finds, session_faults
+from hunt.finds import Hunt
+from hunt.parts import Sessions
+from program import ProgramTest
+
+SEED = 15
+# Each planted fault has to be found among so many plans, and one whose plan is made smaller be left with so few steps.
+FEW_PLANS, FEW_STEPS = 40, 12
+
+
+class Planted(ProgramTest):
+    def found(self, start, sync=desks.sync):
+        """The hunt, and what it finds of what is started so."""
+        hunt = Hunt(SEED, [Sessions(start, sync)])
+        find = hunt.first(hunt.parts[0], FEW_PLANS)
+        self.assertIsNotNone(find)
+        return hunt, find
+
+    def test_a_find_is_made_smaller_and_replayed(self):
+        hunt, find = self.found(session_faults.by_desk(session_faults.ReceiptTwice))
+        folder, _ = hunt.keep(find, self.folder())
+        name, plan = finds.read(folder / "plan")
+        self.assertEqual(name, "sessions")
+        self.assertLessEqual(len(plan.parts), FEW_STEPS)
+        self.assertIsNotNone(hunt.parts[0].trouble(plan))
+
+    def test_each_fault_of_a_sheet_is_found(self):
+        for kind in session_faults.SHEETS:
+            with self.subTest(kind=kind.__name__):
+                self.found(session_faults.on_sheet(kind))
+
+    def test_each_fault_of_a_server_is_found(self):
+        for kind in session_faults.DESKS:
+            with self.subTest(kind=kind.__name__):
+                self.found(session_faults.by_desk(kind))
+
+    def test_a_sync_that_loses_a_line_is_found(self):
+        self.found(session_faults.by_desk(desks.Desk), desks.sync_that_loses)
+
+    def test_sessions_of_the_model_have_no_fault(self):
+        hunt = Hunt(SEED, [Sessions(session_faults.by_desk(desks.Desk), desks.sync)])
+        find = hunt.first(hunt.parts[0], 20)
+        self.assertIsNone(find and find.trouble)
