@@ -9,11 +9,12 @@ use Rattle.ps_value.specs.declared.value.Value.{Value}
 use Rattle.ps_eval.specs.Items.{Assignment}
 use Rattle.ps_cells.specs.Changes.{IsChanged, IsChanges}
 use Rattle.ps_sheet.specs.Prepared.{PreparedView, shown_after, shown_before}
-use Rattle.ps_sheet.specs.Staging.{IsStagedAs, IsStaging, IsWorkedOut, StagedView, StagingView, prepared_of}
+use Rattle.ps_sheet.specs.Staging.{IsListed, IsSameChange, IsStagedAs, IsStaging, IsWorkedOut}
+use Rattle.ps_sheet.specs.Staging.{StagedView, StagingView, prepared_of}
 use Rattle.ps_face.specs.Legal.{Follows}
 use Rattle.ps_face.specs.declared.patch.Note.{Note}
 use Rattle.ps_face.proofs.Noted.{prepared_follows}
-use Rattle.ps_desk.specs.Patches.{change_in, no_change, note_of, shown_of, staged_in}
+use Rattle.ps_desk.specs.Patches.{KeepsChange, change_in, no_change, note_of, shown_of, staged_in}
 
 -- what is said of the change that is there is said of `staged_in`
 pub at_staged : (P : StagedView → Type 0) (o : Option StagedView) → IsSomeAnd o P → P (unwrap_or o no_change)
@@ -31,6 +32,25 @@ staged_as x (Some p) there is = is
 
 pub worked_out : (x : StagingView) → is_some x.staged ≡ true → IsStaging x → IsWorkedOut (change_in x)
 worked_out x there is = staged_as x x.staged there is
+
+-- the same change is staged where cells were listed
+same_by : (o q : Option StagedView) → IsSomeAnd o (λ p. IsSomeAnd q (IsSameChange p))
+    → IsSameChange (unwrap_or o no_change) (unwrap_or q no_change) × (is_some q ≡ true)
+same_by None q h = absurd h
+same_by (Some p) None h = absurd h
+same_by (Some p) (Some q) h = (h, refl)
+
+pub keeps_listed : (x y : StagingView) → IsListed x y → KeepsChange x y
+keeps_listed x y is =
+    let same = same_by x.staged y.staged is.staged in
+    record {
+      staged = same.1;
+      replica = is.replica;
+      history = is.history;
+      delta = same.0.delta;
+      fresh = same.0.fresh;
+      report = same.0.report;
+    }
 
 -- cells with what they show are the changes of the cells
 firsts_of : (w : Assignment) (cells : List ℕ) → map (λ (e : ℕ × Value). e.0) (map (shown_of w) cells) ≡ cells

@@ -69,7 +69,8 @@ tells_fresh h p seen now seat r is fresh history noted number delta new =
     })
 
 -- a change that isn't fresh has a delta below the state, and leaves the history
-below_state : (p : PreparedView) → IsWorkedOut p → p.fresh ≡ false → IsBelow (state_of p.delta) (joined_history p.history)
+below_state : (p : PreparedView) → IsWorkedOut p → p.fresh ≡ false
+    → IsBelow (state_of p.delta) (joined_history p.history)
 below_state p is idle =
     ⊎_elim (λ t. t.0) (λ t. absurd (let f : false ≡ true = sym idle ∙ is.fresh.1 t.0 in cc)) is.takes
 

@@ -57,7 +57,8 @@ table_of_values v values a inside is =
 pub tabled : (h : List Entries) (old new : PassView) (a : Area) (values : List Value) (made : Result (Vec ℕ) Refusal)
     → LiesInGrid a → IsLegal h new.list → Shows (history_of h new.list) values
     → IfOk made (λ t. t.items ≡ exported (λ c. slice_index_or values c Empty) a) → IfErr made (λ e. e ≡ Memory)
-    → new.appended ≡ old.appended → new.enters ≡ old.enters + 1 → Tabled h old a (with_part (λ text. text.items) made) new
+    → new.appended ≡ old.appended → new.enters ≡ old.enters + 1
+    → Tabled h old a (with_part (λ text. text.items) made) new
 tabled h old new a values (Ok t) inside legal shows text memory counted entered =
     inl (inl (record {
       legal = legal;

@@ -1,16 +1,19 @@
 //! A staged change is told to those who read, and made; or it is given up.
 
-ghost use Rattle.std.specs.Prelude.{◌≡◌, ◌+◌, ◌++◌, ◌∷◌, [], true, false, None, if◌then◌else◌, is_some};
+ghost use Rattle.std.specs.Prelude.{◌≡◌, ◌+◌, ◌<◌, ◌^◌, ◌∷◌, [], true, None, if◌then◌else◌, is_some};
 ghost use Rattle.std.specs.Prelude.{IfOk, IfErr, OnOk, OnErr, MatchResult};
 ghost use Rattle.std.specs.Arc.{arc_value};
 ghost use mathlib.Core.List.{IsPrefix};
 ghost use Rattle.ps_grid.specs.declared.refusal.Refusal.TheVariants.{Memory};
+ghost use Rattle.ps_shown.specs.Shown.{shown_at};
 ghost use Rattle.ps_delta.specs.State.{IsBelow};
 ghost use Rattle.ps_delta.specs.Deltas.{joined_history, state_of};
+ghost use Rattle.ps_cells.specs.Changes.{IsChanged};
+ghost use Rattle.ps_sheet.specs.Prepared.{shown_before};
 ghost use Rattle.ps_sheet.specs.Staging.{IsWorkedOut};
 ghost use Rattle.ps_face.specs.Legal.{history_of};
 ghost use Rattle.ps_desk.specs.UnderLock.{IsUnderLock};
-ghost use Rattle.ps_desk.specs.Patches.{IsNoted, KeepsChange, change_in, note_of};
+ghost use Rattle.ps_desk.specs.Patches.{IsNoted, KeepsChange, change_in, note_of, staged_in};
 ghost use Rattle.ps_desk.specs.Receipts.{Tells};
 
 use crate::name::DeskName;
@@ -36,10 +39,12 @@ pub(crate) fn finish<L: DeskName, W: Wait + Drop, V: Wait>(
     pass: &mut Pass<L>,
 ) -> Result<Receipt, Refusal>
     requires staged { is_some sheet.old.staged ≡ true }
-    requires under_lock { IsUnderLock L.replica L.opening sheet.old.replica sheet.old.history copies.old book.old.total }
+    requires under_lock { IsUnderLock L.replica L.opening sheet.old.replica sheet.old.history copies.old
+        book.old.total }
     requires seen { pass.old.list ≡ copies.old.list }
     ensures idle { sheet.new.staged ≡ None }
-    ensures under_lock { IsUnderLock L.replica L.opening sheet.new.replica sheet.new.history copies.new book.new.total }
+    ensures under_lock { IsUnderLock L.replica L.opening sheet.new.replica sheet.new.history copies.new
+        book.new.total }
     ensures later { IsPrefix pass.old.list pass.new.list }
     ensures all { pass.new.list ≡ copies.new.list }
     ensures receipt { IfOk result (Tells (λ s d. (s ≡ joined_history sheet.old.history)
@@ -75,10 +80,12 @@ fn append<L: DeskName, W: Wait + Drop, V: Wait>(
     requires staged { is_some sheet.old.staged ≡ true }
     requires worked_out { IsWorkedOut (change_in sheet.old) }
     requires fresh { (change_in sheet.old).fresh ≡ true }
-    requires under_lock { IsUnderLock L.replica L.opening sheet.old.replica sheet.old.history copies.old book.old.total }
+    requires under_lock { IsUnderLock L.replica L.opening sheet.old.replica sheet.old.history copies.old
+        book.old.total }
     requires seen { pass.old.list ≡ copies.old.list }
     ensures idle { sheet.new.staged ≡ None }
-    ensures under_lock { IsUnderLock L.replica L.opening sheet.new.replica sheet.new.history copies.new book.new.total }
+    ensures under_lock { IsUnderLock L.replica L.opening sheet.new.replica sheet.new.history copies.new
+        book.new.total }
     ensures all { pass.new.list ≡ copies.new.list }
     ensures published { OnOk result (IsNoted (change_in sheet.old) pass.old.seat pass.old.list pass.new.list) }
     ensures receipt { IfOk result (λ r. (r.number ≡ (change_in sheet.old).report.version)
@@ -123,17 +130,29 @@ fn tell<L: DeskName, W: Wait + Drop>(
         (λ _. copies.new ≡ copies.old) }
     ensures receipt { IfOk result (λ r. (r.number ≡ (change_in sheet.old).report.version)
         × (arc_value r.delta ≡ (change_in sheet.old).delta) × (r.fresh ≡ true)) }
+    ensures bound { IfOk result (λ r. r.number < 2 ^ 64) }
     ensures memory { IfErr result (λ e. e ≡ Memory) }
 {
-    sheet.list_changed();
+    list(sheet);
+    let delta = sheet.delta().clone()?;
     let receipt = Receipt {
         number: sheet.report().version,
-        delta: sheet.delta().clone()?,
+        delta,
         fresh: true,
     };
     let patch = patch_of(alloc, sheet, seat)?;
     copies.append(patch)?;
     Ok(receipt)
+}
+
+/// Lists the cells that the staged change makes show another value.
+fn list(sheet: &mut Staging)
+    requires staged { is_some sheet.old.staged ≡ true }
+    ensures same { KeepsChange sheet.old sheet.new }
+    ensures listed { IsChanged (shown_before (change_in sheet.new)) (shown_at sheet.new.shown)
+        (staged_in sheet.new).changed }
+{
+    sheet.list_changed();
 }
 
 /// One more owner of a delta. It tries again where a delta has as many owners as can be counted.

@@ -78,6 +78,20 @@ pub(crate) fn make<L: DeskName, W: Wait + Drop, T: Abort + Threads + Wait + Sync
     receipt.expect(rt, "a receipt")
 }
 
+/// The number of an edit's receipt, or why the edit is refused.
+pub(crate) fn answer<L: DeskName, W: Wait + Drop, T: Threads + Wait + Sync>(
+    rt: &T,
+    alloc: Global,
+    desk: &Desk<L, W>,
+    pass: &mut Pass<L>,
+    edit: Edit,
+) -> Result<u64, Refusal> {
+    match made::<L, W, T, Brand>(rt, Blank::new(1), alloc, desk, pass, Change::Edit(edit)) {
+        Ok(receipt) => Ok(receipt.number),
+        Err(refusal) => Err(refusal),
+    }
+}
+
 /// Whether a sheet that is at no desk takes an edit.
 fn takes<T: Threads + Sync, M: Ledger>(
     rt: &T,

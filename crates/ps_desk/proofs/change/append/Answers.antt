@@ -1,6 +1,7 @@
 use Rattle.std.proofs.Common.{◌≡◌, ◌+◌, ◌++◌, ◌∷◌, [], List, ap, sym, subst, ◌≤◌, ◌∙◌}
+use Rattle.ps_shown.specs.Shown.{shown_at}
 use Rattle.ps_sheet.specs.declared.sheet.Report.{Report}
-use Rattle.ps_sheet.specs.Prepared.{IsOf, history_after}
+use Rattle.ps_sheet.specs.Prepared.{IsOf, history_after, shown_before}
 use Rattle.ps_sheet.specs.Staging.{StagedView, StagingView, prepared_of, sheet_of}
 use Rattle.ps_face.specs.declared.patch.Note.{Note}
 use Rattle.ps_face.specs.Published.{Published}
@@ -17,7 +18,7 @@ pub count-requires-clause-room : goal.count-requires-clause-room
 count-requires-clause-room g c =
     room_left g.L.DeskName.replica g.L.Named.opening c.args.sheet.now c.args.copies.now c.args.book.now.total
     c.requires.under_lock c.in-Ok.receipt.number c.requires.worked_out c.requires.fresh c.in-Ok.ensures.receipt.0
-    c.ranges.in-Ok.receipt.number
+    c.in-Ok.ensures.bound
 
 pub count-requires-clause-owned : goal.count-requires-clause-owned
 count-requires-clause-owned g c =
@@ -34,14 +35,15 @@ pub returns-in-Ok-clause-under_lock : goal.returns-in-Ok-clause-under_lock
 returns-in-Ok-clause-under_lock g c =
     let y : StagingView = c.tell.new.sheet in
     let new : StagingView = c.commit.new.self in
-    let of = at_staged (λ (p : StagedView). IsOf (sheet_of new) y.replica (history_after (prepared_of y p)) _) y.staged
+    let of = at_staged (λ (p : StagedView). IsOf (sheet_of new) y.replica (history_after (prepared_of y p))
+    (shown_at y.shown)) y.staged
     c.commit.ensures.of in
     let published = c.publish.ensures ∙ (λ i. record {
       list = (c.in-Ok.ensures.pending i).list ++ (c.in-Ok.ensures.pending i).pending;
       pending = [];
     }) in
     appended_locked g.L.DeskName.replica g.L.Named.opening c.args.sheet.now c.args.copies.now c.args.book.now.total
-    c.requires.under_lock y (sheet_of new) _ c.publish.new.self c.count.new.book.total c.seat.result
+    c.requires.under_lock y (sheet_of new) (shown_at y.shown) c.publish.new.self c.count.new.book.total c.seat.result
     c.tell.ensures.same c.requires.fresh of published c.count.ensures.book
 
 pub returns-in-Ok-clause-published : goal.returns-in-Ok-clause-published
@@ -50,9 +52,7 @@ returns-in-Ok-clause-published g c =
     let patch : Note = note_of c.tell.new.sheet c.seat.result in
     record {
       patch = patch;
-      last = ap (λ (q : PassView). q.list) (c.count.ensures.pass ∙ (λ i. record (c.catch_up.ensures.pass i) {
-        appended = (c.catch_up.ensures.pass i).appended + 1;
-      }))
+      last = ap (λ (q : PassView). q.list) c.count.ensures.pass ∙ ap (λ (q : PassView). q.list) c.catch_up.ensures.pass
           ∙ ap (λ (t : Told). t.list) c.front.ensures.front ∙ ap (λ (p : Published). p.list) c.publish.ensures
           ∙ ap (λ (p : Published). p.list ++ p.pending) c.in-Ok.ensures.pending
           ∙ ap (λ (l : List Note). l ++ patch ∷ []) (sym c.requires.seen);
@@ -66,7 +66,8 @@ returns-in-Err-clause-under_lock g c =
     let y : StagingView = c.tell.new.sheet in
     let new : StagingView = c.cancel.new.self in
     let keeps = c.tell.ensures.same in
-    let of = at_staged (λ (p : StagedView). IsOf (sheet_of new) y.replica y.history _) y.staged c.cancel.ensures.of in
+    let of = at_staged (λ (p : StagedView). IsOf (sheet_of new) y.replica y.history
+    (shown_before (prepared_of y p))) y.staged c.cancel.ensures.of in
     subst (λ (p : Published). IsUnderLock g.L.DeskName.replica g.L.Named.opening new.replica new.history p
     c.args.book.now.total) (sym c.in-Err.ensures.pending)
     (same_locked g.L.DeskName.replica g.L.Named.opening c.args.sheet.now c.args.copies.now c.args.book.now.total

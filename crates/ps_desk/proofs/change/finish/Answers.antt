@@ -1,5 +1,6 @@
 use Rattle.std.proofs.Common.{◌≡◌, refl, ap, sym, ◌∙◌}
 use Rattle.std.specs.Arc.{arc_value}
+use Rattle.ps_shown.specs.Shown.{shown_at}
 use Rattle.ps_sheet.specs.declared.sheet.Report.{Report}
 use Rattle.ps_sheet.specs.Prepared.{IsOf, history_after}
 use Rattle.ps_sheet.specs.Staging.{StagedView, StagingView, prepared_of, sheet_of}
@@ -37,19 +38,20 @@ returns-then-fresh-clause-asked g c =
     refused_fresh c.append.result (change_in x) (worked_out x c.requires.staged c.fresh.ensures.staging)
     (sym (at_staged (λ (p : StagedView). c.fresh.result ≡ p.fresh) x.staged c.fresh.ensures.fresh) ∙ c.if-fresh.true)
 
-pub returns-else-fresh-clause-under_lock : goal.returns-else-fresh-clause-under_lock
-returns-else-fresh-clause-under_lock g c =
+pub returns-clause-under_lock : goal.returns-clause-under_lock
+returns-clause-under_lock g c =
     let x : StagingView = c.args.sheet.now in
     let new : StagingView = c.commit.new.self in
     let idle = sym (at_staged (λ (p : StagedView). c.fresh.result ≡ p.fresh) x.staged c.fresh.ensures.fresh)
     ∙ c.if-fresh.false in
-    let of = at_staged (λ (p : StagedView). IsOf (sheet_of new) x.replica (history_after (prepared_of x p)) _) x.staged
+    let of = at_staged (λ (p : StagedView). IsOf (sheet_of new) x.replica (history_after (prepared_of x p))
+    (shown_at x.shown)) x.staged
     c.commit.ensures.of in
     same_locked g.L.DeskName.replica g.L.Named.opening x c.args.copies.now c.args.book.now.total c.requires.under_lock
     new.replica new.history of.replica (of.history ∙ history_kept (change_in x) idle)
 
-pub returns-else-fresh-clause-receipt : goal.returns-else-fresh-clause-receipt
-returns-else-fresh-clause-receipt g c =
+pub returns-clause-receipt : goal.returns-clause-receipt
+returns-clause-receipt g c =
     let x : StagingView = c.args.sheet.now in
     let idle = sym (at_staged (λ (p : StagedView). c.fresh.result ≡ p.fresh) x.staged c.fresh.ensures.fresh)
     ∙ c.if-fresh.false in
@@ -58,5 +60,6 @@ returns-else-fresh-clause-receipt g c =
     (c.requires.under_lock.history ∙ ap (history_of g.L.Named.opening) (sym c.requires.seen))
     (ap (λ (r : Report). r.version)
     (at_staged (λ (p : StagedView). c.report.result ≡ p.report) x.staged c.report.ensures.report))
-    (c.share.ensures ∙ at_staged (λ (p : StagedView). arc_value c.delta.result.now ≡ p.delta) x.staged c.delta.ensures.delta)
+    (c.share.ensures
+    ∙ at_staged (λ (p : StagedView). arc_value c.delta.result.now ≡ p.delta) x.staged c.delta.ensures.delta)
     refl
