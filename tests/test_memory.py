@@ -67,6 +67,7 @@ def changes():
 def looks():
     """Lines that show the cells and the history."""
     yield from ("rows A1:G20", "rows A1:CZ3", "rows G1:G1")
+    yield from ("entries A1:G20", "entries G1:G1", "entry A1", "entry B8", "entry D5", "entry E1", "entry G1")
     yield from (f"get {name(column, row)}" for column in range(7) for row in range(1, 8))
     yield from (f"pull {version} 16" for version in range(0, 112, 16))
     yield from ("pull 0", "pull 3", "pull 80 3", "get AN20", "get A20")
@@ -84,7 +85,7 @@ def shared():
     for line in changing:
         for _ in range(2):
             yield from (line, *(f"get {shown}" for shown in ("A1", "A2", "A3", "A4", "B1", "B2", "C1", "D1", "L5")))
-    yield from ("rows A1:E5", "rows A1:CZ2")
+    yield from ("rows A1:E5", "rows A1:CZ2", "entries A1:E5", "entry A3", "entry B1")
     yield from ("walk", "get A0", "set A1 =bad", "add A1 5", "choose C1 5", "push []", "pull 999", "rows A1")
     yield from ("get A1", "get B1", "get D1", "pull 0", "pull 0 16", "pull 16 16", "pull 999 16")
 
@@ -112,10 +113,10 @@ def text(script):
 
 
 def split(replies):
-    """The replies one by one, that to `rows` with the lines that follow it."""
+    """The replies one by one, those to `rows` and `entries` with the lines that follow them."""
     rest = replies.splitlines(keepends=True)
     while rest:
-        count = 1 + (int(rest[0].split()[1]) if rest[0].startswith(b"rows") else 0)
+        count = 1 + (int(rest[0].split()[1]) if rest[0].startswith((b"rows", b"entries")) else 0)
         yield b"".join(rest[:count])
         rest = rest[count:]
 

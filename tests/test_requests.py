@@ -20,6 +20,7 @@ WITHOUT = {
     "get A1": "val 5", "get B1": "val item", "get C1": "val 10", "get D1": "val 5", "get E1": "val {7}",
     "get F1": "val #CYCLE!", "get CZ1024": "val ", "get A0": "err 1 cell", "get": "err 16 command",
     "walk": "err 16 command", "set DA1 7": "err 1 cell", "rows A1": "err 1 cell", "choose E1 x": "err 8 option",
+    "entry A0": "err 1 cell", "entries A1": "err 1 cell", "entry": "err 16 command",
     "add A1 5": "err 5 not-tally", "choose D1 3": "err 6 not-choice", "add D1 0": "err 7 amount",
     "choose E1 64": "err 8 option", "unchoose E1 9": "err 12 not-chosen", "set G1 5": "err 13 clock-full",
     "add H1 1": "err 10 tally-full", "choose I1 1": "err 11 choice-full",
