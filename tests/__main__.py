@@ -3,7 +3,7 @@
 `./test` has all of it, `./test --program` the latter alone, and `./test --program TEXT` those whose name has the text.
 `./test --wrong` tries the wrong bodies alone, and `./test --wrong CRATE` those of a crate, over what is proved already.
 The last line is `N passed, M failed` over everything that ran, and the exit status is 0 only where nothing failed.
-`./test --hunt MINUTES` compares scripts by chance with a plain model (`hunt/`), and ends in the same way.
+`./test --hunt MINUTES` looks for trouble by chance (`hunt/`, `docs/HUNT.md`), and ends in the same way.
 """
 import re
 import subprocess

@@ -11,7 +11,7 @@ from program import LIMIT, TOP, ProgramTest
 
 SEED = 15
 # How many plans of each part are run.
-PLANS = {"scripts": 400, "replicas": 30, "sessions": 25}
+PLANS = {"scripts": 400, "replicas": 30, "sessions": 12, "faults": 12}
 # Each planted fault has to be found among so many scripts, and its script to be left with so few lines.
 FEW_SCRIPTS, FEW_LINES = 60, 12
 
@@ -31,7 +31,7 @@ class Command(ProgramTest):
     def test_one_part_alone(self):
         for part in PARTS:
             with self.subTest(part=part.name):
-                ran = self.start("--hunt", "0.01", "--seed", str(SEED), "--only", part.name)
+                ran = self.start("--hunt", "0.002", "--seed", str(SEED), "--only", part.name)
                 self.assertEqual((ran.returncode, ran.stderr), (0, ""))
                 told = rf"^hunt: seed 15\nhunt: \d+ {part.name}[^;\n]*\n[1-9]\d* passed, 0 failed\n$"
                 self.assertRegex(ran.stdout, told)

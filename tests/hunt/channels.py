@@ -13,7 +13,8 @@ from program import LIMIT, Ended
 from servers import HERE, free_port
 
 PIECE = 65_536
-ROOM = 10_000
+# (more than one segment of a connection on one machine, for which it would wait again and again)
+ROOM = 150_000
 MEASURES = {"threads": rb"Threads:\s+(\d+)", "kilobytes": rb"VmRSS:\s+(\d+)"}
 
 

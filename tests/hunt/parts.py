@@ -1,5 +1,7 @@
 """The parts of the hunt: each makes plans by chance, and tells what is wrong with what comes of one."""
-from . import channels, processes, replicas, replicas_by_chance, runs, sessions, sessions_by_chance, themes
+import tempfile
+
+from . import channels, processes, replicas, replicas_by_chance, runs, sessions, sessions_by_chance, shortages, themes
 
 DIFFERS = """\
 $ ./sheet {words}
@@ -101,4 +103,24 @@ class Sessions(Part):
         return sessions.trouble(plan, self.start, self.sync, self.counts)
 
 
-PARTS = (Scripts, Replicas, Sessions)
+class Faults(Part):
+    """Scripts and sessions beside calls of the C library that fail or are cut short."""
+
+    name = "faults"
+
+    def __init__(self):
+        super().__init__()
+        self.folder = tempfile.TemporaryDirectory(prefix="hunt-")
+        self.library = shortages.library(self.folder.name)
+
+    def plan(self, seed, number):
+        return shortages.plan(seed, number)
+
+    def trouble(self, plan):
+        if "words" in plan.settings:
+            self.counts["scripts"] = self.counts.get("scripts", 0) + 1
+            return shortages.of_script(self.library, plan.settings, plan.parts)
+        return sessions.trouble(plan, shortages.serve(self.library), None, self.counts)
+
+
+PARTS = (Scripts, Replicas, Sessions, Faults)

@@ -142,7 +142,7 @@ class Run:
         for number, house in enumerate(self.houses):
             talks = [*house.talks.values(), *house.handed]
             history = History(self.settings["replica"] + number, house.deltas)
-            Judge(history, talks, self.settings.get("fault") is not None).judge()
+            Judge(history, talks, (self.settings.get("fault") or "-")[0] == "m").judge()
             for handed in house.handed:
                 handed.compare(history)
             self.count_lines(house)

@@ -67,7 +67,7 @@ class SessionPlanner(Planner):
 
     def flood(self):
         """Lines whose replies are more than the system keeps for a reader."""
-        return (("send", self.one(), b"rows A1:CZ40\n" * self.chance.of((5, 20, 100))),)
+        return (("send", self.one(), b"rows A1:CZ40\n" * self.chance.of((5, 20, 40))),)
 
     def long(self):
         """A line about as long as one may be."""
