@@ -17,15 +17,15 @@ class Gone(Exception):
     """The program doesn't reply any more; the argument tells how that came."""
 
 
-def is_whole(reply):
-    """Whether these bytes are a whole reply with its line feeds: that to `rows` has as many lines as it says."""
-    first, _, rest = reply.partition(b"\n")
-    if not reply.endswith(b"\n"):
-        return False
-    word, _, count = first.partition(b" ")
-    if word not in (b"rows", b"entries") or not count.isdigit():
-        return True
-    return rest.count(b"\n") >= int(count)
+def first_reply(received, place=0):
+    """The first whole reply from this place on, with its line feeds, or nothing; a table tells its number of lines."""
+    end = received.find(b"\n", place) + 1
+    word, _, count = received[place:max(end - 1, place)].partition(b" ")
+    for _ in range(int(count) if word in (b"rows", b"entries") and count.isdigit() else 0):
+        end = received.find(b"\n", end) + 1
+        if not end:
+            return b""
+    return received[place:end]
 
 
 class Process:
@@ -42,7 +42,7 @@ class Process:
         except BrokenPipeError:
             raise Gone(f"it ended with {self.end()}") from None
         reply, deadline = b"", time.monotonic() + LIMIT
-        while not is_whole(reply):
+        while not first_reply(reply):
             ready, _, _ = select.select([self.session.stdout], [], [], max(0, deadline - time.monotonic()))
             piece = os.read(self.session.stdout.fileno(), PIECE) if ready else b""
             if not piece:

@@ -17,6 +17,7 @@ from . import channels, contents, runs, sessions_by_chance, themes
 from .chance import Chance
 from .histories import OUT_OF_MEMORY
 from .plans import Plan
+from .processes import first_reply
 from .scripts import Script
 from .session import Session, lines_of
 
@@ -78,15 +79,6 @@ def run(path, script, fault):
 
 # -- What may come
 
-def reply_of(output, place):
-    """The reply that begins at this place of the output, to its line feed at the end."""
-    end = output.find(b"\n", place) + 1
-    if output.startswith(b"rows ", place) and output[place + 5:end - 1].isdigit():
-        for _ in range(int(output[place + 5:end])):
-            end = output.find(b"\n", end) + 1
-    return output[place:end]
-
-
 def lacking(script, output):
     """The first place at which the replies of a session that lacks memory now and then can't be so, or nothing."""
     session, place = Session(runs.option(script, "--replica", 1)), 0
@@ -99,7 +91,8 @@ def lacking(script, output):
         if reply is None:
             continue
         if not output.startswith(reply + b"\n", place):
-            return f"{line[:300]!r} is answered\n{reply_of(output, place)[:300]!r}\nand the model has\n{reply[:300]!r}"
+            found = first_reply(output, place)
+            return f"{line[:300]!r} is answered\n{found[:300]!r}\nand the model has\n{reply[:300]!r}"
         place += len(reply) + 1
     return None if place == len(output) else f"more is written: {output[place:][:300]!r}"
 

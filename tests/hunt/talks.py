@@ -5,7 +5,7 @@ import time
 from program import LIMIT
 
 from .channels import Broken
-from .processes import is_whole
+from .processes import first_reply
 
 # Events of a run are numbered, so that it can be told which came first.
 CLOCK = itertools.count(1)
@@ -23,18 +23,6 @@ class Line:
     def asks(self):
         """Whether it has a reply."""
         return self.text.removesuffix(b"\r") != b""
-
-
-def first_reply(received):
-    """The first whole reply of these bytes, with its line feeds, or nothing."""
-    end = received.find(b"\n") + 1
-    if end and not is_whole(received[:end]):
-        count = int(received[5:end])
-        for _ in range(count):
-            end = received.find(b"\n", end) + 1
-            if not end:
-                return b""
-    return received[:end]
 
 
 class Talk:
