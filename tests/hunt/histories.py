@@ -12,8 +12,9 @@ from .session import Session
 
 OUT_OF_MEMORY = refusal("memory")
 # Words of lines that show a version, and of those that are for the newest one.
-READS, NEWEST = (b"get", b"rows"), (b"set", b"add", b"sub", b"choose", b"unchoose", b"push", b"pull")
-EDITS = NEWEST[:5]
+READS = (b"get", b"rows")
+NEWEST = (b"set", b"add", b"sub", b"choose", b"unchoose", b"push", b"pull", b"entry", b"entries")
+EDITS, SHOW_NEWEST = NEWEST[:5], NEWEST[-3:]
 
 
 class Wrong(Exception):
@@ -173,7 +174,7 @@ class Judge:
             version = self.version_of(line, least)
             if version is None:
                 raise Wrong(self.about(line, least))
-            if verb in READS or verb == b"pull" or receipt_of(line) is not None:
+            if verb in READS or verb in SHOW_NEWEST or receipt_of(line) is not None:
                 seen = version
 
     def lacked(self, line):

@@ -65,7 +65,7 @@ class Planner:
         if kind < 0.75:
             return self.one(), self.edit()
         if kind < 0.9:
-            return self.one(), b"get " + self.chance.of(self.names)
+            return self.one(), self.chance.of((b"get ", b"entry ")) + self.chance.of(self.names)
         return self.hostile()
 
     def hostile(self):

@@ -11,8 +11,8 @@ CORNERS = ((2, 1), (1, 3), (2, 2), (2, 3), (3, 3), (1, 6), (6, 1), (4, 4), (5, 6
 AMOUNTS = (b"1", b"1", b"2", b"3", b"7", b"1000000", b"999999", b"0", b"1000001", b"0007", b"-1", b"+1", b"", b"1.0",
            b"18446744073709551615", b"18446744073709551616", b"x", b"0" * 30 + b"4")
 OPTIONS = (b"0", b"0", b"1", b"2", b"3", b"7", b"63", b"64", b"007", b"-1", b"", b"18446744073709551616", b"x")
-VERBS = (b"set", b"add", b"sub", b"choose", b"unchoose", b"get", b"rows", b"push", b"pull", b"SET", b"", b"walk",
-         b"\xff")
+VERBS = (b"set", b"add", b"sub", b"choose", b"unchoose", b"get", b"rows", b"entry", b"entries", b"push", b"pull",
+         b"SET", b"", b"walk", b"\xff")
 NO_CELLS = (b"", b"A0", b"A01", b"a1", b"A1025", b"DA1", b"AAA1", b"A", b"1", b"$A1", b"A1:B1", b"\xc3\x81", b"+A1",
             b"CZ1025")
 NUMBERS = (b"0", b"1", b"00", b"01", b"16", b"17", b"x", b"", b"-1", b"18446744073709551615", b"18446744073709551616")
@@ -122,12 +122,13 @@ class Writer:
         self.write(self.choosing(self.session.sheet))
 
     def get(self):
-        self.ask(b"get " + self.name())
+        """Asks what a cell shows, or what was typed."""
+        self.ask(self.chance.of((b"get ", b"get ", b"get ", b"entry ")) + self.name())
 
     def rows(self):
-        """Asks for the whole corner, or for a part of it."""
+        """Asks the same of the whole corner, or of a part of it."""
         one, other = (self.names[0], self.names[-1]) if self.chance.once_in(2) else (self.name(), self.name())
-        self.ask(b"rows %s:%s" % (one, other))
+        self.ask(b"%s %s:%s" % (self.chance.of((b"rows", b"rows", b"entries")), one, other))
 
     def pull(self):
         """Asks for deltas, mostly some that are there."""

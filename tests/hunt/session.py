@@ -30,6 +30,15 @@ def number_of(word, otherwise, least=0, most=LARGEST_NUMBER):
     return int(digits)
 
 
+def table_of(word, corners, text_of):
+    """A reply that begins with this word and has the texts of the cells of the smallest rectangle with both corners."""
+    names = corners.split(b":")
+    if len(names) != 2:
+        raise Refused(contents.NO_CELL)
+    records = [written_record([text_of(cell) for cell in row]) for row in spanned(*map(cell_of, names)).rows()]
+    return b"\n".join([b"%s %d" % (word, len(records)), *records])
+
+
 class Session:
     """A session on an empty sheet: it replies to lines."""
 
@@ -76,13 +85,13 @@ class Session:
         return b"val " + contents.shown_text(self.sheet.value(cell_of(name)))
 
     def rows(self, corners):
-        names = corners.split(b":")
-        if len(names) != 2:
-            return contents.NO_CELL
-        rectangle = spanned(*map(cell_of, names))
-        records = [written_record([contents.shown_text(self.sheet.value(cell)) for cell in row])
-                   for row in rectangle.rows()]
-        return b"\n".join([b"rows %d" % len(records), *records])
+        return table_of(b"rows", corners, lambda cell: contents.shown_text(self.sheet.value(cell)))
+
+    def entry(self, name):
+        return b"entry " + contents.canonical_text(self.sheet.content(cell_of(name)))
+
+    def entries(self, corners):
+        return table_of(b"entries", corners, lambda cell: contents.canonical_text(self.sheet.content(cell)))
 
     def push(self, line):
         delta = deltas.read_delta(line)
@@ -104,8 +113,8 @@ class Session:
     # what each asks for, and how many words it has at least and at most after its first one
     VERBS = {
         b"set": (set, 1, 2), b"add": (add, 2, 2), b"sub": (sub, 2, 2), b"choose": (choose, 2, 2),
-        b"unchoose": (unchoose, 2, 2), b"get": (get, 1, 1), b"rows": (rows, 1, 1), b"push": (push, 1, 1),
-        b"pull": (pull, 1, 2),
+        b"unchoose": (unchoose, 2, 2), b"get": (get, 1, 1), b"rows": (rows, 1, 1), b"entry": (entry, 1, 1),
+        b"entries": (entries, 1, 1), b"push": (push, 1, 1), b"pull": (pull, 1, 2),
     }
 
 

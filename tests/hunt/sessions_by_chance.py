@@ -32,9 +32,9 @@ class SessionPlanner(Planner):
         if kind < 0.45:
             return self.edit()
         if kind < 0.7:
-            return b"get " + chance.of(self.names)
+            return chance.of((b"get ", b"get ", b"entry ")) + chance.of(self.names)
         if kind < 0.8:
-            return b"rows %s:%s" % (self.names[0], self.names[-1])
+            return b"%s %s:%s" % (chance.of((b"rows", b"rows", b"entries")), self.names[0], self.names[-1])
         if kind < 0.9:
             return b"pull %d%s" % (chance.of((0, 0, 1, 3, 8, 20)), chance.of((b"", b" 1", b" 3", b" 16")))
         if kind < 0.97:
