@@ -132,7 +132,10 @@ impl<L: DeskName, W: Wait + Drop> DeskState<L, W> {
         } = self;
         pass.catch_up(wait, copies.front());
         let _report = sheet.stage(rt, &Open, alloc, change, meter)?;
-        finish(wait, alloc, sheet, copies, book, pass)
+        let receipt = finish(wait, alloc, sheet, copies, book, pass);
+        // for the fact that the list is legal
+        let _ = copies.front();
+        receipt
     }
 
     /// The deltas of the history after a number, in order, at most so many.
