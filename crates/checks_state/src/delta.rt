@@ -2,6 +2,10 @@
 //!
 //! What a test asserts is worked out by small functions with few owned values each; those are quick to prove.
 
+ghost use Rattle.std.specs.List.Sorted.{IsStrictlyIncreasing};
+ghost use Rattle.ps_delta.specs.Deltas.{cells_of};
+ghost use Rattle.ps_delta.specs.Raised.{HasRoomFor};
+
 use Part::{Added, Assigned, Chosen, Nothing};
 use ps_content::Content;
 use ps_delta::{CellState, Delta, Grid, Touched};
@@ -110,12 +114,23 @@ fn grid_with(alloc: Global, delta: &Delta) -> Result<Grid, Refusal> {
     Ok(grid)
 }
 
+// Joins a list of deltas into the grid, each by its cells.
+fn join_all(
+    rt: &impl Abort,
+    alloc: Global,
+    grid: &mut Grid,
+    list: &[&[(usize, Part)]],
+) -> Result<(), Refusal> {
+    for parts in list {
+        join(rt, alloc, grid, parts)?;
+    }
+    Ok(())
+}
+
 // The grid that a list of deltas is joined into, each by its cells.
 fn grid_of(rt: &impl Abort, alloc: Global, list: &[&[(usize, Part)]]) -> Result<Grid, Refusal> {
     let mut grid = Grid::new(alloc)?;
-    for parts in list {
-        join(rt, alloc, &mut grid, parts)?;
-    }
+    join_all(rt, alloc, &mut grid, list)?;
     Ok(grid)
 }
 
@@ -374,13 +389,18 @@ fn touch_in_turn(
     touch(rt, alloc, grid, touched, LATE, &[])
 }
 
+// The same, with a list of touched cells of its own.
+fn touch_newly(rt: &impl Abort, alloc: Global, grid: &mut Grid) -> Result<(), Refusal> {
+    let mut touched = Touched::new(alloc)?;
+    touch_in_turn(rt, alloc, grid, &mut touched)
+}
+
 /// Touched are the cells that a join would change: a counter that isn't shown counts, and what is covered doesn't.
 #[test]
 fn hidden_parts_are_touched(rt: HostRuntime) -> Result<(), Refusal> {
-    let mut touched = Touched::new(rt.alloc())?;
     let mut grid = grid_of(&rt, rt.alloc(), &[&[(3, Assigned(2, 1, 8))]])?;
-    touch_in_turn(&rt, rt.alloc(), &mut grid, &mut touched)?;
-    assert_eq!(rt; number_at(&rt, &grid, 3), Some(8));
+    touch_newly(&rt, rt.alloc(), &mut grid)?;
+    assert!(rt; number_at(&rt, &grid, 3) == Some(8));
     Ok(())
 }
 
@@ -400,13 +420,20 @@ fn is_joined<J: Join>(alloc: Global, state: &mut J, other: &J) -> Result<bool, R
     Ok(other.below(state))
 }
 
+// Joins the grid of the other three of the six deltas into a grid that isn't above it.
+fn join_other_half(rt: &impl Abort, alloc: Global, grid: &mut Grid) -> Result<(), Refusal> {
+    let other = grid_of(rt, alloc, &[SIX[1], SIX[3], SIX[5]])?;
+    assert!(rt; !other.below(grid));
+    assert!(rt; is_joined(alloc, grid, &other)?);
+    Ok(())
+}
+
 /// Two grids join as their deltas do: the six deltas, three in each grid.
 #[test]
 fn two_grids_join_cell_by_cell(rt: HostRuntime) -> Result<(), Refusal> {
-    let mut left = grid_of(&rt, rt.alloc(), &[SIX[0], SIX[2], SIX[4]])?;
-    let right = grid_of(&rt, rt.alloc(), &[SIX[1], SIX[3], SIX[5]])?;
-    assert!(rt; !right.below(&left) && is_joined(rt.alloc(), &mut left, &right)?);
-    check_six(&rt, &left);
+    let mut grid = grid_of(&rt, rt.alloc(), &[SIX[0], SIX[2], SIX[4]])?;
+    join_other_half(&rt, rt.alloc(), &mut grid)?;
+    check_six(&rt, &grid);
     Ok(())
 }
 
@@ -448,7 +475,26 @@ fn a_refused_join_changes_nothing(rt: HostRuntime) -> Result<(), Refusal> {
 
 const LAST: usize = CELLS - 1;
 
-// Raises the cells of the delta and exchanges them twice; looks at the cells before and after each.
+// Exchanges what is raised twice, and looks at the cells before and after each.
+fn exchange_and_back(
+    rt: &impl Abort,
+    grid: &mut Grid,
+    raised: &mut [(Cell, CellState)],
+    delta: &Delta,
+)
+    requires ready { HasRoomFor grid.old raised.old }
+    requires once { IsStrictlyIncreasing (cells_of raised.old) }
+{
+    assert!(rt; raised.len() == 2 && number_at(rt, grid, 3) == Some(7));
+    grid.exchange(raised);
+    let changed = [(0, None), (3, Some(8)), (LAST, Some(9))];
+    assert!(rt; have_numbers(rt, grid, &changed) && grid.covers(delta));
+    grid.exchange(raised);
+    let back = [(0, None), (3, Some(7)), (LAST, None)];
+    assert!(rt; have_numbers(rt, grid, &back) && value_at(rt, grid, 0) == 5);
+}
+
+// Raises the cells of the delta, and exchanges them twice.
 fn exchange_twice(
     rt: &impl Abort,
     alloc: Global,
@@ -456,13 +502,7 @@ fn exchange_twice(
     delta: &Delta,
 ) -> Result<(), Refusal> {
     let mut raised = grid.raised(alloc, delta)?;
-    assert!(rt; raised.len() == 2 && number_at(rt, grid, 3) == Some(7));
-    grid.exchange(&mut raised);
-    let changed = [(0, None), (3, Some(8)), (LAST, Some(9))];
-    assert!(rt; have_numbers(rt, grid, &changed) && grid.covers(delta));
-    grid.exchange(&mut raised);
-    let back = [(0, None), (3, Some(7)), (LAST, None)];
-    assert!(rt; have_numbers(rt, grid, &back) && value_at(rt, grid, 0) == 5);
+    exchange_and_back(rt, grid, &mut raised, delta);
     Ok(())
 }
 

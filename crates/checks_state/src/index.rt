@@ -6,7 +6,7 @@ ghost use Rattle.std.specs.Prelude.{IfOk, OnOk};
 ghost use Rattle.ps_index.specs.Stands.{Puts, Stands};
 
 use ps_formula::Formula;
-use ps_grid::{COLUMNS, Cell, Refusal};
+use ps_grid::{CELLS, COLUMNS, Cell, Refusal};
 use ps_index::{Index, Readers, Span};
 use std::alloc::Global;
 
@@ -238,6 +238,47 @@ fn nested(alloc: Global) -> Result<bool, Refusal> {
         A511:B1 B2 B4 B8\nA512:B1 B2 B3 B4\nA513:B1 B2 B5\nA514:B1 B5\nA700:B1 B5\n\
         A1022:B1 B5\nA1023:B1 B5 B9\nA1024:B1 B5 B7 B9",
     ))
+}
+
+/// A column takes a span of each of two formulas of each cell.
+#[test]
+fn a_column_takes_two_spans_of_each_cell(rt: HostRuntime) {
+    let found = crowded(rt.alloc());
+    assert!(rt; found == Ok(true));
+}
+
+/// Whether the formulas of all cells are found at a row, and then others beside them at another one.
+fn crowded(alloc: Global) -> Result<bool, Refusal> {
+    let first = Formula::read(alloc, b"=[.A512]")?;
+    let second = Formula::read(alloc, b"=[.A1024]")?;
+    let mut index = Index::new(alloc)?;
+    put_everywhere(&mut index, &first)?;
+    put_everywhere(&mut index, &second)?;
+    let few = readers_of(&index, cell("A512")?);
+    let more = readers_of(&index, cell("A1024")?);
+    Ok(index.spans(0).len() == 2 * CELLS && few == CELLS && more == CELLS)
+}
+
+/// How many cells refer to a cell.
+fn readers_of(index: &Index, to: Cell) -> usize {
+    let mut found = 0usize;
+    for _reader in index.dependents(to) {
+        found = found.wrapping_add(1);
+    }
+    found
+}
+
+/// Puts a formula in for each cell.
+fn put_everywhere(index: &mut Index, formula: &Formula) -> Result<(), Refusal>
+    requires { (forms : Puts) × Stands index.old forms }
+    ensures { OnOk result ((forms : Puts) × Stands index.new forms) }
+{
+    for k in 0..CELLS {
+        if let Some(cell) = Cell::from_index(k) {
+            put_in(index, cell, formula)?;
+        }
+    }
+    Ok(())
 }
 
 /// After a growth that is refused in `set` the cells that refer to each cell are as before.

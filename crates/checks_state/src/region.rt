@@ -199,7 +199,9 @@ fn chain(alloc: Global) -> Result<bool, Refusal> {
             && are(region.level(4), "E1")
             && are(region.level(5), "")
             && are(region.cyclic(), "")
+            && !region.is_formula(cell("A1")?)
             && region.left(cell("A1")?).is_none()
+            && region.is_formula(cell("B1")?)
             && region.left(cell("B1")?) == Some(0),
     )
 }

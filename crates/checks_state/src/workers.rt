@@ -1,6 +1,6 @@
-//! Levels of a few cells, and gates that count, note and hold.
+//! Levels of a few cells and of many, and a gate that holds the workers and counts their passes.
 
-ghost use Rattle.std.specs.Prelude.{◌≡◌, ◌<◌, ◌≤◌, length, IfOk};
+ghost use Rattle.std.specs.Prelude.{◌<◌, ◌≤◌};
 ghost use Rattle.std.specs.Bool.{OnTrue};
 ghost use Rattle.ps_grid.specs.Blanks.{IsBlankOf};
 ghost use Rattle.ps_grid.specs.declared.parties.TheConstants.{WORKERS};
@@ -8,14 +8,14 @@ ghost use Rattle.ps_workers.specs.Level.{HaveFormulas};
 
 use ps_eval::{Look, Meter};
 use ps_formula::{Formula, Formulas};
-use ps_grid::{Cell, Refusal};
+use ps_grid::{CELLS, Cell, Refusal};
 use ps_shown::Kept;
 use ps_value::{Operand, Value};
 use ps_workers::{CELLS_OF_A_WORKER, Gate, Open, eval_level, workers_worth};
 use std::alloc::{AllocError, Global};
 use std::marker::Brand;
 use std::process::Abort;
-use std::sync::atomic::{AtomicBool, AtomicUsize, Ordering};
+use std::sync::atomic::{AtomicUsize, Ordering};
 use std::sync::ledger::{Blank, Ledger};
 use std::test::Fail;
 use std::thread;
@@ -76,10 +76,10 @@ fn have_formulas<F: Formulas>(formulas: &F, cells: &[Cell]) -> bool
     true
 }
 
-fn counted<L: Ledger, R: Threads + Sync, G: Gate>(
+fn counted<L: Ledger, R: Threads + Sync, B: Formulas + Look + Sync, G: Gate>(
     rt: &R,
     blank: Blank,
-    board: &Board,
+    board: &B,
     cells: &[Cell],
     out: &mut [Kept],
     workers: usize,
@@ -95,6 +95,29 @@ fn counted<L: Ledger, R: Threads + Sync, G: Gate>(
     }
 }
 
+/// Evaluates a level, where each cell has a formula.
+fn evaluate<R: Threads + Sync, B: Formulas + Look + Sync, G: Gate>(
+    rt: &R,
+    board: &B,
+    cells: &[Cell],
+    out: &mut [Kept],
+    workers: usize,
+    gate: &G,
+)
+    requires { (0 < workers) × (workers ≤ WORKERS) }
+{
+    counted::<Brand, R, B, G>(rt, Blank::new(1), board, cells, out, workers, gate);
+}
+
+/// So many places that are empty.
+fn empties(alloc: Global, count: usize) -> Result<Vec<Kept>, AllocError> {
+    let mut out = Vec::with_capacity(alloc, count)?;
+    for _ in 0..count {
+        out.push(Kept::Empty)?;
+    }
+    Ok(out)
+}
+
 /// What a level of so many sums gives.
 fn level<R: Threads + Sync, G: Gate>(
     rt: &R,
@@ -106,11 +129,8 @@ fn level<R: Threads + Sync, G: Gate>(
     requires { (0 < workers) × (workers ≤ WORKERS) }
 {
     let (board, cells) = sums(alloc, count)?;
-    let mut out = Vec::with_capacity(alloc, count)?;
-    for _ in 0..count {
-        out.push(Kept::Empty)?;
-    }
-    counted::<Brand, R, G>(rt, Blank::new(1), &board, &cells, &mut out, workers, gate);
+    let mut out = empties(alloc, count)?;
+    evaluate(rt, &board, &cells, &mut out, workers, gate);
     Ok(out)
 }
 
@@ -140,46 +160,154 @@ fn each_place_has_its_value(rt: HostRuntime) -> Result<(), Fail> {
     Ok(())
 }
 
-/// Counts how often each worker passes.
-#[derive(Drop)]
-struct Counting {
-    passes: [AtomicUsize; 16],
-}
-
-impl Gate for Counting {
-    fn pass(&self, worker: usize) {
-        self.passes[worker].fetch_add(1, Ordering::SeqCst);
-    }
-}
-
 fn none() -> AtomicUsize {
     AtomicUsize::new(0)
 }
 
-/// Whether so many passes are the part of a worker, of which so many come.
-fn is_part(passes: usize, worker: usize, count: usize, came: usize) -> bool {
-    if worker < came {
-        passes > 0 && (passes == count / came || passes - 1 == count / came)
-    } else {
-        passes == 0
-    }
+/// How often a worker that waits for the others looks for them at most.
+const TURNS: usize = 1_000_000;
+
+/// A level where each formula refers to its own cell alone, and what is seen of its evaluation.
+///
+/// As a gate it holds each worker at its first pass until all have come, and counts the passes of each. As what the
+/// cells show it counts the evaluations, and those that don't come just when the worker of the cell has passed once
+/// for it and once for each of its cells before.
+#[derive(Drop)]
+struct Watched {
+    formulas: Vec<Formula>,
+    /// where the cells of each worker begin; the number of cells for who doesn't come, and last
+    starts: [usize; 17],
+    /// how many workers come
+    workers: usize,
+    came: AtomicUsize,
+    met: AtomicUsize,
+    passes: [AtomicUsize; 16],
+    evaluated: AtomicUsize,
+    out_of_turn: AtomicUsize,
 }
 
-/// Whether the workers that come have passed once for each cell, none of them two times more than another.
-fn have_parts(gate: &Counting, count: usize, came: usize) -> bool {
-    let mut all = 0usize;
-    for k in 0..16 {
-        let passes = gate.passes[k].load(Ordering::SeqCst);
-        if !is_part(passes, k, count, came) {
-            return false;
+impl Watched {
+    /// Whether the worker of the cell in this place has passed for it and for no later one.
+    fn is_its_turn(&self, place: usize) -> bool {
+        for k in 0..16 {
+            if self.starts[k] <= place && place < self.starts[k + 1] {
+                let passes = self.passes[k].load(Ordering::SeqCst);
+                return self.starts[k].wrapping_add(passes) == place.wrapping_add(1);
+            }
         }
-        all = all.wrapping_add(passes);
+        false
     }
-    all == count
+
+    /// Notes an evaluation of the cell.
+    fn note(&self, cell: Cell) {
+        self.evaluated.fetch_add(1, Ordering::SeqCst);
+        if !self.is_its_turn(cell.index()) {
+            self.out_of_turn.fetch_add(1, Ordering::SeqCst);
+        }
+    }
+
+    /// Waits until all workers have come.
+    fn wait(&self) {
+        self.came.fetch_add(1, Ordering::SeqCst);
+        for _ in 0..TURNS {
+            if self.came.load(Ordering::SeqCst) == self.workers {
+                self.met.fetch_add(1, Ordering::SeqCst);
+                return;
+            }
+            thread::yield_now();
+        }
+    }
+
+    /// Whether each worker has passed once for each cell of its share and none else has, all workers have met, and each
+    /// cell was evaluated in its turn.
+    fn is_shared_evenly(&self) -> bool {
+        for k in 0..16 {
+            let passes = self.passes[k].load(Ordering::SeqCst);
+            if self.starts[k].wrapping_add(passes) != self.starts[k + 1] {
+                return false;
+            }
+        }
+        self.met.load(Ordering::SeqCst) == self.workers
+            && self.evaluated.load(Ordering::SeqCst) == self.formulas.len()
+            && self.out_of_turn.load(Ordering::SeqCst) == 0
+    }
 }
 
-/// Whether in a level of so many cells each of so many workers has its part.
-fn has_parts<R: Threads + Sync>(
+impl Gate for Watched {
+    fn pass(&self, worker: usize) {
+        if self.passes[worker].fetch_add(1, Ordering::SeqCst) == 0 {
+            self.wait();
+        }
+    }
+}
+
+impl Formulas for Watched {
+    ghost use Rattle.std.specs.Prelude.{slice_get};
+
+    ghost formula_at = { λ b c. slice_get b.formulas.items c };
+
+    fn formula(&self, cell: Cell) -> Option<&Formula> {
+        self.formulas.get(cell.index())
+    }
+}
+
+impl Look for Watched {
+    ghost use Rattle.std.specs.Prelude.{pos};
+    ghost use Rattle.ps_value.specs.declared.value.Value.TheVariants.{Num};
+
+    ghost value_at = { λ _ _. Num (pos 7) };
+
+    fn at(&self, cell: Cell) -> Value {
+        self.note(cell);
+        Value::Num(7)
+    }
+
+    fn operand(&self, cell: Cell) -> Operand {
+        self.note(cell);
+        Operand::Num(7)
+    }
+}
+
+/// Where the cells of the workers begin: the first workers have one more where they don't divide evenly.
+fn starts_of(count: usize, workers: usize) -> [usize; 17]
+    requires { 0 < workers }
+{
+    let mut starts = [count; 17];
+    for k in 0..17 {
+        if k < workers {
+            starts[k] = k
+                .wrapping_mul(count / workers)
+                .wrapping_add(k.min(count % workers));
+        }
+    }
+    starts
+}
+
+/// The formula that refers to this cell alone.
+fn reference_to(alloc: Global, cell: Cell) -> Result<Formula, Refusal> {
+    let mut name = [0; 6];
+    let length = cell.write(&mut name);
+    let mut text = Vec::from_slice(alloc, b"=[.")?;
+    text.extend_from_slice(&name[..length])?;
+    text.push(b']')?;
+    Formula::read(alloc, &text)
+}
+
+/// So many of the first cells, each with the formula that refers to it.
+fn references(alloc: Global, count: usize) -> Result<(Vec<Formula>, Vec<Cell>), Fail> {
+    let mut formulas = Vec::new(alloc);
+    let mut cells = Vec::new(alloc);
+    for k in 0..count {
+        let cell = Cell::from_index(k).ok_or("no cell")?;
+        formulas.push(reference_to(alloc, cell)?)?;
+        cells.push(cell)?;
+    }
+    Ok((formulas, cells))
+}
+
+/// Whether as many workers as asked for, or as there are cells, are there at once and share a level of so many cells
+/// evenly.
+fn is_shared<R: Threads + Sync>(
     rt: &R,
     alloc: Global,
     count: usize,
@@ -187,21 +315,30 @@ fn has_parts<R: Threads + Sync>(
 ) -> Result<bool, Fail>
     requires { (0 < workers) × (workers ≤ WORKERS) }
 {
-    let gate = Counting {
+    let (formulas, cells) = references(alloc, count)?;
+    let level = Watched {
+        formulas,
+        starts: starts_of(count, workers),
+        workers: workers.min(count),
+        came: none(),
+        met: none(),
         passes: [0; 16].map(|_| none()),
+        evaluated: none(),
+        out_of_turn: none(),
     };
-    let _ = level(rt, alloc, count, workers, &gate)?;
-    Ok(have_parts(&gate, count, workers.min(count)))
+    let mut out = empties(alloc, count)?;
+    evaluate(rt, &level, &cells, &mut out, workers, &level);
+    Ok(level.is_shared_evenly())
 }
 
-/// The gate is passed as often as the meter rises, by as many workers as asked for or as there are cells, none of which
-/// passes two times more than another.
+/// Each of the workers, or of as many as there are cells, has its part, and they are there at once; each passes the gate
+/// just before each of its evaluations, and for nothing else.
 #[test]
 fn each_worker_has_its_part(rt: HostRuntime) -> Result<(), Fail> {
     for workers in 1..=16 {
         for count in 0..40 {
             assert!(rt;
-                has_parts(&rt, rt.alloc(), count, workers)?,
+                is_shared(&rt, rt.alloc(), count, workers)?,
                 "{workers} workers, {count} cells"
             );
         }
@@ -209,53 +346,20 @@ fn each_worker_has_its_part(rt: HostRuntime) -> Result<(), Fail> {
     Ok(())
 }
 
-/// Holds each of two workers until the other one has come.
-#[derive(Drop)]
-struct Holding {
-    came: [AtomicBool; 2],
-    saw: [AtomicBool; 2],
-}
-
-impl Holding {
-    /// Whether a worker has seen the other one.
-    fn has_seen(&self, worker: usize) -> bool
-        requires { worker < 2 }
-    {
-        self.saw[worker].load(Ordering::SeqCst)
-    }
-}
-
-const TURNS: usize = 1_000_000;
-
-impl Gate for Holding {
-    fn pass(&self, worker: usize) {
-        if worker >= 2 {
-            return;
-        }
-        self.came[worker].store(true, Ordering::SeqCst);
-        for _ in 0..TURNS {
-            if self.came[1 - worker].load(Ordering::SeqCst) {
-                self.saw[worker].store(true, Ordering::SeqCst);
-                return;
-            }
-            thread::yield_now();
-        }
-    }
-}
-
-fn two() -> [AtomicBool; 2] {
-    [AtomicBool::new(false), AtomicBool::new(false)]
-}
-
-/// A gate that holds each worker of a level of two cells until the other has come sees both at once.
+/// The same of levels that are worth two workers and sixteen.
 #[test]
-fn gate_sees_two_workers(rt: HostRuntime) -> Result<(), Fail> {
-    let gate = Holding {
-        came: two(),
-        saw: two(),
-    };
-    let out = level(&rt, rt.alloc(), 2, 2, &gate)?;
-    assert!(rt; gate.has_seen(0) && gate.has_seen(1) && out.len() == 2 && counts_on(&out));
+fn wide_levels_are_shared_evenly(rt: HostRuntime) -> Result<(), Fail> {
+    for (count, workers) in [
+        (2 * CELLS_OF_A_WORKER + 3, 1),
+        (2 * CELLS_OF_A_WORKER + 3, 2),
+        (16 * CELLS_OF_A_WORKER + 7, 2),
+        (16 * CELLS_OF_A_WORKER + 7, 16),
+    ] {
+        assert!(rt;
+            workers_worth(count, workers) == workers && is_shared(&rt, rt.alloc(), count, workers)?,
+            "{workers} workers, {count} cells"
+        );
+    }
     Ok(())
 }
 
@@ -268,9 +372,9 @@ fn small_levels_are_worth_one_worker(rt: HostRuntime) {
         (8_191, 4, 1),
         (8_192, 4, 2),
         (16_384, 4, 4),
-        (106_496, 4, 4),
-        (106_496, 16, 16),
-        (106_496, 1, 1),
+        (CELLS, 4, 4),
+        (CELLS, 16, 16),
+        (CELLS, 1, 1),
     ] {
         assert_eq!(rt; workers_worth(cells, workers), worth);
     }
