@@ -6,7 +6,7 @@ from program import ProgramTest
 
 SEED = 15
 # Each planted fault has to be found among so many plans, and its plan to be left with so few steps.
-FEW_PLANS, FEW_STEPS = 150, 12
+FEW_PLANS, FEW_STEPS = 400, 20
 
 
 class Planted(ProgramTest):
