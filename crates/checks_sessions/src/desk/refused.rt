@@ -94,7 +94,7 @@ fn go_through<L: DeskName, W: Wait + Drop, T: Abort + Threads + Wait + Sync>(
     for (name, asked, refusal) in REFUSED {
         let refused = edit_of(rt, alloc, name, asked);
         assert!(rt; answer(rt, alloc, desk, first, refused) == Err(refusal));
-        version += 1;
+        version = version.saturating_add(1);
         let (entry, value) = if version % 2 == 0 { ("8", 8) } else { ("9", 9) };
         assert!(rt; enter(rt, alloc, desk, second, entry) == Ok(version));
         assert!(rt; read(rt, second) == (version, Value::Num(value)));
