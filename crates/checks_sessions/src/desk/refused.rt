@@ -90,7 +90,7 @@ fn go_through<L: DeskName, W: Wait + Drop, T: Abort + Threads + Wait + Sync>(
     first: &mut Pass<L>,
     second: &mut Pass<L>,
 ) {
-    let mut version = 3;
+    let mut version: u64 = 3;
     for (name, asked, refusal) in REFUSED {
         let refused = edit_of(rt, alloc, name, asked);
         assert!(rt; answer(rt, alloc, desk, first, refused) == Err(refusal));
