@@ -321,3 +321,88 @@ fn the_longest_table(rt: HostRuntime) -> Result<(), Fail> {
     assert!(rt; end_of_line_feeds(&rt, rt.alloc(), usize::MAX)? == untouched(Refusal::Csv));
     Ok(())
 }
+
+/// Ten records, and what is shown of each.
+static TEN: [(&[u8], &[u8]); 10] = [
+    (b"1,=[.A1]*3\n", b"1,3\n"),
+    (b"2,=[.A2]*3\n", b"2,6\n"),
+    (b"3,text\n", b"3,text\n"),
+    (b"4,=[.B1]\n", b"4,3\n"),
+    (b"5,\n", b"5,\n"),
+    (b"6,=[.A7]\n", b"6,7\n"),
+    (b"7,@tally\n", b"7,0\n"),
+    (b"8,@choice\n", b"8,{}\n"),
+    (b"9,=SUM([.A1:.A9])\n", b"9,45\n"),
+    (b"10,=MOD(1;0)\n", b"10,#DIV/0!\n"),
+];
+
+/// The text of the ten records.
+fn ten(alloc: Global) -> Result<Vec<u8>, Refusal> {
+    let mut text = Vec::new(alloc);
+    for (record, _) in &TEN {
+        text.extend_from_slice(record)?;
+    }
+    Ok(text)
+}
+
+/// Whether just the first so many of the ten records stand, each by an edit of its own. That B6 shows A7 is seen only
+/// where both stand.
+fn stand(alloc: Global, sheet: &Sheet, count: usize) -> Result<bool, Refusal> {
+    let mut text = Vec::new(alloc);
+    for (place, (_, row)) in TEN.iter().enumerate() {
+        let due: &[u8] = match (place < count, place == 5 && count == 6) {
+            (true, false) => row,
+            (true, true) => b"6,0\n",
+            (false, _) => b",\n",
+        };
+        text.extend_from_slice(due)?;
+    }
+    Ok(table_of(alloc, sheet, "B10")?.as_slice() == text.as_slice())
+}
+
+/// Takes the ten records in, by a second call where the first one is refused memory. Whether just the records stood
+/// that it said were applied, and then all of them.
+fn import_again<R: Threads + Sync>(
+    rt: &R,
+    alloc: Global,
+    text: &[u8],
+    sheet: &mut Sheet,
+) -> Result<bool, Refusal> {
+    let whole = Ok(Imported {
+        records: 10,
+        fields: 2,
+    });
+    let mut source = MemorySource::new(text);
+    let first = take_from(rt, alloc, &mut source, sheet);
+    if first == whole {
+        return Ok(sheet.version() == 10 && stand(alloc, sheet, 10)?);
+    }
+    let before = sheet.version();
+    let is_part = first == Err((Refusal::Memory, before as usize))
+        && stand(alloc, sheet, before as usize)?;
+    let mut source = MemorySource::new(text);
+    let is_whole = take_from(rt, alloc, &mut source, sheet) == whole;
+    Ok(
+        is_part
+            && is_whole
+            && sheet.version() == before.saturating_add(10)
+            && stand(alloc, sheet, 10)?,
+    )
+}
+
+/// The same at an empty sheet.
+fn refuse_import<R: Threads + Sync>(rt: &R, alloc: Global) -> Result<bool, Refusal> {
+    let text = ten(alloc)?;
+    let mut sheet = Sheet::open(alloc, 1, 1)?;
+    import_again(rt, alloc, &text, &mut sheet)
+}
+
+/// A refused import is `Memory`, and just the records stand that it says were applied; the next one takes in all.
+#[test]
+fn refused_import(rt: HostRuntime) {
+    let mut found = refuse_import(&rt, rt.alloc());
+    if found == Err(Refusal::Memory) {
+        found = refuse_import(&rt, rt.alloc());
+    }
+    assert!(rt; found == Ok(true));
+}

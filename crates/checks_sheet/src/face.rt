@@ -7,7 +7,7 @@ mod published;
 use crate::face::published::Published;
 use ps_content::{Content, read_entry};
 use ps_face::{FaceReader, Named, Opened};
-use ps_grid::Cell;
+use ps_grid::{Cell, Refusal};
 use ps_sheet::{Batch, Edit};
 use ps_value::{Fault, Label, Value};
 use std::alloc::Global;
@@ -34,23 +34,37 @@ fn go_through<L: Named, T: Abort + Threads + Wait + Sync>(
     alloc: Global,
     opened: Opened,
     rows: &[Row],
-)
+) -> Result<(), Refusal>
     requires book { opened ≡ L.book }
     requires opening { L.opening ≡ [] }
 {
-    let (mut published, _) = Published::<L, &T>::open(rt, rt, alloc, opened, 1);
+    let (mut published, _) = Published::<L, &T>::open(rt, rt, alloc, opened, 1)?;
     for (name, entry, due) in rows {
         let here = cell(rt, name);
-        let content = read_entry(alloc, entry.as_bytes()).expect(rt, "an entry");
-        let (next, seen) = published.go_on(rt, alloc, Edit::Set(here, content), here);
+        let content = read_entry(alloc, entry.as_bytes())?;
+        let (next, seen) = published.go_on(rt, alloc, Edit::Set(here, content), here)?;
         published = next;
         assert!(rt; seen == *due, "{name} {entry}");
     }
+    Ok(())
 }
 
 /// The same of a new sheet.
+fn go_anew<T: Abort + Threads + Wait + Sync>(
+    rt: &T,
+    alloc: Global,
+    rows: &[Row],
+) -> Result<(), Refusal> {
+    go_through::<Brand, T>(rt, alloc, Opened::new(), rows)
+}
+
+/// The same, a second time where memory ran out in the first one.
 fn check<T: Abort + Threads + Wait + Sync>(rt: &T, alloc: Global, rows: &[Row]) {
-    go_through::<Brand, T>(rt, alloc, Opened::new(), rows);
+    let mut ended = go_anew(rt, alloc, rows);
+    if ended == Err(Refusal::Memory) {
+        ended = go_anew(rt, alloc, rows);
+    }
+    assert!(rt; ended.is_ok());
 }
 
 /// After a patch is appended a reader sees version 0 and nothing, and after it is published version 1 and the number.
@@ -61,6 +75,16 @@ fn a_patch_shows_once_it_is_published(rt: HostRuntime) {
         rt.alloc(),
         &[("A1", "5", [(0, Value::Empty), (1, Value::Num(5))])],
     );
+}
+
+/// After a refused `append` a reader sees what it saw, and the next one is taken: a patch of a number, and of a text.
+#[test]
+fn refused_append(rt: HostRuntime) {
+    let rows = [
+        ("A1", "5", [(0, Value::Empty), (1, Value::Num(5))]),
+        ("A1", "text", [(1, Value::Num(5)), (2, text(&rt, "text"))]),
+    ];
+    check(&rt, rt.alloc(), &rows);
 }
 
 const CYCLE: Value = Value::Err(Fault::Cycle);
@@ -154,8 +178,8 @@ fn write_on<T: Abort + Threads + Sync, L: Named, R: Wait + Drop>(
     let mut published = published;
     for number in 1..=PATCHES {
         let edit = alike(rt, alloc, one, other, number as i64);
-        let (next, _) = published.go_on(rt, alloc, edit, one);
-        published = next;
+        let gone_on = published.go_on(rt, alloc, edit, one).ok();
+        published = gone_on.expect(rt, "a change that isn't refused").0;
     }
     published
 }
@@ -214,7 +238,8 @@ fn race<T: Abort + Threads + Wait + Sync, L: Named + Send + Sync>(
     requires book { opened ≡ L.book }
     requires opening { L.opening ≡ [] }
 {
-    let (published, readers) = Published::<L, &T>::open(rt, rt, alloc, opened, 3);
+    let opened = Published::<L, &T>::open(rt, rt, alloc, opened, 3).ok();
+    let (published, readers) = opened.expect(rt, "copies");
     thread::scope(thread::scope_env(), rt, |scope| -> bool {
         beside(scope, rt, alloc, published, readers, one, other)
     })

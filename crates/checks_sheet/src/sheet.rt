@@ -7,6 +7,7 @@ mod jobs;
 mod long;
 mod orders;
 mod prepared;
+mod refused;
 mod reports;
 mod rounds;
 mod script;

@@ -2,6 +2,8 @@
 //!
 //! What a test asserts is worked out by small functions with few owned values each; those are quick to prove.
 
+mod refused;
+
 ghost use Rattle.std.specs.List.Sorted.{IsStrictlyIncreasing};
 ghost use Rattle.ps_delta.specs.Deltas.{cells_of};
 ghost use Rattle.ps_delta.specs.Raised.{HasRoomFor};
@@ -456,21 +458,6 @@ fn cells_beside_a_written_one_are_empty(rt: HostRuntime) -> Result<(), Refusal> 
 // The counts of the cell at an index, as it shows them.
 fn value_at(rt: &impl Abort, grid: &Grid, index: usize) -> i64 {
     grid.at(cell(rt, index)).tally.value()
-}
-
-/// After a join all of the delta is in the grid, and after a refused one none of it.
-#[test]
-fn a_refused_join_changes_nothing(rt: HostRuntime) -> Result<(), Refusal> {
-    let mut grid = grid_of(&rt, rt.alloc(), &[&[(0, Added(1, 1)), (1, Added(1, 1))]])?;
-    let second = delta_of(&rt, rt.alloc(), &[(0, Added(2, 1)), (1, Added(2, 1))])?;
-    let joined = grid.join(rt.alloc(), &second).is_ok();
-    let value = if joined { 2 } else { 1 };
-    assert!(rt;
-        grid.covers(&second) == joined
-            && value_at(&rt, &grid, 0) == value
-            && value_at(&rt, &grid, 1) == value
-    );
-    Ok(())
 }
 
 const LAST: usize = CELLS - 1;

@@ -2,8 +2,9 @@
 //!
 //! What a test asserts is worked out by small functions with few owned values each; those are quick to prove.
 
-ghost use Rattle.std.specs.Prelude.{IfOk, OnOk};
-ghost use Rattle.ps_index.specs.Stands.{Puts, Stands};
+ghost use Rattle.std.specs.Prelude.{IfOk, OnOk, Some};
+ghost use Rattle.std.specs.Option.{option_copied};
+ghost use Rattle.ps_index.specs.Stands.{Puts, Stands, with_put};
 
 use ps_formula::Formula;
 use ps_grid::{CELLS, COLUMNS, Cell, Refusal};
@@ -281,27 +282,91 @@ fn put_everywhere(index: &mut Index, formula: &Formula) -> Result<(), Refusal>
     Ok(())
 }
 
-/// After a growth that is refused in `set` the cells that refer to each cell are as before.
-#[test]
-fn a_refused_growth_changes_nothing(rt: HostRuntime) {
-    let found = grown(rt.alloc());
-    assert!(rt; found != Ok(false));
+/// Whether the same cells refer to a cell in both.
+fn refer_alike(index: &Index, twin: &Index, to: Cell) -> bool {
+    let mut others = twin.dependents(to);
+    for found in index.dependents(to) {
+        if others.next() != Some(found) {
+            return false;
+        }
+    }
+    others.next().is_none()
 }
 
-/// Whether all of a formula's references are found, or after a refusal those from before it alone.
-fn grown(alloc: Global) -> Result<bool, Refusal> {
-    let cell = cell("A9")?;
-    let formula = Formula::read(alloc, b"=SUM([.B1:.CZ3])")?;
-    let mut index = index_of(alloc, "A1 =SUM([.B1:.B2])\nA2 =[.CZ2]")?;
-    match index.set(cell, None, Some(&formula)) {
-        Ok(()) => Ok(all_refer(&index, "B1:A1 A9\nB3:A9\nC1:A9\nAA3:A9\nCZ2:A2 A9")),
-        Err(refusal) => Ok(
-            refusal == Refusal::Memory
-                && all_refer(&index, "B1:A1\nB3:\nC1:\nAA3:\nCY2:\nCZ2:A2")
-                && index.spans(1).len() == 1
-                && index.spans(2).is_empty()
-                && index.spans(50).is_empty()
-                && index.spans(103).len() == 1,
-        ),
+/// Whether the same cells refer to each cell, by the same spans of each column.
+fn are_alike(index: &Index, twin: &Index) -> bool {
+    for column in 0..COLUMNS as u8 {
+        if index.spans(column) != twin.spans(column) {
+            return false;
+        }
     }
+    for k in 0..CELLS {
+        match Cell::from_index(k) {
+            Some(cell) => {
+                if !refer_alike(index, twin, cell) {
+                    return false;
+                }
+            }
+            None => return false,
+        }
+    }
+    true
+}
+
+/// Puts a formula in the place of another or of none, by a second call where the first one is refused. Whether that
+/// refusal was `Memory` and left all as it is in the twin.
+fn set_again(
+    index: &mut Index,
+    twin: &Index,
+    cell: Cell,
+    old: Option<&Formula>,
+    new: &Formula,
+) -> Result<bool, Refusal>
+    requires { (forms : Puts) × Stands index.old (with_put cell (option_copied old) forms) }
+    ensures { OnOk result ((forms : Puts) → Stands index.old (with_put cell (option_copied old.entry) forms)
+        → Stands index.new (with_put cell (Some new.now) forms)) }
+{
+    match index.set(cell, old, Some(new)) {
+        Ok(()) => Ok(true),
+        Err(refusal) => {
+            let is_kept = refusal == Refusal::Memory && are_alike(index, twin);
+            index.set(cell, old, Some(new))?;
+            Ok(is_kept)
+        }
+    }
+}
+
+/// Other formulas, beside which one is put in and exchanged.
+const BESIDE: &str = "A1 =SUM([.B1:.B2])\nA2 =[.CZ2]\nB1 =SUM([.A1:.CZ1024])";
+
+/// Whether refused calls left all as it was, and the next ones put a formula in and exchanged it for another.
+fn refuse_set(alloc: Global) -> Result<bool, Refusal> {
+    let cell = cell("A9")?;
+    let old = Formula::read(alloc, b"=SUM([.B1:.B9])+[.A1024]")?;
+    let new = Formula::read(alloc, b"=SUM([.B3:.CZ10])")?;
+    let mut index = index_of(alloc, BESIDE)?;
+    let mut twin = index_of(alloc, BESIDE)?;
+    let is_put = set_again(&mut index, &twin, cell, None, &old)?;
+    let before = all_refer(
+        &index,
+        "A1024:B1 A9\nB1:A1 B1 A9\nB9:B1 A9\nB10:B1\nCZ2:B1 A2",
+    );
+    twin.set(cell, None, Some(&old))?;
+    let is_exchanged = set_again(&mut index, &twin, cell, Some(&old), &new)?;
+    let after = all_refer(
+        &index,
+        "A1024:B1\nB1:A1 B1\nB2:A1 B1\nB3:B1 A9\nB10:B1 A9\nCZ2:B1 A2\nCZ10:B1 A9",
+    );
+    Ok(is_put && before && is_exchanged && after)
+}
+
+/// After a refused `set`, with no old formula and with one, the cells that refer to each cell are as before, and the
+/// next call puts the new formula in.
+#[test]
+fn refused_set(rt: HostRuntime) {
+    let mut found = refuse_set(rt.alloc());
+    if found == Err(Refusal::Memory) {
+        found = refuse_set(rt.alloc());
+    }
+    assert!(rt; found == Ok(true));
 }

@@ -25,7 +25,7 @@ use Rattle.ps_cells.proofs.CyclicLists.{IsDistinct-joined}
 use Rattle.ps_cells.proofs.ScreenLemmas.{back_last, back_none, back_there}
 
 -- a cell that isn't in the list keeps its value
-back_absent : (olds : List (ℕ × Kept)) (v : Assignment) (x : ℕ) → ¬ In (cells_in olds) x → put_back olds v x ≡ v x
+pub back_absent : (olds : List (ℕ × Kept)) (v : Assignment) (x : ℕ) → ¬ In (cells_in olds) x → put_back olds v x ≡ v x
 unfolding put_back with_value
 back_absent [] v x lacks = refl
 back_absent (e ∷ olds) v x lacks =
@@ -57,12 +57,12 @@ differ_none w = record {
 
 -- one more old value is looked at
 module _ (ps : List (ℕ × Kept)) (e : ℕ × Kept) (w : Assignment) (absent : ¬ In (cells_in ps) e.0) where
-  here : put_back (ps ++ e ∷ []) w e.0 ≡ value_of e.1
+  pub here : put_back (ps ++ e ∷ []) w e.0 ≡ value_of e.1
   here =
       ap (λ (v : Assignment). v e.0) (back_last ps e w)
       ∙ (back_absent ps (with_value w e.0 (value_of e.1)) e.0 absent ∙ with_value-here w e.0 (value_of e.1))
 
-  there : (c : ℕ) → c ≢ e.0 → put_back (ps ++ e ∷ []) w c ≡ put_back ps w c
+  pub there : (c : ℕ) → c ≢ e.0 → put_back (ps ++ e ∷ []) w c ≡ put_back ps w c
   there c ne = ap (λ (v : Assignment). v c) (back_last ps e w) ∙ back_there ps w e.0 c (value_of e.1) ne
 
   module _ (cells : List ℕ) (so_far : Differ w (put_back ps w) cells) where

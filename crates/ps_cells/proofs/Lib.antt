@@ -5,6 +5,7 @@ pub mod CellCounts
 pub mod ChangeLists
 pub mod ChangedStates
 pub mod CyclicLists
+pub mod CyclicOlds
 pub mod EmptyCells
 pub mod FirstValues
 pub mod FlagTables

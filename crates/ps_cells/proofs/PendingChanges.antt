@@ -1,16 +1,14 @@
 -- A change that is made and can be taken back.
-use Rattle.std.proofs.Common.{◌≡◌, ◌≤◌, ℕ, List, [], ◌∷◌, length, refl, sym, ap, ◌∙◌, ⊎_elim, subst}
+use Rattle.std.proofs.Common.{◌≡◌, ℕ, List, [], ◌∷◌, refl, sym, ap, ◌∙◌, ⊎_elim, subst}
 use Rattle.std.specs.List.{All}
 use Rattle.std.specs.List.Sorted.{IsStrictlyIncreasing}
 use Rattle.std.proofs.Math.Path.{fun_ext}
 use Rattle.std.proofs.lemmas.List.Elements.{All-head, All-tail}
 use Rattle.ps_grid.specs.Chains.{In}
-use Rattle.ps_grid.specs.declared.size.TheConstants.{CELLS}
 use Rattle.ps_grid.proofs.ChainLemmas.{In-decided}
 use Rattle.ps_index.specs.Stands.{Stands}
 use Rattle.ps_index.specs.declared.span.Span.{Span}
 use Rattle.ps_eval.specs.Items.{Assignment}
-use Rattle.ps_shown.specs.declared.kept.Kept.{Kept}
 use Rattle.ps_shown.specs.Shown.{shown_at}
 use Rattle.ps_delta.specs.State.{Blocks, State, IsInGrid, joined_state, state_at}
 use Rattle.ps_delta.specs.Deltas.{Entries, cells_of, overlaid}
@@ -18,14 +16,10 @@ use Rattle.ps_delta.specs.Raised.{AreChanges, HasRoomFor, entries_from}
 use Rattle.ps_delta.specs.declared.cell_state.CellState.{CellState}
 use Rattle.ps_cells.specs.Settled.{IsSettled}
 use Rattle.ps_cells.specs.Inside.Formulas.{forms_of, with_puts}
-use Rattle.ps_cells.specs.Inside.Kept.{IsTidy, IsWhole, Recalculates}
+use Rattle.ps_cells.specs.Inside.Kept.{IsTidy, Recalculates}
 use Rattle.ps_cells.specs.Inside.Pending.{IsPending}
-use Rattle.ps_cells.specs.Inside.Screens.{ScreenView, before_of, put_back}
-use Rattle.ps_cells.specs.Inside.Walk.{ListsCyclic}
+use Rattle.ps_cells.specs.Inside.Screens.{ScreenView, before_of}
 use Rattle.ps_cells.specs.declared.tables.Tables.{Tables}
-use Rattle.ps_cells.proofs.SettledValues.{formula_below}
-use Rattle.ps_cells.proofs.ChangedStates.{cyclic_formula}
-use Rattle.ps_cells.proofs.CellCounts.{distinct_below_cells}
 use Rattle.ps_cells.proofs.PutFormulas.{cells_of-from, entries_hold, overlaid_from, overlaid_others, swapped}
 
 -- the states that were exchanged, put back, make the state before
@@ -47,12 +41,6 @@ entries_again s t (e ∷ es) hold =
     ∙ ap (λ (xs : Entries). e ∷ xs)
     (entries_again s t es (All-tail (λ (q : ℕ × CellState). q.1 ≡ t q.0) e es hold))
 
--- there is room for the cyclic cells
-pub few_cyclic : (s : State) → IsInGrid s → (cells : List ℕ) → ListsCyclic s cells → length cells ≤ CELLS
-few_cyclic s in_grid cells listed =
-    distinct_below_cells cells listed.once
-    (λ c i. formula_below s in_grid c (cyclic_formula s c (listed.sound c i)))
-
 -- after the states were exchanged back the index has the new formulas beside the old ones
 pub new_formulas_of : (s t : State) (index : List (List Span)) (olds given taken back : Entries) → back ≡ taken
     → taken ≡ entries_from t given → given ≡ olds → Stands index (with_puts (entries_from t olds) (forms_of s))
@@ -62,14 +50,13 @@ new_formulas_of s t index olds given taken back back_is taken_is given_is stood 
     (sym (back_is ∙ (taken_is ∙ ap (entries_from t) given_is))) stood
 
 -- after a recalculation the change is pending
-pub pending_of : (s d : State) (v : Assignment) (es olds : Entries) (x y : Tables) (cyclic touched : List ℕ)
-    (evaluated closed levels : ℕ) → IsInGrid s → IsSettled s v → before_of y.shown ≡ v → ListsCyclic s cyclic
+pub pending_of : (s d : State) (v : Assignment) (es olds : Entries) (x y : Tables) (touched : List ℕ)
+    (evaluated closed levels : ℕ) → IsInGrid s → IsSettled s v → before_of y.shown ≡ v
     → AreChanges s (joined_state s d) es → state_at x.grid ≡ overlaid s es → olds ≡ entries_from s es
     → HasRoomFor x.grid olds → Stands x.index (with_puts es (forms_of s)) → IsInGrid (overlaid s es)
-    → Recalculates x y touched evaluated closed levels → IsPending s y olds cyclic
-pending_of s d v es olds x y cyclic touched evaluated closed levels in_grid settled before listed joins given taken
-    ready
-    stands after did =
+    → Recalculates x y touched evaluated closed levels → IsPending s y olds
+pending_of s d v es olds x y touched evaluated closed levels in_grid settled before joins given taken ready stands
+    after did =
     let t : State = overlaid s es in
     let now : state_at y.grid ≡ t = ap state_at did.grid ∙ given in
     let beside : Stands y.index (with_puts olds (forms_of t)) =
@@ -81,8 +68,6 @@ pending_of s d v es olds x y cyclic touched evaluated closed levels in_grid sett
     record {
       was_in_grid = in_grid;
       was_settled = subst (IsSettled s) (sym before) settled;
-      was_cyclic = listed;
-      few = few_cyclic s in_grid cyclic listed;
       gives = subst (λ (q : State). overlaid q olds ≡ s) (sym now)
           (ap (overlaid t) taken ∙ overlaid_back s es);
       ready = subst (λ (b : Blocks). HasRoomFor b olds) (sym did.grid) ready;
@@ -108,36 +93,3 @@ tidy_with s x grid index shown tidy = record {
   workers = tidy.workers;
   region = tidy.region;
 }
-
--- what is shown may be listed: nothing else changes
-module _ (x : Tables) (shown : ScreenView) (kept : shown.kept ≡ x.shown.kept) (olds : shown.olds ≡ x.shown.olds) where
-  pub before_listed : before_of shown ≡ before_of x.shown
-  before_listed =
-      ap (λ (es : List (ℕ × Kept)). put_back es (shown_at shown.kept)) olds
-      ∙ ap (λ (ks : List Kept). put_back x.shown.olds (shown_at ks)) kept
-
-  pub whole_listed : IsWhole x → IsWhole (record x { shown = shown })
-  whole_listed whole = record {
-    in_grid = whole.in_grid;
-    settled = subst (λ (ks : List Kept). IsSettled (state_at x.grid) (shown_at ks)) (sym kept) whole.settled;
-    stands = whole.stands;
-    tidy = tidy_with (state_at x.grid) x x.grid x.index shown whole.tidy;
-    still = olds ∙ whole.still;
-  }
-
-  pub pending_listed : (s : State) (es : Entries) (cyclic : List ℕ) → IsPending s x es cyclic
-      → IsPending s (record x { shown = shown }) es cyclic
-  pending_listed s es cyclic p = record {
-    was_in_grid = p.was_in_grid;
-    was_settled = subst (IsSettled s) (sym before_listed) p.was_settled;
-    was_cyclic = p.was_cyclic;
-    few = p.few;
-    gives = p.gives;
-    ready = p.ready;
-    ascending = p.ascending;
-    stood = p.stood;
-    in_grid = p.in_grid;
-    settled = subst (λ (ks : List Kept). IsSettled (state_at x.grid) (shown_at ks)) (sym kept) p.settled;
-    stands = p.stands;
-    tidy = tidy_with (state_at x.grid) x x.grid x.index shown p.tidy;
-  }

@@ -173,11 +173,15 @@ noted_less olds e flags within so_far c on =
     (so_far c (sym (flag_there flags e.0 c false ne) ∙ on)))))
     (cases_eq c e.0)
 
+-- the cells that are kept aside lie in the grid
+pub noted_below : (olds : List (ℕ × Kept)) (flags : List Bool) → IsNoted olds flags
+    → (c : ℕ) → In (cells_in olds) c → c < CELLS
+noted_below olds flags noted c i = subst (λ n. c < n) noted.length (flag_below flags c (noted.flagged c i))
+
 -- no more cells are kept aside than there are
 pub noted_few : (olds : List (ℕ × Kept)) (flags : List Bool) → IsNoted olds flags → length olds ≤ CELLS
 noted_few olds flags noted =
-    let few = distinct_below_cells (cells_in olds) noted.once
-    (λ c i. subst (λ n. c < n) noted.length (flag_below flags c (noted.flagged c i))) in
+    let few = distinct_below_cells (cells_in olds) noted.once (noted_below olds flags noted) in
     let same = length-map olds (λ (e : ℕ × Kept). e.0) in
     omega (arith, few, same)
 

@@ -10,10 +10,10 @@ ghost use Rattle.ps_cells.specs.Changes.{IsChanged};
 ghost use Rattle.ps_cells.specs.Recalculated.{IsRecalculated};
 ghost use Rattle.ps_cells.specs.Settled.{IsSettled};
 
-use crate::tables::{Tables, Work, copy_list};
+use crate::tables::{Tables, Work};
 use ps_delta::{CellState, Delta, Grid};
 use ps_eval::Meter;
-use ps_grid::{CELLS, Cell, Refusal};
+use ps_grid::{Cell, Refusal};
 use ps_shown::Shown;
 use ps_value::Value;
 use ps_workers::Gate;
@@ -29,8 +29,6 @@ use std::thread::Threads;
 #[derive(Drop)]
 pub struct Cells {
     tables: Tables,
-    /// the cells that showed `#CYCLE!` before the staged change, with room for all cells
-    were_cyclic: Vec<Cell>,
     /// the touched cells of the staged change, ascending, each with the state that it had
     staged: Option<Vec<(Cell, CellState)>>,
 }
@@ -68,7 +66,6 @@ impl Cells {
     {
         Ok(Cells {
             tables: Tables::new(alloc, workers)?,
-            were_cyclic: Vec::with_capacity(alloc, CELLS)?,
             staged: None,
         })
     }
@@ -103,7 +100,6 @@ impl Cells {
         ensures kept { OnErr result (AreTheSame self.old self.new) }
         ensures unmetered { OnErr result (meter.new ≡ meter.old) }
     {
-        copy_list(&self.tables.cyclic, &mut self.were_cyclic);
         let (work, olds) = self.tables.join(rt, gate, alloc, delta, meter)?;
         self.staged = Some(olds);
         Ok(work)
@@ -126,7 +122,7 @@ impl Cells {
 
     /// Takes the staged change back: the cells hold and show what they did. It takes no memory.
     ///
-    /// Cost: the touched cells with their references, the cells that were put, and those that showed `#CYCLE!`.
+    /// Cost: the touched cells with their references, the cells that were put, and those that show `#CYCLE!`.
     pub fn cancel(&mut self)
         requires staged { is_some self.old.staged ≡ true }
         ensures none { (self.new.staged ≡ None) × (self.new.olds ≡ []) }
@@ -137,7 +133,7 @@ impl Cells {
         let Some(olds) = mem::replace(&mut self.staged, None) else {
             unreachable!()
         };
-        self.tables.take_back(olds, &self.were_cyclic);
+        self.tables.take_back(olds);
     }
 
     /// Lists the cells that show another value than before the staged change.

@@ -14,7 +14,6 @@ ghost use Rattle.ps_cells.specs.Inside.Walk.{formula_at};
 ghost use Rattle.ps_cells.specs.Inside.Steps.{flag_at, HasRoom, ShowsAll, StepsLevel, values_at};
 
 use crate::contents::formula_of;
-use crate::room::put;
 use crate::screen::Screen;
 use crate::walk::show;
 use ps_delta::{Grid, grids_are_shared};
@@ -29,6 +28,35 @@ use std::alloc::Global;
 use std::mem;
 use std::sync::ledger::Ledger;
 use std::thread::Threads;
+
+/// The workers of a recalculation.
+#[derive_where(Clone, Copy)]
+pub(crate) struct Workers<'a, R, G> {
+    /// what starts their threads
+    pub(crate) rt: &'a R,
+    /// how many there are
+    pub(crate) count: usize,
+    /// what each passes before each of its evaluations
+    pub(crate) gate: &'a G,
+}
+
+/// What a recalculation reads and leaves as it is.
+#[derive(Clone, Copy)]
+pub(crate) struct Inputs<'a> {
+    /// what each cell holds
+    pub(crate) grid: &'a Grid,
+    /// which formulas refer to a cell
+    pub(crate) index: &'a Index,
+}
+
+/// The step of a recalculation that a level is.
+#[derive(Clone, Copy)]
+pub(crate) struct Step<'a> {
+    /// its cells
+    pub(crate) cells: &'a [Cell],
+    /// whether no step comes after it
+    pub(crate) is_last: bool,
+}
 
 /// The due cells of a level, and places for their new values.
 #[derive(Drop)]
@@ -94,46 +122,34 @@ impl Level {
     /// Settles the cells of a level, by workers. How many were evaluated.
     ///
     /// No flag is set for the last level, since no cell that is still to be evaluated refers to one of it.
-    #[allow(clippy::too_many_arguments)]
     pub(crate) fn settle<R: Threads + Sync, G: Gate, L: Ledger>(
         &mut self,
-        rt: &R,
-        workers: usize,
-        gate: &G,
-        grid: &Grid,
-        index: &Index,
-        cells: &[Cell],
-        is_last: bool,
+        workers: &Workers<'_, R, G>,
+        inputs: &Inputs<'_>,
+        step: &Step<'_>,
         shown: &mut Screen,
         flags: &mut [bool],
         meter: &mut Meter<L>,
     ) -> usize
-        requires workers { (0 < workers) × (workers ≤ WORKERS) }
+        requires workers { (0 < workers.now.count) × (workers.now.count ≤ WORKERS) }
         requires whole { length flags.old ≡ CELLS }
         requires room { HasRoom CELLS self.old }
-        requires few { length cells.now ≤ CELLS }
-        requires formulas { (c : ℕ) → In cells.now c → formula_at (state_at grid.now) c ≡ true }
-        ensures settled { StepsLevel (state_at grid.now) (listed index.now) cells.now is_last
-            (shown_at shown.old.kept) (shown_at shown.new.kept) (flag_at flags.old) (flag_at flags.new) result }
+        requires few { length step.now.cells.now ≤ CELLS }
+        requires formulas { (c : ℕ) → In step.now.cells.now c → formula_at (state_at inputs.now.grid.now) c ≡ true }
+        ensures settled { StepsLevel (state_at inputs.now.grid.now) (listed inputs.now.index.now)
+            step.now.cells.now step.now.is_last (shown_at shown.old.kept) (shown_at shown.new.kept)
+            (flag_at flags.old) (flag_at flags.new) result }
         ensures before { before_of shown.new ≡ before_of shown.old }
         ensures metered { meter.new ≡ meter.old + result }
         ensures room { HasRoom CELLS self.new }
     {
-        list_due(cells, flags, &mut self.due);
+        list_due(step.cells, flags, &mut self.due);
         make_places(self.due.len(), &mut self.values);
-        settle_due(
-            rt,
-            workers,
-            gate,
-            grid,
-            index,
-            &self.due,
-            is_last,
-            &mut self.values,
-            shown,
-            flags,
-            meter,
-        );
+        let due = &Step {
+            cells: &self.due,
+            is_last: step.is_last,
+        };
+        settle_due(workers, inputs, due, &mut self.values, shown, flags, meter);
         self.due.len()
     }
 }
@@ -148,7 +164,7 @@ fn list_due(cells: &[Cell], flags: &[bool], due: &mut Vec<Cell>)
     due.clear();
     for cell in cells {
         if flags[cell.index()] {
-            put(due, *cell);
+            due.push_reserved(*cell);
         }
     }
 }
@@ -160,52 +176,45 @@ fn make_places(count: usize, values: &mut Vec<Kept>)
     ensures room { vec_capacity values.old ≤ vec_capacity values.new }
 {
     'places: while values.len() < count {
-        put(values, Kept::Empty);
+        values.push_reserved(Kept::Empty);
     }
 }
 
 /// Evaluates the due cells of a level into the first of the places, and lets each show its value.
-#[allow(clippy::too_many_arguments)]
 fn settle_due<R: Threads + Sync, G: Gate, L: Ledger>(
-    rt: &R,
-    workers: usize,
-    gate: &G,
-    grid: &Grid,
-    index: &Index,
-    cells: &[Cell],
-    is_last: bool,
+    workers: &Workers<'_, R, G>,
+    inputs: &Inputs<'_>,
+    due: &Step<'_>,
     places: &mut [Kept],
     shown: &mut Screen,
     flags: &mut [bool],
     meter: &mut Meter<L>,
 )
-    requires workers { (0 < workers) × (workers ≤ WORKERS) }
+    requires workers { (0 < workers.now.count) × (workers.now.count ≤ WORKERS) }
     requires whole { length flags.old ≡ CELLS }
-    requires formulas { (c : ℕ) → In cells.now c → formula_at (state_at grid.now) c ≡ true }
-    requires places { length cells.now ≤ length places.old }
-    ensures shows { ShowsAll is_last (listed index.now) cells.now
-        (values_at (state_at grid.now) (shown_at shown.old.kept) cells.now) (shown_at shown.old.kept)
-        (shown_at shown.new.kept) (flag_at flags.old) (flag_at flags.new) }
+    requires formulas { (c : ℕ) → In due.now.cells.now c → formula_at (state_at inputs.now.grid.now) c ≡ true }
+    requires places { length due.now.cells.now ≤ length places.old }
+    ensures shows { ShowsAll due.now.is_last (listed inputs.now.index.now) due.now.cells.now
+        (values_at (state_at inputs.now.grid.now) (shown_at shown.old.kept) due.now.cells.now)
+        (shown_at shown.old.kept) (shown_at shown.new.kept) (flag_at flags.old) (flag_at flags.new) }
     ensures before { before_of shown.new ≡ before_of shown.old }
-    ensures metered { meter.new ≡ meter.old + length cells.now }
+    ensures metered { meter.new ≡ meter.old + length due.now.cells.now }
 {
-    let (values, _) = places.split_at_mut(cells.len());
-    evaluate(rt, workers, gate, grid, cells, shown, values, meter);
-    show_due(index, cells, values, is_last, shown, flags);
+    let (values, _) = places.split_at_mut(due.cells.len());
+    evaluate(workers, inputs.grid, due.cells, shown, values, meter);
+    show_due(inputs.index, due.cells, values, due.is_last, shown, flags);
 }
 
 /// Evaluates the formulas of the cells into their places.
 fn evaluate<R: Threads + Sync, G: Gate, L: Ledger>(
-    rt: &R,
-    workers: usize,
-    gate: &G,
+    workers: &Workers<'_, R, G>,
     grid: &Grid,
     cells: &[Cell],
     shown: &Screen,
     values: &mut [Kept],
     meter: &mut Meter<L>,
 )
-    requires workers { (0 < workers) × (workers ≤ WORKERS) }
+    requires workers { (0 < workers.now.count) × (workers.now.count ≤ WORKERS) }
     requires formulas { (c : ℕ) → In cells.now c → formula_at (state_at grid.now) c ≡ true }
     requires places { length values.old ≡ length cells.now }
     ensures values { kept_values values.new ≡ values_at (state_at grid.now) (shown_at shown.now.kept) cells.now }
@@ -213,15 +222,15 @@ fn evaluate<R: Threads + Sync, G: Gate, L: Ledger>(
 {
     // It says that the workers may look at the grid together.
     grids_are_shared();
-    let worth = workers_worth(cells.len(), workers);
+    let worth = workers_worth(cells.len(), workers.count);
     eval_level(
-        rt,
+        workers.rt,
         cells,
         &Held { grid },
         &Looks { shown },
         values,
         worth,
-        gate,
+        workers.gate,
         meter,
     );
 }

@@ -9,7 +9,6 @@ mod contents;
 mod crossing;
 mod level;
 mod region;
-mod room;
 mod screen;
 mod tables;
 mod walk;

@@ -10,14 +10,15 @@ ghost use Rattle.ps_shown.specs.Kept.{value_of as value_kept};
 ghost use Rattle.ps_shown.specs.Shown.{shown_at, with_value};
 ghost use Rattle.ps_cells.specs.Inside.Steps.{flag_at};
 ghost use Rattle.ps_eval.specs.Items.{Assignment};
-ghost use Rattle.ps_cells.specs.Inside.Screens.{Differ, IsNoted, ListsDiffering, before_of, cells_in, put_back};
+ghost use Rattle.ps_cells.specs.Inside.Screens.{AddsCyclic, Differ, IsNoted, ListsDiffering, ShowCycle};
+ghost use Rattle.ps_cells.specs.Inside.Screens.{before_of, cells_in, put_back, was_cyclic};
+ghost use Rattle.ps_cells.specs.Inside.Waiting.{is_waiting};
 ghost use Rattle.ps_cells.specs.Changes.{IsChanged};
 
-use crate::room;
 use crate::tables::no_flags;
 use ps_grid::{CELLS, Cell, Refusal};
 use ps_shown::{Kept, Shown};
-use ps_value::{Operand, Value};
+use ps_value::{Fault, Operand, Value};
 use std::alloc::Global;
 use std::marker::Model;
 
@@ -112,6 +113,23 @@ impl Screen {
         self.shown.operand(cell)
     }
 
+    /// Whether a cell shows `#CYCLE!`.
+    pub(crate) fn is_cyclic(&self, cell: Cell) -> bool
+        ensures { result ≡ is_waiting (shown_at self.now.kept cell) }
+    {
+        is_cycle(self.shown.kept(cell))
+    }
+
+    /// Puts the cells that showed `#CYCLE!` before into a list of those that show it now.
+    pub(crate) fn add_cyclic(&self, cells: &mut Vec<Cell>)
+        requires now { ShowCycle (shown_at self.now.kept) (shown_at self.now.kept) cells.old.items }
+        requires room { CELLS ≤ vec_capacity cells.old }
+        ensures both { ShowCycle (shown_at self.now.kept) (before_of self.now) cells.new.items }
+        ensures room { vec_capacity cells.old ≤ vec_capacity cells.new }
+    {
+        add_all_cyclic(&self.olds, &self.shown, cells);
+    }
+
     /// Puts what a cell shows from now on.
     pub(crate) fn put(&mut self, cell: Cell, kept: Kept)
         ensures shown { shown_at self.new.kept ≡ with_value (shown_at self.old.kept) cell (value_kept kept) }
@@ -172,6 +190,46 @@ impl Screen {
     }
 }
 
+/// Whether `#CYCLE!` is kept of a cell.
+fn is_cycle(kept: &Kept) -> bool
+    ensures { result ≡ is_waiting (value_kept kept.now) }
+{
+    matches!(kept, Kept::Err(Fault::Cycle))
+}
+
+/// Puts the cells of old values into a list where they showed `#CYCLE!` before and don't now.
+fn add_all_cyclic(olds: &[(Cell, Kept)], shown: &Shown, cells: &mut Vec<Cell>)
+    requires once { IsDistinct nat_eq (cells_in olds.now) }
+    requires inside { (c : ℕ) → In (cells_in olds.now) c → c < CELLS }
+    requires now { ShowCycle (shown_at shown.now) (shown_at shown.now) cells.old.items }
+    requires room { CELLS ≤ vec_capacity cells.old }
+    ensures both { ShowCycle (shown_at shown.now) (put_back olds.now (shown_at shown.now)) cells.new.items }
+    ensures room { vec_capacity cells.old ≤ vec_capacity cells.new }
+{
+    for entry in olds {
+        add_one_cyclic(entry, shown, cells);
+    }
+}
+
+/// Puts the cell of an old value into a list where it showed `#CYCLE!` before and doesn't now.
+fn add_one_cyclic(old: &(Cell, Kept), shown: &Shown, cells: &mut Vec<Cell>)
+    requires room { was_cyclic old.now (shown_at shown.now) ≡ true
+        → length cells.old.items < vec_capacity cells.old }
+    ensures added { AddsCyclic old.now (shown_at shown.now) cells.old.items cells.new.items }
+    ensures room { vec_capacity cells.old ≤ vec_capacity cells.new }
+{
+    if was_cyclic(old, shown) {
+        cells.push_reserved(old.0);
+    }
+}
+
+/// Whether the cell of an old value showed `#CYCLE!` before and doesn't now.
+fn was_cyclic(old: &(Cell, Kept), shown: &Shown) -> bool
+    ensures { result ≡ was_cyclic old.now (shown_at shown.now) }
+{
+    is_cycle(&old.1) && !is_cycle(shown.kept(old.0))
+}
+
 /// Lists the cells of old values that show another one now.
 fn list_differing(olds: &[(Cell, Kept)], shown: &Shown, cells: &mut Vec<Cell>)
     requires once { IsDistinct nat_eq (cells_in olds.now) }
@@ -193,7 +251,7 @@ fn list_one(old: &(Cell, Kept), shown: &Shown, cells: &mut Vec<Cell>)
     ensures room { vec_capacity cells.old ≤ vec_capacity cells.new }
 {
     if !old.1.is_same(shown.kept(old.0)) {
-        room::put(cells, old.0);
+        cells.push_reserved(old.0);
     }
 }
 
@@ -205,7 +263,7 @@ fn list_values(cells: &[Cell], shown: &Shown, changes: &mut Vec<(Cell, Value)>)
 {
     changes.clear();
     for cell in cells {
-        room::put(changes, (*cell, shown.at(*cell)));
+        changes.push_reserved((*cell, shown.at(*cell)));
     }
 }
 
@@ -221,7 +279,7 @@ fn note(olds: &mut Vec<(Cell, Kept)>, is_put: &mut [bool], cell: Cell, old: Kept
     let place = cell.index();
     if !is_put[place] {
         is_put[place] = true;
-        room::put(olds, (cell, old));
+        olds.push_reserved((cell, old));
     }
 }
 

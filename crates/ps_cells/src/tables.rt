@@ -1,6 +1,6 @@
 //! What the cells of a sheet hold and show, and what is kept beside it so that a change costs what its region costs.
 
-ghost use Rattle.std.specs.Prelude.{◌≡◌, ◌+◌, ◌<◌, ◌≤◌, ◌++◌, [], List, ℕ, true, false, filter, length, nat_eq, not};
+ghost use Rattle.std.specs.Prelude.{◌≡◌, ◌+◌, ◌<◌, ◌≤◌, ◌++◌, [], ℕ, true, false, filter, length, nat_eq, not};
 ghost use Rattle.std.specs.Prelude.{vec_capacity, IfOk, IfErr, OnOk, OnErr};
 ghost use Rattle.std.specs.List.{list_all, list_any};
 ghost use Rattle.ps_grid.specs.declared.parties.TheConstants.{WORKERS};
@@ -13,12 +13,13 @@ ghost use Rattle.ps_cells.specs.Inside.Screens.{before_of};
 ghost use Rattle.ps_cells.specs.Inside.Kept.{IsWhole, MayRecalculate, Recalculates};
 ghost use Rattle.ps_cells.specs.Inside.Pending.{IsPending};
 ghost use Rattle.ps_cells.specs.Inside.Alone.{is_alone, is_empty};
+ghost use Rattle.ps_cells.specs.Inside.Waiting.{is_waiting};
 ghost use Rattle.ps_cells.specs.Inside.Walk.{formula_at};
 ghost use Rattle.ps_region.specs.Listed.{listed};
 
 use crate::change::{Plan, begin, take_formulas};
 use crate::contents::holds_formula;
-use crate::level::Level;
+use crate::level::{Inputs, Level, Workers};
 use crate::region::find_region;
 use crate::screen::Screen;
 use crate::walk::{clear, close_all, settle_frame, show_all_first};
@@ -107,8 +108,7 @@ impl Tables {
         meter: &mut Meter<L>,
     ) -> Result<(Work, Vec<(Cell, CellState)>), Refusal>
         requires whole { IsWhole self.old }
-        ensures pending { IfOk result (λ m. IsPending (state_at self.old.grid) self.new m.1.items
-            self.old.cyclic.items) }
+        ensures pending { IfOk result (λ m. IsPending (state_at self.old.grid) self.new m.1.items) }
         ensures before { OnOk result (before_of self.new.shown ≡ shown_at self.old.shown.kept) }
         ensures joined { OnOk result (state_at self.new.grid
             ≡ joined_state (state_at self.old.grid) (state_of delta.now)) }
@@ -118,7 +118,6 @@ impl Tables {
         ensures memory { IfErr result (λ e. e ≡ Refusal.Memory) }
         ensures workers { self.new.workers ≡ self.old.workers }
         ensures whole { OnErr result (IsWhole self.new) }
-        ensures cyclic { OnErr result (self.new.cyclic ≡ self.old.cyclic) }
         ensures kept { OnErr result ((state_at self.new.grid ≡ state_at self.old.grid)
             × (self.new.shown ≡ self.old.shown)) }
         ensures unmetered { OnErr result (meter.new ≡ meter.old) }
@@ -136,7 +135,7 @@ impl Tables {
 
     /// Leaves a change as it was made. It takes no memory.
     pub(crate) fn leave(&mut self, olds: &[(Cell, CellState)])
-        requires pending { (s : State) × (cyclic : List ℕ) × IsPending s self.old olds.now cyclic }
+        requires pending { (s : State) × IsPending s self.old olds.now }
         ensures whole { IsWhole self.new }
         ensures grid { self.new.grid ≡ self.old.grid }
         ensures shown { self.new.shown.kept ≡ self.old.shown.kept }
@@ -146,19 +145,20 @@ impl Tables {
         self.shown.keep();
     }
 
-    /// Takes a change back, where these were the states of the touched cells, and the cyclic cells. It takes no memory.
-    pub(crate) fn take_back(&mut self, mut olds: Vec<(Cell, CellState)>, cyclic: &[Cell])
-        requires pending { (s : State) × IsPending s self.old olds.items cyclic.now }
+    /// Takes a change back, where these were the states of the touched cells. It takes no memory.
+    pub(crate) fn take_back(&mut self, mut olds: Vec<(Cell, CellState)>)
+        requires pending { (s : State) × IsPending s self.old olds.items }
         ensures whole { IsWhole self.new }
-        ensures back { (s : State) → IsPending s self.old olds.items cyclic.now → state_at self.new.grid ≡ s }
+        ensures back { (s : State) → IsPending s self.old olds.items → state_at self.new.grid ≡ s }
         ensures shown { shown_at self.new.shown.kept ≡ before_of self.old.shown }
         ensures workers { self.new.workers ≡ self.old.workers }
     {
         self.grid.exchange(&mut olds);
         take_formulas(&mut self.index, &olds);
+        self.shown.add_cyclic(&mut self.cyclic);
         self.shown.take_back();
+        keep_cyclic(&self.shown, &mut self.cyclic);
         self.source = None;
-        copy_list(cyclic, &mut self.cyclic);
     }
 
     /// Settles what the cells show, after the touched cells got what they hold.
@@ -239,12 +239,18 @@ impl Tables {
             &mut self.flags,
         );
         close_all(self.region.cyclic(), &mut self.shown);
-        let evaluated = settle_frame(
+        let workers = Workers {
             rt,
-            self.workers,
+            count: self.workers,
             gate,
-            &self.grid,
-            &self.index,
+        };
+        let inputs = Inputs {
+            grid: &self.grid,
+            index: &self.index,
+        };
+        let evaluated = settle_frame(
+            &workers,
+            &inputs,
             &self.region,
             &mut self.level,
             &mut self.shown,
@@ -304,12 +310,10 @@ fn renew(region: &Region, cyclic: &mut Vec<Cell>)
     let _ = cyclic.extend_from_slice(region.cyclic());
 }
 
-/// Makes a list the same as another one.
-pub(crate) fn copy_list(cells: &[Cell], list: &mut Vec<Cell>)
-    requires room { length cells.now ≤ vec_capacity list.old }
-    ensures items { list.new.items ≡ cells.now }
-    ensures room { vec_capacity list.old ≤ vec_capacity list.new }
+/// Leaves the cells in a list that show `#CYCLE!`.
+fn keep_cyclic(shown: &Screen, cells: &mut Vec<Cell>)
+    ensures items { cells.new.items ≡ filter (λ c. is_waiting (shown_at shown.now.kept c)) cells.old.items }
+    ensures room { vec_capacity cells.old ≤ vec_capacity cells.new }
 {
-    list.clear();
-    let _ = list.extend_from_slice(cells);
+    cells.retain(|c| shown.is_cyclic(*c));
 }

@@ -16,7 +16,7 @@ ghost use Rattle.ps_cells.specs.Inside.Steps.{StepsLevels};
 ghost use Rattle.ps_cells.specs.Inside.Screens.{before_of};
 
 use crate::contents::holds_formula;
-use crate::level::Level;
+use crate::level::{Inputs, Level, Step, Workers};
 use crate::screen::Screen;
 use ps_delta::Grid;
 use ps_eval::Meter;
@@ -121,27 +121,23 @@ pub(crate) fn close_all(cells: &[Cell], shown: &mut Screen)
 }
 
 /// Settles the frame, level after level. How many cells were evaluated.
-#[allow(clippy::too_many_arguments)]
 pub(crate) fn settle_frame<R: Threads + Sync, G: Gate, L: Ledger>(
-    rt: &R,
-    workers: usize,
-    gate: &G,
-    grid: &Grid,
-    index: &Index,
+    workers: &Workers<'_, R, G>,
+    inputs: &Inputs<'_>,
     region: &Region,
     level: &mut Level,
     shown: &mut Screen,
     flags: &mut [bool],
     meter: &mut Meter<L>,
 ) -> u64
-    requires workers { (0 < workers) × (workers ≤ WORKERS) }
+    requires workers { (0 < workers.now.count) × (workers.now.count ≤ WORKERS) }
     requires whole { length flags.old ≡ CELLS }
     requires room { HasRoom CELLS level.old }
-    requires begun { MayWalk (state_at grid.now) (listed index.now) (level_cells region.now) (level_count region.now)
-        (shown_at shown.old.kept) (flag_at flags.old) }
-    ensures settled { StepsLevels (state_at grid.now) (listed index.now) (level_cells region.now)
-        (level_count region.now) (level_count region.now + 1) (shown_at shown.old.kept) (shown_at shown.new.kept)
-        (flag_at flags.old) (flag_at flags.new) result }
+    requires begun { MayWalk (state_at inputs.now.grid.now) (listed inputs.now.index.now) (level_cells region.now)
+        (level_count region.now) (shown_at shown.old.kept) (flag_at flags.old) }
+    ensures settled { StepsLevels (state_at inputs.now.grid.now) (listed inputs.now.index.now)
+        (level_cells region.now) (level_count region.now) (level_count region.now + 1) (shown_at shown.old.kept)
+        (shown_at shown.new.kept) (flag_at flags.old) (flag_at flags.new) result }
     ensures before { before_of shown.new ≡ before_of shown.old }
     ensures metered { meter.new ≡ meter.old + result }
     ensures room { HasRoom CELLS level.new }
@@ -151,9 +147,8 @@ pub(crate) fn settle_frame<R: Threads + Sync, G: Gate, L: Ledger>(
     for before in 0..levels {
         let cells = region.level(before + 1);
         let is_last = before + 1 == levels;
-        evaluated += level.settle(
-            rt, workers, gate, grid, index, cells, is_last, shown, flags, meter,
-        ) as u64;
+        let step = &Step { cells, is_last };
+        evaluated += level.settle(workers, inputs, step, shown, flags, meter) as u64;
     }
     evaluated
 }

@@ -78,6 +78,9 @@ impl Grid {
 
     /// Joins the delta into the grid.
     ///
+    /// It is for whoever keeps a grid alone. A sheet uses its two halves, `raised` and `exchange`, since it takes a
+    /// change back if it is given up.
+    ///
     /// Refused only when out of memory, and then each cell holds what it held.
     ///
     /// Cost: for each cell of the delta, the counts and pairs that it has here and there.
@@ -109,6 +112,8 @@ impl Grid {
 
     /// Finds the cells that a join of the delta would change: those whose register, counter or set is not what it was,
     /// shown or not.
+    ///
+    /// It is for whoever asks before a join. A sheet has these cells from `raised`.
     ///
     /// Cost: for each cell of the delta its counts and pairs, each with a search among those that the cell has here; it
     /// takes no memory.

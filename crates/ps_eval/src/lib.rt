@@ -10,7 +10,8 @@
 //! test at its end. The meter that is lent to each evaluation counts it.
 //!
 //! The contract to use is that of `eval`: the value is what `ev` of `specs/Value.antt` gives for the formula's tree and
-//! the values that the cells show, and the meter has counted one more.
+//! the values that the cells show, and the meter has counted one more. `eval_number` answers the same as a number or a
+//! fault: the value of a formula is never a text, options or nothing.
 //!
 //! Cost: no memory, and a walk of the tree and of the cells in its ranges.
 #![tactic(auto)]
@@ -27,4 +28,4 @@ mod truths;
 pub use laws::{cycle_comes_from_references, depends_on_references_alone};
 pub use look::Look;
 pub use meter::{Counted, Meter};
-pub use tree::eval;
+pub use tree::{eval, eval_number};

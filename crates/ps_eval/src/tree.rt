@@ -23,16 +23,34 @@ use std::sync::ledger::Ledger;
 
 /// The value of a formula where each cell shows what `look` says, with one tick of the meter. It takes no memory.
 ///
+/// It is part of the public interface. The workers of a level call `eval_number`, which says that the value is a number
+/// or a fault.
+///
 /// Cost: the nodes of the tree, and the cells of its ranges.
 pub fn eval<K: Look, L: Ledger>(formula: &Formula, look: &K, meter: &mut Meter<L>) -> Value
     ensures value { result ≡ ev formula.now (K.value_at look.now) }
     ensures tick { meter.new ≡ meter.old + 1 }
 {
-    meter.tick();
-    match number(formula.tree(), look) {
+    match eval_number(formula, look, meter) {
         Ok(n) => Value::Num(n),
         Err(fault) => Value::Err(fault),
     }
+}
+
+/// The number of a formula where each cell shows what `look` says, or the fault in its place, with one tick of the
+/// meter. It takes no memory.
+///
+/// Cost: the nodes of the tree, and the cells of its ranges.
+pub fn eval_number<K: Look, L: Ledger>(
+    formula: &Formula,
+    look: &K,
+    meter: &mut Meter<L>,
+) -> Result<i64, Fault>
+    ensures number { result ≡ number_of formula.now (K.value_at look.now) }
+    ensures tick { meter.new ≡ meter.old + 1 }
+{
+    meter.tick();
+    number(formula.tree(), look)
 }
 
 /// The number of a tree.
@@ -66,7 +84,7 @@ fn single(operand: Operand) -> Result<i64, Fault>
     }
 }
 
-/// The number of a call.
+/// The number of a call. One that the grammar doesn't have, with too few or too many arguments, is no number.
 #[cycle(numbers)]
 fn value_of_call<K: Look>(
     function: Function,

@@ -44,8 +44,8 @@
 mod contents;
 mod crossing;
 mod edit;
+mod edit_delta;
 mod laws;
-mod made;
 mod prepared;
 mod sheet;
 mod staging;

@@ -17,7 +17,7 @@ ghost use Rattle.ps_sheet.specs.Staging.{IsListed, IsStaging, IsWorkedOut, Stage
 
 use crate::contents;
 use crate::edit::{Change, Edit};
-use crate::made::delta_of;
+use crate::edit_delta::delta_of;
 use crate::sheet::{Report, Sheet};
 use ps_cells::{Cells, content};
 use ps_content::Content;

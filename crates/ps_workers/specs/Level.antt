@@ -1,9 +1,9 @@
 -- The values of the formulas of a level.
-use Rattle.std.specs.Prelude.{◌≡◌, ℕ, ◌+◌, ◌<◌, ◌≤◌, Bool, true, false, List, map, length, All, IsSome, Option, Some}
+use Rattle.std.specs.Prelude.{◌≡◌, ℕ, ◌+◌, ◌<◌, ◌≤◌, List, map, length, All, IsSome, Option, Some}
 use Rattle.std.specs.Prelude.{None}
 use Rattle.ps_grid.specs.declared.parties.TheConstants.{WORKERS}
 use Rattle.ps_value.specs.declared.value.Value.{Value}
-use Rattle.ps_value.specs.declared.value.Value.TheVariants.{Empty, Num, Text, Choice, Err}
+use Rattle.ps_value.specs.declared.value.Value.TheVariants.{Empty}
 use Rattle.ps_formula.specs.Tree.{Tree}
 use Rattle.ps_eval.specs.Items.{Assignment}
 use Rattle.ps_eval.specs.Value.{ev}
@@ -39,11 +39,3 @@ IsWorkFor formulas first count cells out =
 -- the values of the cells are there, and each was counted
 abbrev pub IsDone : (ℕ → Option Tree) → Assignment → List ℕ → List Kept → ℕ → Type 0
 IsDone formulas v cells out ticks = (kept_values out ≡ values_of formulas v cells) × (ticks ≡ length cells)
-
--- a text, which takes memory to keep
-abbrev pub is_text : Value → Bool
-is_text Empty = false
-is_text (Num n) = false
-is_text (Text text) = true
-is_text (Choice options) = false
-is_text (Err fault) = false

@@ -1,31 +1,30 @@
 //! A level, divided among workers.
 
-ghost use Rattle.std.specs.Prelude.{◌≡◌, ◌+◌, ◌-◌, ◌*◌, ◌/◌, ◌%◌, ◌<◌, ◌≤◌, false, min, length};
+ghost use Rattle.std.specs.Prelude.{◌≡◌, ◌+◌, ◌-◌, ◌*◌, ◌/◌, ◌%◌, ◌<◌, ◌≤◌, min, length};
 ghost use Rattle.std.specs.Thread.{IsSync};
 ghost use Rattle.ps_grid.specs.Blanks.{IsBlankOf};
 ghost use Rattle.ps_grid.specs.declared.parties.TheConstants.{WORKERS};
+ghost use Rattle.ps_eval.specs.Value.{shown_as};
 ghost use Rattle.ps_shown.specs.Kept.{value_of as value_kept};
-ghost use Rattle.ps_workers.specs.Level.{HaveFormulas, IsDone, IsWorkFor, is_text, kept_values, values_of};
+ghost use Rattle.ps_workers.specs.Level.{HaveFormulas, IsDone, IsWorkFor, kept_values, values_of};
 
 use crate::gate::Gate;
-use ps_eval::{Counted, Look, Meter, eval};
+use ps_eval::{Counted, Look, Meter, eval_number};
 use ps_formula::Formulas;
 use ps_grid::Cell;
 use ps_shown::Kept;
-use ps_value::Value;
+use ps_value::Fault;
 use std::marker::Brand;
 use std::sync::ledger::{Blank, Ledger};
 use std::thread::{Threads, join_mut};
 
-/// What is kept of a formula's value, which is never a text.
-fn kept_of(value: Value) -> Kept
-    ensures { is_text value ≡ false → value_kept result ≡ value }
+/// What is kept of a formula's value: its number, or the fault in its place.
+fn kept_of(number: Result<i64, Fault>) -> Kept
+    ensures { value_kept result ≡ shown_as number }
 {
-    match value {
-        Value::Num(number) => Kept::Num(number),
-        Value::Choice(options) => Kept::Choice(options),
-        Value::Err(fault) => Kept::Err(fault),
-        _ => Kept::Empty,
+    match number {
+        Ok(number) => Kept::Num(number),
+        Err(fault) => Kept::Err(fault),
     }
 }
 
@@ -76,7 +75,7 @@ impl<R: Threads + Sync, F: Formulas + Sync, K: Look + Sync, G: Gate> Level<'_, R
         for k in 0..cells.len() {
             self.gate.pass(worker);
             if let Some(formula) = self.formulas.formula(cells[k]) {
-                out[k] = kept_of(eval(formula, self.look, &mut meter));
+                out[k] = kept_of(eval_number(formula, self.look, &mut meter));
             } else {
                 unreachable!()
             }
@@ -121,6 +120,9 @@ impl<R: Threads + Sync, F: Formulas + Sync, K: Look + Sync, G: Gate> Level<'_, R
 /// other. Place i of `out` is then the value of cell i's formula where each cell shows what `look` says, and the meter
 /// has one tick more for each cell, whatever the number of workers. A worker for which no thread can be started is run
 /// by the caller, and one worker starts none. It takes no memory but for the threads.
+///
+/// It is part of the public interface, so it has eight parameters: what is looked at, the places, the workers and the
+/// count are each somebody else's.
 ///
 /// Cost: the evaluations, divided evenly, and the start of a thread for each worker but one.
 pub fn eval_level<R: Threads + Sync, F: Formulas + Sync, K: Look + Sync, G: Gate, L: Ledger>(

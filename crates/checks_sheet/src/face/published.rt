@@ -1,6 +1,6 @@
 //! A sheet whose every change is published.
 
-ghost use Rattle.std.specs.Prelude.{◌≡◌, ◌++◌, ◌∷◌, [], ℕ, length, map};
+ghost use Rattle.std.specs.Prelude.{◌≡◌, ◌++◌, ◌∷◌, [], ℕ, length, map, IfOk, OnOk, OnErr};
 ghost use Rattle.ps_grid.specs.Blanks.{IsBlankOf};
 ghost use Rattle.ps_shown.specs.Kept.{value_of};
 ghost use Rattle.ps_sheet.specs.Prepared.{IsPrepared, history_after};
@@ -9,7 +9,7 @@ ghost use Rattle.ps_face.specs.Values.{valued};
 
 use ps_eval::Meter;
 use ps_face::{FaceReader, FaceWriter, Named, Opened, Patch};
-use ps_grid::Cell;
+use ps_grid::{Cell, Refusal};
 use ps_sheet::{Change, Edit, Prepared, Sheet};
 use ps_shown::Kept;
 use ps_value::{SharedLabel, Value};
@@ -45,76 +45,99 @@ impl<L: Named, R: Wait + Drop> Model for Published<L, R> {
 }
 
 /// A change, prepared with a meter of its own.
-fn prepared<T: Abort + Threads + Sync, M: Ledger>(
+fn prepared<T: Threads + Sync, M: Ledger>(
     rt: &T,
     blank: Blank,
     alloc: Global,
     sheet: Sheet,
     edit: Edit,
-) -> Prepared
+) -> Result<Prepared, (Sheet, Refusal)>
     requires { IsBlankOf blank M.name M.parts }
-    ensures prepared { IsPrepared result }
-    ensures history { result.history ≡ sheet.history }
+    ensures prepared { IfOk result IsPrepared }
+    ensures history { IfOk result (λ p. p.history ≡ sheet.history) }
 {
     let mut meter = Meter::<M>::new(blank);
-    let prepared = sheet
-        .prepare(rt, alloc, Change::Edit(edit), &mut meter)
-        .ok();
-    prepared.expect(rt, "a change that isn't refused")
+    sheet.prepare(rt, alloc, Change::Edit(edit), &mut meter)
 }
 
 /// What is kept of a value.
-fn keep(rt: &impl Abort, alloc: Global, value: Value) -> Kept
-    ensures { value_of result ≡ value }
+fn keep(alloc: Global, value: Value) -> Result<Kept, Refusal>
+    ensures { IfOk result (λ k. value_of k ≡ value) }
 {
     match value {
-        Value::Empty => Kept::Empty,
-        Value::Num(number) => Kept::Num(number),
-        Value::Text(label) => Kept::Text(SharedLabel::new(alloc, label).expect(rt, "room")),
-        Value::Choice(options) => Kept::Choice(options),
-        Value::Err(fault) => Kept::Err(fault),
+        Value::Empty => Ok(Kept::Empty),
+        Value::Num(number) => Ok(Kept::Num(number)),
+        Value::Text(label) => Ok(Kept::Text(SharedLabel::new(alloc, label)?)),
+        Value::Choice(options) => Ok(Kept::Choice(options)),
+        Value::Err(fault) => Ok(Kept::Err(fault)),
     }
 }
 
 /// Cells with what is kept of their values.
-fn keep_all(rt: &impl Abort, alloc: Global, changes: &[(Cell, Value)]) -> Vec<(Cell, Kept)>
-    ensures { map valued result.items ≡ changes.now }
+fn keep_all(alloc: Global, changes: &[(Cell, Value)]) -> Result<Vec<(Cell, Kept)>, Refusal>
+    ensures { IfOk result (λ k. map valued k.items ≡ changes.now) }
 {
     let mut kept = Vec::new(alloc);
     for (cell, value) in changes {
-        let entry = (*cell, keep(rt, alloc, *value));
-        kept.push(entry).expect(rt, "room");
+        let entry = (*cell, keep(alloc, *value)?);
+        kept.push(entry)?;
     }
-    kept
+    Ok(kept)
 }
 
 /// The patch of a fresh change.
-fn patch_of(rt: &impl Abort, alloc: Global, prepared: &Prepared) -> Patch
-    ensures follows { Follows prepared.now.history result }
-    ensures after { history_after prepared.now ≡ prepared.now.history ++ result.delta ∷ [] }
+fn patch_of(rt: &impl Abort, alloc: Global, prepared: &Prepared) -> Result<Patch, Refusal>
+    ensures follows { IfOk result (λ p. Follows prepared.now.history p) }
+    ensures after { IfOk result (λ p. history_after prepared.now ≡ prepared.now.history ++ p.delta ∷ []) }
 {
     assert!(rt; prepared.fresh());
     let delta = prepared.delta().clone().expect(rt, "the delta once more");
-    let changes = keep_all(rt, alloc, prepared.changes());
-    Patch::new(prepared.report().version, delta, changes, 1)
+    let changes = keep_all(alloc, prepared.changes())?;
+    Ok(Patch::new(prepared.report().version, delta, changes, 1))
 }
 
 /// Appends the patch of a change that is prepared over the published history.
 fn append<L: Named, R: Wait + Drop>(
     rt: &impl Abort,
     alloc: Global,
-    writer: FaceWriter<L, R>,
+    writer: &mut FaceWriter<L, R>,
     prepared: &Prepared,
-) -> FaceWriter<L, R>
-    requires none { writer.pending ≡ [] }
-    requires history { prepared.now.history ≡ history_of L.opening writer.list }
-    ensures one { length result.pending ≡ 1 }
-    ensures after { history_after prepared.now ≡ history_of L.opening (result.list ++ result.pending) }
+) -> Result<(), Refusal>
+    requires none { writer.old.pending ≡ [] }
+    requires history { prepared.now.history ≡ history_of L.opening writer.old.list }
+    ensures one { OnOk result (length writer.new.pending ≡ 1) }
+    ensures after { OnOk result (history_after prepared.now
+        ≡ history_of L.opening (writer.new.list ++ writer.new.pending)) }
+    ensures kept { OnErr result (writer.new ≡ writer.old) }
 {
-    let mut writer = writer;
-    let patch = patch_of(rt, alloc, prepared);
-    writer.append(patch).expect(rt, "room for a patch");
-    writer
+    let patch = patch_of(rt, alloc, prepared)?;
+    writer.append(patch)
+}
+
+/// The same, by a second call where the first one is refused: that is `Memory`, and a reader then sees what it saw.
+fn append_again<L: Named, R: Wait + Drop>(
+    rt: &impl Abort,
+    alloc: Global,
+    writer: &mut FaceWriter<L, R>,
+    prepared: &Prepared,
+    reader: FaceReader<L>,
+    cell: Cell,
+) -> FaceReader<L>
+    requires none { writer.old.pending ≡ [] }
+    requires history { prepared.now.history ≡ history_of L.opening writer.old.list }
+    ensures one { length writer.new.pending ≡ 1 }
+    ensures after { history_after prepared.now ≡ history_of L.opening (writer.new.list ++ writer.new.pending) }
+{
+    let (reader, before) = read(rt, reader, cell);
+    match append(rt, alloc, writer, prepared) {
+        Ok(()) => reader,
+        Err(refusal) => {
+            let (reader, after) = read(rt, reader, cell);
+            assert!(rt; refusal == Refusal::Memory && after == before);
+            append(rt, alloc, writer, prepared).expect(rt, "room for a patch");
+            reader
+        }
+    }
 }
 
 /// What a reader sees of a cell, with the version.
@@ -136,21 +159,27 @@ impl<L: Named, R: Wait + Drop> Published<L, R> {
         alloc: Global,
         opened: Opened,
         readers: usize,
-    ) -> (Published<L, R>, Vec<FaceReader<L>>)
+    ) -> Result<(Published<L, R>, Vec<FaceReader<L>>), Refusal>
         requires book { opened ≡ L.book }
         requires opening { L.opening ≡ [] }
     {
         assert!(rt; 1 <= readers && readers <= 3);
-        let sheet = Sheet::open(alloc, 1, 1).expect(rt, "a sheet");
-        let copies = FaceWriter::open(keep, alloc, opened, sheet.all_shown(), 0, readers);
-        let (writer, mut readers) = copies.ok().expect(rt, "copies");
+        let sheet = Sheet::open(alloc, 1, 1)?;
+        let (writer, mut readers) = FaceWriter::open(
+            keep,
+            alloc,
+            opened,
+            sheet.all_shown(),
+            0,
+            readers,
+        )?;
         let reader = readers.pop().expect(rt, "a reader");
         let published = Published {
             sheet,
             writer,
             reader,
         };
-        (published, readers)
+        Ok((published, readers))
     }
 
     /// Makes an edit. It tells what the reader sees of a cell, with the version, once the patch is appended, and once
@@ -161,14 +190,17 @@ impl<L: Named, R: Wait + Drop> Published<L, R> {
         alloc: Global,
         edit: Edit,
         cell: Cell,
-    ) -> (Published<L, R>, [(u64, Value); 2]) {
+    ) -> Result<(Published<L, R>, [(u64, Value); 2]), Refusal> {
         let Published {
             sheet,
-            writer,
+            mut writer,
             reader,
         } = self;
-        let prepared = prepared::<T, Brand>(rt, Blank::new(1), alloc, sheet, edit);
-        let mut writer = append(rt, alloc, writer, &prepared);
+        let prepared = match prepared::<T, Brand>(rt, Blank::new(1), alloc, sheet, edit) {
+            Ok(prepared) => prepared,
+            Err((_, refusal)) => return Err(refusal),
+        };
+        let reader = append_again(rt, alloc, &mut writer, &prepared, reader, cell);
         let (reader, before) = read(rt, reader, cell);
         writer.publish();
         let (sheet, _) = prepared.commit();
@@ -178,6 +210,6 @@ impl<L: Named, R: Wait + Drop> Published<L, R> {
             writer,
             reader,
         };
-        (published, [before, after])
+        Ok((published, [before, after]))
     }
 }

@@ -1,20 +1,16 @@
 //! What edits make, and what they are refused for. The expected values are worked by hand from the rules.
 
-use crate::sheet::jobs::{Job, at_sheet};
 use crate::sheet::script::Asked::{Add, Choose, Set, Sub, Unchoose};
 use crate::sheet::script::Part::{self, Assigned, Counted, Paired};
 use crate::sheet::script::Seen::{Num, Options};
 use crate::sheet::script::Step::{self, Ask, Get, GetAll, Show, Type};
-use crate::sheet::script::{FIVE, ask, cell, check, check_count, go_on, play, version_of};
+use crate::sheet::script::{cell, play};
 use ps_content::Content;
-use ps_eval::Look;
 use ps_grid::{Cell, Refusal};
 use ps_lattice::{COUNT_LIMIT, LAST_TIME};
 use ps_sheet::{Batch, Sheet};
-use ps_value::Value;
 use std::alloc::Global;
 use std::process::Abort;
-use std::thread::Threads;
 
 static COUNTER: [Step; 11] = [
     Get("A1", Assigned(1, 1, "@tally"), Ok(1)),
@@ -92,36 +88,6 @@ static REFUSALS: [Step; 19] = [
 #[test]
 fn each_refusal_changes_nothing(rt: HostRuntime) -> Result<(), Refusal> {
     play(&rt, rt.alloc(), 1, &REFUSALS)
-}
-
-/// A cell gets another number, or the sheet is as it was.
-pub(crate) fn grow<R: Abort + Threads + Sync>(rt: &R, alloc: Global, sheet: &mut Sheet) {
-    go_on(rt, alloc, sheet, &FIVE);
-    let answer = version_of(ask(rt, alloc, sheet, "A1", &Set("7")));
-    check(
-        rt,
-        answer == Ok(2) || answer == Err(Refusal::Memory),
-        "an edit",
-    );
-    if answer.is_ok() {
-        check_first(rt, sheet, 2, 7);
-    } else {
-        check_first(rt, sheet, 1, 5);
-    }
-}
-
-/// The sheet of replica 3 has so many deltas, and shows a number in `A1`.
-pub(crate) fn check_first(rt: &impl Abort, sheet: &Sheet, version: u64, number: i64) {
-    check_count(rt, u64::from(sheet.replica()), 3, "the replica");
-    check_count(rt, sheet.version(), version, "the version");
-    check_count(rt, sheet.history().len() as u64, version, "the history");
-    check(rt, sheet.at(cell(rt, "A1")) == Value::Num(number), "A1");
-}
-
-/// After a refused growth the sheet is as it was, and the refusal says so; a sheet returns its replica and its history.
-#[test]
-fn a_refused_growth_changes_nothing(rt: HostRuntime) -> Result<(), Refusal> {
-    at_sheet(&rt, rt.alloc(), 3, 1, Job::Growth)
 }
 
 /// Whether no sheet is opened, since its replica is out of range.

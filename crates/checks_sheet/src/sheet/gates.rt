@@ -1,12 +1,15 @@
-//! What a gate sees of a change: how often a worker passes. The expected numbers are worked by hand from the rules.
+//! What a gate sees of a change: how often each worker passes. The expected numbers are worked by hand from the rules.
+
+ghost use Rattle.std.specs.Prelude.{◌<◌};
 
 use crate::sheet::jobs::{Job, at_sheet};
+use crate::sheet::long::Many::Wide;
 use crate::sheet::script::Asked::Set;
-use crate::sheet::script::Step::{self, Ask, Fan};
+use crate::sheet::script::Step::{self, Ask, Fan, Put};
 use crate::sheet::script::{BACK, OVER, Part, check_count, delta_of, go_on};
 use crate::sheet::slots::{TWO_CYCLES, commit, entered, ready, version};
 use Counted::{Delta, Entry};
-use ps_grid::Refusal;
+use ps_grid::{Refusal, WORKERS};
 use ps_sheet::{Change, Sheet};
 use ps_workers::Gate;
 use std::alloc::Global;
@@ -14,7 +17,7 @@ use std::process::Abort;
 use std::sync::atomic::{AtomicU64, Ordering};
 use std::thread::Threads;
 
-/// A change, and how often a worker passes in it.
+/// A change, and how often the workers pass in it.
 #[derive(Clone, Copy)]
 pub(crate) enum Counted {
     /// An entry into a cell.
@@ -33,33 +36,65 @@ pub(crate) struct Counts {
     version: u64,
 }
 
-/// Counts how often a worker passes.
+/// Counts how often each worker passes.
 #[derive(Drop)]
 struct Counting {
-    passes: AtomicU64,
+    passes: [AtomicU64; WORKERS],
 }
 
 impl Gate for Counting {
-    fn pass(&self, _worker: usize) {
-        self.passes.fetch_add(1, Ordering::SeqCst);
+    fn pass(&self, worker: usize) {
+        self.passes[worker].fetch_add(1, Ordering::SeqCst);
     }
 }
 
-/// Makes a change in which a gate is passed so often, which the report says too.
+/// How many of the passes a worker has where so many workers share them evenly: the first ones have one more where that
+/// doesn't come out even.
+fn share_of(passes: u64, workers: u64, worker: u64) -> u64
+    requires { 0 < workers }
+{
+    if worker >= workers {
+        0
+    } else if worker < passes % workers {
+        (passes / workers).wrapping_add(1)
+    } else {
+        passes / workers
+    }
+}
+
+/// Each of so many workers has passed as often as is its share, and no other has.
+fn check_shares(rt: &impl Abort, gate: &Counting, passes: u64, workers: u64)
+    requires { 0 < workers }
+{
+    for worker in 0..WORKERS {
+        let count = gate.passes[worker].load(Ordering::SeqCst);
+        check_count(
+            rt,
+            count,
+            share_of(passes, workers, worker as u64),
+            "passes",
+        );
+    }
+}
+
+/// Makes a change in which a gate is passed so often, which the report says too, by so many workers.
 fn count<R: Abort + Threads + Sync>(
     rt: &R,
     alloc: Global,
     slot: &mut Option<Sheet>,
     change: Change,
     passes: u64,
-) {
+    workers: u64,
+)
+    requires { 0 < workers }
+{
     let gate = Counting {
-        passes: AtomicU64::new(0),
+        passes: [0; WORKERS].map(|_| AtomicU64::new(0)),
     };
     let prepared = ready(rt, alloc, slot, change, &gate);
     let prepared_passes = prepared.report().evaluated;
     let report = commit(slot, prepared);
-    check_count(rt, gate.passes.load(Ordering::SeqCst), passes, "passes");
+    check_shares(rt, &gate, passes, workers);
     check_count(rt, prepared_passes, passes, "prepared");
     check_count(rt, report.evaluated, passes, "made");
 }
@@ -83,32 +118,52 @@ fn count_one<R: Abort + Threads + Sync>(
     alloc: Global,
     slot: &mut Option<Sheet>,
     counted: &Counted,
-) -> Result<(), Refusal> {
+    workers: u64,
+) -> Result<(), Refusal>
+    requires { 0 < workers }
+{
     let change = change_of(rt, alloc, counted)?;
-    count(rt, alloc, slot, change, passes_of(counted));
+    count(rt, alloc, slot, change, passes_of(counted), workers);
     Ok(())
 }
 
-/// The steps, and then the changes, one after another.
+/// The steps, and then the changes, one after another, each evaluated by so many workers.
 pub(crate) fn count_all<R: Abort + Threads + Sync>(
     rt: &R,
     alloc: Global,
     slot: &mut Option<Sheet>,
     counts: &Counts,
-) -> Result<(), Refusal> {
+    workers: u64,
+) -> Result<(), Refusal>
+    requires { 0 < workers }
+{
     go_on(rt, alloc, slot.as_mut().expect(rt, "a sheet"), counts.begun);
     for counted in counts.changes {
-        count_one(rt, alloc, slot, counted)?;
+        count_one(rt, alloc, slot, counted, workers)?;
     }
     check_count(rt, version(rt, slot), counts.version, "deltas");
     Ok(())
 }
 
 /// A change that reaches 6,000 cells at once, and one that reaches none.
-static WIDE: Counts = Counts {
+static FEW: Counts = Counts {
     begun: &[Fan(6_104)],
     changes: &[Entry("A1", "5", 6_000), Entry("B1", "9", 0)],
     version: 6_002,
+};
+
+/// The same with 8,193 cells, which are worth two workers.
+static SOME: Counts = Counts {
+    begun: &[Put(Wide(8_193), [1, 8_193, 0, 1])],
+    changes: &[Entry("A1", "5", 8_193), Entry("B1", "9", 0)],
+    version: 3,
+};
+
+/// The same with 65,640 cells, which are worth sixteen.
+static MANY: Counts = Counts {
+    begun: &[Put(Wide(65_640), [1, 65_640, 0, 1])],
+    changes: &[Entry("A1", "5", 65_640), Entry("B1", "9", 0)],
+    version: 3,
 };
 
 /// Two deltas, each of which ends a cycle and begins another.
@@ -134,14 +189,21 @@ static QUIET: Counts = Counts {
     version: 7,
 };
 
-/// A gate is passed exactly as often as the report says, for each number of workers: 6,000 times, never, twice for each
-/// of two deltas, and twice, three times and never.
+/// A gate is passed exactly as often as the report says, for each number of workers: 6,000 times, 8,193 times, 65,640
+/// times, never, twice for each of two deltas, and twice, three times and never. The workers that a level is worth, one
+/// for each 4,096 cells, have even shares of them.
 #[test]
 fn gate_counts(rt: HostRuntime) -> Result<(), Refusal> {
-    for workers in [1, 2, 16] {
-        at_sheet(&rt, rt.alloc(), 1, workers, Job::Count(&WIDE))?;
-        at_sheet(&rt, rt.alloc(), 1, workers, Job::Count(&CYCLES))?;
-        at_sheet(&rt, rt.alloc(), 1, workers, Job::Count(&QUIET))?;
+    for (workers, of_some, of_many) in [(1, 1, 1), (2, 2, 2), (16, 2, 16)] {
+        for (counts, seen) in [
+            (&FEW, 1),
+            (&SOME, of_some),
+            (&MANY, of_many),
+            (&CYCLES, 1),
+            (&QUIET, 1),
+        ] {
+            at_sheet(&rt, rt.alloc(), 1, workers, Job::Count(counts, seen))?;
+        }
     }
     Ok(())
 }

@@ -3,13 +3,13 @@
 ghost use Rattle.std.specs.Prelude.{◌≤◌};
 ghost use Rattle.ps_grid.specs.declared.parties.TheConstants.{WORKERS};
 
-use crate::sheet::edits::grow;
 use crate::sheet::gates::{Counts, count_all};
 use crate::sheet::orders::take_in_order;
-use crate::sheet::prepared::{stay_alike, stay_whole};
+use crate::sheet::prepared::stay_alike;
+use crate::sheet::refused::{Tries, try_all};
 use crate::sheet::rounds::{change_often, give_up_often};
 use crate::sheet::script::{Step, go_on};
-use Job::{Alike, Count, GiveUps, Growth, Order, Random, Refusals, Steps};
+use Job::{Alike, Count, GiveUps, Order, Random, Steps, Try};
 use ps_grid::Refusal;
 use ps_sheet::Sheet;
 use std::alloc::Global;
@@ -23,18 +23,16 @@ pub(crate) enum Job {
     Steps(&'static [Step]),
     /// Six deltas, in the n-th of their orders.
     Order(usize),
-    /// An edit, of which a growth may be refused.
-    Growth,
     /// Changes at random.
     Random,
     /// Changes at random, each after one that is given up.
     GiveUps,
-    /// Changes through a gate that counts.
-    Count(&'static Counts),
+    /// Changes through a gate that counts, each evaluated by so many workers.
+    Count(&'static Counts, u64),
     /// A change that is given up and made beside a twin.
     Alike,
-    /// A prepared edit that is refused, and one of which a growth may be.
-    Refusals,
+    /// Changes of which a growth may be refused.
+    Try(&'static Tries),
 }
 
 fn do_job<R: Abort + Threads + Sync>(
@@ -49,18 +47,11 @@ fn do_job<R: Abort + Threads + Sync>(
             Ok(())
         }
         Order(n) => take_in_order(rt, alloc, slot.as_mut().expect(rt, "a sheet"), n),
-        Growth => {
-            grow(rt, alloc, slot.as_mut().expect(rt, "a sheet"));
-            Ok(())
-        }
         Random => change_often(rt, alloc, slot.as_mut().expect(rt, "a sheet")),
         GiveUps => give_up_often(rt, alloc, slot),
-        Count(counts) => count_all(rt, alloc, slot, counts),
+        Count(counts, workers) => count_all(rt, alloc, slot, counts, workers.max(1)),
         Alike => stay_alike(rt, alloc, slot),
-        Refusals => {
-            stay_whole(rt, alloc, slot);
-            Ok(())
-        }
+        Try(tries) => try_all(rt, alloc, slot, tries),
     }
 }
 

@@ -2,7 +2,7 @@
 //! numbers are worked by hand from the rules.
 
 ghost use Rattle.std.specs.Prelude.{◌≤◌};
-ghost use Rattle.ps_grid.specs.declared.size.TheConstants.{CELLS};
+ghost use Rattle.ps_grid.specs.declared.size.TheConstants.{CELLS as ALL};
 
 use crate::sheet::jobs::{Job, at_sheet};
 use crate::sheet::script::Seen::Num;
@@ -10,7 +10,7 @@ use crate::sheet::script::Step::{self, Alike, Chain, Enter, Fan, Put, Sequence, 
 use crate::sheet::script::{CYCLE, Figures, apply, check_figures, check_place, play, read_pieces};
 use Many::{Halves, SecondRow, Wide};
 use ps_content::Content;
-use ps_grid::{COLUMNS, Cell, NAME_BYTES, Refusal};
+use ps_grid::{CELLS, COLUMNS, Cell, NAME_BYTES, Refusal};
 use ps_sheet::{Batch, Edit, Report, Sheet};
 use ps_value::Value;
 use ps_workers::workers_worth;
@@ -140,7 +140,7 @@ const WIDE: usize = 640 * COLUMNS;
 /// A cell to which so many others refer that their level is divided among workers is changed, and then one to which
 /// none refers.
 static WIDE_REACHED: [Step; 5] = [
-    Put(Wide, [1, WIDE as u64, 0, 1]),
+    Put(Wide(WIDE), [1, WIDE as u64, 0, 1]),
     Alike(COLUMNS, COLUMNS + WIDE, Num(1)),
     Enter("A1", "5", [2, WIDE as u64, 0, 1]),
     Enter("B1", "9", [3, 0, 0, 0]),
@@ -163,8 +163,8 @@ const HALF: usize = COLUMNS / 2;
 /// Many cells that are entered as one batch.
 #[derive(Clone, Copy)]
 pub(crate) enum Many {
-    /// The first cells in order from `A2` on, each one more than `A1`.
-    Wide,
+    /// So many cells in order from `A2` on, each one more than `A1`.
+    Wide(usize),
     /// The second row, each cell of which is one more than the cell above it.
     SecondRow,
     /// The first row, of which the left half is closed, or else the right one.
@@ -193,7 +193,7 @@ fn add_links(
     count: usize,
     are_from_first: bool,
 ) -> Result<(), Refusal>
-    requires { count ≤ CELLS }
+    requires { count ≤ ALL }
 {
     for before in 0..count {
         let other = if are_from_first { 0 } else { before };
@@ -213,7 +213,7 @@ fn add_linked(
     across: usize,
     is_closed: bool,
 ) -> Result<(), Refusal>
-    requires { (first ≤ CELLS) × (across ≤ CELLS) }
+    requires { (first ≤ ALL) × (across ≤ ALL) }
 {
     let content = if is_closed || across > 0 {
         let ahead = if is_closed { 1 } else { HALF - 1 };
@@ -232,7 +232,7 @@ fn add_half(
     first: usize,
     is_closed: bool,
 ) -> Result<(), Refusal>
-    requires { first ≤ CELLS }
+    requires { first ≤ ALL }
 {
     for across in 0..HALF {
         add_linked(rt, alloc, cells, first, across, is_closed)?;
@@ -247,7 +247,7 @@ fn add_many(
     many: Many,
 ) -> Result<(), Refusal> {
     match many {
-        Wide => add_links(rt, alloc, cells, WIDE, true),
+        Wide(count) => add_links(rt, alloc, cells, count.min(CELLS), true),
         SecondRow => add_links(rt, alloc, cells, COLUMNS, false),
         Halves(is_left_closed) => {
             add_half(rt, alloc, cells, 0, is_left_closed)?;

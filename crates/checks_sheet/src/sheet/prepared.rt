@@ -1,6 +1,5 @@
 //! Changes that are prepared, and then committed or given up. The expected values are worked by hand from the rules.
 
-use crate::sheet::edits::check_first;
 use crate::sheet::jobs::{Job, at_sheet};
 use crate::sheet::long::at;
 use crate::sheet::script::Asked::{Choose, Set};
@@ -8,14 +7,13 @@ use crate::sheet::script::Part::{self, Assigned};
 use crate::sheet::script::Seen::{self, Empty, Failed, Num, Text};
 use crate::sheet::script::Step::{self, Ask};
 use crate::sheet::script::{
-    CYCLE, FIVE, ask, cell, check, check_count, check_figures, check_place, delta_of, figures_of,
+    CYCLE, ask, cell, check, check_count, check_figures, check_place, delta_of, figures_of,
     get_all, go_on, value,
 };
-use crate::sheet::slots::{TWO_CYCLES, cancel, commit, prepare, put_back, ready, taken};
-use ps_content::Content;
+use crate::sheet::slots::{TWO_CYCLES, cancel, commit, ready};
 use ps_delta::Delta;
 use ps_grid::{CELLS, Cell, Refusal};
-use ps_sheet::{Change, Edit, Prepared, Report, Sheet};
+use ps_sheet::{Change, Prepared, Report, Sheet};
 use ps_value::{Fault, Value};
 use ps_workers::Open;
 use std::alloc::Global;
@@ -255,65 +253,4 @@ pub(crate) fn stay_alike<R: Abort + Threads + Sync>(
 #[test]
 fn a_change_is_given_up_and_made(rt: HostRuntime) -> Result<(), Refusal> {
     at_sheet(&rt, rt.alloc(), 3, 1, Job::Alike)
-}
-
-/// The refusal of a change, where it has one; the sheet is put back as it then is.
-fn refusal_of<R: Abort + Threads + Sync>(
-    rt: &R,
-    alloc: Global,
-    slot: &mut Option<Sheet>,
-    change: Change,
-) -> Option<Refusal> {
-    match prepare(rt, alloc, taken(rt, slot), change, &Open) {
-        Ok(prepared) => {
-            commit(slot, prepared);
-            None
-        }
-        Err((sheet, refusal)) => {
-            put_back(slot, sheet);
-            Some(refusal)
-        }
-    }
-}
-
-/// The sheet of a slot has so many deltas, and shows a number in `A1`.
-fn check_slot(rt: &impl Abort, slot: &Option<Sheet>, deltas: u64, number: i64) {
-    check_first(rt, slot.as_ref().expect(rt, "a sheet"), deltas, number);
-}
-
-/// An edit is refused.
-fn stay_refused<R: Abort + Threads + Sync>(rt: &R, alloc: Global, slot: &mut Option<Sheet>) {
-    let add = Change::Edit(Edit::Add(cell(rt, "A1"), 1));
-    let refusal = refusal_of(rt, alloc, slot, add);
-    check(rt, refusal == Some(Refusal::NotTally), "an edit");
-    check_slot(rt, slot, 1, 5);
-}
-
-/// An edit is refused, and another one made, or a growth of it refused.
-pub(crate) fn stay_whole<R: Abort + Threads + Sync>(
-    rt: &R,
-    alloc: Global,
-    slot: &mut Option<Sheet>,
-) {
-    go_on(rt, alloc, slot.as_mut().expect(rt, "a sheet"), &FIVE);
-    stay_refused(rt, alloc, slot);
-    let seven = Change::Edit(Edit::Set(cell(rt, "A1"), Content::Number(7)));
-    let refusal = refusal_of(rt, alloc, slot, seven);
-    check(
-        rt,
-        refusal.is_none() || refusal == Some(Refusal::Memory),
-        "an edit",
-    );
-    if refusal.is_none() {
-        check_slot(rt, slot, 2, 7);
-    } else {
-        check_slot(rt, slot, 1, 5);
-    }
-}
-
-/// A refused edit is no change, and neither is one of which a growth was refused: the sheet comes back as it was, and
-/// the refusal says why.
-#[test]
-fn a_refused_change_gives_the_sheet_back(rt: HostRuntime) -> Result<(), Refusal> {
-    at_sheet(&rt, rt.alloc(), 3, 1, Job::Refusals)
 }

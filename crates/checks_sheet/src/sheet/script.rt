@@ -102,9 +102,6 @@ pub(crate) const BACK: &[(&str, Part)] = &[
     ("D1", Assigned(3, 2, "7")),
 ];
 
-/// A number in `A1`.
-pub(crate) static FIVE: [Step; 1] = [Ask("A1", Set("5"), Ok(1))];
-
 pub(crate) fn cell(rt: &impl Abort, name: &str) -> Cell {
     Cell::read(name.as_bytes()).expect(rt, "a cell")
 }
@@ -170,11 +167,11 @@ pub(crate) fn figures_of(report: Report) -> Figures {
 }
 
 /// The figures that a change ends with.
-fn ended_with(answer: Result<Report, Refusal>) -> Result<Figures, Refusal> {
+pub(crate) fn ended_with(answer: Result<Report, Refusal>) -> Result<Figures, Refusal> {
     Ok(figures_of(answer?))
 }
 
-fn edit_of(alloc: Global, cell: Cell, asked: &Asked) -> Result<Edit, Refusal> {
+pub(crate) fn edit_of(alloc: Global, cell: Cell, asked: &Asked) -> Result<Edit, Refusal> {
     match asked {
         Set(entry) => Ok(Edit::Set(cell, read_entry(alloc, entry.as_bytes())?)),
         Add(amount) => Ok(Edit::Add(cell, *amount)),
@@ -217,7 +214,11 @@ fn add_entries(
     Ok(())
 }
 
-fn batch_of(rt: &impl Abort, alloc: Global, entries: &[(&str, &str)]) -> Result<Batch, Refusal> {
+pub(crate) fn batch_of(
+    rt: &impl Abort,
+    alloc: Global,
+    entries: &[(&str, &str)],
+) -> Result<Batch, Refusal> {
     let mut cells = Vec::new(alloc);
     add_entries(rt, alloc, &mut cells, entries)?;
     Ok(Batch::new(cells).expect(rt, "a batch"))
@@ -393,7 +394,7 @@ pub(crate) fn check_figures(
 }
 
 /// A cell shows this value.
-fn check_shown(rt: &impl Abort, sheet: &Sheet, name: &str, seen: &Seen) {
+pub(crate) fn check_shown(rt: &impl Abort, sheet: &Sheet, name: &str, seen: &Seen) {
     check(rt, sheet.shown(cell(rt, name)) == value(rt, seen), name);
 }
 

@@ -1,7 +1,6 @@
 -- What cells keep beside what contracts see.
-use Rattle.std.specs.Prelude.{◌≤◌, ℕ, Option, Some, None, List, vec_capacity}
+use Rattle.std.specs.Prelude.{Option, Some, None}
 use Rattle.std.specs.Option.{option_map}
-use Rattle.ps_grid.specs.declared.size.TheConstants.{CELLS}
 use Rattle.ps_delta.specs.State.{state_at}
 use Rattle.ps_delta.specs.Deltas.{Entries, overlaid}
 use Rattle.ps_cells.specs.Cells.{CellsView}
@@ -25,10 +24,9 @@ view_of x = record {
 }
 
 -- between two changes the tables are whole; a staged change can be taken back
-abbrev pub IsHeldBy : Tables → List ℕ → Option Entries → Type 0
-IsHeldBy t cyclic None = IsWhole t
-IsHeldBy t cyclic (Some olds) = IsPending (overlaid (state_at t.grid) olds) t olds cyclic
+abbrev pub IsHeldBy : Tables → Option Entries → Type 0
+IsHeldBy t None = IsWhole t
+IsHeldBy t (Some olds) = IsPending (overlaid (state_at t.grid) olds) t olds
 
-pub record IsHeld (x : Inside) : Type 0 where
-  pub held : IsHeldBy x.tables x.were_cyclic.items (staged_of x)
-  pub room : CELLS ≤ vec_capacity x.were_cyclic
+abbrev pub IsHeld : Inside → Type 0
+IsHeld x = IsHeldBy x.tables (staged_of x)

@@ -1,7 +1,6 @@
 -- A change that is made and can be taken back.
-use Rattle.std.specs.Prelude.{◌≡◌, ◌≤◌, ℕ, List, length}
+use Rattle.std.specs.Prelude.{◌≡◌}
 use Rattle.std.specs.List.Sorted.{IsStrictlyIncreasing}
-use Rattle.ps_grid.specs.declared.size.TheConstants.{CELLS}
 use Rattle.ps_index.specs.Stands.{Stands}
 use Rattle.ps_shown.specs.Shown.{shown_at}
 use Rattle.ps_delta.specs.State.{State, IsInGrid, state_at}
@@ -11,16 +10,13 @@ use Rattle.ps_cells.specs.Settled.{IsSettled}
 use Rattle.ps_cells.specs.Inside.Formulas.{forms_of, with_puts}
 use Rattle.ps_cells.specs.Inside.Kept.{IsTidy}
 use Rattle.ps_cells.specs.Inside.Screens.{before_of}
-use Rattle.ps_cells.specs.Inside.Walk.{ListsCyclic}
 use Rattle.ps_cells.specs.declared.tables.Tables.{Tables}
 
--- PENDING: the touched cells had the states of `olds`, the cyclic cells were those of `cyclic`, and that was the
--- settled state s; the cells hold and show what they do after the change, and the index has old and new formulas
-pub record IsPending (s : State) (x : Tables) (olds : Entries) (cyclic : List ℕ) : Type 0 where
+-- PENDING: the touched cells had the states of `olds`, and that was the settled state s; the cells hold and show what
+-- they do after the change, and the index has old and new formulas
+pub record IsPending (s : State) (x : Tables) (olds : Entries) : Type 0 where
   pub was_in_grid : IsInGrid s
   pub was_settled : IsSettled s (before_of x.shown)
-  pub was_cyclic : ListsCyclic s cyclic
-  pub few : length cyclic ≤ CELLS
   pub gives : overlaid (state_at x.grid) olds ≡ s
   pub ready : HasRoomFor x.grid olds
   pub ascending : IsStrictlyIncreasing (cells_of olds)

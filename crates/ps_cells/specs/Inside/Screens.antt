@@ -1,6 +1,7 @@
 -- What the cells show, and what those that were put showed before.
-use Rattle.std.specs.Prelude.{◌≡◌, ◌↔◌, ◌⊎◌, ℕ, Bool, true, List, [], ◌∷◌, ◌++◌, length, map, nat_eq}
-use Rattle.std.specs.List.{IsDistinct}
+use Rattle.std.specs.Prelude.{◌≡◌, ◌↔◌, ◌⊎◌, ◌&&◌, ◌||◌, not, ℕ, Bool, true, false, List, [], ◌∷◌, ◌++◌, length, map}
+use Rattle.std.specs.Prelude.{nat_eq}
+use Rattle.std.specs.List.{IsDistinct, list_any}
 use Rattle.ps_grid.specs.Chains.{In}
 use Rattle.ps_grid.specs.declared.size.TheConstants.{CELLS}
 use Rattle.ps_value.specs.declared.value.Value.{Value}
@@ -10,6 +11,7 @@ use Rattle.ps_shown.specs.Kept.{value_of}
 use Rattle.ps_shown.specs.Shown.{shown_at}
 unfoldable pub use Rattle.ps_cells.specs.Changes.{put_back}
 use Rattle.ps_cells.specs.Inside.Steps.{flag_at}
+use Rattle.ps_cells.specs.Inside.Waiting.{is_waiting}
 
 -- what is kept of the cells, of those that were put what was kept before, the cells that were listed last as showing
 -- another value, and the cells whose values were listed last, with these
@@ -43,3 +45,17 @@ pub record Differ (w v : Assignment) (cells : List ℕ) : Type 0 where
 abbrev pub ListsDiffering : ℕ × Kept → Assignment → List ℕ → List ℕ → Type 0
 ListsDiffering e w cells cells2 =
     ((w e.0 ≡ value_of e.1) × (cells2 ≡ cells)) ⊎ ((¬ (w e.0 ≡ value_of e.1)) × (cells2 ≡ cells ++ e.0 ∷ []))
+
+-- exactly the cells that show #CYCLE! by one of two assignments, each once
+pub record ShowCycle (w v : Assignment) (cells : List ℕ) : Type 0 where
+  pub once : IsDistinct nat_eq cells
+  pub exact : (c : ℕ) → list_any (nat_eq c) cells ≡ (is_waiting (w c) || is_waiting (v c))
+
+-- #CYCLE! was kept of the cell, and it shows another value where the cells show w
+abbrev pub was_cyclic : ℕ × Kept → Assignment → Bool
+was_cyclic e w = is_waiting (value_of e.1) && not (is_waiting (w e.0))
+
+-- ONE CELL is put into the list if it was cyclic
+abbrev pub AddsCyclic : ℕ × Kept → Assignment → List ℕ → List ℕ → Type 0
+AddsCyclic e w cells cells2 =
+    ((was_cyclic e w ≡ true) × (cells2 ≡ cells ++ e.0 ∷ [])) ⊎ ((was_cyclic e w ≡ false) × (cells2 ≡ cells))

@@ -80,10 +80,7 @@ staged_send : IsSend olds_row → IsSend staged_row
 staged_send a = option_send olds_row a
 
 cells_send : IsSend tables.the_row → IsSend staged_row → IsSend (S.row cells_inside.the_type)
-cells_send t a = declared_send cells_inside.the_type (
-  t,
-  (as_row_send (Vec.the_field cell.the_row Global.the_row ghosts) list_send, (a, tt)),
-)
+cells_send t a = declared_send cells_inside.the_type (t, (a, tt))
 
 pub returns : goal.returns
 returns c =

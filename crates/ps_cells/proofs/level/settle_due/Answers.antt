@@ -7,6 +7,7 @@ use Rattle.ps_cells.proofs.level.settle_due.Goals as goal
 pub returns-clause-shows : goal.returns-clause-shows
 returns-clause-shows g c =
     subst
-    (λ vs. ShowsAll c.args.is_last (listed c.args.index.now) c.args.cells.now vs (shown_at c.args.shown.now.kept)
-    (shown_at c.show_due.new.shown.kept) (flag_at c.args.flags.now) (flag_at c.show_due.new.flags))
+    (λ vs. ShowsAll c.args.due.now.is_last (listed c.args.inputs.now.index.now) c.args.due.now.cells.now vs
+    (shown_at c.args.shown.now.kept) (shown_at c.show_due.new.shown.kept) (flag_at c.args.flags.now)
+    (flag_at c.show_due.new.flags))
     c.evaluate.ensures.values c.show_due.ensures.shows

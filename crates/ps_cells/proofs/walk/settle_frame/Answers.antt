@@ -17,7 +17,8 @@ use Rattle.ps_cells.proofs.walk.settle_frame.Goals.{After-slice_known-in-loop-be
 
 pub loop-before-init : goal.loop-before-init
 loop-before-init g c = record {
-  steps = frame_none (state_at c.args.grid.now) (listed c.args.index.now) (level_cells c.args.region.now)
+  steps = frame_none (state_at c.args.inputs.now.grid.now) (listed c.args.inputs.now.index.now)
+      (level_cells c.args.region.now)
       (level_count c.args.region.now) (shown_at c.args.shown.now.kept) (flag_at c.args.flags.now);
   before = refl;
   metered = omega arith;
@@ -30,7 +31,8 @@ settle-requires-clause-formulas g c κs within2 = λ q i.
     let top = c.levels-levels.ensures in
     let within : c.loop-before.before + 1 ≤ level_count c.args.region.now = omega (arith, lt, top) in
     let some : 0 < c.loop-before.before + 1 = omega arith in
-    level_formula (state_at c.args.grid.now) (listed c.args.index.now) (level_cells c.args.region.now)
+    level_formula (state_at c.args.inputs.now.grid.now) (listed c.args.inputs.now.index.now)
+    (level_cells c.args.region.now)
     (level_count c.args.region.now) (shown_at c.args.shown.now.kept) (flag_at c.args.flags.now) c.requires.begun
     (c.loop-before.before + 1) some within q
     (subst (λ xs. In xs q) (c.level-cells.ensures.inside some within) i)
@@ -45,7 +47,8 @@ settle-requires-clause-few g c κs within2 =
     let within : c.loop-before.before + 1 ≤ level_count c.args.region.now = omega (arith, lt, top) in
     let some : 0 < c.loop-before.before + 1 = omega arith in
     subst (λ xs. length xs ≤ CELLS) (sym (c.level-cells.ensures.inside some within))
-    (level_few (state_at c.args.grid.now) (listed c.args.index.now) (level_cells c.args.region.now)
+    (level_few (state_at c.args.inputs.now.grid.now) (listed c.args.inputs.now.index.now)
+    (level_cells c.args.region.now)
     (level_count c.args.region.now) (shown_at c.args.shown.now.kept) (flag_at c.args.flags.now) c.requires.begun
     (c.loop-before.before + 1) some within)
 
@@ -54,7 +57,8 @@ returns-clause-room g c = c.loop-before.invariant.room
 
 -- one level more
 stepped : (g : Over) (c : After-slice_known-in-loop-before-1 g)
-    → StepsLevels (state_at c.args.grid.now) (listed c.args.index.now) (level_cells c.args.region.now)
+    → StepsLevels (state_at c.args.inputs.now.grid.now) (listed c.args.inputs.now.index.now)
+    (level_cells c.args.region.now)
     (level_count c.args.region.now) (c.loop-before.before + 1 + 1) (shown_at c.args.shown.now.kept)
     (shown_at c.settle.new.shown.kept) (flag_at c.args.flags.now) (flag_at c.settle.new.flags)
     (c.loop-before.evaluated + c.settle.result)
@@ -63,8 +67,8 @@ stepped g c =
     let top = c.levels-levels.ensures in
     let within : c.loop-before.before + 1 ≤ level_count c.args.region.now = omega (arith, lt, top) in
     let some : 0 < c.loop-before.before + 1 = omega arith in
-    frame_more (state_at c.args.grid.now) (listed c.args.index.now) (level_cells c.args.region.now)
-    (level_count c.args.region.now) (c.loop-before.before + 1) c.level-cells.result.now
+    frame_more (state_at c.args.inputs.now.grid.now) (listed c.args.inputs.now.index.now)
+    (level_cells c.args.region.now) (level_count c.args.region.now) (c.loop-before.before + 1) c.level-cells.result.now
     (nat_eq (c.loop-before.before + 1) c.levels-levels.result)
     (shown_at c.args.shown.now.kept)
     (shown_at c.loop-before.shown.kept) (shown_at c.settle.new.shown.kept) (flag_at c.args.flags.now)
@@ -80,9 +84,9 @@ overflow_add-evaluated g c =
     let few : c.loop-before.evaluated + c.settle.result ≤ CELLS =
     count_below_cells
     (λ q. IsPassed (level_cells c.args.region.now) (c.loop-before.before + 1 + 1) [] q
-    × IsDue (state_at c.args.grid.now) may.1 may.0 (shown_at c.settle.new.shown.kept) q)
+    × IsDue (state_at c.args.inputs.now.grid.now) may.1 may.0 (shown_at c.settle.new.shown.kept) q)
     (c.loop-before.evaluated + c.settle.result)
-    (λ q p. formula_below (state_at c.args.grid.now) may.2.change.after q (w.framed q p.0).1) w.counted in
+    (λ q p. formula_below (state_at c.args.inputs.now.grid.now) may.2.change.after q (w.framed q p.0).1) w.counted in
     omega (arith, few)
 
 pub loop-before-preserved : goal.loop-before-preserved
@@ -102,6 +106,7 @@ returns-clause-settled g c =
     let high = c.loop-before.auto.before-end in
     let top = c.levels-levels.ensures in
     let is : c.loop-before.before ≡ level_count c.args.region.now = omega (arith, end, high, top) in
-    subst (λ n. StepsLevels (state_at c.args.grid.now) (listed c.args.index.now) (level_cells c.args.region.now)
-    (level_count c.args.region.now) (n + 1) (shown_at c.args.shown.now.kept) (shown_at c.loop-before.shown.kept)
-    (flag_at c.args.flags.now) (flag_at c.loop-before.flags) c.loop-before.evaluated) is c.loop-before.invariant.steps
+    subst (λ n. StepsLevels (state_at c.args.inputs.now.grid.now) (listed c.args.inputs.now.index.now)
+    (level_cells c.args.region.now) (level_count c.args.region.now) (n + 1) (shown_at c.args.shown.now.kept)
+    (shown_at c.loop-before.shown.kept) (flag_at c.args.flags.now) (flag_at c.loop-before.flags)
+    c.loop-before.evaluated) is c.loop-before.invariant.steps

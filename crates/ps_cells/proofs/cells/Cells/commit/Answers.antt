@@ -16,8 +16,7 @@ leave-requires c =
     record {
       pending = (
         s,
-        x.were_cyclic.items,
-        subst (λ (es : Entries). IsPending s x.tables es x.were_cyclic.items) (sym c.deref.ensures.value)
+        subst (λ (es : Entries). IsPending s x.tables es) (sym c.deref.ensures.value)
             (pending_held x c.in-Some.olds.items is c.self.invariant),
       );
     }

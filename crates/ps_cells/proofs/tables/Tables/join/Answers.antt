@@ -64,10 +64,9 @@ returns-clause-pending g c =
     pending_of s (state_of c.args.delta.now) (shown_at c.args.self.now.shown.kept) es
     (with_items c.in_ok-change.change.raised c.exchange.new.cells).items
     (record c.args.self.now { grid = c.exchange.new.self; index = c.begin.new.index })
-    c.recalculate-work.new.self c.args.self.now.cyclic.items c.deref.result.now c.recalculate-work.result.evaluated
+    c.recalculate-work.new.self c.deref.result.now c.recalculate-work.result.evaluated
     c.recalculate-work.result.cyclic c.recalculate-work.result.levels w.in_grid w.settled
     (c.recalculate-work.ensures.before ∙ still_before c.args.self.now.shown w.still)
-    w.tidy.cyclic
     c.in_ok-change.ensures.raised
     given (cells ∙ taken)
     (subst (λ (xs : Entries). HasRoomFor c.exchange.new.self xs) (sym cells) c.exchange.ensures.ready)

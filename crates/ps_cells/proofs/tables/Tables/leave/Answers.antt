@@ -11,11 +11,11 @@ use Rattle.ps_cells.proofs.PendingChanges.{tidy_with}
 use Rattle.ps_cells.proofs.tables.Tables.leave.Goals as goal
 
 pub take_formulas-requires : goal.take_formulas-requires
-take_formulas-requires c = record { stands = (forms_of (state_at c.args.self.now.grid), c.requires.pending.2.stands) }
+take_formulas-requires c = record { stands = (forms_of (state_at c.args.self.now.grid), c.requires.pending.1.stands) }
 
 pub returns-clause-whole : goal.returns-clause-whole
 returns-clause-whole c =
-    let p = c.requires.pending.2 in
+    let p = c.requires.pending.1 in
     let t = state_at c.args.self.now.grid in
     record {
       in_grid = p.in_grid;

@@ -18,7 +18,7 @@ use Rattle.ps_cells.proofs.Recalculations.{walked_now, cyclic_now, cyclic_room}
 use Rattle.ps_cells.proofs.Recalculations.{deepest_now, reached_now}
 use Rattle.ps_cells.proofs.tables.Tables.recalculate_region.Given.{Over}
 use Rattle.ps_cells.proofs.tables.Tables.recalculate_region.Goals as goal
-use Rattle.ps_cells.proofs.tables.Tables.recalculate_region.Goals.{After-deref_mut-3, After-settle_frame-arg-6-1}
+use Rattle.ps_cells.proofs.tables.Tables.recalculate_region.Goals.{After-deref_mut-3, After-settle_frame-arg-4-1}
 
 pub find_region-requires-clause-change : goal.find_region-requires-clause-change
 find_region-requires-clause-change g c = (
@@ -30,20 +30,20 @@ find_region-requires-clause-change g c = (
 )
 
 -- what is known of the region
-found : (g : Over) (c : After-settle_frame-arg-6-1 g)
+found : (g : Over) (c : After-settle_frame-arg-4-1 g)
     → IsFound (refers_to (state_at c.args.self.now.grid)) (formula_at (state_at c.args.self.now.grid))
     c.args.touched.now
     c.find_region.new.region
 found g c = c.find_region.ensures.found
 
 -- the flags after the touched cells were dealt with
-flags_first : (g : Over) (c : After-settle_frame-arg-6-1 g) → c.deref_mut-2.result.now ≡ c.show_all_first.new.flags
+flags_first : (g : Over) (c : After-settle_frame-arg-4-1 g) → c.deref_mut-2.result.now ≡ c.show_all_first.new.flags
 flags_first g c =
     c.deref_mut-2.ensures.value
     ∙ with_items_is c.args.self.now.flags c.show_all_first.new.flags
     (c.show_all_first.auto.flags ∙ c.deref_mut.ensures.len)
 
-begun_first : (g : Over) (c : After-settle_frame-arg-6-1 g)
+begun_first : (g : Over) (c : After-settle_frame-arg-4-1 g)
     → Begun (state_at c.args.self.now.grid) (shown_at c.args.self.now.shown.kept) c.args.touched.now
     (map (λ (e : ℕ × Kept). e.0) c.args.first.items) [] (shown_at c.show_all_first.new.shown.kept)
     (flag_at c.show_all_first.new.flags)
@@ -54,7 +54,7 @@ begun_first g c =
     (shown_at c.args.self.now.shown.kept) (flag_at c.deref_mut.result.now) (λ q. refl)
     (λ q. ap (λ (xs : List Bool). flag_at xs q) c.deref_mut.ensures.value ∙ c.requires.tidy.off q))
 
-begun_all : (g : Over) (c : After-settle_frame-arg-6-1 g)
+begun_all : (g : Over) (c : After-settle_frame-arg-4-1 g)
     → Begun (state_at c.args.self.now.grid) (shown_at c.args.self.now.shown.kept) c.args.touched.now
     c.args.touched.now c.find_region.new.region.cyclic (shown_at c.close_all.new.shown.kept)
     (flag_at c.deref_mut-2.result.now)
@@ -94,7 +94,7 @@ walked g c =
     (listed c.args.self.now.index) c.requires.lists (shown_at c.close_all.new.shown.kept)
     (shown_at c.settle_frame-evaluated.new.shown.kept) (flag_at c.deref_mut-2.result.now)
     (flag_at c.settle_frame-evaluated.new.flags) c.settle_frame-evaluated.result
-    (begun_all g (goal.at.clear-requires-clause-within g c).After-settle_frame-arg-6-1)
+    (begun_all g (goal.at.clear-requires-clause-within g c).After-settle_frame-arg-4-1)
     c.settle_frame-evaluated.ensures.settled
 
 -- the flags after the last level
@@ -137,7 +137,7 @@ returns-clause-done g c =
     let f = c.find_region.new.region in
     let now = c.find_region.ensures.found in
     let at = goal.at.returns-clause-done g c in
-    let first = flags_first g at.After-settle_frame-arg-6-1 in
+    let first = flags_first g at.After-settle_frame-arg-4-1 in
     let last = flags_last g at.After-deref_mut-3 in
     let w = walked g at.After-deref_mut-3 in
     let w2 = with_items (with_items c.args.self.now.flags c.show_all_first.new.flags)

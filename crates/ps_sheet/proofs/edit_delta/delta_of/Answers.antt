@@ -1,5 +1,5 @@
 use Rattle.ps_sheet.proofs.FreshCells.{registered_some, counted_some, paired_some}
-use Rattle.ps_sheet.proofs.made.delta_of.Goals as goal
+use Rattle.ps_sheet.proofs.edit_delta.delta_of.Goals as goal
 
 -- what an edit makes of a cell is new, and so not empty
 pub of_cell-requires : goal.of_cell-requires

@@ -1,5 +1,5 @@
 use Rattle.std.specs.Prelude.{[]}
-use Rattle.checks_sheet.proofs.face.check.Given as goal
+use Rattle.checks_sheet.proofs.face.go_anew.Given as goal
 
 abbrev pub ghosts-go_through-L-Ledger : goal.ghosts-go_through-L-Ledger
 ghosts-go_through-L-Ledger g a = record { name = 0; parts = 0 }

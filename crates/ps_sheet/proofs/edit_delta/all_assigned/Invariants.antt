@@ -2,7 +2,7 @@ use Rattle.std.proofs.Common.{◌≡◌, false, map}
 use Rattle.std.specs.List.{list_any}
 use Rattle.ps_delta.specs.State.{state_at}
 use Rattle.ps_sheet.specs.Edits.{assigned, is_clock_full}
-use Rattle.ps_sheet.proofs.made.all_assigned.Given as goal
+use Rattle.ps_sheet.proofs.edit_delta.all_assigned.Given as goal
 
 -- the cells so far have their assignments, and none has the last time
 abbrev pub invariant-loop-cell : goal.invariant-loop-cell

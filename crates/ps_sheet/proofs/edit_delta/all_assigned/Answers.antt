@@ -13,7 +13,7 @@ use Rattle.ps_delta.specs.State.{State, state_at}
 use Rattle.ps_delta.specs.Deltas.{IsDelta}
 use Rattle.ps_sheet.specs.Edits.{assigned, is_clock_full}
 use Rattle.ps_sheet.proofs.BatchDeltas.{any_full_refuses, full_refuses, batch_is_delta}
-use Rattle.ps_sheet.proofs.made.all_assigned.Goals as goal
+use Rattle.ps_sheet.proofs.edit_delta.all_assigned.Goals as goal
 
 pub returns-in_err-register-clause-refused : goal.returns-in_err-register-clause-refused
 returns-in_err-register-clause-refused c =

@@ -1,0 +1,300 @@
+//! Changes that are refused, most of them memory for one growth, and the sheet that is then as it was. The expected
+//! values are worked by hand from the rules.
+//!
+//! A test stands whichever single growth is refused in its process (`tests/test_refused.py`): where that is one of what
+//! comes before the call, all is done once more.
+
+use crate::sheet::jobs::{Job, at_sheet};
+use crate::sheet::long::at;
+use crate::sheet::script::Asked::{self, Add, Choose, Set, Sub, Unchoose};
+use crate::sheet::script::Seen::{self, Num, Options, Text};
+use crate::sheet::script::{
+    BACK, CYCLE, Figures, OVER, Part, apply, batch_of, cell, check_count, check_place, check_shown,
+    delta_of, edit_of, ended_with, take,
+};
+use crate::sheet::slots::{commit, prepare, put_back, taken};
+use Tried::{Batched, One, Received};
+use Way::{Made, Prepared};
+use ps_grid::{CELLS, Refusal};
+use ps_sheet::{Change, Edit, Report, Sheet};
+use ps_value::Value;
+use ps_workers::Open;
+use std::alloc::Global;
+use std::process::Abort;
+use std::thread::Threads;
+
+/// A change that is tried.
+#[derive(Clone, Copy)]
+pub(crate) enum Tried {
+    /// Asks for a change of a cell.
+    One(&'static str, Asked),
+    /// Types entries as one batch.
+    Batched(&'static [(&'static str, &'static str)]),
+    /// Receives a delta of another replica.
+    Received(&'static [(&'static str, Part)]),
+}
+
+/// How changes are made.
+#[derive(Clone, Copy)]
+enum Way {
+    /// At once.
+    Made,
+    /// Prepared, and then committed.
+    Prepared,
+}
+
+/// Changes that are tried, one after another.
+#[derive(Clone, Copy)]
+pub(crate) struct Tries {
+    way: Way,
+    /// each with its report or its refusal
+    changes: &'static [(Tried, Result<Figures, Refusal>)],
+    /// what cells show at the end
+    shown: &'static [(&'static str, Seen)],
+}
+
+/// What a sheet showed, and how many deltas it had.
+#[derive(Drop)]
+struct Noted {
+    version: u64,
+    values: Vec<Value>,
+}
+
+fn note(rt: &impl Abort, alloc: Global, sheet: &Sheet) -> Result<Noted, Refusal> {
+    let mut values = Vec::with_capacity(alloc, CELLS)?;
+    for place in 0..CELLS {
+        values.push(sheet.shown(at(rt, place)))?;
+    }
+    let version = sheet.version();
+    Ok(Noted { version, values })
+}
+
+/// The sheet is as it was noted.
+fn check_noted(rt: &impl Abort, sheet: &Sheet, noted: &Noted) {
+    check_count(rt, u64::from(sheet.replica()), 1, "the replica");
+    check_count(rt, sheet.version(), noted.version, "the version");
+    check_count(
+        rt,
+        sheet.history().len() as u64,
+        noted.version,
+        "the history",
+    );
+    for (place, value) in noted.values.iter().enumerate() {
+        check_place(rt, sheet.shown(at(rt, place)) == *value, place);
+    }
+}
+
+fn change_of(rt: &impl Abort, alloc: Global, tried: &Tried) -> Result<Change, Refusal> {
+    match tried {
+        One(name, asked) => Ok(Change::Edit(edit_of(alloc, cell(rt, name), asked)?)),
+        Batched(entries) => Ok(Change::Edit(Edit::SetAll(batch_of(rt, alloc, entries)?))),
+        Received(parts) => Ok(Change::Delta(delta_of(rt, alloc, parts)?)),
+    }
+}
+
+/// Makes a change at once.
+fn make<R: Abort + Threads + Sync>(
+    rt: &R,
+    alloc: Global,
+    sheet: &mut Sheet,
+    change: Change,
+) -> Result<Report, Refusal> {
+    match change {
+        Change::Edit(edit) => apply(rt, alloc, sheet, edit),
+        Change::Delta(delta) => take(rt, alloc, sheet, delta),
+    }
+}
+
+/// Prepares a change and commits it; where it is refused the sheet is back in the slot.
+fn prepare_and_commit<R: Abort + Threads + Sync>(
+    rt: &R,
+    alloc: Global,
+    slot: &mut Option<Sheet>,
+    change: Change,
+) -> Result<Report, Refusal> {
+    match prepare(rt, alloc, taken(rt, slot), change, &Open) {
+        Ok(prepared) => Ok(commit(slot, prepared)),
+        Err((sheet, refusal)) => {
+            put_back(slot, sheet);
+            Err(refusal)
+        }
+    }
+}
+
+fn change_slot<R: Abort + Threads + Sync>(
+    rt: &R,
+    alloc: Global,
+    slot: &mut Option<Sheet>,
+    way: Way,
+    tried: &Tried,
+) -> Result<Report, Refusal> {
+    let change = change_of(rt, alloc, tried)?;
+    match way {
+        Made => make(rt, alloc, slot.as_mut().expect(rt, "a sheet"), change),
+        Prepared => prepare_and_commit(rt, alloc, slot, change),
+    }
+}
+
+/// Makes a change, which has the given report or refusal, by a second call where the first one is refused memory. After
+/// a refusal the sheet is as before.
+fn try_one<R: Abort + Threads + Sync>(
+    rt: &R,
+    alloc: Global,
+    slot: &mut Option<Sheet>,
+    way: Way,
+    tried: &Tried,
+    due: Result<Figures, Refusal>,
+) -> Result<(), Refusal> {
+    let noted = note(rt, alloc, slot.as_ref().expect(rt, "a sheet"))?;
+    let mut ended = change_slot(rt, alloc, slot, way, tried);
+    if ended.is_err() {
+        check_noted(rt, slot.as_ref().expect(rt, "a sheet"), &noted);
+    }
+    if ended == Err(Refusal::Memory) {
+        ended = change_slot(rt, alloc, slot, way, tried);
+    }
+    assert_eq!(rt; ended_with(ended), due);
+    Ok(())
+}
+
+/// Tries changes, one after another, and looks at what cells show then.
+pub(crate) fn try_all<R: Abort + Threads + Sync>(
+    rt: &R,
+    alloc: Global,
+    slot: &mut Option<Sheet>,
+    tries: &Tries,
+) -> Result<(), Refusal> {
+    for (tried, due) in tries.changes {
+        try_one(rt, alloc, slot, tries.way, tried, *due)?;
+    }
+    for (name, seen) in tries.shown {
+        check_shown(rt, slot.as_ref().expect(rt, "a sheet"), name, seen);
+    }
+    Ok(())
+}
+
+/// Tries changes at an empty sheet, at a second one where memory ran out for what comes before a call.
+fn try_again<R: Abort + Threads + Sync>(rt: &R, alloc: Global, tries: &'static Tries) {
+    let mut ended = at_sheet(rt, alloc, 1, 1, Job::Try(tries));
+    if ended == Err(Refusal::Memory) {
+        ended = at_sheet(rt, alloc, 1, 1, Job::Try(tries));
+    }
+    assert!(rt; ended.is_ok());
+}
+
+/// One cell.
+static FIRST: Tries = Tries {
+    way: Made,
+    changes: &[(One("A1", Set("5")), Ok([1, 0, 0, 0]))],
+    shown: &[("A1", Num(5)), ("A2", Seen::Empty)],
+};
+
+/// A refused `open` is `Memory`, and the next one gives the empty sheet.
+#[test]
+fn refused_open(rt: HostRuntime) {
+    try_again(&rt, rt.alloc(), &FIRST);
+}
+
+/// Cells of each kind.
+const KINDS: &[(&str, &str)] = &[
+    ("A1", "@tally"),
+    ("B1", "@choice"),
+    ("C1", "=[.D1]"),
+    ("D1", "7"),
+    ("E1", "=[.C1]+[.A1]"),
+    ("F1", "text"),
+    ("G1", "=[.G1]"),
+];
+
+/// An edit of each form.
+static EDITS: Tries = Tries {
+    way: Made,
+    changes: &[
+        (Batched(KINDS), Ok([1, 2, 1, 2])),
+        (One("D1", Set("8")), Ok([2, 2, 0, 2])),
+        (One("F1", Set("another text")), Ok([3, 0, 0, 0])),
+        (One("H1", Set("=SUM([.A2:.CZ9];[.D1])")), Ok([4, 1, 0, 1])),
+        (One("H1", Set("=SUM([.A2:.CZ9])")), Ok([5, 1, 0, 1])),
+        (Batched(&[("A2", "1"), ("B2", "=[.A2]")]), Ok([6, 2, 0, 2])),
+        (One("F1", Add(1)), Err(Refusal::NotTally)),
+        (One("A1", Add(5)), Ok([7, 1, 0, 1])),
+        (One("A1", Sub(2)), Ok([8, 1, 0, 1])),
+        (One("B1", Choose(7)), Ok([9, 0, 0, 0])),
+        (One("B1", Choose(9)), Ok([10, 0, 0, 0])),
+        (One("B1", Unchoose(7)), Ok([11, 0, 0, 0])),
+        (One("G1", Set("")), Ok([12, 0, 0, 0])),
+    ],
+    shown: &[
+        ("A1", Num(3)),
+        ("B1", Options(512)),
+        ("E1", Num(11)),
+        ("F1", Text("another text")),
+        ("G1", Seen::Empty),
+        ("H1", Num(2)),
+    ],
+};
+
+/// After a refused edit of any form the sheet is as before, and the next call makes it.
+#[test]
+fn refused_edit(rt: HostRuntime) {
+    try_again(&rt, rt.alloc(), &EDITS);
+}
+
+/// Two cells that are a cycle, and a number that keeps others from one.
+const CYCLES: &[(&str, &str)] = &[
+    ("A1", "=[.B1]"),
+    ("B1", "=[.A1]"),
+    ("C1", "=[.D1]"),
+    ("D1", "7"),
+    ("E1", "=[.A1]+1"),
+    ("F1", "=[.C1]+1"),
+];
+
+/// What they show, and what comes after them.
+const CYCLES_SHOWN: &[(&str, Seen)] = &[
+    ("A1", CYCLE),
+    ("B1", CYCLE),
+    ("C1", Num(7)),
+    ("D1", Num(7)),
+    ("E1", CYCLE),
+    ("F1", Num(8)),
+];
+
+/// Two deltas, each of which ends a cycle and begins another.
+static DELTAS: Tries = Tries {
+    way: Made,
+    changes: &[
+        (Batched(CYCLES), Ok([1, 2, 3, 2])),
+        (Received(OVER), Ok([2, 2, 3, 2])),
+        (Received(OVER), Ok([2, 0, 0, 0])),
+        (Received(BACK), Ok([3, 2, 3, 2])),
+    ],
+    shown: CYCLES_SHOWN,
+};
+
+/// After a refused receipt the sheet is as before, and the next call takes the delta.
+#[test]
+fn refused_receive(rt: HostRuntime) {
+    try_again(&rt, rt.alloc(), &DELTAS);
+}
+
+/// Edits and deltas that are prepared.
+static PREPARED: Tries = Tries {
+    way: Prepared,
+    changes: &[
+        (Batched(CYCLES), Ok([1, 2, 3, 2])),
+        (One("D1", Add(1)), Err(Refusal::NotTally)),
+        (Received(OVER), Ok([2, 2, 3, 2])),
+        (Received(OVER), Ok([2, 0, 0, 0])),
+        (One("G1", Set("=SUM([.D1:.F9])")), Ok([3, 0, 1, 0])),
+        (Received(BACK), Ok([4, 2, 4, 2])),
+    ],
+    shown: CYCLES_SHOWN,
+};
+
+/// After a refused change, out of memory or for another cause, `prepare` gives the sheet back as it was, and the next
+/// call prepares it.
+#[test]
+fn refused_prepare(rt: HostRuntime) {
+    try_again(&rt, rt.alloc(), &PREPARED);
+}
