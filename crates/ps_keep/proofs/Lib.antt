@@ -1,0 +1,4 @@
+pub mod CrashLemmas
+pub mod JournalLemmas
+pub mod LineLemmas
+pub mod OpenLemmas

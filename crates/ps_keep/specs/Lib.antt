@@ -1,0 +1,5 @@
+pub mod Crash
+pub mod Journals
+pub mod Lines
+pub mod Openings
+pub mod Traces

@@ -1,0 +1,61 @@
+//! A file as a journal sees it.
+ghost use Rattle.std.specs.Prelude.{◌≡◌, ◌≤◌, ◌++◌, ℕ, Bool, List, IfOk, OnOk, OnErr, false, is_err, length, take};
+
+use ps_device::Failed;
+
+/// A file that lines are appended to. After a call that failed it isn't used any more.
+pub trait Device {
+    /// The bytes that it has, in order.
+    ghost written: { Self → List ℕ };
+
+    /// How many of them are on the disk: a crash leaves at least these.
+    ghost synced: { Self → ℕ };
+
+    /// A call failed.
+    ghost has_failed: { Self → Bool };
+
+    /// Appends these bytes, or a beginning of them where it fails.
+    ///
+    /// Cost: linear in the bytes, but for the time that the device takes.
+    fn append(&mut self, bytes: &[u8]) -> Result<(), Failed>
+        requires open { has_failed self.old ≡ false }
+        ensures appended { OnOk result (written self.new ≡ written self.old ++ bytes.now) }
+        ensures part { OnErr result ((count : ℕ) × (written self.new ≡ written self.old ++ take count bytes.now)) }
+        ensures synced { synced self.new ≡ synced self.old }
+        ensures failed { has_failed self.new ≡ is_err result };
+
+    /// Has all bytes on the disk.
+    ///
+    /// Cost: the time that the device takes.
+    fn sync(&mut self) -> Result<(), Failed>
+        requires open { has_failed self.old ≡ false }
+        ensures same { written self.new ≡ written self.old }
+        ensures synced { OnOk result (synced self.new ≡ length (written self.new)) }
+        ensures no_fewer { synced self.old ≤ synced self.new }
+        ensures failed { has_failed self.new ≡ is_err result };
+}
+
+/// A file as it is found at the start, before it is changed.
+pub trait Found {
+    /// What the file is once it is opened for appending.
+    type Device: Device + Drop;
+
+    /// The bytes that it has.
+    ghost bytes: { Self → List ℕ };
+
+    /// All its bytes.
+    ///
+    /// Cost: constant.
+    fn bytes(&self) -> &[u8]
+        ensures { result.now ≡ bytes self.now };
+
+    /// Cuts the file to its first bytes, has these on the disk, and opens it for appending. A crash meanwhile leaves a
+    /// beginning of the file that has at least these bytes.
+    ///
+    /// Cost: the time that the device takes.
+    fn keep(self, count: usize) -> Result<Self::Device, Failed>
+        requires { count ≤ length (bytes self) }
+        ensures kept { IfOk result (λ d. Self.Device.written d ≡ take count (bytes self)) }
+        ensures synced { IfOk result (λ d. Self.Device.synced d ≡ count) }
+        ensures open { IfOk result (λ d. Self.Device.has_failed d ≡ false) };
+}

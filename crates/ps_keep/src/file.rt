@@ -1,0 +1,150 @@
+//! A file of the system.
+ghost use Rattle.std.specs.Prelude.{◌≤◌, length};
+
+use crate::device::{Device, Found};
+use crate::trace::Trace;
+use ps_device::Failed;
+use std::alloc::Global;
+use std::fs::{File, OpenOptions, TryLockError};
+use std::io::{ErrorKind, Read, Write};
+use std::rt::Files;
+
+/// Why a file couldn't be opened.
+#[derive(Clone, Copy, Debug, PartialEq, Eq)]
+pub enum FileFault {
+    /// There is no memory for its bytes.
+    Memory,
+    /// The device failed.
+    Device,
+    /// Another process has the file.
+    Busy,
+}
+
+/// A file as it is found, locked against other processes that lock it.
+#[derive(Drop)]
+pub struct FoundFile {
+    file: File,
+    /// what was read of it
+    bytes: Vec<u8>,
+}
+
+impl FoundFile {
+    /// Opens the file of this path, or makes it, locks it and reads it. Refused as `Busy` where another process has it
+    /// locked, and as `Device` where it is no regular file.
+    ///
+    /// Cost: linear in the file, and its memory.
+    pub fn open<R: Files<File = File>>(
+        rt: &R,
+        alloc: Global,
+        path: &str,
+    ) -> Result<FoundFile, FileFault> {
+        let opened = OpenOptions::new()
+            .read(true)
+            .append(true)
+            .create(true)
+            .open(rt, path);
+        let mut file = match opened {
+            Ok(file) => file,
+            Err(_) => return Err(FileFault::Device),
+        };
+        match file.try_lock() {
+            Ok(()) => {}
+            Err(TryLockError::WouldBlock) => return Err(FileFault::Busy),
+            Err(TryLockError::Error(_)) => return Err(FileFault::Device),
+        }
+        match file.metadata() {
+            // (a device may have bytes without end)
+            Ok(about) if about.is_file() => {}
+            _ => return Err(FileFault::Device),
+        }
+        let mut bytes = Vec::new(alloc);
+        match file.read_to_end(&mut bytes) {
+            Ok(_) => Ok(FoundFile { file, bytes }),
+            Err(error) if error.kind() == ErrorKind::OutOfMemory => Err(FileFault::Memory),
+            Err(_) => Err(FileFault::Device),
+        }
+    }
+}
+
+impl Found for FoundFile {
+    type Device = KeptFile;
+
+    ghost bytes = { λ f. f.bytes.items };
+
+    fn bytes(&self) -> &[u8] {
+        self.bytes.as_slice()
+    }
+
+    fn keep(self, count: usize) -> Result<KeptFile, Failed> {
+        let FoundFile { file, bytes } = self;
+        if count < bytes.len() && file.set_len(count as u64).is_err() {
+            return Err(Failed);
+        }
+        match file.sync_all() {
+            Ok(()) => {}
+            Err(_) => return Err(Failed),
+        }
+        let mut trace = Trace::new();
+        trace.note(&[], &bytes[..count]);
+        trace.note(&[1], &[]);
+        Ok(KeptFile {
+            file,
+            trace,
+            is_broken: false,
+        })
+    }
+}
+
+/// A file that is appended to. What clauses say of it is what its calls were told: that the system does what it tells
+/// is trusted.
+#[derive(Drop)]
+pub struct KeptFile {
+    file: File,
+    trace: Trace,
+    is_broken: bool,
+    ghost within: { trace.given.synced ≤ length trace.given.written },
+}
+
+impl Device for KeptFile {
+    ghost written = { λ f. f.trace.given.written };
+
+    ghost synced = { λ f. f.trace.given.synced };
+
+    ghost has_failed = { λ f. f.is_broken };
+
+    fn append(&mut self, bytes: &[u8]) -> Result<(), Failed> {
+        self.is_broken = true;
+        let mut start = 0;
+        let mut tries = u64::MAX;
+        'parts: while start < bytes.len() {
+            if tries == 0 {
+                return Err(Failed);
+            }
+            tries -= 1;
+            match self.file.write(&bytes[start..]) {
+                Ok(0) => return Err(Failed),
+                Ok(count) => {
+                    self.trace.note(&[], &bytes[start..start + count]);
+                    start += count;
+                }
+                Err(error) if error.kind() == ErrorKind::Interrupted => {}
+                Err(_) => return Err(Failed),
+            }
+        }
+        self.is_broken = false;
+        Ok(())
+    }
+
+    fn sync(&mut self) -> Result<(), Failed> {
+        match self.file.sync_data() {
+            Ok(()) => {
+                self.trace.note(&[1], &[]);
+                Ok(())
+            }
+            Err(_) => {
+                self.is_broken = true;
+                Err(Failed)
+            }
+        }
+    }
+}

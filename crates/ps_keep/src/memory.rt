@@ -1,0 +1,114 @@
+//! A file in memory, that can be made to fail and to crash.
+ghost use Rattle.std.specs.Prelude.{◌≡◌, ◌≤◌, length, vec_len};
+ghost use Rattle.ps_keep.specs.Crash.{IsLeft};
+
+use crate::device::{Device, Found};
+use ps_device::Failed;
+
+/// A file of memory that lines are appended to.
+#[derive(Drop)]
+pub struct MemoryDevice {
+    /// What it was given.
+    pub bytes: Vec<u8>,
+    /// How many of these a crash leaves for certain.
+    pub synced: usize,
+    /// How many calls go well before one fails.
+    pub calls: u64,
+    /// A call failed.
+    pub is_broken: bool,
+    ghost within: { synced ≤ vec_len bytes },
+}
+
+impl MemoryDevice {
+    /// A crash, that leaves so many of the bytes.
+    ///
+    /// Cost: constant.
+    pub fn crash(self, count: usize) -> MemoryFile
+        requires synced { self.synced ≤ count }
+        requires within { count ≤ length self.bytes.items }
+        ensures { IsLeft self.bytes.items self.synced result.bytes.items }
+    {
+        let MemoryDevice {
+            mut bytes,
+            calls,
+            ..
+        } = self;
+        bytes.truncate(count);
+        MemoryFile { bytes, calls }
+    }
+
+    /// Counts a call; false where it is to fail.
+    fn goes_well(&mut self) -> bool
+        ensures { self.new ≡ record self.old { calls = self.new.calls } }
+    {
+        if self.calls == 0 {
+            return false;
+        }
+        self.calls -= 1;
+        true
+    }
+}
+
+impl Device for MemoryDevice {
+    ghost written = { λ d. d.bytes.items };
+
+    ghost synced = { λ d. d.synced };
+
+    ghost has_failed = { λ d. d.is_broken };
+
+    fn append(&mut self, bytes: &[u8]) -> Result<(), Failed> {
+        let half = bytes.len() / 2;
+        if !self.goes_well() {
+            self.is_broken = true;
+            let _ = self.bytes.extend_from_slice(&bytes[..half]);
+            return Err(Failed);
+        }
+        if self.bytes.extend_from_slice(bytes).is_err() {
+            self.is_broken = true;
+            return Err(Failed);
+        }
+        Ok(())
+    }
+
+    fn sync(&mut self) -> Result<(), Failed> {
+        if !self.goes_well() {
+            self.is_broken = true;
+            return Err(Failed);
+        }
+        self.synced = self.bytes.len();
+        Ok(())
+    }
+}
+
+/// A file of memory as it is found.
+#[derive(Drop)]
+pub struct MemoryFile {
+    /// Its bytes.
+    pub bytes: Vec<u8>,
+    /// How many calls go well before one fails.
+    pub calls: u64,
+}
+
+impl Found for MemoryFile {
+    type Device = MemoryDevice;
+
+    ghost bytes = { λ f. f.bytes.items };
+
+    fn bytes(&self) -> &[u8] {
+        self.bytes.as_slice()
+    }
+
+    fn keep(self, count: usize) -> Result<MemoryDevice, Failed> {
+        let MemoryFile { mut bytes, calls } = self;
+        if calls == 0 {
+            return Err(Failed);
+        }
+        bytes.truncate(count);
+        Ok(MemoryDevice {
+            bytes,
+            synced: count,
+            calls: calls - 1,
+            is_broken: false,
+        })
+    }
+}
