@@ -1,0 +1,57 @@
+//! Small questions about bytes.
+
+/// Whether a byte is a blank of a formula.
+pub(crate) fn is_blank(byte: u8) -> bool {
+    byte == b' ' || byte == b'\t' || byte == b'\n' || byte == b'\r'
+}
+
+/// Whether a byte belongs to a word of a formula: a letter, a digit, or one of `$` and `_`.
+pub(crate) fn is_of_word(byte: u8) -> bool {
+    byte.is_ascii_alphanumeric() || byte == b'$' || byte == b'_'
+}
+
+/// The last byte that is no blank.
+pub(crate) fn last_filled(text: &[u8]) -> Option<u8> {
+    let mut last = None;
+    for byte in text {
+        if !is_blank(*byte) {
+            last = Some(*byte);
+        }
+    }
+    last
+}
+
+/// The first byte that is no blank.
+pub(crate) fn first_filled(text: &[u8]) -> Option<u8> {
+    for byte in text {
+        if !is_blank(*byte) {
+            return Some(*byte);
+        }
+    }
+    None
+}
+
+/// The bytes before the first separator, and those after it where there is one.
+pub(crate) fn cut(text: &[u8], separator: u8) -> (&[u8], Option<&[u8]>) {
+    match text.iter().position(|byte| *byte == separator) {
+        Some(place) => (&text[..place], Some(&text[place + 1..])),
+        None => (text, None),
+    }
+}
+
+/// The bytes as a text; none where they aren't UTF-8.
+pub(crate) fn text_of(bytes: &[u8]) -> Option<&str> {
+    str::from_utf8(bytes).ok()
+}
+
+/// The first character, where the bytes are UTF-8 up to its end.
+pub(crate) fn first_character(bytes: &[u8]) -> Option<&str> {
+    for length in 1..5 {
+        if let Some(front) = bytes.get(..length) {
+            if let Some(text) = text_of(front) {
+                return Some(text);
+            }
+        }
+    }
+    None
+}

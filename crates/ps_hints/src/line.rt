@@ -1,0 +1,172 @@
+//! What is at fault in a line of a session, or in the entry that it sets.
+
+use crate::bytes::{cut, text_of};
+use crate::entry::hint_of_entry;
+use crate::hint::Hint;
+use crate::line_hint::{LineHint, VERBS};
+use crate::names::is_nearly_cell;
+use ps_grid::Refusal;
+
+/// The hint about a line, which was refused so, or was carried out: then only where the entry that it sets looks like a
+/// number or a formula and is a text.
+///
+/// Cost: O(n) in the n bytes of the line, O(n * n) in those of a refused formula, which has at most 512.
+pub fn hint_of_line(line: &[u8], refusal: Option<Refusal>) -> Option<Hint<'_>> {
+    match refusal {
+        None | Some(Refusal::Text | Refusal::Formula | Refusal::TooLong) => {
+            match entry_of(line) {
+                Some(entry) => hint_of_entry(entry, refusal),
+                None if refusal == Some(Refusal::TooLong) => Some(Hint::Line(LineHint::LongDelta)),
+                None => None,
+            }
+        }
+        Some(refusal) => Some(Hint::Line(words_hint(line, refusal))),
+    }
+}
+
+/// The entry of a line that sets a cell.
+fn entry_of(line: &[u8]) -> Option<&[u8]> {
+    let rest = line.strip_prefix(b"set ")?;
+    let (_, entry) = cut(rest, b' ');
+    entry
+}
+
+/// What is at fault with the words of a line, or with what it asks of the sheet.
+fn words_hint(line: &[u8], refusal: Refusal) -> LineHint<'_> {
+    let (verb, rest) = cut(line, b' ');
+    let rest = rest.unwrap_or(b"");
+    let (word, last) = cut(rest, b' ');
+    let last = last.unwrap_or(b"");
+    match refusal {
+        Refusal::Command => command_hint(line, verb),
+        Refusal::Cell => cell_hint(verb, word),
+        Refusal::Amount => amount_hint(last),
+        Refusal::OptionRange => option_hint(last),
+        Refusal::NotTally => LineHint::NoTally(text_of(word).unwrap_or("A1")),
+        Refusal::NotChoice => LineHint::NoChoice(text_of(word).unwrap_or("A1")),
+        Refusal::Delta if rest.starts_with(b"delta ") => LineHint::WholeReply,
+        other => state_hint(other),
+    }
+}
+
+/// The hint about a refusal that hangs on more than the words.
+fn state_hint<'a>(refusal: Refusal) -> LineHint<'a> {
+    match refusal {
+        Refusal::TallyFull => LineHint::TallyFull,
+        Refusal::ChoiceFull => LineHint::ChoiceFull,
+        Refusal::NotChosen => LineHint::NotChosen,
+        Refusal::ClockFull => LineHint::ClockFull,
+        Refusal::Delta => LineHint::NoDelta,
+        Refusal::Line => LineHint::LongLine,
+        Refusal::Version => LineHint::NoVersion,
+        Refusal::Memory => LineHint::NoMemory,
+        _ => LineHint::Outside,
+    }
+}
+
+/// What is at fault with the verb of a line, or with the number of its words.
+fn command_hint<'a>(line: &'a [u8], verb: &'a [u8]) -> LineHint<'a> {
+    if line.starts_with(b" ") || line.ends_with(b" ") {
+        return LineHint::Spaces;
+    }
+    for (name, form) in VERBS {
+        if verb == name.as_bytes() {
+            return form_hint(line, form);
+        }
+    }
+    let Some(text) = text_of(verb) else {
+        return LineHint::NoVerb;
+    };
+    for (name, _) in VERBS {
+        if verb.eq_ignore_ascii_case(name.as_bytes()) {
+            return LineHint::InSmall(text);
+        }
+    }
+    if text.is_empty() || verb.iter().any(|byte| *byte < 32 || *byte == 127) {
+        return LineHint::NoVerb;
+    }
+    LineHint::UnknownVerb(text)
+}
+
+/// What is at fault with a line whose verb is known: a space too many, or another form.
+fn form_hint<'a>(line: &'a [u8], form: &'static str) -> LineHint<'a> {
+    let mut last = b'x';
+    for byte in line {
+        if *byte == b' ' && last == b' ' {
+            return LineHint::Spaces;
+        }
+        last = *byte;
+    }
+    LineHint::Form(form)
+}
+
+/// What is at fault with the word for a cell or a rectangle.
+fn cell_hint<'a>(verb: &'a [u8], word: &'a [u8]) -> LineHint<'a> {
+    if word.is_empty() {
+        return LineHint::Spaces;
+    }
+    if verb == b"rows".as_slice() || verb == b"entries".as_slice() {
+        return rectangle_hint(word);
+    }
+    if word.contains(&b':') {
+        return LineHint::NoCell;
+    }
+    name_hint(word)
+}
+
+/// What is at fault with the name of a cell.
+fn name_hint(word: &[u8]) -> LineHint<'_> {
+    if word.starts_with(b"[") || word.contains(&b'$') {
+        return LineHint::PlainCell;
+    }
+    match text_of(word) {
+        Some(text) if is_nearly_cell(word) => LineHint::InCapitals(text),
+        _ => LineHint::NoCell,
+    }
+}
+
+/// What is at fault with a rectangle.
+fn rectangle_hint(word: &[u8]) -> LineHint<'_> {
+    let (first, last) = cut(word, b':');
+    let Some(last) = last else {
+        return LineHint::NoRectangle;
+    };
+    if is_nearly_cell(first) && is_nearly_cell(last) {
+        return name_hint(word_of_case(word, first, last));
+    }
+    if last.contains(&b':') || word.starts_with(b"[") {
+        return LineHint::NoRectangle;
+    }
+    LineHint::NoCell
+}
+
+/// The corner that has small letters.
+fn word_of_case<'a>(word: &'a [u8], first: &'a [u8], last: &'a [u8]) -> &'a [u8] {
+    if word.contains(&b'$') {
+        return word;
+    }
+    if first.iter().any(|byte| byte.is_ascii_lowercase()) {
+        first
+    } else {
+        last
+    }
+}
+
+/// What is at fault with an amount.
+fn amount_hint(word: &[u8]) -> LineHint<'_> {
+    if word.starts_with(b"-") || word.starts_with(b"+") {
+        return LineHint::Negative;
+    }
+    match text_of(word) {
+        Some(text) if word.contains(&b'.') => LineHint::Point(text),
+        _ => LineHint::Amount,
+    }
+}
+
+/// What is at fault with an option.
+fn option_hint(word: &[u8]) -> LineHint<'_> {
+    match text_of(word) {
+        Some(text) if word.contains(&b'.') => LineHint::Point(text),
+        _ => LineHint::OptionRange,
+    }
+}

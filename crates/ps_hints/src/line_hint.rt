@@ -1,0 +1,147 @@
+//! What a hint about the words of a line says.
+
+use crate::case::{Capitals, Small};
+use ps_lattice::{AMOUNT_LIMIT, COUNT_LIMIT, OPTIONS, SEQUENCES};
+use std::fmt;
+
+/// The verbs of lines, each with the form of its line.
+pub const VERBS: [(&str, &str); 11] = [
+    ("get", "get <cell>"),
+    ("set", "set <cell> <entry>"),
+    ("add", "add <cell> <amount>"),
+    ("sub", "sub <cell> <amount>"),
+    ("choose", "choose <cell> <option>"),
+    ("unchoose", "unchoose <cell> <option>"),
+    ("rows", "rows <cell>:<cell>"),
+    ("entry", "entry <cell>"),
+    ("entries", "entries <cell>:<cell>"),
+    ("push", "push <delta line>"),
+    ("pull", "pull <from> or pull <from> <most>"),
+];
+
+/// What to do about a line whose words are refused, or that the sheet refuses.
+#[derive(Clone, Copy, Debug)]
+pub enum LineHint<'a> {
+    /// A word that is written in capitals.
+    InCapitals(&'a str),
+    /// A verb that is written in small letters.
+    InSmall(&'a str),
+    /// A word that is no verb.
+    UnknownVerb(&'a str),
+    /// No verb.
+    NoVerb,
+    /// How a line of this verb is written.
+    Form(&'static str),
+    /// A word that is empty.
+    Spaces,
+    /// A word that names no cell.
+    NoCell,
+    /// A cell with a bracket or a dollar sign.
+    PlainCell,
+    /// A word that is no rectangle.
+    NoRectangle,
+    /// An amount out of range, or none.
+    Amount,
+    /// A number with a point.
+    Point(&'a str),
+    /// An amount with a sign.
+    Negative,
+    /// An option out of range, or none.
+    OptionRange,
+    /// A cell that has no counter.
+    NoTally(&'a str),
+    /// A cell that has no set.
+    NoChoice(&'a str),
+    /// A counter of a replica that is full.
+    TallyFull,
+    /// A set whose sequences are used up.
+    ChoiceFull,
+    /// An option that isn't in.
+    NotChosen,
+    /// A register with the last time.
+    ClockFull,
+    /// A line of a delta that is none.
+    NoDelta,
+    /// A reply where the line of a delta is due.
+    WholeReply,
+    /// A delta that no line holds.
+    LongDelta,
+    /// A line that is too long.
+    LongLine,
+    /// A version, or a size of a group, that is none.
+    NoVersion,
+    /// A table with too many records.
+    Records(usize),
+    /// A record with too many fields.
+    Fields(usize),
+    /// No memory.
+    NoMemory,
+    /// Something outside of the sheet.
+    Outside,
+}
+
+/// Writes all verbs.
+fn write_verbs<W: fmt::Write>(f: &mut fmt::Formatter<W>) -> fmt::Result {
+    let mut separator = "";
+    for (verb, _) in VERBS {
+        write!(f, "{separator}{verb}")?;
+        separator = ", ";
+    }
+    Ok(())
+}
+
+/// Writes what to do about a state that refuses a line.
+fn write_state<W: fmt::Write>(hint: LineHint<'_>, f: &mut fmt::Formatter<W>) -> fmt::Result {
+    match hint {
+        LineHint::NoTally(cell) => write!(f, "set {cell} @tally makes it a counter"),
+        LineHint::NoChoice(cell) => write!(f, "set {cell} @choice makes it a set"),
+        LineHint::TallyFull => write!(f, "this replica's count ends at {COUNT_LIMIT}"),
+        LineHint::ChoiceFull => {
+            write!(f, "this replica has chosen {SEQUENCES} times in this cell")
+        }
+        LineHint::NotChosen => f.write_str("the option isn't in the cell"),
+        LineHint::ClockFull => f.write_str("the cell has been set to its last time"),
+        LineHint::LongDelta => f.write_str("no line holds that delta"),
+        LineHint::Records(most) => write!(f, "a table has at most {most} records"),
+        LineHint::Fields(most) => write!(f, "a record has at most {most} fields"),
+        LineHint::NoMemory => f.write_str("memory ran out; the line may be sent again"),
+        _ => f.write_str("nothing of the line is the cause"),
+    }
+}
+
+impl fmt::Display for LineHint<'_> {
+    fn fmt<W: fmt::Write>(&self, f: &mut fmt::Formatter<W>) -> fmt::Result {
+        match *self {
+            LineHint::InCapitals(word) => write!(f, "{word} is written {}", Capitals(word)),
+            LineHint::InSmall(word) => write!(f, "{word} is written {}", Small(word)),
+            LineHint::UnknownVerb(word) => {
+                write!(f, "{word} is no verb; the verbs are ")?;
+                write_verbs(f)
+            }
+            LineHint::NoVerb => {
+                f.write_str("a line begins with a verb: ")?;
+                write_verbs(f)
+            }
+            LineHint::Form(form) => write!(f, "it is written {form}"),
+            LineHint::Spaces => {
+                f.write_str("one space stands between two words, and none at the end")
+            }
+            LineHint::NoCell => f.write_str("cells are A1 to CZ1024"),
+            LineHint::PlainCell => f.write_str("a cell is written A1, without brackets and $"),
+            LineHint::NoRectangle => f.write_str("a rectangle is written A1:B2"),
+            LineHint::Amount => write!(f, "amounts are 1 to {AMOUNT_LIMIT}"),
+            LineHint::Point(number) => write!(f, "{number}: numbers are whole"),
+            LineHint::Negative => f.write_str("amounts have no sign; sub takes away"),
+            LineHint::OptionRange => write!(f, "options are 0 to {}", OPTIONS - 1),
+            LineHint::NoDelta => f.write_str("the line of a delta is [[\"A1\",[1,1,\"5\"],[],[]]]"),
+            LineHint::WholeReply => {
+                f.write_str("of a reply to pull only what follows its number is pushed")
+            }
+            LineHint::LongLine => f.write_str("nothing of so long a line is carried out"),
+            LineHint::NoVersion => {
+                f.write_str("pull has a version that there is, and at most 16 deltas")
+            }
+            other => write_state(other, f),
+        }
+    }
+}

@@ -1,0 +1,47 @@
+//! What is meant as the name of a cell.
+
+use ps_grid::Cell;
+
+/// The letters and the digits of a word that is meant as a cell's name: letters, then digits, perhaps with a `$` before
+/// each.
+fn parts_of(word: &[u8]) -> Option<(&[u8], &[u8])> {
+    let word = word.strip_prefix(b"$").unwrap_or(word);
+    let letters = word
+        .iter()
+        .take_while(|byte| byte.is_ascii_alphabetic())
+        .count();
+    let (letters, rest) = word.split_at(letters);
+    let digits = rest.strip_prefix(b"$").unwrap_or(rest);
+    if letters.is_empty() || digits.is_empty() || !digits.iter().all(|byte| byte.is_ascii_digit()) {
+        return None;
+    }
+    Some((letters, digits))
+}
+
+/// Whether a word is meant as a cell's name, of the grid or not: one to three letters and digits.
+pub(crate) fn is_meant_as_cell(word: &[u8]) -> bool {
+    match parts_of(word) {
+        Some((letters, _)) => letters.len() <= 3,
+        None => false,
+    }
+}
+
+/// Whether a word names a cell of the grid, if case and `$` are passed over.
+pub(crate) fn is_nearly_cell(word: &[u8]) -> bool {
+    let Some((letters, digits)) = parts_of(word) else {
+        return false;
+    };
+    match letters {
+        [only] => Cell::named(&[only.to_ascii_uppercase()], digits).is_some(),
+        [first, last] => {
+            let capitals = [first.to_ascii_uppercase(), last.to_ascii_uppercase()];
+            Cell::named(&capitals, digits).is_some()
+        }
+        _ => false,
+    }
+}
+
+/// Whether a word is a corner of a reference: a cell's name, perhaps with a `$` before its letters and its digits.
+pub(crate) fn is_corner(word: &[u8]) -> bool {
+    is_nearly_cell(word) && !word.iter().any(|byte| byte.is_ascii_lowercase())
+}
