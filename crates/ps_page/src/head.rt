@@ -1,0 +1,255 @@
+//! What a request's head is answered by.
+ghost use Rattle.std.specs.Prelude.{◌≡◌, ◌++◌, ℕ, All, IfSome, List, OnOk, length, take};
+ghost use Rattle.std.specs.Option.{option_map};
+ghost use Rattle.std.specs.Io.KnownBytes.{Consumes};
+ghost use Rattle.httparse.specs.Spans.{IsHeaderWithin, IsRequestWithin, span_bytes};
+ghost use Rattle.websocket.specs.Headers.{eq_ignore_case, fields_of};
+ghost use Rattle.websocket.specs.Handshake.{requested_key};
+ghost use Rattle.ps_page.specs.Heads.{AnswersReader, Opens, AnswersBytes, AnswersHead, has_name, is_named};
+ghost use Rattle.ps_page.specs.Heads.{is_own_host, is_own_origin, is_port, only_value};
+
+use httparse::Status;
+use httparse::spans::{EMPTY_HEADER_SPAN, HeaderSpan, RequestSpans, parse_request};
+use itoa::Buffer;
+use std::alloc::Global;
+use std::io::{ErrorKind, Read};
+use websocket::handshake::server::check_request;
+
+/// How many fields a head may have.
+pub const MOST_FIELDS: usize = 64;
+
+/// Why a request is refused.
+#[derive(Clone, Copy, Debug, PartialEq, Eq)]
+pub enum Refused {
+    /// 400: it is no request of HTTP/1, or no upgrade where one is asked for.
+    BadRequest,
+    /// 403: its host or its origin is another one.
+    Forbidden,
+    /// 404: there is nothing at its path.
+    NotFound,
+    /// 405: its method isn't GET.
+    NotAllowed,
+    /// 408: it didn't come in time.
+    TooLate,
+    /// 431: its head is too long.
+    TooLarge,
+}
+
+/// What a request is answered by.
+#[derive(Clone, Copy, Debug, PartialEq, Eq)]
+pub enum Answer {
+    /// The head isn't whole yet.
+    More,
+    /// The page.
+    Page,
+    /// A WebSocket, with the value of `Sec-WebSocket-Accept`.
+    Live([u8; 28]),
+    /// A refusal.
+    Refuse(Refused),
+}
+
+/// What these bytes are answered by, at the gateway of this port.
+///
+/// Cost: linear in the bytes.
+pub fn answer_to(buf: &[u8], port: u16) -> Answer
+    ensures { AnswersBytes port buf.now result }
+{
+    let mut spans = [EMPTY_HEADER_SPAN; MOST_FIELDS];
+    match parse_request(buf, &mut spans) {
+        Ok(Status::Partial) => Answer::More,
+        Ok(Status::Complete(request)) if request.len == buf.len() => {
+            answer_head(buf, &request, &spans, port)
+        }
+        _ => Answer::Refuse(Refused::BadRequest),
+    }
+}
+
+/// What a whole head is answered by.
+fn answer_head(buf: &[u8], request: &RequestSpans, spans: &[HeaderSpan], port: u16) -> Answer
+    requires within { IsRequestWithin buf.now spans.now request.now }
+    ensures { AnswersHead port (span_bytes buf.now request.now.method) request.now.version
+        (span_bytes buf.now request.now.path)
+        (fields_of buf.now (take request.now.headers spans.now)) result }
+{
+    let fields = &spans[..request.headers];
+    if !is_own_host(only_value(buf, fields, b"Host"), port) {
+        return Answer::Refuse(Refused::Forbidden);
+    }
+    if request.method.of(buf) != b"GET".as_slice() {
+        return Answer::Refuse(Refused::NotAllowed);
+    }
+    let path = request.path.of(buf);
+    if path == b"/".as_slice() {
+        return Answer::Page;
+    }
+    if path != b"/live".as_slice() {
+        return Answer::Refuse(Refused::NotFound);
+    }
+    if !is_own_origin(only_value(buf, fields, b"Origin"), port) {
+        return Answer::Refuse(Refused::Forbidden);
+    }
+    open(buf, request, spans)
+}
+
+/// What a head at the path of the WebSocket is answered by.
+fn open(buf: &[u8], request: &RequestSpans, spans: &[HeaderSpan]) -> Answer
+    requires within { IsRequestWithin buf.now spans.now request.now }
+    ensures { Opens (requested_key (span_bytes buf.now request.now.method)
+        request.now.version (fields_of buf.now (take request.now.headers spans.now))) result }
+{
+    match check_request(buf, request, spans) {
+        Ok(accept) => Answer::Live(accept),
+        Err(_) => Answer::Refuse(Refused::BadRequest),
+    }
+}
+
+/// The value of the field with a name, where there is one such field and no second.
+fn only_value<'b>(buf: &'b [u8], spans: &[HeaderSpan], name: &[u8]) -> Option<&'b [u8]>
+    requires { All (IsHeaderWithin (length buf.now)) spans.now }
+    ensures { option_map (λ v. v.now) result ≡ only_value (fields_of buf.now spans.now) name.now }
+{
+    match spans {
+        [] => None,
+        [first, rest @ ..] => {
+            if !is_same_name(first.name.of(buf), name) {
+                return only_value(buf, rest, name);
+            }
+            if has_name(buf, rest, name) {
+                return None;
+            }
+            Some(first.value.of(buf))
+        }
+    }
+}
+
+/// Whether two names are equal but for the case of letters.
+fn is_same_name(a: &[u8], b: &[u8]) -> bool
+    ensures { result ≡ eq_ignore_case a.now b.now }
+{
+    a.eq_ignore_ascii_case(b)
+}
+
+/// Whether a field has the name.
+fn has_name(buf: &[u8], spans: &[HeaderSpan], name: &[u8]) -> bool
+    requires { All (IsHeaderWithin (length buf.now)) spans.now }
+    ensures { result ≡ has_name (fields_of buf.now spans.now) name.now }
+{
+    for span in spans {
+        if is_same_name(span.name.of(buf), name) {
+            return true;
+        }
+    }
+    false
+}
+
+/// Whether the value is a name of this machine, with the port.
+fn is_own_host(value: Option<&[u8]>, port: u16) -> bool
+    ensures { result ≡ is_own_host port (option_map (λ v. v.now) value.entry) }
+{
+    match value {
+        Some(text) => { is_named(text, b"127.0.0.1", port) || is_named(text, b"localhost", port) }
+        None => false,
+    }
+}
+
+/// Whether the value is the origin of this gateway's page.
+fn is_own_origin(value: Option<&[u8]>, port: u16) -> bool
+    ensures { result ≡ is_own_origin port (option_map (λ v. v.now) value.entry) }
+{
+    match value {
+        Some(text) => {
+            is_named(text, b"http://127.0.0.1", port) || is_named(text, b"http://localhost", port)
+        }
+        None => false,
+    }
+}
+
+/// Whether the text is this name and then the port.
+fn is_named(text: &[u8], name: &[u8], port: u16) -> bool
+    ensures { result ≡ is_named text.now name.now port }
+{
+    if text.len() < name.len() {
+        return false;
+    }
+    let (first, second) = text.split_at(name.len());
+    first == name && is_port(second, port)
+}
+
+/// The port of HTTP, which browsers leave out.
+const HTTP_PORT: u16 = 80;
+
+/// Whether the text is what follows a name: a colon and the port in decimal, or nothing where it is the port of HTTP.
+fn is_port(text: &[u8], port: u16) -> bool
+    ensures { result ≡ is_port text.now port }
+{
+    match text {
+        [] => port == HTTP_PORT,
+        [first, digits @ ..] => {
+            let mut buffer = Buffer::new();
+            *first == b':' && digits == buffer.format(port).as_bytes()
+        }
+    }
+}
+
+/// The greatest number of bytes of a head.
+pub const HEAD_LIMIT: usize = 8192;
+
+/// Reads the head of a request, and tells what it is answered by, which isn't `More`; none where the reader fails or
+/// ends before.
+///
+/// Cost: a parse of the head for each read.
+pub fn read_head<S: Read>(alloc: Global, reader: &mut S, port: u16) -> Option<Answer>
+    ensures { IfSome result (AnswersReader (S.remaining reader.old) (S.remaining reader.new) port) }
+{
+    let mut head = Vec::new(alloc);
+    // (each piece has a byte at least, so one more would be too long)
+    for _ in 0..=HEAD_LIMIT {
+        match read_piece(reader, &mut head) {
+            Ok(()) => {}
+            Err(Unread::Late) => return Some(Answer::Refuse(Refused::TooLate)),
+            Err(Unread::Gone) => return None,
+        }
+        if head.len() > HEAD_LIMIT {
+            return Some(Answer::Refuse(Refused::TooLarge));
+        }
+        match answer_to(head.as_slice(), port) {
+            Answer::More => {}
+            answer => return Some(answer),
+        }
+    }
+    None
+}
+
+/// Why no more of a head could be read.
+#[derive(Clone, Copy, Debug, PartialEq, Eq)]
+enum Unread {
+    /// The reader ended or failed, or there is no memory.
+    Gone,
+    /// The time is over.
+    Late,
+}
+
+/// Appends the next piece of a head.
+fn read_piece<S: Read>(reader: &mut S, head: &mut Vec<u8>) -> Result<(), Unread>
+    ensures { OnOk result ((bytes : List ℕ) × (head.new.items ≡ head.old.items ++ bytes)
+        × Consumes (S.remaining reader.old) (S.remaining reader.new) bytes) }
+{
+    let mut piece = [0u8; 1024];
+    for _ in 0..HEAD_LIMIT {
+        match reader.read(&mut piece) {
+            Ok(0) => return Err(Unread::Gone),
+            Ok(count) => {
+                return match head.extend_from_slice(&piece[..count]) {
+                    Ok(()) => Ok(()),
+                    Err(_) => Err(Unread::Gone),
+                };
+            }
+            Err(error) => match error.kind() {
+                ErrorKind::Interrupted => {}
+                ErrorKind::WouldBlock | ErrorKind::TimedOut => return Err(Unread::Late),
+                _ => return Err(Unread::Gone),
+            },
+        }
+    }
+    Err(Unread::Gone)
+}
