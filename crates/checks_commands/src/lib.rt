@@ -1,18 +1,27 @@
-//! The tests of `ps_commands`, by its public items: sessions, devices that fail, the command line and its help, servers
-//! with their clients, and what a peer may reply.
+//! The tests of `ps_commands`, `ps_words` and `ps_hints`, by their public items: sessions, one at a desk, devices that
+//! fail, the command line and its help, hints, servers with their clients, what a peer may reply, and lines that are
+//! squashed.
 //!
 //! They stand apart since a crate with tests is proved twice. Nothing stands on this crate.
 #![tactic(auto)]
 
 #[cfg(test)]
+mod attending;
+#[cfg(test)]
 mod devices;
 #[cfg(test)]
 mod exchange;
 #[cfg(test)]
+mod explain;
+#[cfg(test)]
 mod help;
+#[cfg(test)]
+mod hints;
 #[cfg(test)]
 mod serving;
 #[cfg(test)]
 mod session;
+#[cfg(test)]
+mod squash;
 #[cfg(test)]
 mod words;

@@ -1,9 +1,9 @@
 //! Servers with their clients, over TCP.
 ghost use Rattle.std.specs.Prelude.{◌≤◌};
 ghost use Rattle.ps_grid.specs.Blanks.{IsBlankOf};
-ghost use Rattle.ps_grid.specs.declared.parties.TheConstants.{REPLICAS, SEATS};
+ghost use Rattle.ps_grid.specs.declared.parties.TheConstants.{REPLICAS};
 
-use ps_commands::{serve_on, sync_on};
+use ps_commands::{Serving, serve_on, sync_on};
 use ps_device::MemorySink;
 use ps_sheet::Sheet;
 use std::alloc::Global;
@@ -14,7 +14,7 @@ use std::sync::Wait;
 use std::sync::ledger::{Blank, Ledger};
 use std::test::Fail;
 use std::thread::Threads;
-use std::time::Duration;
+use std::time::{Clock, Duration};
 use std::{io, thread};
 
 /// The longest reply that is read.
@@ -32,35 +32,53 @@ fn listen<R: Net<Listener = TcpListener, Stream = TcpStream>>(
     Ok((listener, port))
 }
 
-/// What a server of so many sessions on the empty sheet of a replica writes; none where it fails.
-fn served<R: Threads + Wait + Sync>(
-    rt: &R,
-    alloc: Global,
-    listener: &TcpListener,
-    sessions: usize,
-    replica: u8,
-) -> Option<Vec<u8>>
-    requires sessions { (1 ≤ sessions) × (sessions ≤ SEATS) }
-    requires replica { (1 ≤ replica) × (replica ≤ REPLICAS) }
-{
-    served_on::<R, Brand>(rt, alloc, listener, sessions, replica, Blank::new(1))
+/// Two sessions, side by side.
+fn two_at_once() -> Serving {
+    Serving {
+        sessions: Some(2),
+        seats: 16,
+        wait: Duration::from_secs(PATIENCE),
+        idle: None,
+    }
 }
 
-fn served_on<R: Threads + Wait + Sync, O: Ledger>(
+/// Three sessions, one after another.
+fn three_in_turn() -> Serving {
+    Serving {
+        sessions: Some(3),
+        seats: 1,
+        wait: Duration::from_secs(PATIENCE),
+        idle: None,
+    }
+}
+
+/// What a server on the empty sheet of a replica writes; none where it fails.
+fn served<R: Threads + Wait + Clock + Sync>(
     rt: &R,
     alloc: Global,
     listener: &TcpListener,
-    sessions: usize,
+    serving: Serving,
+    replica: u8,
+) -> Option<Vec<u8>>
+    requires replica { (1 ≤ replica) × (replica ≤ REPLICAS) }
+{
+    served_on::<R, Brand>(rt, alloc, listener, serving, replica, Blank::new(1))
+}
+
+fn served_on<R: Threads + Wait + Clock + Sync, O: Ledger>(
+    rt: &R,
+    alloc: Global,
+    listener: &TcpListener,
+    serving: Serving,
     replica: u8,
     output: Blank,
 ) -> Option<Vec<u8>>
-    requires sessions { (1 ≤ sessions) × (sessions ≤ SEATS) }
     requires replica { (1 ≤ replica) × (replica ≤ REPLICAS) }
     requires output { IsBlankOf output O.name O.parts }
 {
     let mut out = MemorySink::<O>::new(alloc, output);
     let sheet = Sheet::open(alloc, replica, 1).ok()?;
-    serve_on(rt, alloc, listener, sessions, sheet, &mut out).ok()?;
+    serve_on(rt, alloc, listener, serving, sheet, &mut out).ok()?;
     let MemorySink { bytes, failed } = out;
     drop(failed);
     Some(bytes)
@@ -133,7 +151,7 @@ struct Met {
 
 /// Two replicas of two sessions each: lines are sent to the first, all that it has is handed to the second, and lines
 /// are sent to that.
-fn meet<R: Net<Listener = TcpListener, Stream = TcpStream> + Threads + Wait + Sync>(
+fn meet<R: Net<Listener = TcpListener, Stream = TcpStream> + Threads + Wait + Clock + Sync>(
     rt: &R,
     alloc: Global,
     edits: &[u8],
@@ -146,8 +164,8 @@ fn meet<R: Net<Listener = TcpListener, Stream = TcpStream> + Threads + Wait + Sy
         || {
             thread::join(
                 rt,
-                || served(rt, alloc, &first, 2, 1),
-                || served(rt, alloc, &second, 2, 2),
+                || served(rt, alloc, &first, two_at_once(), 1),
+                || served(rt, alloc, &second, two_at_once(), 2),
             )
         },
         || {
@@ -206,7 +224,7 @@ fn ask_in_turn(alloc: Global, first: TcpStream, second: TcpStream) -> io::Result
 }
 
 /// Two clients that are connected, of which the first sends nothing until the second has its reply.
-fn overlap<R: Net<Listener = TcpListener, Stream = TcpStream> + Threads + Wait + Sync>(
+fn overlap<R: Net<Listener = TcpListener, Stream = TcpStream> + Threads + Wait + Clock + Sync>(
     rt: &R,
     alloc: Global,
 ) -> io::Result<Overlapped> {
@@ -215,7 +233,7 @@ fn overlap<R: Net<Listener = TcpListener, Stream = TcpStream> + Threads + Wait +
     let second = TcpStream::connect(rt, (Ipv4Addr::LOCALHOST, port))?;
     let (closed, seen) = thread::join(
         rt,
-        || served(rt, alloc, &listener, 2, 1),
+        || served(rt, alloc, &listener, two_at_once(), 1),
         || ask_in_turn(alloc, first, second),
     );
     Ok(Overlapped { closed, seen })
@@ -227,5 +245,57 @@ fn sessions_overlap(rt: HostRuntime) -> Result<(), Fail> {
     let overlapped = overlap(&rt, rt.alloc())?;
     assert!(rt; read(&overlapped.seen, b"ok 1\nval 1\nok 2\nval 2\n"));
     assert!(rt; wrote(&overlapped.closed, b"closed 2\n"));
+    Ok(())
+}
+
+/// What a server of one seat wrote, and the replies that its three clients had, one after another.
+#[derive(Drop)]
+struct Queued {
+    closed: Option<Vec<u8>>,
+    seen: io::Result<Vec<u8>>,
+}
+
+/// Three clients of one seat: all are connected before the first asks, and each begins once the one before has left.
+fn ask_one_after_another(
+    alloc: Global,
+    first: TcpStream,
+    second: TcpStream,
+    third: TcpStream,
+) -> io::Result<Vec<u8>> {
+    let patience = Some(Duration::from_secs(PATIENCE));
+    second.set_read_timeout(patience)?;
+    third.set_read_timeout(patience)?;
+    let mut replies = Vec::new(alloc);
+    ask(&first, b"set A1 1\n", &mut replies)?;
+    drop(first);
+    ask(&second, b"get A1\n", &mut replies)?;
+    ask(&second, b"set B1 =[.A1]+1\n", &mut replies)?;
+    drop(second);
+    ask(&third, b"get B1\n", &mut replies)?;
+    Ok(replies)
+}
+
+fn queue<R: Net<Listener = TcpListener, Stream = TcpStream> + Threads + Wait + Clock + Sync>(
+    rt: &R,
+    alloc: Global,
+) -> io::Result<Queued> {
+    let (listener, port) = listen(rt)?;
+    let first = TcpStream::connect(rt, (Ipv4Addr::LOCALHOST, port))?;
+    let second = TcpStream::connect(rt, (Ipv4Addr::LOCALHOST, port))?;
+    let third = TcpStream::connect(rt, (Ipv4Addr::LOCALHOST, port))?;
+    let (closed, seen) = thread::join(
+        rt,
+        || served(rt, alloc, &listener, three_in_turn(), 1),
+        || ask_one_after_another(alloc, first, second, third),
+    );
+    Ok(Queued { closed, seen })
+}
+
+/// Three connections have one seat in turn, and each session begins with what those before it wrote.
+#[test]
+fn a_seat_goes_on(rt: HostRuntime) -> Result<(), Fail> {
+    let queued = queue(&rt, rt.alloc())?;
+    assert!(rt; read(&queued.seen, b"ok 1\nval 1\nok 2\nval 2\n"));
+    assert!(rt; wrote(&queued.closed, b"closed 2\n"));
     Ok(())
 }

@@ -1,5 +1,6 @@
-use ps_commands::{Options, ProgramFault, read_words, status_of};
+use ps_commands::{ProgramFault, status_of};
 use ps_grid::Refusal;
+use ps_words::{Options, read_words};
 use std::alloc::{AllocError, Global};
 use std::test::Fail;
 
@@ -12,14 +13,22 @@ fn words(alloc: Global, line: &str) -> Result<Vec<String>, AllocError> {
     Ok(words)
 }
 
-/// Two numbers of `run`, `serve` or `sync`, or that of `table` and 0, or the exit status that `clap` gives.
+/// Two numbers of `run`, `sync` or `serve`, or that of `table` and 0, or of `follow` the port and the pause, which is 0
+/// here where it isn't until now, or of `page` the port and the browsers; or the exit status that `clap` gives.
 fn numbers(alloc: Global, line: &str) -> Result<Result<(u16, u16), i32>, AllocError> {
     let words = words(alloc, line)?;
     Ok(match read_words(alloc, words.as_slice()) {
-        Ok(Options::Run(options)) => Ok((u16::from(options.workers), u16::from(options.replica))),
+        Ok(Options::Run(options)) => Ok((
+            u16::from(options.sheet.workers),
+            u16::from(options.sheet.replica),
+        )),
         Ok(Options::Table(options)) => Ok((u16::from(options.workers), 0)),
-        Ok(Options::Serve(options)) => Ok((options.port, u16::from(options.sessions))),
+        Ok(Options::Serve(options)) => Ok((u16::from(options.seats), u16::from(options.wait))),
         Ok(Options::Sync(options)) => Ok((options.from, options.to)),
+        Ok(Options::Follow(options)) if options.until_now => Ok((options.from, options.every)),
+        Ok(Options::Follow(options)) => Ok((options.from, 0)),
+        Ok(Options::Page(options)) => Ok((options.port, u16::from(options.browsers))),
+        Ok(Options::Squash) => Ok((0, 0)),
         Err(error) => Err(error.exit_code()),
     })
 }
@@ -31,13 +40,74 @@ fn options_are_read(rt: HostRuntime) -> Result<(), Fail> {
         ("sheet run", (1, 1)),
         ("sheet table --workers=16", (16, 0)),
         ("sheet run --workers 16 --replica=32", (16, 32)),
-        (
-            "sheet serve --sessions=16 --port 65535 --replica=2",
-            (65535, 16),
-        ),
+        ("sheet serve --port 65535", (16, 5)),
+        ("sheet serve --seats=2 --port 1 --wait 0", (2, 0)),
         ("sheet sync --to=65535 --from 1", (1, 65535)),
+        ("sheet page --from=1 --port 65535", (65535, 8)),
+        ("sheet page --browsers 16 --port=8080 --from=1", (8080, 16)),
+        ("sheet squash", (0, 0)),
+        ("sheet follow --from 7001", (7001, 0)),
+        ("sheet follow --from 7001 --until-now", (7001, 50)),
+        (
+            "sheet follow --every=60000 --until-now --from=1",
+            (1, 60_000),
+        ),
     ] {
         assert!(rt; numbers(rt.alloc(), line)? == Ok(due), "at {line}");
+    }
+    Ok(())
+}
+
+/// Which flags of `run` or `table` are set: to explain, to be strict, and for entries.
+fn flags(alloc: Global, line: &str) -> Result<[bool; 3], AllocError> {
+    let words = words(alloc, line)?;
+    Ok(match read_words(alloc, words.as_slice()) {
+        Ok(Options::Run(options)) => [options.explain, options.strict, false],
+        Ok(Options::Table(options)) => [options.explain, false, options.entries],
+        _ => [true, true, true],
+    })
+}
+
+/// The flags of `run` and `table`, set or left out.
+#[test]
+fn flags_are_read(rt: HostRuntime) -> Result<(), Fail> {
+    for (line, due) in [
+        ("sheet run", [false, false, false]),
+        ("sheet run --explain --replica 2", [true, false, false]),
+        ("sheet run --strict", [false, true, false]),
+        ("sheet table", [false, false, false]),
+        ("sheet table --entries", [false, false, true]),
+        ("sheet table --workers 2 --explain", [true, false, false]),
+    ] {
+        assert!(rt; flags(rt.alloc(), line)? == due, "at {line}");
+    }
+    Ok(())
+}
+
+/// The sessions of `serve` and the seconds of its `--idle`.
+fn ends(alloc: Global, line: &str) -> Result<Option<(Option<u32>, Option<u32>)>, AllocError> {
+    let words = words(alloc, line)?;
+    Ok(match read_words(alloc, words.as_slice()) {
+        Ok(Options::Serve(options)) => Some((options.sessions, options.idle)),
+        _ => None,
+    })
+}
+
+/// What `serve` ends by is left out, or given.
+#[test]
+fn what_ends_a_server_is_read(rt: HostRuntime) -> Result<(), Fail> {
+    for (line, due) in [
+        ("sheet serve --port 1", (None, None)),
+        (
+            "sheet serve --port 1 --sessions=1000000 --replica=2",
+            (Some(1_000_000), None),
+        ),
+        (
+            "sheet serve --idle 86400 --port 1 --sessions 1",
+            (Some(1), Some(86_400)),
+        ),
+    ] {
+        assert!(rt; ends(rt.alloc(), line)? == Some(due), "at {line}");
     }
     Ok(())
 }
@@ -51,12 +121,28 @@ sheet run --workers 0
 sheet run --workers 17
 sheet run --replica 33
 sheet run --replica x
-sheet serve --port 1
+sheet run --entries
+sheet table --strict
+sheet serve --sessions 1
 sheet serve --port=1 --sessions=0
-sheet serve --port=1 --sessions=17
+sheet serve --port=1 --sessions=1000001
+sheet serve --port=1 --seats=0
+sheet serve --port=1 --seats=17
+sheet serve --port=1 --wait=61
+sheet serve --port=1 --idle=0
+sheet serve --port=1 --idle=86401
 sheet sync --from 1
 sheet sync --from=0 --to=1
-sheet sync --from=1 --to=65536";
+sheet sync --from=1 --to=65536
+sheet follow --until-now
+sheet follow --from=0
+sheet follow --from=1 --every=0
+sheet follow --from=1 --every=60001
+sheet follow --from=1 --until-now=yes
+sheet page --from=1
+sheet page --from=1 --port=2 --browsers=17
+sheet squash plan.lines
+sheet squash --workers 1";
 
 /// Words that ask for help or the version.
 const ASKING: &str = "\

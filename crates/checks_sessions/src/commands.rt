@@ -10,7 +10,7 @@ fn refusal_of(alloc: Global, line: &[u8]) -> Option<Refusal> {
 
 /// Lines that ask for nothing, and why. The words are counted before the cell is looked at, the cell before the number.
 #[test]
-fn refused_lines(rt: HostRuntime) {
+fn lines_are_refused(rt: HostRuntime) {
     for (line, want) in [
         (b"hello".as_slice(), Refusal::Command),
         (b"set", Refusal::Command),

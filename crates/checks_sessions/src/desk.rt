@@ -1,6 +1,7 @@
 //! Desks as sessions use them: by turns in one thread, and in sixteen threads at once.
 
 mod desks;
+mod memory;
 mod refused;
 mod threads;
 mod turns;

@@ -1,7 +1,8 @@
 //! Tests of sessions and of desks, by public calls alone.
 //!
-//! `commands` asks what lines ask for, `session` how bytes are put together to lines, and `runs` what a sheet's session
-//! replies, all of `ps_session`. `desk` has a sheet shared by several sessions, of `ps_desk`.
+//! `commands` asks what lines ask for, `session` how bytes are put together to lines, `runs` what a sheet's session
+//! replies, `exchange` and `following` what peers may reply, all of `ps_session`. `desk` has a sheet shared by several
+//! sessions, of `ps_desk`.
 //!
 //! A crate with tests is proved a second time with them, so these stand apart from what they test.
 #![tactic(auto)]
@@ -10,6 +11,10 @@
 mod commands;
 #[cfg(test)]
 mod desk;
+#[cfg(test)]
+mod exchange;
+#[cfg(test)]
+mod following;
 #[cfg(test)]
 mod runs;
 #[cfg(test)]

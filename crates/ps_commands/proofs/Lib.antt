@@ -1,4 +1,3 @@
-mod Arguments
+mod Attending
 mod Backs
 mod Causes
-mod Subcommands

@@ -1,14 +1,15 @@
 -- What the commands begin with, and what they write.
-use Rattle.std.specs.Prelude.{◌≡◌, ◌==◌, ◌∷◌, ◌++◌, ℕ, List, [], Option, if◌then◌else◌, codes, decimal}
+use Rattle.std.specs.Prelude.{◌≡◌, ◌==◌, ◌∷◌, ◌++◌, ℕ, Bool, List, [], Option, if◌then◌else◌, codes, decimal}
 use Rattle.ps_grid.specs.Rectangle.{Area}
 use Rattle.ps_delta.specs.Deltas.{joined_history}
 use Rattle.ps_shown.specs.Shown.{shown_at}
 use Rattle.ps_sheet.specs.Sheet.{IsSheet, SheetView}
-use Rattle.ps_csv.specs.Exports.{exported}
+use Rattle.ps_csv.specs.Exports.{exported, exported_entries, held_in}
 use Rattle.ps_csv.specs.Faults.{ReaderFails, TableFault, WholeTable}
 use Rattle.ps_csv.specs.Imports.{ImportsTable}
 use Rattle.ps_commands.specs.declared.fault.ProgramFault.{ProgramFault}
-use Rattle.ps_commands.specs.declared.fault.ProgramFault.TheVariants.{PeerRefused, ReaderFailed, Refused}
+use Rattle.ps_commands.specs.declared.fault.ProgramFault.TheVariants.{DeltaRefused, LinesRefused, PeerRefused}
+use Rattle.ps_commands.specs.declared.fault.ProgramFault.TheVariants.{ReaderFailed, Refused}
 
 -- the sheet is the empty one of this replica
 pub record IsOpened (replica : ℕ) (sheet : SheetView) : Type 0 where
@@ -20,13 +21,19 @@ pub record IsOpened (replica : ℕ) (sheet : SheetView) : Type 0 where
 abbrev pub from_first : ℕ → ℕ → Area
 from_first records fields = record { left = 0; top = 0; width = fields; height = records }
 
--- the table of what a sheet shows; nothing where there are no records
-abbrev pub table_of : ℕ → ℕ → SheetView → List ℕ
-table_of records fields sheet =
-    if records == 0 then [] else exported (shown_at sheet.shown) (from_first records fields)
+-- the table of a rectangle of a sheet: of the entries of its cells, or of what they show
+abbrev pub cells_text : Bool → Area → SheetView → List ℕ
+cells_text entries area sheet =
+    if entries then exported_entries (held_in sheet.history) area else exported (shown_at sheet.shown) area
 
--- the empty sheet of replica 1 took in the table of the bytes, and the text is the table of what it shows then
-pub record IsTableOf (bytes text : List ℕ) : Type 0 where
+-- the table of so many rows and columns of a sheet; nothing where there are no records
+abbrev pub table_of : Bool → ℕ → ℕ → SheetView → List ℕ
+table_of entries records fields sheet =
+    if records == 0 then [] else cells_text entries (from_first records fields) sheet
+
+-- the empty sheet of replica 1 took in the table of the bytes, and the text is the table of the entries that it has
+-- then, or else of what it shows
+pub record IsTableOf (entries : Bool) (bytes text : List ℕ) : Type 0 where
   pub records : ℕ
   pub fields : ℕ
   pub empty : SheetView
@@ -34,7 +41,7 @@ pub record IsTableOf (bytes text : List ℕ) : Type 0 where
   pub opened : IsOpened 1 empty
   pub taken : ImportsTable bytes records fields empty filled
   pub settled : IsSheet filled
-  pub shown : text ≡ table_of records fields filled
+  pub shown : text ≡ table_of entries records fields filled
 
 -- the causes of a fault: of a refusal memory, a device, too many bytes, or the first fault of the table for an empty
 -- sheet; else that `csv`'s own reader failed. A source had `old` and has `new` to come
@@ -42,6 +49,8 @@ abbrev pub IsCauseOf : Option (List ℕ) → Option (List ℕ) → ProgramFault 
 IsCauseOf old new (Refused e) = TableFault (joined_history []) old new e
 IsCauseOf old new (ReaderFailed error) = WholeTable old new (λ bytes. ReaderFails (joined_history []) bytes error)
 IsCauseOf old new (PeerRefused reply) = ⊥
+IsCauseOf old new (LinesRefused count) = ⊥
+IsCauseOf old new (DeltaRefused number) = ⊥
 
 -- a line of a word, with its space, and a number
 abbrev pub notice : List ℕ → ℕ → List ℕ
@@ -58,3 +67,7 @@ listening_text port = notice (codes "listening ") port
 -- .. and once all sessions have ended, which leave a history of so many deltas
 abbrev pub closed_text : ℕ → List ℕ
 closed_text version = notice (codes "closed ") version
+
+-- what `page` writes once it listens on a port: the address to open
+abbrev pub page_text : ℕ → List ℕ
+page_text port = codes "page http://127.0.0.1:" ++ decimal port ++ codes "/\n"

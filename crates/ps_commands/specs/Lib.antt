@@ -1,4 +1,3 @@
 pub mod Commands
 pub mod Sessions
 pub mod Status
-pub mod Words

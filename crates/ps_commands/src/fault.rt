@@ -4,6 +4,7 @@ ghost use Rattle.ps_commands.specs.Status.{exit_status, program_fault};
 
 use ps_csv::ImportFault;
 use ps_grid::Refusal;
+use ps_session::SyncFault;
 use std::alloc::AllocError;
 use thiserror::Error;
 
@@ -20,6 +21,12 @@ pub enum ProgramFault {
     /// A peer refused a request. The text is its reply, as it came.
     #[error("{0}")]
     PeerRefused(String),
+    /// So many lines of a strict session were refused.
+    #[error("refused lines: {0}")]
+    LinesRefused(u64),
+    /// A line of the input is no delta's. The text is that of `Delta`, and below it the line's number, from 1 on.
+    #[error("err {} {}\nline {}", Refusal::Delta.number(), Refusal::Delta.name(), .0)]
+    DeltaRefused(u64),
 }
 
 impl From<Refusal> for ProgramFault {
@@ -31,6 +38,15 @@ impl From<Refusal> for ProgramFault {
 impl From<AllocError> for ProgramFault {
     fn from(_error: AllocError) -> ProgramFault {
         ProgramFault::Refused(Refusal::Memory)
+    }
+}
+
+impl From<SyncFault> for ProgramFault {
+    fn from(fault: SyncFault) -> ProgramFault {
+        match fault {
+            SyncFault::Refused(refusal) => ProgramFault::Refused(refusal),
+            SyncFault::PeerRefused(reply) => ProgramFault::PeerRefused(reply),
+        }
     }
 }
 
@@ -54,7 +70,10 @@ pub fn status_of(fault: &ProgramFault) -> u8
 {
     match fault {
         ProgramFault::Refused(Refusal::Device) => 1,
-        ProgramFault::Refused(_) | ProgramFault::ReaderFailed(_) | ProgramFault::PeerRefused(_) =>
-            3,
+        ProgramFault::Refused(_)
+        | ProgramFault::ReaderFailed(_)
+        | ProgramFault::PeerRefused(_)
+        | ProgramFault::LinesRefused(_)
+        | ProgramFault::DeltaRefused(_) => 3,
     }
 }

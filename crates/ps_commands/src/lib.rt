@@ -1,15 +1,17 @@
-//! The commands of the program `sheet`, over any source and sink: its command line, sessions, tables, `serve`, `sync`,
-//! and how each ends.
+//! The commands of the program `sheet`, over any source and sink: sessions, tables, `serve`, `sync`, `follow`, `page`,
+//! `squash`, and how each ends.
 //!
-//! It is not the program: it knows no standard input or output, and whoever calls it gives it the words. It keeps
-//! nothing from one call to the next: the lines `pull` and `push` carry deltas, and who starts the programs keeps them.
+//! It is not the program: it knows no standard input or output, and whoever calls it gives it what the words ask for. It
+//! keeps nothing from one call to the next: the lines `pull` and `push` carry deltas, and who starts the programs keeps
+//! them.
 //!
-//! The contracts to use: [`read_words`] ties the command and the numbers that it returns to the matches that `clap`
-//! finds in the words. [`answer_lines`] makes what was read and written the transcript of an empty sheet,
-//! [`table_on`] what was written the table of what an empty sheet shows once it has taken the table in. [`serve_on`]
-//! closes the sheet that it was given with what its sessions' passes appended, and writes the version. [`sync`] ends
-//! whatever its peers reply, and fails as a device only where a connection did. A [`ProgramFault`] is what ends the
-//! program early, and [`status_of`] its exit status: 1 where a device failed, 3 for any other refusal.
+//! The contracts to use: [`answer_lines`] makes what was read and written the transcript of an empty sheet,
+//! [`table_on`] what was written the table of what an empty sheet has or shows once it has taken the table in.
+//! [`serve_on`] returns the sheet that it was given, grown by what its seats' passes appended through all their
+//! sessions, once it has written its version, and [`attend_lines`] makes what a session reads and writes the transcript
+//! of a seat at the desk. [`sync_on`] and [`follow_on`] do what `ps_session` says of `sync` and `follow`, with the
+//! replicas that listen on ports, and [`squash_on`] what `ps_squash` says of lines. A [`ProgramFault`] is what ends
+//! the program early, and [`status_of`] its exit status: 1 where a device failed, 3 for any other refusal.
 //!
 //! From a source of `set A1 5` and `get A1`, [`answer_lines`] writes `ok 1` and `val 5` on its sink; from one of
 //! `2,=[.A1]*3`, [`table_on`] writes `2,6`.
@@ -17,25 +19,30 @@
 //! Cost: that of the sessions, or of an import and an export.
 #![tactic(auto)]
 
+mod chair;
 mod connection;
+mod door;
 mod exchange;
+mod explain;
 mod fault;
-mod help;
+mod follow;
 mod notice;
-mod options;
-mod peer;
+mod page;
 mod server;
+mod serving;
 mod session;
 mod sessions;
+mod squash;
 mod table;
-mod words;
 
-pub use exchange::{sync, sync_on};
+pub use connection::{Attended, attend_lines};
+pub use exchange::sync_on;
+pub use explain::{KeptReader, Onlooker, explain_table};
 pub use fault::{ProgramFault, status_of};
-pub use help::{REPLICA_HELP, RUN_HELP, SESSIONS_HELP, WORKERS_HELP};
-pub use options::{Options, RunOptions, ServeOptions, SyncOptions, TableOptions};
-pub use peer::Peer;
-pub use server::{serve, serve_on};
+pub use follow::follow_on;
+pub use page::open_page;
+pub use server::{Closed, serve, serve_on};
+pub use serving::Serving;
 pub use session::{answer_lines, open_sheet};
+pub use squash::squash_on;
 pub use table::table_on;
-pub use words::read_words;

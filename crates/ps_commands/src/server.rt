@@ -1,7 +1,6 @@
 //! The command `serve`: the lines of several sessions in, the replies of one sheet out.
-ghost use Rattle.std.specs.Prelude.{◌≡◌, ◌⊎◌, ◌<◌, ◌≤◌, ◌++◌, [], ℕ, IfErr, IfOk, OnOk, length};
+ghost use Rattle.std.specs.Prelude.{◌≡◌, ◌⊎◌, ◌<◌, ◌≤◌, ◌++◌, [], Some, IfErr, IfOk, OnOk, length};
 ghost use Rattle.std.specs.Io.KnownBytes.{Appends};
-ghost use Rattle.ps_grid.specs.declared.parties.TheConstants.{SEATS as MOST};
 ghost use Rattle.ps_grid.specs.declared.refusal.Refusal.TheVariants.{Device, Memory, Seat};
 ghost use Rattle.ps_sheet.specs.Sheet.{SheetView};
 ghost use Rattle.ps_desk.specs.Opening.{IsNamed};
@@ -11,76 +10,137 @@ ghost use Rattle.ps_commands.specs.declared.fault.ProgramFault.TheVariants.{Refu
 
 use crate::fault::ProgramFault;
 use crate::notice::tell;
-use crate::options::{RunOptions, ServeOptions};
+use crate::serving::Serving;
 use crate::session::open_sheet;
 use crate::sessions::serve_all;
 use ps_desk::{Desk, DeskName, Parts};
 use ps_device::Sink;
 use ps_grid::Refusal;
 use ps_sheet::Sheet;
+use ps_words::{RunOptions, ServeOptions};
 use std::alloc::Global;
 use std::marker::Brand;
 use std::net::{Ipv4Addr, Net, TcpListener, TcpStream};
 use std::sync::Wait;
 use std::thread::Threads;
+use std::time::{Clock, Duration};
 
-/// Serves so many sessions on a sheet, side by side, each over a connection to this listener, and writes `closed` and
-/// the version once all have ended.
+/// What a server closed.
+#[derive(Drop)]
+pub struct Closed {
+    /// The sheet, as its sessions left it.
+    pub sheet: Sheet,
+    /// How many sessions shared it.
+    pub sessions: u64,
+}
+
+/// Serves sessions on a sheet, each over a connection to this listener, so many at a time, and writes `closed` and the
+/// version once as many as were asked for have ended. Returns the sheet that it closed. Where no number was asked for
+/// it serves until the program is stopped.
 ///
-/// A session whose connection fails ends alone. Refused as `Device` where a connection can't be accepted, once the
-/// sessions that were begun have ended, and where `out` fails; as `Memory` and `Seat` before the first is accepted.
+/// Whoever ends a session leaves its seat to the next, which begins with all that was seen at the seat before. A
+/// connection that finds no free seat waits for one; after the time to wait, and where 512 others wait already, it is
+/// told `err 21 seat` and closed. A session whose connection fails ends alone, and so does one whose peer sends nothing
+/// for the time that was given.
 ///
-/// Cost: that of the lines, and 0.4 MB of memory and a thread for each session.
-pub fn serve_on<R: Threads + Wait + Sync, K: Sink>(
+/// Refused as `Device` where a connection can't be accepted, once the sessions that were begun have ended, and where
+/// `out` fails; as `Memory` and `Seat` before the first is accepted.
+///
+/// Cost: that of the lines; 0.4 MB of memory for each seat, and a thread for each session under way. Memory doesn't
+/// grow with the sessions that have ended.
+pub fn serve_on<R: Threads + Wait + Clock + Sync, K: Sink>(
     rt: &R,
     alloc: Global,
     listener: &TcpListener,
-    sessions: usize,
+    serving: Serving,
     sheet: Sheet,
     out: &mut K,
-) -> Result<(), ProgramFault>
-    requires sessions { (1 ≤ sessions) × (sessions ≤ MOST) }
-    ensures served { OnOk result ((last : SheetView) × IsServed sessions sheet last
-        × Appends (K.contents out.old) (K.contents out.new) (closed_text (length last.history))) }
+) -> Result<Closed, ProgramFault>
+    ensures asked { IfOk result (λ closed. serving.sessions ≡ Some closed.sessions) }
+    ensures served { IfOk result (λ closed. IsServed serving.seats closed.sessions sheet closed.sheet) }
+    ensures told { IfOk result (λ closed. Appends (K.contents out.old) (K.contents out.new)
+        (closed_text (length closed.sheet.history))) }
     ensures settled { OnOk result (K.waiting out.new ≡ []) }
     ensures calm { OnOk result (K.failures out.new ≡ K.failures out.old) }
     ensures untold { IfErr result (λ f. (out.new ≡ out.old)
         ⊎ ((f ≡ Refused Device) × (K.failures out.old < K.failures out.new))) }
     ensures refused { IfErr result (λ f. (f ≡ Refused Memory) ⊎ (f ≡ Refused Seat) ⊎ (f ≡ Refused Device)) }
 {
-    let last = match serve_parts::<Brand, R>(rt, alloc, listener, Parts::new(sheet, sessions)) {
-        Ok(last) => last,
+    let parts = Parts::new(sheet, seats_for(serving));
+    let closed = match serve_parts::<Brand, R>(rt, alloc, listener, parts, serving) {
+        Ok(closed) => closed,
         Err(refusal) => return Err(ProgramFault::Refused(refusal)),
     };
-    match tell(b"closed ", last.version(), out) {
-        Ok(()) => Ok(()),
+    match tell(b"closed ", closed.sheet.version(), out) {
+        Ok(()) => Ok(closed),
         Err(_) => Err(ProgramFault::Refused(Refusal::Device)),
     }
 }
 
-/// Serves the sessions of a desk that is made from these parts, and gives its sheet back.
-fn serve_parts<L: DeskName + Send + Sync, R: Threads + Wait + Sync>(
+/// How many seats are made: no more than there are sessions.
+fn seats_for(serving: Serving) -> usize
+    ensures { (1 ≤ result) × (result ≤ serving.seats) }
+{
+    match serving.sessions {
+        Some(sessions) if sessions < serving.seats as u64 => sessions as usize,
+        _ => serving.seats,
+    }
+}
+
+/// Serves the sessions of a desk that is made from these parts, and gives its sheet back, with their number.
+fn serve_parts<L: DeskName + Send + Sync, R: Threads + Wait + Clock + Sync>(
     rt: &R,
     alloc: Global,
     listener: &TcpListener,
     parts: Parts,
-) -> Result<Sheet, Refusal>
+    serving: Serving,
+) -> Result<Closed, Refusal>
     requires named { IsNamed L.name L.parts L.book L.opening L.replica parts }
-    ensures served { IfOk result (λ last. IsServed parts.seats parts.sheet last) }
+    ensures asked { IfOk result (λ closed. serving.sessions ≡ Some closed.sessions) }
+    ensures served { IfOk result (λ closed. IsServed parts.seats closed.sessions parts.sheet closed.sheet) }
     ensures refused { IfErr result (λ e. (e ≡ Memory) ⊎ (e ≡ Seat) ⊎ (e ≡ Device)) }
 {
     let (desk, passes) = match Desk::<L, &R>::open(rt, alloc, parts) {
         Ok(opened) => opened,
         Err((_, refusal)) => return Err(refusal),
     };
-    match serve_all(rt, alloc, &desk, listener, passes) {
-        Ok(back) => Ok(desk.close(rt, back)),
+    match serve_all(rt, alloc, &desk, listener, passes, serving) {
+        Ok((sessions, back)) => Ok(Closed {
+            sheet: desk.close(rt, back),
+            sessions,
+        }),
         Err(refusal) => Err(refusal),
     }
 }
 
+/// How the seats are given, as the words ask for it.
+fn serving_of(options: ServeOptions) -> Serving
+    ensures sessions { result.sessions ≡ options.sessions }
+    ensures seats { result.seats ≡ options.seats }
+{
+    Serving {
+        sessions: widened(options.sessions),
+        seats: usize::from(options.seats),
+        wait: Duration::from_secs(u64::from(options.wait)),
+        idle: match options.idle {
+            Some(seconds) => Some(Duration::from_secs(u64::from(seconds))),
+            None => None,
+        },
+    }
+}
+
+/// The same number.
+fn widened(number: Option<u32>) -> Option<u64>
+    ensures { result ≡ number }
+{
+    match number {
+        Some(number) => Some(u64::from(number)),
+        None => None,
+    }
+}
+
 /// Listens on a port of this machine.
-fn listen<R: Net<Listener = TcpListener, Stream = TcpStream>>(
+pub(crate) fn listen<R: Net<Listener = TcpListener, Stream = TcpStream>>(
     rt: &R,
     port: u16,
 ) -> Result<TcpListener, ProgramFault>
@@ -93,22 +153,21 @@ fn listen<R: Net<Listener = TcpListener, Stream = TcpStream>>(
 }
 
 /// Listens on a port of this machine, opens an empty sheet of the replica that was asked for, writes `listening` and
-/// the port, and serves so many sessions on the sheet as [`serve_on`] does.
+/// the port, and serves sessions on the sheet as [`serve_on`] does. Returns the sheet that it closed.
 ///
 /// Refused as `Device` where the port can't be listened on, and as `Memory` where there is none for the sheet; else as
 /// [`serve_on`] is.
 ///
 /// Cost: that of opening a sheet, and of [`serve_on`].
-pub fn serve<R: Net<Listener = TcpListener, Stream = TcpStream> + Threads + Wait + Sync, K: Sink>(
-    rt: &R,
-    alloc: Global,
-    options: ServeOptions,
-    out: &mut K,
-) -> Result<(), ProgramFault>
-    ensures served { OnOk result ((first : SheetView) × (last : SheetView) × IsOpened options.replica first
-        × IsServed options.sessions first last
-        × Appends (K.contents out.old) (K.contents out.new)
-        (listening_text options.port ++ closed_text (length last.history))) }
+pub fn serve<
+    R: Net<Listener = TcpListener, Stream = TcpStream> + Threads + Wait + Clock + Sync,
+    K: Sink,
+>(rt: &R, alloc: Global, options: ServeOptions, out: &mut K) -> Result<Closed, ProgramFault>
+    ensures asked { IfOk result (λ closed. options.sessions ≡ Some closed.sessions) }
+    ensures served { IfOk result (λ closed. (first : SheetView) × IsOpened options.replica first
+        × IsServed options.seats closed.sessions first closed.sheet) }
+    ensures told { IfOk result (λ closed. Appends (K.contents out.old) (K.contents out.new)
+        (listening_text options.port ++ closed_text (length closed.sheet.history))) }
     ensures settled { OnOk result (K.waiting out.new ≡ []) }
     ensures calm { OnOk result (K.failures out.new ≡ K.failures out.old) }
     ensures untold { IfErr result (λ f. (out.new ≡ out.old)
@@ -133,12 +192,5 @@ pub fn serve<R: Net<Listener = TcpListener, Stream = TcpStream> + Threads + Wait
         Ok(()) => {}
         Err(_) => return Err(ProgramFault::Refused(Refusal::Device)),
     }
-    serve_on(
-        rt,
-        alloc,
-        &listener,
-        usize::from(options.sessions),
-        sheet,
-        out,
-    )
+    serve_on(rt, alloc, &listener, serving_of(options), sheet, out)
 }

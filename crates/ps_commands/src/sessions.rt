@@ -1,70 +1,58 @@
-//! Sessions of one desk, each over a connection and in a thread of its own.
-ghost use Rattle.std.specs.Prelude.{◌≡◌, ◌≤◌, ◌⊎◌, [], IfErr, IfOk, OnOk, true, vec_capacity, vec_len};
+//! Sessions of one desk, each over a connection and in a thread of its own, and how a seat goes on to the next.
+ghost use Rattle.std.specs.Prelude.{◌≡◌, ◌≤◌, ◌⊎◌, [], Some, IfErr, IfOk, IfSome, map, sum_by, vec_capacity, vec_len};
 ghost use Rattle.ps_grid.specs.declared.refusal.Refusal.TheVariants.{Device, Memory};
-ghost use Rattle.ps_desk.specs.Seats.{GoesOn};
-ghost use Rattle.ps_commands.specs.Sessions.{Back};
+ghost use Rattle.ps_commands.specs.Sessions.{AreBack, Back};
 
-use crate::connection::attend;
-use ps_desk::{Desk, DeskName, Pass, desk_crosses};
+use crate::chair::{Chair, Sign};
+use crate::door::Door;
+use crate::serving::Serving;
+use ps_desk::{Desk, DeskName, Pass};
 use ps_grid::Refusal;
 use std::alloc::Global;
-use std::io::ErrorKind;
-use std::marker::Model;
-use std::net::{TcpListener, TcpStream};
-use std::snapshot::Snapshot;
+use std::net::TcpListener;
 use std::sync::Wait;
+use std::sync::atomic::AtomicU64;
 use std::thread;
-use std::thread::{Promise, PromisedHandle, Scope, Threads};
+use std::thread::{Scope, Threads};
+use std::time::Clock;
 
-/// That a session gives its pass back, which has gone on from this one.
-#[derive(Drop)]
-struct ComesBack<L: DeskName>(Snapshot<Pass<L>>);
-
-impl<L: DeskName> Promise<Pass<L>> for ComesBack<L> {
-    ghost use Rattle.ps_desk.specs.Seats.{GoesOn};
-
-    ghost kept_by = { λ p r. GoesOn p.0.value r };
-}
-
-/// A session that was begun: it runs in a thread of its own, or has ended here, where no thread could be started. A
-/// contract sees it as the pass that it was given.
-#[derive(Drop)]
-struct Begun<L: DeskName> {
-    was: Snapshot<Pass<L>>,
-    state: Result<PromisedHandle<Pass<L>, ComesBack<L>>, Pass<L>>,
-}
-
-impl<L: DeskName> Model for Begun<L> {
-    ghost use Rattle.std.specs.Prelude.{◌≡◌, MatchResult};
-    ghost use Rattle.std.specs.Coded.{codes};
-    ghost use Rattle.ps_face.specs.contracts.patch.Note as note;
-    ghost use Rattle.ps_desk.specs.Passes.{PassView};
-    ghost use Rattle.ps_desk.specs.Seats.{GoesOn};
-
-    ghost Value = { PassView };
-
-    ghost coded = { Prim.hlevel (codes, note.the_row.coded) };
-
-    ghost view = { λ b. b.was.value };
-
-    ghost invariant = { λ b. MatchResult b.state (λ h. h.promise.0.value ≡ b.was.value) (λ p. GoesOn b.was.value p) };
-}
-
-impl<L: DeskName> Begun<L> {
-    /// Waits for its end.
-    fn end<R: Threads>(self, rt: &R) -> Pass<L>
-        ensures { GoesOn self result }
-    {
-        let Begun { was: _, state } = self;
-        match state {
-            Ok(handle) => handle.join(rt),
-            Err(pass) => pass,
-        }
+/// A seat for each pass, which nobody has had.
+fn set_up<'s, L: DeskName>(
+    passes: Vec<Pass<L>>,
+    word: &'s AtomicU64,
+    chairs: &mut Vec<Chair<'s, L>>,
+)
+    requires none { chairs.old.items ≡ [] }
+    requires room { vec_len passes ≤ vec_capacity chairs.old }
+    ensures firsts { map (λ t. t.first) chairs.new.items ≡ passes.items }
+{
+    let mut bit = 1u64;
+    for pass in passes {
+        chairs.push_reserved(Chair::new(pass, Sign::new(word, bit)));
+        bit = bit.rotate_left(1);
     }
 }
 
-/// Begins a session over a connection, in a thread of its own. Where none can be started, the session is run here.
-fn begin<
+/// How many sessions were begun, if a number counts them.
+fn begun_by<L: DeskName>(chairs: &Vec<Chair<'_, L>>) -> Option<u64>
+    ensures { IfSome result (λ n. n ≡ sum_by (λ t. t.begun) chairs.now.items) }
+{
+    let mut all = 0u64;
+    for chair in chairs {
+        all = all.checked_add(chair.begun())?;
+    }
+    Some(all)
+}
+
+/// How many sessions are still to be begun; none where there is no end to them.
+fn left_of<L: DeskName>(asked: Option<u64>, chairs: &Vec<Chair<'_, L>>) -> Option<u64>
+    ensures { result ≡ Some 0 → asked ≡ Some (sum_by (λ t. t.begun) chairs.now.items) }
+{
+    asked?.checked_sub(begun_by(chairs)?)
+}
+
+/// Takes the passes of sessions that are over back, and gives those that are free to the connections that wait.
+fn turn_all<
     's,
     E,
     L: DeskName + Send + Sync + 's,
@@ -75,117 +63,114 @@ fn begin<
     rt: &'s R,
     alloc: Global,
     desk: &'s Desk<L, W>,
-    pass: Pass<L>,
-    stream: TcpStream,
-) -> Begun<L>
-    ensures { result ≡ pass }
+    door: &mut Door<'_>,
+    chairs: &mut Vec<Chair<'s, L>>,
+)
+    ensures { map (λ t. t.first) chairs.new.items ≡ map (λ t. t.first) chairs.old.items }
 {
-    desk_crosses::<L, W>();
-    let was = Snapshot::of(&pass);
-    let promise = ComesBack(Snapshot::of(&pass));
-    let begun = scope.spawn_with(
-        promise,
-        move || -> Pass<L>
-            ensures { GoesOn pass result }
-        { attend(rt, alloc, desk, pass, &stream) },
-    );
-    match begun {
-        Ok(handle) => Begun {
-            was,
-            state: Ok(handle),
-        },
-        Err(refused) => Begun {
-            was,
-            state: Err((refused.value)()),
-        },
+    for chair in chairs.iter_mut() {
+        chair.turn(scope, rt, alloc, desk, door);
     }
 }
 
-/// The next connection; none where it can't be accepted. A call that was interrupted, or whose client has gone
-/// meanwhile, is made again.
-fn accept<R: Wait>(rt: &R, listener: &TcpListener) -> Option<TcpStream> {
+/// Gives the seats to the connections that come, until as many sessions as were asked for have begun, and returns their
+/// number; none where a connection can't be accepted.
+fn give_seats<
+    's,
+    E,
+    L: DeskName + Send + Sync + 's,
+    W: Wait + Drop + Send + 's,
+    R: Threads + Wait + Clock + Sync,
+>(
+    scope: &Scope<'s, E>,
+    rt: &'s R,
+    alloc: Global,
+    desk: &'s Desk<L, W>,
+    door: &mut Door<'_>,
+    chairs: &mut Vec<Chair<'s, L>>,
+    asked: Option<u64>,
+) -> Option<u64>
+    ensures firsts { map (λ t. t.first) chairs.new.items ≡ map (λ t. t.first) chairs.old.items }
+    ensures asked { IfSome result (λ n. (asked ≡ Some n) × (sum_by (λ t. t.begun) chairs.new.items ≡ n)) }
+{
     for _ in rt.forever() {
-        match listener.accept() {
-            Ok((stream, _)) => return Some(stream),
-            Err(error) => match error.kind() {
-                ErrorKind::Interrupted | ErrorKind::ConnectionAborted => {}
-                _ => return None,
-            },
+        let left = left_of(asked, chairs);
+        if left == Some(0) {
+            return asked;
         }
+        if door.let_in(rt, left).is_err() {
+            return None;
+        }
+        turn_all(scope, rt, alloc, desk, door, chairs);
+        door.turn_away_late(rt);
     }
     unreachable!()
 }
 
-/// Accepts a connection for each pass, and begins its session at once. Returns whether each was accepted.
-fn begin_all<
-    's,
-    E,
-    L: DeskName + Send + Sync + 's,
-    W: Wait + Drop + Send + 's,
-    R: Threads + Wait + Sync,
->(
-    scope: &Scope<'s, E>,
-    rt: &'s R,
-    alloc: Global,
-    desk: &'s Desk<L, W>,
-    listener: &TcpListener,
-    passes: Vec<Pass<L>>,
-    begun: &mut Vec<Begun<L>>,
-) -> bool
-    requires none { begun.old.items ≡ [] }
-    requires room { vec_len passes ≤ vec_capacity begun.old }
-    ensures all { result ≡ true → begun.new.items ≡ passes.items }
-    ensures fewer { vec_len begun.new ≤ vec_len passes }
-{
-    for pass in passes {
-        match accept(rt, listener) {
-            Some(stream) => begun.push_reserved(begin(scope, rt, alloc, desk, pass, stream)),
-            None => return false,
-        }
-    }
-    true
-}
-
-/// Waits for the end of each session.
-fn end_all<L: DeskName, R: Threads>(rt: &R, begun: Vec<Begun<L>>, back: &mut Vec<Pass<L>>)
+/// Waits for the end of each session that is under way, and gives the passes up.
+fn end_all<L: DeskName, R: Threads>(rt: &R, chairs: Vec<Chair<'_, L>>, back: &mut Vec<Pass<L>>)
     requires none { back.old.items ≡ [] }
-    requires room { vec_len begun ≤ vec_capacity back.old }
-    ensures len { vec_len back.new ≡ vec_len begun }
-    ensures each { Back begun.items back.new.items }
+    requires room { vec_len chairs ≤ vec_capacity back.old }
+    ensures len { vec_len back.new ≡ vec_len chairs.entry }
+    ensures each { Back L.replica L.opening chairs.entry.items back.new.items }
 {
-    for session in begun {
-        back.push_reserved(session.end(rt));
+    for chair in chairs {
+        back.push_reserved(chair.end(rt));
     }
 }
 
-/// Serves as many connections as there are passes, side by side, and gives the passes back once all sessions ended.
+/// Serves the connections that come, as many at a time as there are passes, and gives the passes back with the number
+/// of sessions once as many as were asked for have ended.
 ///
 /// Refused as `Device` where a connection can't be accepted, once the sessions that were begun have ended, and out of
 /// memory before the first is accepted.
-pub(crate) fn serve_all<L: DeskName + Send + Sync, W: Wait + Drop + Send, R: Threads + Wait + Sync>(
+pub(crate) fn serve_all<
+    L: DeskName + Send + Sync,
+    W: Wait + Drop + Send,
+    R: Threads + Wait + Clock + Sync,
+>(
     rt: &R,
     alloc: Global,
     desk: &Desk<L, W>,
     listener: &TcpListener,
     passes: Vec<Pass<L>>,
-) -> Result<Vec<Pass<L>>, Refusal>
-    ensures len { IfOk result (λ back. vec_len back ≡ vec_len passes) }
-    ensures each { IfOk result (λ back. Back passes.items back.items) }
+    serving: Serving,
+) -> Result<(u64, Vec<Pass<L>>), Refusal>
+    ensures len { IfOk result (λ r. vec_len r.1 ≡ vec_len passes) }
+    ensures asked { IfOk result (λ r. serving.sessions ≡ Some r.0) }
+    ensures back { IfOk result (λ r. AreBack L.replica L.opening r.0 passes.items r.1.items) }
     ensures refused { IfErr result (λ e. (e ≡ Memory) ⊎ (e ≡ Device)) }
 {
+    let word = AtomicU64::new(0);
+    let signs = &word;
     thread::scope(
         thread::scope_env(),
         rt,
-        |scope| -> Result<Vec<Pass<L>>, Refusal>
-            ensures len { IfOk result (λ back. vec_len back ≡ vec_len passes) }
-            ensures each { IfOk result (λ back. Back passes.items back.items) }
+        |scope| -> Result<(u64, Vec<Pass<L>>), Refusal>
+            ensures len { IfOk result (λ r. vec_len r.1 ≡ vec_len passes) }
+            ensures asked { IfOk result (λ r. serving.sessions ≡ Some r.0) }
+            ensures back { IfOk result (λ r. AreBack L.replica L.opening r.0 passes.items r.1.items) }
             ensures refused { IfErr result (λ e. (e ≡ Memory) ⊎ (e ≡ Device)) }
         {
-            let mut begun = Vec::with_capacity(alloc, passes.len())?;
+            let mut chairs = Vec::with_capacity(alloc, passes.len())?;
             let mut back = Vec::with_capacity(alloc, passes.len())?;
-            let all = begin_all(scope, rt, alloc, desk, listener, passes, &mut begun);
-            end_all(rt, begun, &mut back);
-            if all { Ok(back) } else { Err(Refusal::Device) }
+            let mut door = Door::new(alloc, listener, serving.wait, serving.idle)?;
+            set_up(passes, signs, &mut chairs);
+            let given = give_seats(
+                scope,
+                rt,
+                alloc,
+                desk,
+                &mut door,
+                &mut chairs,
+                serving.sessions,
+            );
+            door.close();
+            end_all(rt, chairs, &mut back);
+            match given {
+                Some(sessions) => Ok((sessions, back)),
+                None => Err(Refusal::Device),
+            }
         },
     )
 }

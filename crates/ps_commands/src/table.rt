@@ -1,25 +1,25 @@
-//! The command `table`: a table of entries in, the table of its settled values out.
+//! The command `table`: a table of entries in, the table of its settled values, or of its entries, out.
 ghost use Rattle.std.specs.Prelude.{◌≡◌, ◌≢◌, ◌<◌, ◌≤◌, ◌⊎◌, ℕ, List, [], IfErr, IfOk, OnOk, Err, take};
 ghost use Rattle.std.specs.Io.KnownBytes.{Appends, Consumes, IsAtEnd};
 ghost use Rattle.std.specs.Option.{SomeIff};
-ghost use Rattle.ps_grid.specs.declared.parties.TheConstants.{WORKERS};
 ghost use Rattle.ps_grid.specs.declared.size.TheConstants.{COLUMNS, ROWS};
-ghost use Rattle.ps_commands.specs.Commands.{IsCauseOf, IsTableOf, from_first, table_of};
+ghost use Rattle.ps_commands.specs.Commands.{IsCauseOf, IsTableOf, cells_text, from_first, table_of};
 ghost use Rattle.ps_commands.specs.declared.fault.ProgramFault.TheVariants.{Refused};
 
 use crate::fault::{ProgramFault, fault_of_import};
-use ps_csv::{Imported, export, import};
+use ps_csv::{Imported, export, export_entries, import};
 use ps_device::{Sink, Source, hand_on};
 use ps_eval::Meter;
 use ps_grid::{Cell, Rect, Refusal};
 use ps_sheet::Sheet;
+use ps_words::TableOptions;
 use std::alloc::Global;
 use std::sync::ledger::Ledger;
 use std::thread::Threads;
 
 /// Takes a table of entries into an empty sheet of replica 1, and writes the shown values from A1 to the last record
-/// and the most fields that a record has; nothing where there is no record. At the end all that was written is handed
-/// on.
+/// and the most fields that a record has, or the entries of these cells where they are asked for; nothing where there
+/// is no record. At the end all that was written is handed on.
 ///
 /// Refused as an import or an export is: `Device` where one of the two fails, `Csv` where the source has too many
 /// bytes, and for the first fault of the table in reading order; `Memory` in place of any of them. That `csv`'s own
@@ -33,12 +33,11 @@ pub fn table_on<R: Threads + Sync, S: Source, K: Sink, L: Ledger>(
     source: &mut S,
     sink: &mut K,
     meter: &mut Meter<L>,
-    workers: u8,
+    options: TableOptions,
 ) -> Result<(), ProgramFault>
-    requires workers { (1 ≤ workers) × (workers ≤ WORKERS) }
     ensures done { OnOk result ((bytes : List ℕ) × (text : List ℕ)
         × Consumes (S.remaining source.old) (S.remaining source.new) bytes × IsAtEnd (S.remaining source.new)
-        × IsTableOf bytes text × Appends (K.contents sink.old) (K.contents sink.new) text) }
+        × IsTableOf options.entries bytes text × Appends (K.contents sink.old) (K.contents sink.new) text) }
     ensures calm { OnOk result ((S.failures source.new ≡ S.failures source.old)
         × (K.failures sink.new ≡ K.failures sink.old)) }
     ensures refused { IfErr result (λ f. IsCauseOf (S.remaining source.old) (S.remaining source.new) f) }
@@ -47,38 +46,40 @@ pub fn table_on<R: Threads + Sync, S: Source, K: Sink, L: Ledger>(
         → ((S.failures source.old < S.failures source.new) × (sink.new ≡ sink.old))
         ⊎ ((K.failures sink.old < K.failures sink.new) × (bytes : List ℕ) × (text : List ℕ) × (count : ℕ)
         × Consumes (S.remaining source.old) (S.remaining source.new) bytes × IsAtEnd (S.remaining source.new)
-        × IsTableOf bytes text × Appends (K.contents sink.old) (K.contents sink.new) (take count text)) }
+        × IsTableOf options.entries bytes text
+        × Appends (K.contents sink.old) (K.contents sink.new) (take count text)) }
     ensures unwritten { IfErr result (λ f. f ≢ Refused Refusal.Device → sink.new ≡ sink.old) }
 {
-    let (sheet, imported) = match taken_in(rt, alloc, source, meter, workers) {
+    let (sheet, imported) = match taken_in(rt, alloc, source, meter, options) {
         Ok(taken) => taken,
         Err(fault) => return Err(fault),
     };
-    match put_table(alloc, &sheet, imported, sink) {
+    match put_table(alloc, &sheet, options.entries, imported, sink) {
         Ok(()) => Ok(()),
         Err(refusal) => Err(ProgramFault::Refused(refusal)),
     }
 }
 
-/// An empty sheet of replica 1 that took in a table of entries, with the table's records and fields.
+/// An empty sheet of replica 1 with so many workers that took in a table of entries, with the table's records and
+/// fields.
 fn taken_in<R: Threads + Sync, S: Source, L: Ledger>(
     rt: &R,
     alloc: Global,
     source: &mut S,
     meter: &mut Meter<L>,
-    workers: u8,
+    options: TableOptions,
 ) -> Result<(Sheet, Imported), ProgramFault>
-    requires workers { (1 ≤ workers) × (workers ≤ WORKERS) }
     ensures taken { IfOk result (λ t. (bytes : List ℕ)
         × Consumes (S.remaining source.old) (S.remaining source.new) bytes × IsAtEnd (S.remaining source.new)
-        × IsTableOf bytes (table_of t.1.records t.1.fields t.0)) }
+        × IsTableOf options.entries bytes (table_of options.entries t.1.records t.1.fields t.0)) }
+    ensures workers { IfOk result (λ t. t.0.workers ≡ options.workers) }
     ensures extent { IfOk result (λ t. (t.1.records ≤ ROWS) × (t.1.fields ≤ COLUMNS)
         × (0 < t.1.records → 0 < t.1.fields)) }
     ensures calm { OnOk result (S.failures source.new ≡ S.failures source.old) }
     ensures refused { IfErr result (λ f. IsCauseOf (S.remaining source.old) (S.remaining source.new) f) }
     ensures device { result ≡ Err (Refused Refusal.Device) → S.failures source.old < S.failures source.new }
 {
-    let mut sheet = match Sheet::open(alloc, 1, usize::from(workers)) {
+    let mut sheet = match Sheet::open(alloc, 1, usize::from(options.workers)) {
         Ok(sheet) => sheet,
         Err(refusal) => return Err(ProgramFault::Refused(refusal)),
     };
@@ -88,10 +89,12 @@ fn taken_in<R: Threads + Sync, S: Source, L: Ledger>(
     }
 }
 
-/// Writes the table of what the sheet shows from A1 to the last record and the most fields, and hands it on.
+/// Writes the table of the sheet's entries, or of what it shows, from A1 to the last record and the most fields, and
+/// hands it on.
 fn put_table<K: Sink>(
     alloc: Global,
     sheet: &Sheet,
+    entries: bool,
     imported: Imported,
     sink: &mut K,
 ) -> Result<(), Refusal>
@@ -99,23 +102,47 @@ fn put_table<K: Sink>(
     requires fields { imported.fields ≤ COLUMNS }
     requires some { 0 < imported.records → 0 < imported.fields }
     ensures written { OnOk result (Appends (K.contents sink.old) (K.contents sink.new)
-        (table_of imported.records imported.fields sheet.now)) }
+        (table_of entries imported.records imported.fields sheet.now)) }
     ensures settled { OnOk result (K.waiting sink.new ≡ []) }
     ensures calm { OnOk result (K.failures sink.new ≡ K.failures sink.old) }
     ensures device { IfErr result (λ e. e ≡ Refusal.Device → (count : ℕ)
         × Appends (K.contents sink.old) (K.contents sink.new)
-        (take count (table_of imported.records imported.fields sheet.now))) }
+        (take count (table_of entries imported.records imported.fields sheet.now))) }
     ensures failed { IfErr result (λ e. e ≡ Refusal.Device → K.failures sink.old < K.failures sink.new) }
     ensures memory { IfErr result (λ e. e ≡ Refusal.Memory → sink.new ≡ sink.old) }
     ensures refused { IfErr result (λ e. (e ≡ Refusal.Memory) ⊎ (e ≡ Refusal.Device)) }
 {
     match extent(imported) {
-        Some(rect) => export(alloc, sheet, rect, sink)?,
+        Some(rect) => put_cells(alloc, sheet, entries, rect, sink)?,
         None => {}
     }
     match hand_on(sink) {
         Ok(()) => Ok(()),
         Err(_) => Err(Refusal::Device),
+    }
+}
+
+/// Writes the table of the entries of a rectangle, or of what it shows.
+fn put_cells<K: Sink>(
+    alloc: Global,
+    sheet: &Sheet,
+    entries: bool,
+    rect: Rect,
+    sink: &mut K,
+) -> Result<(), Refusal>
+    ensures written { OnOk result (Appends (K.contents sink.old) (K.contents sink.new)
+        (cells_text entries rect sheet.now)) }
+    ensures calm { OnOk result (K.failures sink.new ≡ K.failures sink.old) }
+    ensures device { IfErr result (λ e. e ≡ Refusal.Device → (count : ℕ)
+        × Appends (K.contents sink.old) (K.contents sink.new) (take count (cells_text entries rect sheet.now))) }
+    ensures failed { IfErr result (λ e. e ≡ Refusal.Device → K.failures sink.old < K.failures sink.new) }
+    ensures memory { IfErr result (λ e. e ≡ Refusal.Memory → sink.new ≡ sink.old) }
+    ensures refused { IfErr result (λ e. (e ≡ Refusal.Memory) ⊎ (e ≡ Refusal.Device)) }
+{
+    if entries {
+        export_entries(alloc, sheet, rect, sink)
+    } else {
+        export(alloc, sheet, rect, sink)
     }
 }
 

@@ -5,6 +5,8 @@ mod HoldsLemmas
 mod OnePieceMore
 mod InputReadToEnd
 mod ReadLemmas
+mod IncomingLemmas
+mod ExchangeLemmas
 pub mod Runs
 pub mod AnswerLemmas
 mod ReplicaAndLinesStay

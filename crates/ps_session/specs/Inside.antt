@@ -2,3 +2,4 @@
 pub mod Holds
 pub mod Joints
 pub mod Stands
+pub mod Incomings

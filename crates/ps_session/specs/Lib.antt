@@ -2,6 +2,8 @@ pub mod Feeding
 pub mod Transcript
 pub mod Replies
 pub mod Inside
+pub mod Peers
+pub mod Exchange
 pub mod Words
 pub mod Commands
 pub mod Handing

@@ -3,7 +3,7 @@
 //! A [`Session`] is the reader of lines: it puts bytes together to lines, in whatever pieces they come. A [`Command`]
 //! is what a line asks for. A [`Board`] is what answers commands, by a call for each. [`talk`] is the whole way from a
 //! source of bytes to a sink: it reads the source to its end, obeys each line and writes its reply, in order. A sheet
-//! is a board, and [`run`] is the talk of a sheet.
+//! is a board, and [`run`] is the talk of a sheet. A [`Watcher`] may look on, by [`talk_watched`] and [`run_watched`].
 //!
 //! It is not a connection: it opens no device, and knows one peer. What a sheet does with an edit or a delta, it leaves
 //! to the sheet.
@@ -21,22 +21,32 @@
 
 mod board;
 mod command;
+mod exchange;
+mod follower;
+mod incoming;
 mod laws;
 mod obey;
+mod peer;
 mod pull;
+mod replies;
 mod reply;
 mod session;
 mod sheet_board;
 mod sheet_session;
 mod transcript;
 mod verb;
+mod watcher;
 mod words;
 
 pub use board::Board;
 pub use command::{Command, LARGEST_GROUP};
+pub use exchange::{SyncFault, sync};
+pub use follower::{Following, follow};
 pub use laws::{bytes_divide_one_way, edit_lines_fit, pulls_hand_out, transcript_is_decided};
+pub use peer::{Peer, PeerFault};
 pub use pull::greatest_group;
 pub use reply::{Reply, send};
 pub use session::{Fed, LINE_LIMIT, Line, Session};
-pub use sheet_session::run;
-pub use transcript::{RunFault, talk};
+pub use sheet_session::{run, run_watched};
+pub use transcript::{RunFault, talk, talk_watched};
+pub use watcher::{Unwatched, Watcher};

@@ -30,8 +30,18 @@ pub enum Reply {
     Refused(Refusal),
 }
 
+impl Reply {
+    /// Why the line was refused, if it was.
+    pub(crate) fn refusal(&self) -> Option<Refusal> {
+        match self {
+            Reply::Refused(refusal) => Some(*refusal),
+            _ => None,
+        }
+    }
+}
+
 /// Writes the pieces one after another.
-fn send_pieces<K: Sink>(pieces: &[&[u8]], sink: &mut K) -> Result<(), Failed>
+pub(crate) fn send_pieces<K: Sink>(pieces: &[&[u8]], sink: &mut K) -> Result<(), Failed>
     ensures sent { Sends (K.contents sink.old) (K.contents sink.new) result (flat_map (λ piece. piece.now) pieces.now) }
     ensures calm { OnOk result (K.failures sink.new ≡ K.failures sink.old) }
     ensures failed { OnErr result (K.failures sink.old < K.failures sink.new) }

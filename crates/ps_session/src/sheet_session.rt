@@ -7,13 +7,56 @@ ghost use Rattle.ps_session.specs.Transcript.{Answered, Stopped, Transcribed};
 ghost use Rattle.ps_session.specs.Answers.{SheetLines};
 ghost use Rattle.ps_session.specs.EditLines.{HasLine};
 
-use crate::transcript::{RunFault, talk};
+use crate::transcript::{RunFault, talk_watched};
+use crate::watcher::{Unwatched, Watcher};
 use ps_device::{Sink, Source};
 use ps_eval::Meter;
 use ps_sheet::Sheet;
 use std::alloc::Global;
 use std::sync::ledger::Ledger;
 use std::thread::Threads;
+
+/// Answers each line of a source on a sink by a sheet as [`run`] does, while a watcher sees each line that ended, after
+/// it was obeyed and before its reply is written.
+///
+/// Cost: that of [`run`], and the watcher's own.
+pub fn run_watched<R: Threads + Sync, S: Source, K: Sink, L: Ledger, W: Watcher>(
+    rt: &R,
+    alloc: Global,
+    source: &mut S,
+    sink: &mut K,
+    sheet: &mut Sheet,
+    meter: &mut Meter<L>,
+    watcher: &mut W,
+) -> Result<u64, RunFault>
+    ensures transcribed { IfOk result (λ answered. (read : List ℕ)
+        × Consumes (S.remaining source.old) (S.remaining source.new) read
+        × IsAtEnd (S.remaining source.new)
+        × Transcribed SheetLines sheet.old (K.contents sink.old) read sheet.new (K.contents sink.new) answered) }
+    ensures sink { result ≡ Err RunFault.Sink
+        → (read : List ℕ) × Consumes (S.remaining source.old) (S.remaining source.new) read
+        × Stopped SheetLines (IsAtEnd (S.remaining source.new)) sheet.old (K.contents sink.old) read
+        sheet.new (K.contents sink.new) }
+    ensures source { result ≡ Err RunFault.Source
+        → (read : List ℕ) × Consumes (S.remaining source.old) (S.remaining source.new) read
+        × Answered SheetLines sheet.old (K.contents sink.old) read sheet.new (K.contents sink.new) }
+    ensures settled { OnOk result (K.waiting sink.new ≡ []) }
+    ensures source_settled { result ≡ Err RunFault.Source → K.waiting sink.new ≡ [] }
+    ensures memory { result ≡ Err RunFault.Memory
+        → (source.new ≡ source.old) × (sink.new ≡ sink.old) × (sheet.new ≡ sheet.old) }
+    ensures replica { sheet.new.replica ≡ sheet.old.replica }
+    ensures sheet { IsSheet sheet.new }
+    ensures lines { All HasLine sheet.old.history → All HasLine sheet.new.history }
+    ensures calm { OnOk result ((S.failures source.new ≡ S.failures source.old)
+        × (K.failures sink.new ≡ K.failures sink.old)) }
+    ensures sink_failed { result ≡ Err RunFault.Sink → K.failures sink.old < K.failures sink.new }
+    ensures source_failed { result ≡ Err RunFault.Source → S.failures source.old < S.failures source.new }
+{
+    let answered = talk_watched(rt, alloc, source, sink, sheet, meter, watcher);
+    // The call brings that the sheet is one still (`IsSheet`).
+    let _ = sheet.version();
+    answered
+}
 
 /// Answers each line of a source on a sink by a sheet, to the end of the input, and returns how many lines had a reply;
 /// 2^64 - 1 stands for more.
@@ -55,8 +98,5 @@ pub fn run<R: Threads + Sync, S: Source, K: Sink, L: Ledger>(
     ensures sink_failed { result ≡ Err RunFault.Sink → K.failures sink.old < K.failures sink.new }
     ensures source_failed { result ≡ Err RunFault.Source → S.failures source.old < S.failures source.new }
 {
-    let answered = talk(rt, alloc, source, sink, sheet, meter);
-    // The call brings that the sheet is one still (`IsSheet`).
-    let _ = sheet.version();
-    answered
+    run_watched(rt, alloc, source, sink, sheet, meter, &mut Unwatched)
 }

@@ -16,6 +16,7 @@ use crate::board::Board;
 use crate::obey::answer;
 use crate::reply::{Reply, send};
 use crate::session::{Line, Session};
+use crate::watcher::{Unwatched, Watcher};
 use ps_device::{Failed, PIECE_BYTES, Sink, Source, hand_on};
 use ps_grid::Refusal;
 use std::alloc::Global;
@@ -36,10 +37,11 @@ struct Conversation<'a, R> {
 
 impl<R: Threads + Sync> Conversation<'_, R> {
     /// Answers the line that has ended, which isn't too long; an empty one has no reply.
-    fn answer<B: Board<M>, M, K: Sink>(
+    fn answer<B: Board<M>, M, W: Watcher, K: Sink>(
         &mut self,
         board: &mut B,
         meter: &mut M,
+        watcher: &mut W,
         sink: &mut K,
     ) -> Result<(), Failed>
         ensures replied { Replied
@@ -53,9 +55,11 @@ impl<R: Threads + Sync> Conversation<'_, R> {
         let count = self.answered;
         let line = self.session.line();
         if line.is_empty() {
+            watcher.saw(line, None);
             return Ok(());
         }
         let reply = answer(self.rt, self.alloc, line, board, meter);
+        watcher.saw(line, reply.refusal());
         match send(&reply, sink) {
             Ok(()) => {}
             Err(failed) => return Err(failed),
@@ -65,7 +69,7 @@ impl<R: Threads + Sync> Conversation<'_, R> {
     }
 
     /// Refuses a line that is too long.
-    fn refuse<K: Sink>(&mut self, sink: &mut K) -> Result<(), Failed>
+    fn refuse<W: Watcher, K: Sink>(&mut self, watcher: &mut W, sink: &mut K) -> Result<(), Failed>
         ensures sent { Sends (K.contents sink.old) (K.contents sink.new) result (refusal_text refusals.Line) }
         ensures counted { OnOk result (self.new.answered ≡ min (self.old.answered + 1) (2 ^ 64 - 1)) }
         ensures calm { OnOk result (K.failures sink.new ≡ K.failures sink.old) }
@@ -73,17 +77,19 @@ impl<R: Threads + Sync> Conversation<'_, R> {
         ensures session { self.new.session ≡ self.old.session }
     {
         let count = self.answered;
+        watcher.saw(b"", Some(Refusal::Line));
         send(&Reply::Refused(Refusal::Line), sink)?;
         self.answered = count.saturating_add(1);
         Ok(())
     }
 
     /// Answers a line that has ended.
-    fn close<B: Board<M>, M, K: Sink>(
+    fn close<B: Board<M>, M, W: Watcher, K: Sink>(
         &mut self,
         line: Line,
         board: &mut B,
         meter: &mut M,
+        watcher: &mut W,
         sink: &mut K,
     ) -> Result<(), Failed>
         ensures replied { (raw : List ℕ) → Holds line self.old.session raw
@@ -96,17 +102,18 @@ impl<R: Threads + Sync> Conversation<'_, R> {
     {
         match line {
             Line::None => Ok(()),
-            Line::Full => self.answer(board, meter, sink),
-            Line::TooLong => self.refuse(sink),
+            Line::Full => self.answer(board, meter, watcher, sink),
+            Line::TooLong => self.refuse(watcher, sink),
         }
     }
 
     /// Takes in a piece up to its first line feed, and answers the line that it ends.
-    fn turn<B: Board<M>, M, K: Sink>(
+    fn turn<B: Board<M>, M, W: Watcher, K: Sink>(
         &mut self,
         piece: &[u8],
         board: &mut B,
         meter: &mut M,
+        watcher: &mut W,
         sink: &mut K,
     ) -> Result<usize, Failed>
         requires some { 0 < length piece.now }
@@ -123,17 +130,18 @@ impl<R: Threads + Sync> Conversation<'_, R> {
         let fed = self.session.feed(piece);
         match fed.line {
             Line::None => {}
-            line => self.close(line, board, meter, sink)?,
+            line => self.close(line, board, meter, watcher, sink)?,
         }
         Ok(fed.taken)
     }
 
     /// Takes in a whole piece, and answers each line that it ends.
-    fn serve<B: Board<M>, M, K: Sink>(
+    fn serve<B: Board<M>, M, W: Watcher, K: Sink>(
         &mut self,
         piece: &[u8],
         board: &mut B,
         meter: &mut M,
+        watcher: &mut W,
         sink: &mut K,
     ) -> Result<(), Failed>
         ensures stands { OnOk result (GoesOn (BoardLines B.calls) piece.now
@@ -147,16 +155,17 @@ impl<R: Threads + Sync> Conversation<'_, R> {
     {
         let mut start = 0;
         'turns: while start < piece.len() {
-            start += self.turn(&piece[start..], board, meter, sink)?;
+            start += self.turn(&piece[start..], board, meter, watcher, sink)?;
         }
         Ok(())
     }
 
     /// At the end of the input: answers what remains, if it is a line.
-    fn finish<B: Board<M>, M, K: Sink>(
+    fn finish<B: Board<M>, M, W: Watcher, K: Sink>(
         &mut self,
         board: &mut B,
         meter: &mut M,
+        watcher: &mut W,
         sink: &mut K,
     ) -> Result<(), Failed>
         ensures transcribed { OnOk result ((first : B) (written : Option (List ℕ)) (read : List ℕ)
@@ -172,7 +181,7 @@ impl<R: Threads + Sync> Conversation<'_, R> {
     {
         match self.session.end() {
             Line::None => {}
-            line => self.close(line, board, meter, sink)?,
+            line => self.close(line, board, meter, watcher, sink)?,
         }
         Ok(())
     }
@@ -190,11 +199,12 @@ pub enum RunFault {
 }
 
 /// Reads the source to its end, and answers each line that ends there.
-fn read_on<R: Threads + Sync, S: Source, B: Board<M>, M, K: Sink>(
+fn read_on<R: Threads + Sync, S: Source, B: Board<M>, M, W: Watcher, K: Sink>(
     conversation: &mut Conversation<R>,
     source: &mut S,
     board: &mut B,
     meter: &mut M,
+    watcher: &mut W,
     sink: &mut K,
 ) -> Result<(), RunFault>
     ensures read { OnOk result ((read : List ℕ)
@@ -236,10 +246,65 @@ fn read_on<R: Threads + Sync, S: Source, B: Board<M>, M, K: Sink>(
         if count == 0 {
             return Ok(());
         }
-        match conversation.serve(&piece[..count], board, meter, sink) {
+        match conversation.serve(&piece[..count], board, meter, watcher, sink) {
             Ok(()) => {}
             Err(_) => return Err(RunFault::Sink),
         }
+    }
+}
+
+/// Answers each line of a source on a sink as [`talk`] does, while a watcher sees each line that ended, after it was
+/// obeyed and before its reply is written.
+///
+/// Cost: that of [`talk`], and the watcher's own.
+pub fn talk_watched<R: Threads + Sync, S: Source, B: Board<M>, M, K: Sink, W: Watcher>(
+    rt: &R,
+    alloc: Global,
+    source: &mut S,
+    sink: &mut K,
+    board: &mut B,
+    meter: &mut M,
+    watcher: &mut W,
+) -> Result<u64, RunFault>
+    ensures transcribed { IfOk result (λ answered. (read : List ℕ)
+        × Consumes (S.remaining source.old) (S.remaining source.new) read
+        × IsAtEnd (S.remaining source.new)
+        × Transcribed (BoardLines B.calls) board.old (K.contents sink.old) read board.new (K.contents sink.new)
+        answered) }
+    ensures sink { result ≡ Err RunFault.Sink
+        → (read : List ℕ) × Consumes (S.remaining source.old) (S.remaining source.new) read
+        × Stopped (BoardLines B.calls) (IsAtEnd (S.remaining source.new)) board.old (K.contents sink.old) read
+        board.new (K.contents sink.new) }
+    ensures source { result ≡ Err RunFault.Source
+        → (read : List ℕ) × Consumes (S.remaining source.old) (S.remaining source.new) read
+        × Answered (BoardLines B.calls) board.old (K.contents sink.old) read board.new (K.contents sink.new) }
+    ensures settled { OnOk result (K.waiting sink.new ≡ []) }
+    ensures source_settled { result ≡ Err RunFault.Source → K.waiting sink.new ≡ [] }
+    ensures memory { result ≡ Err RunFault.Memory
+        → (source.new ≡ source.old) × (sink.new ≡ sink.old) × (board.new ≡ board.old) }
+    ensures calm { OnOk result ((S.failures source.new ≡ S.failures source.old)
+        × (K.failures sink.new ≡ K.failures sink.old)) }
+    ensures sink_failed { result ≡ Err RunFault.Sink → K.failures sink.old < K.failures sink.new }
+    ensures source_failed { result ≡ Err RunFault.Source → S.failures source.old < S.failures source.new }
+{
+    let session = match Session::new(alloc) {
+        Ok(session) => session,
+        Err(_) => return Err(RunFault::Memory),
+    };
+    let mut conversation = Conversation {
+        rt,
+        alloc,
+        session,
+        answered: 0,
+    };
+    read_on(&mut conversation, source, board, meter, watcher, sink)?;
+    match conversation.finish(board, meter, watcher, sink) {
+        Ok(()) => {}
+        Err(_) => return Err(RunFault::Sink),
+    }
+    match hand_on(sink) {
+        Ok(()) => Ok(conversation.answered),
+        Err(_) => Err(RunFault::Sink),
     }
 }
 
@@ -280,23 +345,5 @@ pub fn talk<R: Threads + Sync, S: Source, B: Board<M>, M, K: Sink>(
     ensures sink_failed { result ≡ Err RunFault.Sink → K.failures sink.old < K.failures sink.new }
     ensures source_failed { result ≡ Err RunFault.Source → S.failures source.old < S.failures source.new }
 {
-    let session = match Session::new(alloc) {
-        Ok(session) => session,
-        Err(_) => return Err(RunFault::Memory),
-    };
-    let mut conversation = Conversation {
-        rt,
-        alloc,
-        session,
-        answered: 0,
-    };
-    read_on(&mut conversation, source, board, meter, sink)?;
-    match conversation.finish(board, meter, sink) {
-        Ok(()) => {}
-        Err(_) => return Err(RunFault::Sink),
-    }
-    match hand_on(sink) {
-        Ok(()) => Ok(conversation.answered),
-        Err(_) => Err(RunFault::Sink),
-    }
+    talk_watched(rt, alloc, source, sink, board, meter, &mut Unwatched)
 }

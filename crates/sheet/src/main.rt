@@ -3,11 +3,12 @@
 //! `sheet run` opens an empty sheet and answers each line of standard input on standard output; `sheet table` reads a
 //! table of CSV and writes the table of its settled values. `sheet serve` answers the lines of several connections,
 //! side by side and on one sheet, and `sheet sync` hands what one replica has to another, both of which listen on
-//! this machine. It keeps nothing from one start to the next.
+//! this machine. `sheet follow` writes what such a replica has and gets, as lines to push, `sheet page` shows it in a
+//! browser, and `sheet squash` makes few delta lines of many. It keeps nothing from one start to the next.
 //!
 //! It ties the commands of `ps_commands`, whose contracts say what each does, to the words, to standard input, output
 //! and error, and to the exit status: 0 where all went well, 1 where a device failed, 2 for a command line that is
-//! none, 3 for any other refusal.
+//! none, 3 for any other refusal. A line that `sheet run` refuses is none of these, unless it was told to be strict.
 //!
 //! With `set A1 5` and `get A1` on standard input, `sheet run` writes `ok 1` and `val 5`; with `2,=[.A1]*3`,
 //! `sheet table` writes `2,6`.
@@ -21,18 +22,23 @@ ghost use Rattle.ps_grid.specs.Blanks.{IsBlankOf};
 use clap::Error;
 use clap::error::ErrorKind;
 use ps_commands::{
-    Options, ProgramFault, answer_lines, read_words, serve, status_of, sync_on, table_on,
+    KeptReader, Onlooker, ProgramFault, answer_lines, explain_table, follow_on, open_page, serve,
+    squash_on, status_of, sync_on, table_on,
 };
 use ps_device::{ConsoleOutput, Reading, Writing};
 use ps_eval::Meter;
 use ps_grid::Refusal;
+use ps_words::{LineOptions, Options, TableOptions, read_words};
+use std::cell::RefCell;
 use std::io;
+use std::io::IsTerminal;
 use std::marker::Brand;
 use std::net::{Net, TcpListener, TcpStream};
 use std::process::ExitCode;
 use std::sync::Wait;
 use std::sync::ledger::{Blank, Ledger};
 use std::thread::Threads;
+use std::time::Clock;
 
 /// Runs the command that the words name, and reports what ends it early.
 fn main(rt: HostRuntime) -> ExitCode {
@@ -46,7 +52,7 @@ fn main(rt: HostRuntime) -> ExitCode {
 }
 
 /// Reads the words and runs their command.
-fn start<R: Net<Listener = TcpListener, Stream = TcpStream> + Threads + Wait + Sync>(
+fn start<R: Net<Listener = TcpListener, Stream = TcpStream> + Threads + Wait + Clock + Sync>(
     rt: &HostRuntime,
     threads: &R,
 ) -> Result<ExitCode, ProgramFault> {
@@ -87,7 +93,7 @@ fn tell(rt: &HostRuntime, error: &Error) -> Result<ExitCode, ProgramFault> {
 }
 
 /// Runs a command on standard input and output.
-fn run_command<R: Net<Listener = TcpListener, Stream = TcpStream> + Threads + Wait + Sync>(
+fn run_command<R: Net<Listener = TcpListener, Stream = TcpStream> + Threads + Wait + Clock + Sync>(
     rt: &HostRuntime,
     threads: &R,
     options: Options,
@@ -108,7 +114,7 @@ fn run_command<R: Net<Listener = TcpListener, Stream = TcpStream> + Threads + Wa
 /// The replies of `run` wait in memory and are written before the next read, so a batch of lines costs one write a
 /// piece of the input, and a peer that waits for a reply has it. A table waits nowhere.
 fn on_standard<
-    R: Net<Listener = TcpListener, Stream = TcpStream> + Threads + Wait + Sync,
+    R: Net<Listener = TcpListener, Stream = TcpStream> + Threads + Wait + Clock + Sync,
     I: Ledger,
     O: Ledger,
     M: Ledger,
@@ -124,38 +130,92 @@ fn on_standard<
     requires output { IsBlankOf output O.name O.parts }
     requires count { IsBlankOf count M.name M.parts }
 {
-    let mut source = Reading::<_, I>::new(rt.reader(), input);
     let mut meter = Meter::<M>::new(count);
     match options {
         Options::Run(options) => {
-            let mut sink = ConsoleOutput::<_, O>::new(rt.alloc(), rt.stdout(), output)?;
-            answer_lines(
-                threads,
-                rt.alloc(),
-                &mut source,
-                &mut sink,
-                &mut meter,
-                options,
-            )
+            run_lines::<R, I, O, M>(rt, threads, input, output, &mut meter, options)
         }
         Options::Table(options) => {
-            let mut sink = Writing::<_, O>::new(rt.stdout(), output);
-            table_on(
-                threads,
-                rt.alloc(),
-                &mut source,
-                &mut sink,
-                &mut meter,
-                options.workers,
-            )
+            put_table::<R, I, O, M>(rt, threads, input, output, &mut meter, options)
         }
         Options::Serve(options) => {
             let mut sink = ConsoleOutput::<_, O>::new(rt.alloc(), rt.stdout(), output)?;
-            serve(threads, rt.alloc(), options, &mut sink)
+            serve(threads, rt.alloc(), options, &mut sink)?;
+            Ok(())
         }
         Options::Sync(options) => {
             let mut sink = ConsoleOutput::<_, O>::new(rt.alloc(), rt.stdout(), output)?;
             sync_on(threads, rt.alloc(), options.from, options.to, &mut sink)
         }
+        Options::Follow(options) => {
+            let mut sink = ConsoleOutput::<_, O>::new(rt.alloc(), rt.stdout(), output)?;
+            follow_on(threads, rt, rt.alloc(), options, &mut sink)
+        }
+        Options::Page(options) => {
+            let mut sink = ConsoleOutput::<_, O>::new(rt.alloc(), rt.stdout(), output)?;
+            open_page(threads, rt.alloc(), options, &mut sink)
+        }
+        Options::Squash => {
+            let mut source = Reading::<_, I>::new(rt.reader(), input);
+            let mut sink = Writing::<_, O>::new(rt.stdout(), output);
+            squash_on(rt.alloc(), &mut source, &mut sink)
+        }
     }
+}
+
+/// Whether hints are told: where they are asked for, and where a person types and reads what is told.
+fn is_explained(rt: &HostRuntime, asked: bool) -> bool {
+    asked || (rt.stdin().is_terminal() && rt.stderr().is_terminal())
+}
+
+/// Answers the lines of standard input on standard output, with hints on standard error.
+fn run_lines<R: Threads + Sync, I: Ledger, O: Ledger, M: Ledger>(
+    rt: &HostRuntime,
+    threads: &R,
+    input: Blank,
+    output: Blank,
+    meter: &mut Meter<M>,
+    options: LineOptions,
+) -> Result<(), ProgramFault>
+    requires input { IsBlankOf input I.name I.parts }
+    requires output { IsBlankOf output O.name O.parts }
+{
+    let mut source = Reading::<_, I>::new(rt.reader(), input);
+    let mut sink = ConsoleOutput::<_, O>::new(rt.alloc(), rt.stdout(), output)?;
+    let told = is_explained(rt, options.explain).then_some(rt.stderr());
+    let mut onlooker = Onlooker::new(rt.alloc(), told);
+    answer_lines(
+        threads,
+        rt.alloc(),
+        &mut source,
+        &mut sink,
+        meter,
+        options.sheet,
+        &mut onlooker,
+    )?;
+    onlooker.end(options.strict)
+}
+
+/// Takes in the table of standard input, and writes that of its sheet on standard output; then hints on standard error.
+fn put_table<R: Threads + Sync, I: Ledger, O: Ledger, M: Ledger>(
+    rt: &HostRuntime,
+    threads: &R,
+    input: Blank,
+    output: Blank,
+    meter: &mut Meter<M>,
+    options: TableOptions,
+) -> Result<(), ProgramFault>
+    requires input { IsBlankOf input I.name I.parts }
+    requires output { IsBlankOf output O.name O.parts }
+{
+    let kept = RefCell::new(is_explained(rt, options.explain).then_some(Vec::new(rt.alloc())));
+    let reader = KeptReader::new(rt.reader(), &kept);
+    let mut source = Reading::<_, I>::new(reader, input);
+    let mut sink = Writing::<_, O>::new(rt.stdout(), output);
+    let done = table_on(threads, rt.alloc(), &mut source, &mut sink, meter, options);
+    drop(source);
+    if let Some(bytes) = kept.into_inner() {
+        explain_table(rt.alloc(), &bytes, &mut rt.stderr());
+    }
+    done
 }

@@ -78,15 +78,15 @@ pub(crate) fn make<L: DeskName, W: Wait + Drop, T: Abort + Threads + Wait + Sync
     receipt.expect(rt, "a receipt")
 }
 
-/// The number of an edit's receipt, or why the edit is refused.
+/// The number of a change's receipt, or why the change is refused.
 pub(crate) fn answer<L: DeskName, W: Wait + Drop, T: Threads + Wait + Sync>(
     rt: &T,
     alloc: Global,
     desk: &Desk<L, W>,
     pass: &mut Pass<L>,
-    edit: Edit,
+    change: Change,
 ) -> Result<u64, Refusal> {
-    match made::<L, W, T, Brand>(rt, Blank::new(1), alloc, desk, pass, Change::Edit(edit)) {
+    match made::<L, W, T, Brand>(rt, Blank::new(1), alloc, desk, pass, change) {
         Ok(receipt) => Ok(receipt.number),
         Err(refusal) => Err(refusal),
     }

@@ -68,7 +68,7 @@ fn read<L: DeskName>(rt: &impl Abort, pass: &mut Pass<L>) -> (u64, Value) {
     (shot.version, shot.value)
 }
 
-/// Enters a number into F1: the number of the receipt. It tries once more where memory ran out.
+/// Enters a number into F1: the number of the receipt.
 fn enter<L: DeskName, W: Wait + Drop, T: Abort + Threads + Wait + Sync>(
     rt: &T,
     alloc: Global,
@@ -76,10 +76,8 @@ fn enter<L: DeskName, W: Wait + Drop, T: Abort + Threads + Wait + Sync>(
     pass: &mut Pass<L>,
     number: &str,
 ) -> Result<u64, Refusal> {
-    match answer(rt, alloc, desk, pass, entered(rt, alloc, "F1", number)) {
-        Err(Refusal::Memory) => answer(rt, alloc, desk, pass, entered(rt, alloc, "F1", number)),
-        other => other,
-    }
+    let edit = entered(rt, alloc, "F1", number);
+    answer(rt, alloc, desk, pass, Change::Edit(edit))
 }
 
 /// Makes each refused edit at one seat, and after it one at the other seat that is made, and that both see.
@@ -93,7 +91,7 @@ fn go_through<L: DeskName, W: Wait + Drop, T: Abort + Threads + Wait + Sync>(
     let mut version: u64 = 3;
     for (name, asked, refusal) in REFUSED {
         let refused = edit_of(rt, alloc, name, asked);
-        assert!(rt; answer(rt, alloc, desk, first, refused) == Err(refusal));
+        assert!(rt; answer(rt, alloc, desk, first, Change::Edit(refused)) == Err(refusal));
         version = version.saturating_add(1);
         let (entry, value) = if version % 2 == 0 { ("8", 8) } else { ("9", 9) };
         assert!(rt; enter(rt, alloc, desk, second, entry) == Ok(version));

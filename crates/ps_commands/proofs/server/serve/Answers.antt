@@ -1,20 +1,25 @@
-use Rattle.std.proofs.Common.{arith, inl, inr}
-use Rattle.std.proofs.lemmas.Result.{IfErr-weaker, on_ok_weaker}
+use Rattle.std.proofs.Common.{◌∙◌, sym, arith, inl, inr}
+use Rattle.std.proofs.lemmas.Result.{IfErr-weaker, IfOk-weaker}
 use Rattle.ps_device.proofs.DeviceLemmas.{Appends-append}
 use Rattle.ps_commands.proofs.server.serve.Goals as goal
 
+pub returns-clause-asked : goal.returns-clause-asked
+returns-clause-asked g c = IfOk-weaker c.serve_on.result _ _
+    (λ closed asked. sym c.serving_of.ensures.sessions ∙ asked) c.serve_on.ensures.asked
+
 pub returns-clause-served : goal.returns-clause-served
-returns-clause-served g c =
-    let told = rw c.from.ensures at c.in-Ok-tell.ensures.told in
-    let served = rw c.from-2.ensures at c.serve_on.ensures.served in
-    on_ok_weaker c.serve_on.result
-    (λ s. (
+returns-clause-served g c = IfOk-weaker c.serve_on.result _ _
+    (λ closed served. (
       c.in-Ok-open_sheet.sheet,
-      s.0,
       c.in-Ok-open_sheet.ensures.opened,
-      s.1,
-      Appends-append _ _ _ _ _ told s.2,
-    )) served
+      rw c.serving_of.ensures.seats at served,
+    ))
+    c.serve_on.ensures.served
+
+pub returns-clause-told : goal.returns-clause-told
+returns-clause-told g c =
+    let told = rw c.from.ensures at c.in-Ok-tell.ensures.told in
+    IfOk-weaker c.serve_on.result _ _ (λ closed more. Appends-append _ _ _ _ _ told more) c.serve_on.ensures.told
 
 -- where the sessions were refused with nothing written, `listening` is all that was
 pub returns-clause-untold : goal.returns-clause-untold

@@ -1,4 +1,6 @@
-use Rattle.std.proofs.Common.{◌≡◌, ◌∙◌, ap, sym, length, vec_len}
+use Rattle.std.proofs.Common.{◌≡◌, ◌∙◌, ap, arith, sym, length, vec_len}
+use Rattle.ps_desk.specs.Opening.{new_passes}
+use Rattle.ps_commands.specs.Sessions.{AreBack}
 use Rattle.ps_commands.proofs.Backs.{new_passes-length}
 use Rattle.ps_commands.proofs.server.serve_parts.Goals as goal
 
@@ -14,12 +16,18 @@ returns-in-Ok-serve_all-clause-served g c =
     let given : vec_len c.in-Ok.opened.1 ≡ c.args.parts.seats =
     c.in-Ok.opened.1.ok.0 ∙ ap length c.in-Ok.ensures.passes ∙ new_passes-length c.args.parts.seats in
     let back = c.in-Ok-serve_all.back in
+    let count : length back.items ≡ c.args.parts.seats =
+    sym back.ok.0 ∙ c.in-Ok-serve_all.ensures.len ∙ given in
+    let came : AreBack g.L.DeskName.replica g.L.Named.opening c.in-Ok-serve_all.sessions
+    (new_passes c.args.parts.seats) back.items =
+    rw c.in-Ok.ensures.passes at c.in-Ok-serve_all.ensures.back in
     record {
       is_sheet = closed.sheet;
       replica = rw c.requires.named.replica closed.replica;
       passes = back.items;
-      each = sym back.ok.0 ∙ c.in-Ok-serve_all.ensures.len ∙ given;
-      back = rw c.in-Ok.ensures.passes at c.in-Ok-serve_all.ensures.each;
+      few = omega (arith, count);
+      back = rw c.requires.named.replica (rw c.requires.named.history (rw count came));
       begins = rw c.requires.named.history closed.begins;
       grown = rw c.requires.named.history closed.grown;
+      closed = rw c.requires.named.history closed.one;
     }

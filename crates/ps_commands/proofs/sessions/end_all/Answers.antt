@@ -2,11 +2,11 @@ use Rattle.std.proofs.Common.{arith, length-append}
 use Rattle.ps_commands.proofs.Backs.{Back-push}
 use Rattle.ps_commands.proofs.sessions.end_all.Goals as goal
 
-pub loop-session-preserved : goal.loop-session-preserved
-loop-session-preserved g c =
+pub loop-chair-preserved : goal.loop-chair-preserved
+loop-chair-preserved g c =
     let e = c.push_reserved.ensures in
-    let i = c.loop-session.invariant in (
-      rw e.items (Back-push _ _ _ _ i.0 c.end.ensures),
+    let i = c.loop-chair.invariant in (
+      rw e.items (Back-push _ _ _ _ _ _ i.0 c.end.ensures),
       rw e.items (simp length-append (omega (arith, i.1))),
       omega (arith, e.capacity, i.2),
     )

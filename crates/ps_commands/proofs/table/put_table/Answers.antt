@@ -11,7 +11,7 @@ whole old new text appends = subst (λ t. Appends old new t) (sym (take-length t
 
 pub returns-in-Err-clause-device : goal.returns-in-Err-clause-device
 returns-in-Err-clause-device g c = λ told.
-    let text = table_of c.args.imported.records c.args.imported.fields c.args.sheet.now in
+    let text = table_of c.args.entries c.args.imported.records c.args.imported.fields c.args.sheet.now in
     let written : Appends (g.K.Sink.contents c.args.sink.now) (g.K.Sink.contents c.match-extent.sink) text =
     search rules in
     (length text, whole _ _ text (Appends-keeps _ _ _ text written c.hand_on.ensures.same))

@@ -1,0 +1,16 @@
+use Rattle.checks_commands.proofs.attending.replies.Given as goal
+
+abbrev pub ghosts-answered-L-Ledger : goal.ghosts-answered-L-Ledger
+ghosts-answered-L-Ledger g a = record { name = a.parts.ledger; parts = a.parts.seats }
+
+abbrev pub ghosts-answered-L-Named : goal.ghosts-answered-L-Named
+ghosts-answered-L-Named g a = record { book = a.parts.book; opening = a.parts.sheet.history }
+
+abbrev pub ghosts-answered-L-DeskName : goal.ghosts-answered-L-DeskName
+ghosts-answered-L-DeskName g a = record { replica = a.parts.sheet.replica }
+
+abbrev pub ghosts-answered-O-Ledger : goal.ghosts-answered-O-Ledger
+ghosts-answered-O-Ledger g a = record { name = a.counts.output.name; parts = a.counts.output.parts }
+
+abbrev pub ghosts-answered-M-Ledger : goal.ghosts-answered-M-Ledger
+ghosts-answered-M-Ledger g a = record { name = a.counts.evaluations.name; parts = a.counts.evaluations.parts }

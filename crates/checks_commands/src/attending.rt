@@ -1,0 +1,77 @@
+//! A session at a desk, over memory.
+ghost use Rattle.std.specs.Prelude.{◌≡◌};
+ghost use Rattle.ps_grid.specs.Blanks.{IsBlankOf};
+ghost use Rattle.ps_desk.specs.Opening.{IsNamed};
+
+use ps_commands::attend_lines;
+use ps_desk::{Desk, DeskName, Parts};
+use ps_device::{MemorySink, MemorySource};
+use ps_eval::Meter;
+use ps_grid::Refusal;
+use ps_sheet::Sheet;
+use std::alloc::Global;
+use std::marker::Brand;
+use std::sync::Wait;
+use std::sync::ledger::{Blank, Ledger};
+use std::test::Fail;
+use std::thread::Threads;
+
+/// What counts a sink's failures, and a session's evaluations.
+#[derive(Drop)]
+struct Counts {
+    output: Blank,
+    evaluations: Blank,
+}
+
+/// What the session of a desk's last seat writes, where these are its lines, and how many lines it answered.
+fn answered<L: DeskName, R: Threads + Wait + Sync, O: Ledger, M: Ledger>(
+    rt: &R,
+    alloc: Global,
+    parts: Parts,
+    counts: Counts,
+    lines: &[u8],
+) -> Result<(Vec<u8>, Option<u64>), Refusal>
+    requires named { IsNamed L.name L.parts L.book L.opening L.replica parts }
+    requires output { IsBlankOf counts.output O.name O.parts }
+    requires evaluations { IsBlankOf counts.evaluations M.name M.parts }
+{
+    let Ok((desk, mut passes)) = Desk::<L, &R>::open(rt, alloc, parts) else {
+        return Err(Refusal::Seat);
+    };
+    let Some(pass) = passes.pop() else {
+        return Err(Refusal::Seat);
+    };
+    let mut source = MemorySource::new(lines);
+    let mut sink = MemorySink::<O>::new(alloc, counts.output);
+    let mut meter = Meter::<M>::new(counts.evaluations);
+    let attended = attend_lines(rt, alloc, &mut source, &mut sink, &desk, pass, &mut meter);
+    let MemorySink { bytes, failed } = sink;
+    drop(failed);
+    Ok((bytes, attended.ended.ok()))
+}
+
+/// .. of a desk of two seats over an empty sheet.
+fn replies<R: Threads + Wait + Sync>(
+    rt: &R,
+    alloc: Global,
+    lines: &[u8],
+) -> Result<(Vec<u8>, Option<u64>), Refusal> {
+    let parts = Parts::new(Sheet::open(alloc, 3, 1)?, 2);
+    let counts = Counts {
+        output: Blank::new(1),
+        evaluations: Blank::new(1),
+    };
+    answered::<Brand, R, Brand, Brand>(rt, alloc, parts, counts, lines)
+}
+
+/// Each line of a session at a desk is answered, an empty one isn't, and the last one wants no line feed.
+#[test]
+fn a_session_at_a_desk(rt: HostRuntime) -> Result<(), Fail> {
+    let lines = b"set A1 5\r\nset B1 =[.A1]*2\n\nget B1\nadd A1 1\npull 0 2\nwalk";
+    let due = b"ok 1\nok 2\nval 10\nerr 5 not-tally\n\
+        delta 2 [[\"A1\",[1,3,\"5\"],[],[]],[\"B1\",[1,3,\"=[.A1]*2\"],[],[]]]\n\
+        err 16 command\n";
+    let (written, count) = replies(&rt, rt.alloc(), lines)?;
+    assert!(rt; written.as_slice() == due.as_slice() && count == Some(6));
+    Ok(())
+}

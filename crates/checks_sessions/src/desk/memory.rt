@@ -1,0 +1,255 @@
+//! Calls at a desk of which one growth is refused, and which are then made again.
+//!
+//! A test stands whichever single growth is refused in its process (`tests/test_refused.py`): where that is one of what
+//! comes before the call, all is done once more.
+
+ghost use Rattle.ps_desk.specs.Opening.{IsNamed};
+
+use crate::desk::desks::{answer, cell};
+use Asked::{Enter, Pull, Receive};
+use ps_content::read_entry;
+use ps_desk::{Desk, DeskName, Parts, Pass};
+use ps_grid::{CELLS, Cell, Refusal};
+use ps_sheet::{Change, Edit, Sheet};
+use ps_value::Value;
+use ps_wire::decode;
+use std::alloc::Global;
+use std::marker::Brand;
+use std::process::Abort;
+use std::sync::{Arc, Wait};
+use std::thread::Threads;
+
+/// What is asked of a desk.
+#[derive(Clone, Copy)]
+enum Asked {
+    /// To enter an entry into a cell; the answer is the number of the receipt.
+    Enter(&'static str, &'static str),
+    /// To receive the delta of a line; the answer is the number of the receipt.
+    Receive(&'static str),
+    /// To pull the deltas after a number; the answer is how many there are.
+    Pull(u64),
+}
+
+/// What is asked, the answer, and what a cell shows then.
+type Row = (Asked, u64, &'static str, Value);
+
+/// What a pass shows of each cell, the version that it is of, and how many deltas the pass appended.
+#[derive(Drop)]
+struct Noted {
+    version: u64,
+    appended: u64,
+    values: Vec<Value>,
+}
+
+/// The cell at a place in the order of the grid.
+fn at(rt: &impl Abort, place: usize) -> Cell {
+    Cell::from_index(place).expect(rt, "a cell")
+}
+
+/// What the pass shows of a cell, with the version.
+fn read<L: DeskName>(rt: &impl Abort, pass: &mut Pass<L>, cell: Cell) -> (u64, Value) {
+    let shot = pass.read(cell).expect(rt, "a desk");
+    (shot.version, shot.value)
+}
+
+fn note<L: DeskName>(rt: &impl Abort, alloc: Global, pass: &mut Pass<L>) -> Result<Noted, Refusal> {
+    let mut values = Vec::with_capacity(alloc, CELLS)?;
+    for place in 0..CELLS {
+        values.push(read(rt, pass, at(rt, place)).1)?;
+    }
+    let (version, _) = read(rt, pass, at(rt, 0));
+    let appended = pass.appended();
+    Ok(Noted {
+        version,
+        appended,
+        values,
+    })
+}
+
+/// The pass shows what was noted.
+fn check_noted<L: DeskName>(rt: &impl Abort, pass: &mut Pass<L>, noted: &Noted) {
+    assert_eq!(rt; pass.appended(), noted.appended);
+    for (place, value) in noted.values.iter().enumerate() {
+        assert!(rt;
+            read(rt, pass, at(rt, place)) == (noted.version, *value),
+            "{place}"
+        );
+    }
+}
+
+fn change_of(rt: &impl Abort, alloc: Global, name: &str, entry: &str) -> Result<Change, Refusal> {
+    let content = read_entry(alloc, entry.as_bytes())?;
+    Ok(Change::Edit(Edit::Set(cell(rt, name), content)))
+}
+
+fn received(alloc: Global, line: &str) -> Result<Change, Refusal> {
+    let delta = decode(alloc, line.as_bytes())?;
+    Ok(Change::Delta(Arc::new(alloc, delta)?))
+}
+
+/// Asks one thing of a desk.
+fn ask<L: DeskName, W: Wait + Drop, T: Abort + Threads + Wait + Sync>(
+    rt: &T,
+    alloc: Global,
+    desk: &Desk<L, W>,
+    pass: &mut Pass<L>,
+    asked: &Asked,
+) -> Result<u64, Refusal> {
+    match asked {
+        Enter(name, entry) => {
+            let change = change_of(rt, alloc, name, entry)?;
+            answer(rt, alloc, desk, pass, change)
+        }
+        Receive(line) => answer(rt, alloc, desk, pass, received(alloc, line)?),
+        Pull(from) => Ok(desk.pull(rt, alloc, pass, *from, usize::MAX)?.len() as u64),
+    }
+}
+
+/// Asks one thing of a desk, by a second call where the first one is refused memory: both passes then show what they
+/// showed.
+fn ask_again<L: DeskName, W: Wait + Drop, T: Abort + Threads + Wait + Sync>(
+    rt: &T,
+    alloc: Global,
+    desk: &Desk<L, W>,
+    pass: &mut Pass<L>,
+    other: &mut Pass<L>,
+    asked: &Asked,
+) -> Result<u64, Refusal> {
+    let own = note(rt, alloc, pass)?;
+    let theirs = note(rt, alloc, other)?;
+    match ask(rt, alloc, desk, pass, asked) {
+        Err(Refusal::Memory) => {
+            check_noted(rt, pass, &own);
+            check_noted(rt, other, &theirs);
+            ask(rt, alloc, desk, pass, asked)
+        }
+        answer => answer,
+    }
+}
+
+/// Goes through the rows at two seats of a desk: the first one asks, and both show then what is due.
+fn go_through<L: DeskName, W: Wait + Drop, T: Abort + Threads + Wait + Sync>(
+    rt: &T,
+    alloc: Global,
+    desk: &Desk<L, W>,
+    first: &mut Pass<L>,
+    second: &mut Pass<L>,
+    rows: &[Row],
+) -> Result<(), Refusal> {
+    for (asked, number, name, value) in rows {
+        let found = ask_again(rt, alloc, desk, first, second, asked)?;
+        assert_eq!(rt; found, *number, "{name}");
+        let here = cell(rt, name);
+        assert!(rt; read(rt, first, here).1 == *value, "{name}");
+        assert!(rt; read(rt, second, here) == read(rt, first, here), "{name}");
+    }
+    Ok(())
+}
+
+/// A desk is opened over the parts of a sheet that shows nothing, and the rows are gone through. Where it can't be
+/// opened, the sheet is back.
+fn life<L: DeskName, T: Abort + Threads + Wait + Sync>(
+    rt: &T,
+    alloc: Global,
+    parts: Parts,
+    rows: &[Row],
+) -> Result<Result<(), Refusal>, (Sheet, Refusal)>
+    requires named { IsNamed L.name L.parts L.book L.opening L.replica parts }
+{
+    let (desk, mut passes) = Desk::<L, &T>::open(rt, alloc, parts)?;
+    let mut second = passes.pop().expect(rt, "a pass");
+    let mut first = passes.pop().expect(rt, "another one");
+    Ok(go_through(rt, alloc, &desk, &mut first, &mut second, rows))
+}
+
+/// The same, over a desk of two seats.
+fn over<T: Abort + Threads + Wait + Sync>(
+    rt: &T,
+    alloc: Global,
+    sheet: Sheet,
+    rows: &[Row],
+) -> Result<Result<(), Refusal>, (Sheet, Refusal)> {
+    life::<Brand, T>(rt, alloc, Parts::new(sheet, 2), rows)
+}
+
+/// The same, by a second opening where the first one is refused: that is `Memory`, and the sheet is back, which has no
+/// delta and shows nothing.
+fn over_again<T: Abort + Threads + Wait + Sync>(
+    rt: &T,
+    alloc: Global,
+    rows: &[Row],
+) -> Result<(), Refusal> {
+    match over(rt, alloc, Sheet::open(alloc, 1, 1)?, rows) {
+        Ok(ended) => ended,
+        Err((sheet, refusal)) => {
+            assert!(rt; refusal == Refusal::Memory && sheet.version() == 0);
+            for place in 0..CELLS {
+                assert!(rt; sheet.shown(at(rt, place)) == Value::Empty, "{place}");
+            }
+            match over(rt, alloc, sheet, rows) {
+                Ok(ended) => ended,
+                Err((_, refusal)) => Err(refusal),
+            }
+        }
+    }
+}
+
+/// The same, at a second sheet where memory ran out for what comes before a call.
+fn check<T: Abort + Threads + Wait + Sync>(rt: &T, alloc: Global, rows: &[Row]) {
+    let mut ended = over_again(rt, alloc, rows);
+    if ended == Err(Refusal::Memory) {
+        ended = over_again(rt, alloc, rows);
+    }
+    assert!(rt; ended == Ok(()));
+}
+
+/// A refused `open` is `Memory`, and gives the sheet back; the next one opens the desk. The parts take no memory.
+#[test]
+fn refused_open(rt: HostRuntime) {
+    check(&rt, rt.alloc(), &[]);
+}
+
+/// After a refused edit each pass shows and has appended what it did, and the next call makes it.
+#[test]
+fn refused_edit(rt: HostRuntime) {
+    check(
+        &rt,
+        rt.alloc(),
+        &[
+            (Enter("A1", "5"), 1, "A1", Value::Num(5)),
+            (Enter("B1", "=[.A1]*2"), 2, "B1", Value::Num(10)),
+            (Enter("A1", "7"), 3, "B1", Value::Num(14)),
+        ],
+    );
+}
+
+/// After a refused receipt each pass shows and has appended what it did, and the next call takes the delta.
+#[test]
+fn refused_receive(rt: HostRuntime) {
+    let both = r#"[["A1",[1,2,"5"],[],[]],["B1",[1,2,"=[.A1]*2"],[],[]]]"#;
+    let later = r#"[["A1",[2,2,"7"],[],[]]]"#;
+    check(
+        &rt,
+        rt.alloc(),
+        &[
+            (Receive(both), 1, "B1", Value::Num(10)),
+            (Receive(both), 1, "A1", Value::Num(5)),
+            (Receive(later), 2, "B1", Value::Num(14)),
+        ],
+    );
+}
+
+/// A refused pull is `Memory`, each pass shows what it did, and the next call hands out the deltas.
+#[test]
+fn refused_pull(rt: HostRuntime) {
+    check(
+        &rt,
+        rt.alloc(),
+        &[
+            (Enter("A1", "5"), 1, "A1", Value::Num(5)),
+            (Enter("A1", "7"), 2, "A1", Value::Num(7)),
+            (Pull(0), 2, "A1", Value::Num(7)),
+            (Pull(2), 0, "A1", Value::Num(7)),
+        ],
+    );
+}

@@ -1,0 +1,213 @@
+//! A seat of a server, through the sessions that have it one after another.
+ghost use Rattle.std.specs.Prelude.{◌≡◌, ◌+◌, ◌<◌, ◌^◌, true, MatchResult};
+ghost use Rattle.ps_commands.specs.Sessions.{Attended, IsAttended};
+
+use crate::connection::attend;
+use crate::door::Door;
+use ps_desk::{Desk, DeskName, Pass, desk_crosses};
+use std::alloc::Global;
+use std::marker::Model;
+use std::net::TcpStream;
+use std::snapshot::Snapshot;
+use std::sync::Wait;
+use std::sync::atomic::{AtomicU64, Ordering};
+use std::thread::{Promise, PromisedHandle, Scope, Threads};
+
+/// That a session gives its pass back, as the lines that its seat answered left this one.
+#[derive(Drop)]
+struct ComesBack<L: DeskName>(Snapshot<Pass<L>>);
+
+impl<L: DeskName> Promise<Pass<L>> for ComesBack<L> {
+    ghost use Rattle.ps_commands.specs.Sessions.{IsAttended};
+
+    ghost kept_by = { λ p r. IsAttended L.replica L.opening p.0.value r };
+}
+
+/// Where a session shows that it is over, so that nobody has to wait for it: a bit of a word that all share.
+#[derive(Clone, Copy)]
+pub(crate) struct Sign<'s> {
+    word: &'s AtomicU64,
+    bit: u64,
+}
+
+impl<'s> Sign<'s> {
+    /// The sign of this bit.
+    pub(crate) fn new(word: &'s AtomicU64, bit: u64) -> Sign<'s> {
+        Sign { word, bit }
+    }
+
+    fn is_up(self) -> bool {
+        self.word.load(Ordering::SeqCst) & self.bit != 0
+    }
+
+    fn raise(self) {
+        self.word.fetch_or(self.bit, Ordering::SeqCst);
+    }
+
+    fn lower(self) {
+        self.word.fetch_and(!self.bit, Ordering::SeqCst);
+    }
+}
+
+/// A seat of a desk: its pass is here, or a session has it in a thread of its own. A contract sees it as the pass that
+/// it began with, and how many sessions were begun.
+#[derive(Drop)]
+pub(crate) struct Chair<'s, L: DeskName> {
+    first: Snapshot<Pass<L>>,
+    begun: u64,
+    sign: Sign<'s>,
+    /// out while it changes
+    state: Option<Result<PromisedHandle<Pass<L>, ComesBack<L>>, Pass<L>>>,
+}
+
+impl<'s, L: DeskName> Model for Chair<'s, L> {
+    ghost use Rattle.std.specs.Prelude.{◌≡◌, ◌+◌, ℕ, IfSome, IsSome, MatchResult};
+    ghost use Rattle.std.specs.Coded.{codes};
+    ghost use Rattle.ps_face.specs.contracts.patch.Note as note;
+    ghost use Rattle.ps_commands.specs.Sessions.{Attended, Turns};
+
+    ghost Value = { Turns };
+
+    ghost coded = { Prim.hlevel (codes, note.the_row.coded) };
+
+    ghost view = { λ c. record { first = c.first.value; begun = c.begun } };
+
+    ghost invariant = { λ c. IsSome c.state × IfSome c.state (λ s. MatchResult s
+        (λ h. (n : ℕ) × (c.begun ≡ n + 1) × Attended L.replica L.opening n c.first.value h.promise.0.value)
+        (λ p. Attended L.replica L.opening c.begun c.first.value p)) };
+}
+
+impl<'s, L: DeskName> Chair<'s, L> {
+    /// A seat that nobody has had.
+    pub(crate) fn new(pass: Pass<L>, sign: Sign<'s>) -> Chair<'s, L>
+        ensures { result ≡ record { first = pass; begun = 0 } }
+    {
+        Chair {
+            first: Snapshot::of(&pass),
+            begun: 0,
+            sign,
+            state: Some(Err(pass)),
+        }
+    }
+
+    /// How many sessions were begun.
+    pub(crate) fn begun(&self) -> u64
+        ensures { result ≡ self.now.begun }
+    {
+        self.begun
+    }
+
+    /// Whether no session has it.
+    fn is_free(&self) -> bool
+        ensures { result ≡ true → self.now.begun + 1 < 2 ^ 64 }
+    {
+        matches!(self.state, Some(Err(_))) && self.begun < u64::MAX
+    }
+
+    /// Takes the pass back, if the session that has it is over.
+    fn take_back<R: Threads>(&mut self, rt: &R)
+        ensures { self.new ≡ self.old }
+    {
+        if self.sign.is_up() {
+            let pass = match self.state.take().unwrap() {
+                Ok(handle) => handle.join(rt),
+                Err(pass) => pass,
+            };
+            self.state = Some(Err(pass));
+        }
+    }
+
+    /// Waits for the end of the session that has it, and gives the pass up.
+    pub(crate) fn end<R: Threads>(self, rt: &R) -> Pass<L>
+        ensures { Attended L.replica L.opening self.entry.begun self.entry.first result }
+    {
+        let Chair { state, .. } = self;
+        match state.unwrap() {
+            Ok(handle) => handle.join(rt),
+            Err(pass) => pass,
+        }
+    }
+
+    /// Takes the pass back, if the session that has it is over, and gives it to the connection that waits first, if
+    /// it is free.
+    pub(crate) fn turn<E, W: Wait + Drop + Send + 's, R: Threads + Wait + Sync>(
+        &mut self,
+        scope: &Scope<'s, E>,
+        rt: &'s R,
+        alloc: Global,
+        desk: &'s Desk<L, W>,
+        door: &mut Door<'_>,
+    )
+    where
+        L: Send + Sync + 's,
+        ensures { self.new.first ≡ self.old.first }
+    {
+        self.take_back(rt);
+        if self.is_free() {
+            if let Some(stream) = door.next() {
+                self.begin(scope, rt, alloc, desk, stream);
+            }
+        }
+    }
+
+    /// Begins a session over a connection.
+    fn begin<E, W: Wait + Drop + Send + 's, R: Threads + Wait + Sync>(
+        &mut self,
+        scope: &Scope<'s, E>,
+        rt: &'s R,
+        alloc: Global,
+        desk: &'s Desk<L, W>,
+        stream: TcpStream,
+    )
+    where
+        L: Send + Sync + 's,
+        requires { self.old.begun + 1 < 2 ^ 64 }
+        ensures first { self.new.first ≡ self.old.first }
+        ensures begun { self.new.begun ≡ self.old.begun + 1 }
+    {
+        let pass = match self.state.take().unwrap() {
+            Ok(handle) => handle.join(rt),
+            Err(pass) => pass,
+        };
+        self.sign.lower();
+        self.state = Some(begin(scope, rt, alloc, desk, pass, stream, self.sign));
+        self.begun += 1;
+    }
+}
+
+/// Begins a session over a connection, in a thread of its own. Where none can be started, the session is run here.
+fn begin<
+    's,
+    E,
+    L: DeskName + Send + Sync + 's,
+    W: Wait + Drop + Send + 's,
+    R: Threads + Wait + Sync,
+>(
+    scope: &Scope<'s, E>,
+    rt: &'s R,
+    alloc: Global,
+    desk: &'s Desk<L, W>,
+    pass: Pass<L>,
+    stream: TcpStream,
+    sign: Sign<'s>,
+) -> Result<PromisedHandle<Pass<L>, ComesBack<L>>, Pass<L>>
+    ensures { MatchResult result (λ h. h.promise.0.value ≡ pass) (λ p. IsAttended L.replica L.opening pass p) }
+{
+    desk_crosses::<L, W>();
+    let promise = ComesBack(Snapshot::of(&pass));
+    let begun = scope.spawn_with(
+        promise,
+        move || -> Pass<L>
+            ensures { IsAttended L.replica L.opening pass result }
+        {
+            let back = attend(rt, alloc, desk, pass, &stream);
+            drop(stream);
+            sign.raise();
+            back
+        },
+    );
+    match begun {
+        Ok(handle) => Ok(handle),
+        Err(refused) => Err((refused.value)()),
+    }
+}

@@ -1,0 +1,72 @@
+//! The command `page`: the sheet of a running `serve`, in a browser.
+ghost use Rattle.std.specs.Prelude.{◌≡◌, ◌<◌, ◌⊎◌, ◌++◌, [], Err, OnErr, OnOk, decimal};
+ghost use Rattle.std.specs.Io.KnownBytes.{Appends};
+ghost use Rattle.ps_grid.specs.declared.refusal.Refusal.TheVariants as Refusal;
+ghost use Rattle.ps_commands.specs.Commands.{page_text};
+ghost use Rattle.ps_commands.specs.declared.fault.ProgramFault.TheVariants.{Refused};
+
+use crate::fault::ProgramFault;
+use crate::server::listen;
+use itoa::Buffer;
+use ps_device::{Failed, Sink, hand_on, put_all};
+use ps_grid::Refusal;
+use ps_page::{Gateway, serve_page};
+use ps_session::LINE_LIMIT;
+use ps_words::PageOptions;
+use std::alloc::Global;
+use std::net::{Net, TcpListener, TcpStream};
+use std::sync::Wait;
+use std::thread::Threads;
+use std::time::Clock;
+
+/// Writes a number between two texts, and hands all of it on.
+fn tell_between<K: Sink>(first: &[u8], number: u16, last: &[u8], out: &mut K) -> Result<(), Failed>
+    ensures told { OnOk result (Appends (K.contents out.old) (K.contents out.new)
+        (first.now ++ decimal number ++ last.now)) }
+    ensures settled { OnOk result (K.waiting out.new ≡ []) }
+    ensures calm { OnOk result (K.failures out.new ≡ K.failures out.old) }
+    ensures failed { OnErr result (K.failures out.old < K.failures out.new) }
+{
+    let mut digits = Buffer::new();
+    put_all(out, first)?;
+    put_all(out, digits.format(number).as_bytes())?;
+    put_all(out, last)?;
+    hand_on(out)?;
+    Ok(())
+}
+
+/// Listens on a port of this machine, writes `page` and the address of the page, and shows the sheet of the server on
+/// another port to the browsers that ask for it, each with a session of its own, up to the number that was asked for.
+/// What passes between them is what `ps_page` says.
+///
+/// It ends only as `Device`: where the port can't be listened on, `out` fails, or no connection can be accepted any
+/// more.
+///
+/// Cost: that of the browsers' lines, and a thread for each connection.
+pub fn open_page<
+    R: Net<Listener = TcpListener, Stream = TcpStream> + Threads + Wait + Clock + Sync,
+    K: Sink,
+>(rt: &R, alloc: Global, options: PageOptions, out: &mut K) -> Result<(), ProgramFault>
+    ensures ended { result ≡ Err (Refused Refusal.Device) }
+    ensures told { (out.new ≡ out.old)
+        ⊎ (Appends (K.contents out.old) (K.contents out.new) (page_text options.port)
+        × (K.waiting out.new ≡ []) × (K.failures out.new ≡ K.failures out.old))
+        ⊎ (K.failures out.old < K.failures out.new) }
+{
+    let listener = match listen(rt, options.port) {
+        Ok(listener) => listener,
+        Err(_) => return Err(ProgramFault::Refused(Refusal::Device)),
+    };
+    if tell_between(b"page http://127.0.0.1:", options.port, b"/\n", out).is_err() {
+        return Err(ProgramFault::Refused(Refusal::Device));
+    }
+    let gateway = Gateway {
+        from: options.from,
+        port: options.port,
+        browsers: usize::from(options.browsers),
+        message_limit: LINE_LIMIT,
+    };
+    // (it ends only where no connection can be accepted)
+    let _ = serve_page(rt, alloc, gateway, &listener);
+    Err(ProgramFault::Refused(Refusal::Device))
+}

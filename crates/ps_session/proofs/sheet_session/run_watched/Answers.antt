@@ -1,0 +1,47 @@
+use Rattle.std.proofs.Common.{List, ℕ, subst, ◌≤◌}
+use Rattle.ps_grid.specs.declared.parties.TheConstants.{REPLICAS}
+use Rattle.ps_sheet.specs.Sheet.{SheetView}
+use Rattle.ps_session.specs.Answers.{Answers}
+use Rattle.ps_session.specs.Boards.{BoardAnswers}
+use Rattle.ps_session.specs.SheetBoard.{SheetCalls}
+use Rattle.ps_session.proofs.AnswerLemmas.{sheet_answers}
+use Rattle.ps_session.proofs.ReplicaAndLinesStay.{Keeps, answered_keeps, keeps_itself, then_keeps}
+use Rattle.ps_session.proofs.Runs.{talked}
+use Rattle.ps_session.proofs.Weaker.{all_answered, all_transcribed, stopped}
+use Rattle.ps_session.proofs.sheet_session.run_watched.Goals as goal
+
+keeps : (old new : SheetView) (line text : List ℕ) → BoardAnswers SheetCalls old line text new → Keeps old new
+keeps old new line text a = answered_keeps old new line text (sheet_answers old new line text a)
+
+pub returns-clause-transcribed : goal.returns-clause-transcribed
+returns-clause-transcribed g c =
+    all_transcribed (BoardAnswers SheetCalls) Answers sheet_answers _ _ _ _ _ _ c.talk_watched-answered.result
+    c.talk_watched-answered.ensures.transcribed
+
+pub returns-clause-sink : goal.returns-clause-sink
+returns-clause-sink g c = λ is.
+    let told = c.talk_watched-answered.ensures.sink is in
+    (told.0, told.1, stopped (BoardAnswers SheetCalls) Answers sheet_answers _ _ _ _ told.0 _ told.2)
+
+pub returns-clause-source : goal.returns-clause-source
+returns-clause-source g c = λ is.
+    let told = c.talk_watched-answered.ensures.source is in
+    (told.0, told.1, all_answered (BoardAnswers SheetCalls) Answers sheet_answers _ _ _ _ told.0 told.2)
+
+pub returns-clause-replica : goal.returns-clause-replica
+returns-clause-replica g c =
+    let told = c.talk_watched-answered.ensures in
+    let kept : Keeps c.args.sheet.now c.talk_watched-answered.new.board =
+    talked Keeps keeps_itself then_keeps (BoardAnswers SheetCalls) keeps _ _ _ _ _ _ _ _ c.talk_watched-answered.result
+    told.transcribed told.sink told.source told.memory in
+    kept.replica
+
+pub returns-clause-lines : goal.returns-clause-lines
+returns-clause-lines g c =
+    let told = c.talk_watched-answered.ensures in
+    let kept : Keeps c.args.sheet.now c.talk_watched-answered.new.board =
+    talked Keeps keeps_itself then_keeps (BoardAnswers SheetCalls) keeps _ _ _ _ _ _ _ _ c.talk_watched-answered.result
+    told.transcribed told.sink told.source told.memory in
+    let sheet = c.version.ensures.sheet in
+    kept.lines (subst (λ r. 1 ≤ r) kept.replica sheet.replica.0)
+    (subst (λ r. r ≤ REPLICAS) kept.replica sheet.replica.1)

@@ -1,0 +1,92 @@
+//! What a peer has and gets, written line by line.
+ghost use Rattle.std.specs.Prelude.{◌≡◌, ◌⊎◌, ◌<◌, [], Err, IfErr, OnErr, OnOk, false, true};
+ghost use Rattle.std.specs.Io.KnownBytes.{Appends};
+ghost use Rattle.ps_grid.specs.declared.refusal.Refusal.TheVariants as Refusal;
+ghost use Rattle.ps_session.specs.Exchange.{IsAll, IsHalted, IsLeft, IsOwn, push_text};
+ghost use Rattle.ps_session.specs.Feeding.{without_return};
+ghost use Rattle.ps_session.specs.Peers.{PutsSome};
+ghost use Rattle.ps_session.specs.declared.exchange.SyncFault.TheVariants.{Refused};
+
+use crate::exchange::{Due, SyncFault, ask_after, due_reply, fault_of};
+use crate::peer::{Peer, PeerFault};
+use crate::reply::send_pieces;
+use ps_device::{Failed, Sink, Source, hand_on};
+use ps_grid::Refusal;
+use std::alloc::Global;
+use std::thread::sleep;
+use std::time::{Clock, Duration};
+
+/// When what is followed is at its end, and how often it is asked for more.
+#[derive(Clone, Copy)]
+pub struct Following {
+    /// Whether it ends once the peer has no more.
+    pub until_now: bool,
+    /// How long it waits, where the peer has no more, before it asks again.
+    pub every: Duration,
+}
+
+/// Writes a delta's line as one to push, and hands it on.
+fn write_push<O: Sink>(delta: &[u8], out: &mut O) -> Result<(), Failed>
+    ensures sent { OnOk result (Appends (O.contents out.old) (O.contents out.new) (push_text delta.now)) }
+    ensures settled { OnOk result (O.waiting out.new ≡ []) }
+    ensures put { OnErr result (PutsSome (O.contents out.old) (O.contents out.new) (push_text delta.now)) }
+    ensures calm { OnOk result (O.failures out.new ≡ O.failures out.old) }
+    ensures failed { OnErr result (O.failures out.old < O.failures out.new) }
+{
+    let pieces: [&[u8]; 3] = [b"push ", delta, b"\n"];
+    send_pieces(pieces.as_slice(), out)?;
+    hand_on(out)?;
+    Ok(())
+}
+
+/// Pulls all that a peer has, from version 0 on, and then each change that it gets, and writes the line of each group
+/// as one to push. Each line is handed on before the next pull.
+///
+/// It ends where the peer has no more, if it is to be followed until now, and else where the peer closes after a
+/// reply. Until now, a peer that closes before that is refused as `Line`: not all was written. Refused as `Device` only
+/// where a device fails, which may be `out`, and as `Line` where a reply isn't due; a peer's `err` is a fault of its
+/// own. What was written before stays written.
+///
+/// Cost: linear in the bytes of the lines, but for the time that the peer takes and that it waits for it.
+pub fn follow<S: Source + Drop, K: Sink + Drop, O: Sink, C: Clock>(
+    clock: &C,
+    alloc: Global,
+    from: &mut Peer<S, K>,
+    out: &mut O,
+    following: Following,
+) -> Result<(), SyncFault>
+    ensures all { OnOk result (following.until_now ≡ true
+        → IsAll from.old from.new (O.contents out.old) (O.contents out.new)) }
+    ensures left { OnOk result (following.until_now ≡ false
+        → IsLeft from.old from.new (O.contents out.old) (O.contents out.new)) }
+    ensures halted { OnErr result (IsHalted (O.failures out.old < O.failures out.new) from.old from.new
+        (O.contents out.old) (O.contents out.new)) }
+    ensures settled { O.waiting out.old ≡ []
+        → (O.waiting out.new ≡ []) ⊎ (O.failures out.old < O.failures out.new) }
+    ensures calm { OnOk result ((from.new.failures ≡ from.old.failures)
+        × (O.failures out.new ≡ O.failures out.old)) }
+    ensures failed { result ≡ Err (Refused Refusal.Device)
+        → (from.old.failures < from.new.failures) ⊎ (O.failures out.old < O.failures out.new) }
+    ensures own { IfErr result (λ fault. IsOwn fault (without_return from.new.line)) }
+{
+    let mut version = 0u64;
+    'pulls: loop {
+        match ask_after(from, version) {
+            Ok(()) => {}
+            Err(PeerFault::Closed) if !following.until_now => return Ok(()),
+            Err(fault) => return Err(fault_of(fault)),
+        }
+        match due_reply(alloc, from.reply(), version) {
+            Ok(Due::Group(last, delta)) => {
+                match write_push(delta, out) {
+                    Ok(()) => {}
+                    Err(_) => return Err(SyncFault::Refused(Refusal::Device)),
+                }
+                version = last;
+            }
+            Ok(Due::End) if following.until_now => return Ok(()),
+            Ok(Due::End) => sleep(clock, following.every),
+            Err(fault) => return Err(fault),
+        }
+    }
+}

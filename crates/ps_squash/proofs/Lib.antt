@@ -1,0 +1,6 @@
+mod CellLemmas
+mod LineLemmas
+mod ReadLemmas
+mod RoomLemmas
+mod StandsLemmas
+mod TextLemmas

@@ -1,0 +1,311 @@
+-- Lines that are taken in: one line more, a part of a line, the end.
+use Rattle.std.proofs.Common.{◌≡◌, ◌≢◌, ℕ, ◌+◌, ◌-◌, ◌^◌, ◌<◌, ◌≤◌, Bool, true, false, List, [], ◌∷◌, ◌++◌, length, min}
+use Rattle.std.proofs.Common.{take, drop, refl, sym, ap, ◌∙◌, arith, rules, subst, Option, Some, None, nat_le, flat_map}
+use Rattle.std.proofs.Common.{append_assoc, append-nil, length-append, length-drop}
+use Rattle.std.proofs.Math.Seq.{take-add}
+use Rattle.std.specs.Prelude.{if◌then◌else◌, ⊤}
+use Rattle.std.proofs.lemmas.Grind.{flat_map-append}
+use Rattle.std.proofs.lemmas.Bool.Decides.{nat_tests}
+use Rattle.std.proofs.lemmas.List.{take-append-drop}
+use Rattle.std.proofs.lemmas.List.Elements.{All-append, All-push}
+use Rattle.ps_device.proofs.DeviceLemmas.{rest-range}
+use Rattle.ps_delta.specs.State.{State, empty_state, joined_state}
+use Rattle.ps_delta.specs.Deltas.{Entries, joined_history}
+use Rattle.ps_delta.proofs.HistoryLemmas.{joined_history-append, joined_history-nil}
+use Rattle.ps_session.specs.declared.session.TheConstants.{LINE_LIMIT}
+use Rattle.ps_session.specs.declared.session.Line.{Line}
+use Rattle.ps_session.specs.declared.session.Line.TheVariants as lines
+use Rattle.ps_session.specs.Feeding.{Ends, EndsLine, Feeds, HasNoFeed, Reading, kept, kept_after, without_return}
+use Rattle.ps_session.specs.Transcript.{IsAfterLine, stream_of, with_last}
+use Rattle.ps_squash.specs.Squashed.{FirstFault, Say, SayTogether, Says}
+use Rattle.ps_squash.specs.Inside.{Holds, Stands}
+use Rattle.ps_squash.proofs.LineLemmas.{held_line}
+
+-- one line more
+say_push : (ls : List (List ℕ)) (ds here : List Entries) (line : List ℕ) → Say ls ds
+    → Says (without_return line) here → Say (ls ++ line ∷ []) (ds ++ here)
+say_push [] ds here line say says = (
+  here,
+  [],
+  says,
+  refl,
+  ap (λ x. x ++ here) say ∙ sym (append-nil here),
+)
+say_push (l ∷ ls) ds here line say says = (
+  say.0,
+  say.1 ++ here,
+  say.2,
+  say_push ls say.1 here line say.3 says,
+  ap (λ x. x ++ here) say.4 ∙ append_assoc say.0 say.1 here,
+)
+
+-- what is kept of a line doesn't hang on where it was cut
+kept_cut : (raw part : List ℕ) → kept_after (kept raw) part ≡ kept (raw ++ part)
+kept_cut raw part = go (nat_le (length raw) LINE_LIMIT) refl
+  where
+    go : (b : Bool) → nat_le (length raw) LINE_LIMIT ≡ b
+        → kept_after (if b then Some raw else None) part ≡ kept (raw ++ part)
+    go true fits = refl
+    go false long =
+        let sum : length (raw ++ part) ≡ length raw + length part = length-append raw part in
+        let longer : nat_le (length (raw ++ part)) LINE_LIMIT ≡ false = rw sum (grind (arith, nat_tests, long)) in
+        sym (ap (λ (b : Bool). if b then Some (raw ++ part) else None) longer)
+
+stream-rest : (ls : List (List ℕ)) (rest part : List ℕ) → stream_of ls rest ++ part ≡ stream_of ls (rest ++ part)
+stream-rest ls rest part = append_assoc (flat_map (λ line. line ++ 10 ∷ []) ls) rest part
+
+stream-push : (ls : List (List ℕ)) (line : List ℕ) → stream_of ls (line ++ 10 ∷ []) ≡ stream_of (ls ++ line ∷ []) []
+stream-push ls line =
+    sym (append-nil (flat_map (λ l. l ++ 10 ∷ []) (ls ++ line ∷ []))
+    ∙ flat_map-append (λ l. l ++ 10 ∷ []) ls (line ∷ [])
+    ∙ ap (λ t. flat_map (λ l. l ++ 10 ∷ []) ls ++ t) (append-nil (line ++ 10 ∷ [])))
+
+one_more : (ls : List (List ℕ)) (line : List ℕ) (before after : ℕ) → before ≡ min (length ls) (2 ^ 64 - 1)
+    → after ≡ min (before + 1) (2 ^ 64 - 1) → after ≡ min (length (ls ++ line ∷ [])) (2 ^ 64 - 1)
+one_more ls line before after is next =
+    capped (length ls) before after (length (ls ++ line ∷ [])) (2 ^ 64 - 1) is next
+    (omega (arith, length-append ls (line ∷ [])))
+  where
+    capped : (n before after more most : ℕ) → before ≡ min n most → after ≡ min (before + 1) most → more ≡ n + 1
+        → after ≡ min more most
+    capped n before after more most is next grown = omega arith
+
+-- the number of the line that goes on
+number_of : (ls : List (List ℕ)) (before after : ℕ) → before ≡ min (length ls) (2 ^ 64 - 1)
+    → after ≡ min (before + 1) (2 ^ 64 - 1) → after ≡ min (length ls + 1) (2 ^ 64 - 1)
+number_of ls before after is next = capped (length ls) before after (2 ^ 64 - 1) is next
+  where
+    capped : (n before after most : ℕ) → before ≡ min n most → after ≡ min (before + 1) most
+        → after ≡ min (n + 1) most
+    capped n before after most is next = omega arith
+
+joined_more : (old new : State) (ds here : List Entries) → old ≡ joined_history ds
+    → new ≡ joined_state old (joined_history here) → new ≡ joined_history (ds ++ here)
+joined_more old new ds here is next =
+    next ∙ ap (λ s. joined_state s (joined_history here)) is ∙ sym (joined_history-append ds here)
+
+-- a line ended: it was joined, and is now among the lines
+abbrev Joined : Line → Reading → State → State → Type 0
+Joined line after old new = (raw : List ℕ) → Holds line after raw
+    → (here : List Entries) × Says (without_return raw) here × (new ≡ joined_state old (joined_history here))
+
+-- .. or it says nothing that a delta is
+abbrev Faulty : Line → Reading → ℕ → ℕ → Type 0
+Faulty line after count number = (raw : List ℕ) → Holds line after raw
+    → ((here : List Entries) → ¬ Says (without_return raw) here) × (number ≡ min (count + 1) (2 ^ 64 - 1))
+
+module _ (read : List ℕ) (before after : Reading) (old : State) (count : ℕ) where
+  -- no line ended
+  pub part_stands : (bytes : List ℕ) → Feeds before after bytes lines.None
+      → Stands read before.pending old count → Stands (read ++ bytes) after.pending old count
+  part_stands bytes fed s = record {
+    lines = s.lines;
+    rest = s.rest ++ bytes;
+    split = record {
+      whole = ap (λ r. r ++ bytes) s.split.whole ∙ stream-rest s.lines s.rest bytes;
+      each = s.split.each;
+      partial = All-append (λ b. b ≢ 10) s.rest bytes s.split.partial fed.0;
+    };
+    held = fed.1 ∙ ap (λ p. kept_after p bytes) s.held ∙ kept_cut s.rest bytes;
+    deltas = s.deltas;
+    said = s.said;
+    joined = s.joined;
+    counted = s.counted;
+  }
+
+  -- what is kept of the whole line that a part ended
+  kept_whole : (bytes rest : List ℕ) (wanted : Option (List ℕ)) → before.pending ≡ kept rest
+      → EndsLine bytes (λ part. kept_after before.pending part ≡ wanted)
+      → (part : List ℕ) × (bytes ≡ part ++ 10 ∷ []) × HasNoFeed part × (kept (rest ++ part) ≡ wanted)
+  kept_whole bytes rest wanted held ends = (
+    ends.0,
+    ends.1,
+    ends.2,
+    sym (kept_cut rest ends.0) ∙ ap (λ p. kept_after p ends.0) (sym held) ∙ ends.3,
+  )
+
+  ended : (bytes : List ℕ) (line : Line) → line ≢ lines.None → Feeds before after bytes line
+      → (s : Stands read before.pending old count)
+      → (part : List ℕ) × (bytes ≡ part ++ 10 ∷ []) × HasNoFeed part × Holds line after (s.rest ++ part)
+      × (after.pending ≡ Some [])
+  ended bytes lines.None some fed s = absurd (some refl)
+  ended bytes lines.Full some fed s =
+      let whole = kept_whole bytes s.rest (Some after.line) s.held fed.0 in
+      (whole.0, whole.1, whole.2, whole.3, fed.1)
+  ended bytes lines.TooLong some fed s =
+      let whole = kept_whole bytes s.rest None s.held fed.0 in (whole.0, whole.1, whole.2, whole.3, fed.1)
+
+  pub line_stands : (new : State) (counted : ℕ) (bytes : List ℕ) (line : Line) → line ≢ lines.None
+      → Feeds before after bytes line → Joined line after old new → counted ≡ min (count + 1) (2 ^ 64 - 1)
+      → Stands read before.pending old count → Stands (read ++ bytes) after.pending new counted
+  line_stands new counted bytes line some fed joined rises s =
+      let e = ended bytes line some fed s in
+      let j = joined (s.rest ++ e.0) e.3 in record {
+        lines = s.lines ++ (s.rest ++ e.0) ∷ [];
+        rest = [];
+        split = record {
+          whole = ap (λ b. read ++ b) e.1 ∙ ap (λ r. r ++ (e.0 ++ 10 ∷ [])) s.split.whole
+              ∙ stream-rest s.lines s.rest (e.0 ++ 10 ∷ [])
+              ∙ ap (stream_of s.lines) (sym (append_assoc s.rest e.0 (10 ∷ []))) ∙ stream-push s.lines (s.rest ++ e.0);
+          each = All-push HasNoFeed s.lines (s.rest ++ e.0) s.split.each
+              (All-append (λ b. b ≢ 10) s.rest e.0 s.split.partial e.2);
+          partial = λ k d lt. absurd (omega (arith, lt));
+        };
+        held = e.4;
+        deltas = s.deltas ++ j.0;
+        said = say_push s.lines s.deltas j.0 (s.rest ++ e.0) s.said j.1;
+        joined = joined_more old new s.deltas j.0 s.joined j.2;
+        counted = one_more s.lines (s.rest ++ e.0) count counted s.counted rises;
+      }
+
+  pub line_fails : (number : ℕ) (piece : List ℕ) (taken : ℕ) (line : Line) → line ≢ lines.None
+      → Feeds before after (take taken piece) line → Faulty line after count number
+      → Stands read before.pending old count → FirstFault ⊥ (read ++ piece) number
+  line_fails number piece taken line some fed faulty s =
+      let e = ended (take taken piece) line some fed s in
+      let f = faulty (s.rest ++ e.0) e.3 in
+      let more = 10 ∷ drop taken piece in
+      let parts : piece ≡ e.0 ++ more =
+      sym (take-append-drop taken piece) ∙ ap (λ t. t ++ drop taken piece) e.1
+      ∙ append_assoc e.0 (10 ∷ []) (drop taken piece) in record {
+        lines = s.lines;
+        line = s.rest ++ e.0;
+        after = more;
+        whole = ap (λ p. read ++ p) parts ∙ ap (λ r. r ++ (e.0 ++ more)) s.split.whole
+            ∙ stream-rest s.lines s.rest (e.0 ++ more)
+            ∙ ap (stream_of s.lines) (sym (append_assoc s.rest e.0 more));
+        each = s.split.each;
+        one = All-append (λ b. b ≢ 10) s.rest e.0 s.split.partial e.2;
+        ends = refl;
+        deltas = s.deltas;
+        said = s.said;
+        faulty = f.0;
+        counted = number_of s.lines count number s.counted f.1;
+      }
+
+  -- the end, where nothing remains
+  pub none_remains : Ends before after lines.None → Stands read before.pending old count → SayTogether read old
+  none_remains ends s =
+      let none : s.rest ≡ [] = held_line s.rest [] (sym s.held ∙ ends.0) in record {
+        lines = s.lines;
+        rest = s.rest;
+        split = s.split;
+        deltas = s.deltas;
+        said = subst (λ r. Say (with_last s.lines r) s.deltas) (sym none) s.said;
+        joined = s.joined;
+      }
+
+  last_filled : (ls : List (List ℕ)) (rest : List ℕ) → 0 < length rest → with_last ls rest ≡ ls ++ rest ∷ []
+  last_filled ls [] some = absurd (omega (arith, some))
+  last_filled ls (b ∷ bs) some = refl
+
+  long_filled : (rest : List ℕ) → kept rest ≡ None → 0 < length rest
+  long_filled [] is = search (rules, is)
+  long_filled (b ∷ bs) is = omega arith
+
+  last_held : (line : Line) → line ≢ lines.None → Ends before after line
+      → (s : Stands read before.pending old count) → Holds line after s.rest × (0 < length s.rest)
+  last_held lines.None some ends s = absurd (some refl)
+  last_held lines.Full some ends s =
+      let is = sym s.held ∙ ends.0 in
+      (is, subst (λ l. 0 < length l) (sym (held_line s.rest after.line is)) ends.2)
+  last_held lines.TooLong some ends s =
+      let is = sym s.held ∙ ends.0 in (is, long_filled s.rest is)
+
+  pub last_joins : (new : State) (line : Line) → line ≢ lines.None → Ends before after line
+      → Joined line after old new → Stands read before.pending old count → SayTogether read new
+  last_joins new line some ends joined s =
+      let held = last_held line some ends s in
+      let j = joined s.rest held.0 in record {
+        lines = s.lines;
+        rest = s.rest;
+        split = s.split;
+        deltas = s.deltas ++ j.0;
+        said = subst (λ ls. Say ls (s.deltas ++ j.0)) (sym (last_filled s.lines s.rest held.1))
+            (say_push s.lines s.deltas j.0 s.rest s.said j.1);
+        joined = joined_more old new s.deltas j.0 s.joined j.2;
+      }
+
+  pub last_fails : (number : ℕ) (line : Line) → line ≢ lines.None → Ends before after line
+      → Faulty line after count number → Stands read before.pending old count → FirstFault ⊤ read number
+  last_fails number line some ends faulty s =
+      let held = last_held line some ends s in
+      let f = faulty s.rest held.0 in record {
+        lines = s.lines;
+        line = s.rest;
+        after = [];
+        whole = s.split.whole ∙ ap (stream_of s.lines) (sym (append-nil s.rest));
+        each = s.split.each;
+        one = s.split.partial;
+        ends = tt;
+        deltas = s.deltas;
+        said = s.said;
+        faulty = f.0;
+        counted = number_of s.lines count number s.counted f.1;
+      }
+
+-- a fault, with what is known of the end of the input
+pub fault_ended : (P Q : Type 0) (read : List ℕ) (number : ℕ) → (P → Q) → FirstFault P read number
+    → FirstFault Q read number
+fault_ended P Q read number known f = record {
+  lines = f.lines;
+  line = f.line;
+  after = f.after;
+  whole = f.whole;
+  each = f.each;
+  one = f.one;
+  ends = go f.after f.ends;
+  deltas = f.deltas;
+  said = f.said;
+  faulty = f.faulty;
+  counted = f.counted;
+}
+  where
+    go : (after : List ℕ) → IsAfterLine P after → IsAfterLine Q after
+    go [] p = known p
+    go (b ∷ bs) p = p
+
+-- nothing is read yet
+pub none_stand : (pending : Option (List ℕ)) (state : State) → pending ≡ Some [] → state ≡ empty_state
+    → Stands [] pending state 0
+none_stand pending state is empty = record {
+  lines = [];
+  rest = [];
+  split = record {
+    whole = refl;
+    each = λ k d lt. absurd (omega (arith, lt));
+    partial = λ k d lt. absurd (omega (arith, lt));
+  };
+  held = is;
+  deltas = [];
+  said = refl;
+  joined = empty ∙ sym joined_history-nil;
+  counted = refl;
+}
+
+-- one turn more, as the code takes it, and all that is left
+pub stands_more : (read bytes : List ℕ) (start taken : ℕ) (pending : Option (List ℕ)) (state : State) (count : ℕ)
+    → Stands ((read ++ take start bytes) ++ take taken (take (length bytes - start) (drop start bytes))) pending state
+    count
+    → Stands (read ++ take (start + taken) bytes) pending state count
+stands_more read bytes start taken pending state count s =
+    subst (λ r. Stands r pending state count)
+    (ap (λ r. (read ++ take start bytes) ++ take taken r) (rest-range bytes start)
+    ∙ append_assoc read (take start bytes) (take taken (drop start bytes))
+    ∙ ap (λ t. read ++ t) (sym (take-add start taken bytes))) s
+
+pub fault_rest : (read bytes : List ℕ) (start number : ℕ)
+    → FirstFault ⊥ ((read ++ take start bytes) ++ take (length bytes - start) (drop start bytes)) number
+    → FirstFault ⊥ (read ++ bytes) number
+fault_rest read bytes start number f =
+    subst (λ r. FirstFault ⊥ r number)
+    (ap (λ r. (read ++ take start bytes) ++ r) (rest-range bytes start)
+    ∙ append_assoc read (take start bytes) (drop start bytes)
+    ∙ ap (λ t. read ++ t) (take-append-drop start bytes)) f
+
+pub turn_within : (bytes : List ℕ) (start taken : ℕ) → start < length bytes
+    → taken ≤ length (take (length bytes - start) (drop start bytes)) → start + taken ≤ length bytes
+turn_within bytes start taken lt le =
+    let shorter : length (take (length bytes - start) (drop start bytes)) ≡ length bytes - start =
+    ap length (rest-range bytes start) ∙ length-drop start bytes in
+    omega (arith, shorter, lt, le)

@@ -1,0 +1,14 @@
+use Rattle.std.proofs.Common.{[]}
+use Rattle.std.specs.Prelude.{⊤}
+use Rattle.std.specs.Io.KnownBytes.{IsAtEnd}
+use Rattle.ps_squash.proofs.StandsLemmas.{fault_ended}
+use Rattle.ps_squash.proofs.intake.taken_in.Goals as goal
+
+pub returns-in-Err-finish-clause-faulty : goal.returns-in-Err-finish-clause-faulty
+returns-in-Err-finish-clause-faulty g c = λ number is.
+    let r = c.in-Ok.ensures.read in (
+      r.0,
+      r.1,
+      fault_ended ⊤ _ r.0 number (λ all. r.2)
+          (c.in-Err-finish.ensures.faulty number is r.0 (r.3 c.in_ok-intake.ensures.stands)),
+    )

@@ -1,0 +1,94 @@
+-- What the private functions say of lines on their way; no contract of a public one cites this.
+use Rattle.std.specs.Prelude.{◌≡◌, ◌≢◌, ◌+◌, ◌-◌, ◌^◌, ◌<◌, ℕ, List, [], ◌∷◌, ◌++◌, length, min, Option, Some, None}
+use Rattle.std.specs.Prelude.{Contains, ⊤}
+use Rattle.std.specs.List.{All}
+use Rattle.ps_delta.specs.declared.cell_state.CellState.{CellState}
+use Rattle.ps_delta.specs.State.{State, empty_cell}
+use Rattle.ps_delta.specs.Deltas.{Entries, IsDelta, cells_of, joined_history, state_of}
+use Rattle.ps_delta.specs.Order.{Rising, Under}
+use Rattle.ps_wire.specs.Fits.{FitsLine}
+use Rattle.ps_wire.specs.Length.{size}
+use Rattle.ps_wire.specs.Value.{cell_value}
+use Rattle.ps_session.specs.Feeding.{Reading, kept}
+use Rattle.ps_session.specs.Transcript.{Splits}
+use Rattle.ps_session.specs.declared.session.Line.{Line}
+use Rattle.ps_session.specs.declared.session.Line.TheVariants as lines
+use Rattle.ps_wire.specs.Line.{IsLine, delta_text}
+use Rattle.ps_squash.specs.Squashed.{AreFull, Divide, FirstFault, Say, cells_in, push_lines}
+use Rattle.ps_squash.specs.declared.fault.SquashFault.{SquashFault}
+use Rattle.ps_squash.specs.declared.fault.SquashFault.TheVariants as faults
+
+-- how the line that a session holds stands for the bytes between two line feeds
+abbrev pub Holds : Line → Reading → List ℕ → Type 0
+Holds lines.None session raw = ⊥
+Holds lines.Full session raw = kept raw ≡ Some session.line
+Holds lines.TooLong session raw = kept raw ≡ None
+
+-- the complete lines read were joined, and what remains is held
+pub record Stands (read : List ℕ) (pending : Option (List ℕ)) (state : State) (count : ℕ) : Type 0 where
+  pub lines : List (List ℕ)
+  pub rest : List ℕ
+  pub split : Splits read lines rest
+  pub held : pending ≡ kept rest
+  pub deltas : List Entries
+  pub said : Say lines deltas
+  pub joined : state ≡ joined_history deltas
+  pub counted : count ≡ min (length lines) (2 ^ 64 - 1)
+
+-- whatever came before, these bytes were taken in
+abbrev pub GoesOn : List ℕ → Option (List ℕ) → State → ℕ → Option (List ℕ) → State → ℕ → Type 0
+GoesOn bytes held before count pending state number =
+    (read : List ℕ) → Stands read held before count → Stands (read ++ bytes) pending state number
+
+-- .. or one of the lines that ended among them is the first that says no delta
+abbrev pub Fails : Type 0 → List ℕ → Option (List ℕ) → State → ℕ → ℕ → Type 0
+Fails ended bytes held before count number =
+    (read : List ℕ) → Stands read held before count → FirstFault ended (read ++ bytes) number
+
+-- what the cells before n hold
+pub record AreFirst (s : State) (n : ℕ) (entries : Entries) : Type 0 where
+  pub rising : Rising 0 (cells_of entries)
+  pub under : Under n (cells_of entries)
+  pub none_empty : All (λ e. e.1 ≢ empty_cell) entries
+  pub gives : (c : ℕ) → c < n → state_of entries c ≡ s c
+
+-- how long the text of a cell is
+abbrev pub cell_size : ℕ × CellState → ℕ
+cell_size e = size (cell_value e)
+
+-- .. with what comes after it: a comma or the last bracket
+abbrev pub ended_size : ℕ → ℕ
+ended_size n = 1 + n
+
+-- one of the cells has no line by itself
+abbrev pub HasWide : Entries → Type 0
+HasWide entries = (e : ℕ × CellState) × Contains entries e × ¬ FitsLine (e ∷ [])
+
+-- the faults that a line has, and those of a source of lines
+abbrev pub IsOfLines : SquashFault → Type 0
+IsOfLines faults.Memory = ⊤
+IsOfLines (faults.Line number) = ⊤
+IsOfLines _ = ⊥
+
+abbrev pub IsOfIntake : SquashFault → Type 0
+IsOfIntake faults.Source = ⊤
+IsOfIntake fault = IsOfLines fault
+
+-- the text pushes just the state, by deltas that divide cells
+pub record IsText (state : State) (text : List ℕ) : Type 0 where
+  pub fewer : List Entries
+  pub cells : Entries
+  pub divide : Divide fewer cells
+  pub spelled : text ≡ push_lines fewer
+  pub same : joined_history fewer ≡ state
+
+-- the text pushes the first of the cells, by full lines, and the rest is left
+pub record AreWritten (cells left : Entries) (text : List ℕ) : Type 0 where
+  pub deltas : List Entries
+  pub spelled : text ≡ push_lines deltas
+  pub whole : cells_in deltas ++ left ≡ cells
+  pub lawful : All IsDelta deltas
+  pub each : All (λ d. IsLine (delta_text d) d) deltas
+  pub full : AreFull deltas left
+  pub rising : Rising 0 (cells_of left)
+  pub none_empty : All (λ e. e.1 ≢ empty_cell) left

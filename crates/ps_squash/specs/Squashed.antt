@@ -1,0 +1,104 @@
+-- What delta lines say together, and the lines that say the same in fewer.
+use Rattle.std.specs.Prelude.{◌≡◌, ◌≢◌, ◌+◌, ◌-◌, ◌^◌, ℕ, List, [], ◌∷◌, ◌++◌, length, drop, min, flat_map, codes, ⊤}
+use Rattle.std.specs.Prelude.{if◌then◌else◌, nat_eq}
+use Rattle.std.specs.List.{All, starts_with}
+use Rattle.ps_delta.specs.State.{State}
+use Rattle.ps_delta.specs.Deltas.{Entries, IsDelta, joined_history}
+use Rattle.ps_wire.specs.Fits.{FitsLine}
+use Rattle.ps_wire.specs.Line.{IsLine, delta_text}
+use Rattle.ps_session.specs.Feeding.{HasNoFeed, without_return}
+use Rattle.ps_session.specs.Transcript.{IsAfterLine, Splits, stream_of, with_last}
+
+-- ---- lines in
+
+-- the word of a line that is to be pushed, with its space
+abbrev pub push_word : List ℕ
+push_word = codes "push "
+
+-- all after that word, or the whole line where it doesn't begin with it
+abbrev pub after_push : List ℕ → List ℕ
+after_push line = if starts_with nat_eq line push_word then drop 5 line else line
+
+-- what a line without its return says: nothing where it is empty, else the delta that it is a line of
+abbrev pub Says : List ℕ → List Entries → Type 0
+Says [] deltas = deltas ≡ []
+Says (b ∷ bs) deltas = (d : Entries) × IsLine (after_push (b ∷ bs)) d × (deltas ≡ d ∷ [])
+
+-- what lines say, one after another
+abbrev pub Say : List (List ℕ) → List Entries → Type 0
+Say [] deltas = deltas ≡ []
+Say (line ∷ lines) deltas = (first : List Entries) × (others : List Entries)
+    × Says (without_return line) first × Say lines others × (deltas ≡ first ++ others)
+
+-- what all lines of the bytes say, joined
+pub record SayTogether (bytes : List ℕ) (state : State) : Type 0 where
+  pub lines : List (List ℕ)
+  pub rest : List ℕ
+  pub split : Splits bytes lines rest
+  pub deltas : List Entries
+  pub said : Say (with_last lines rest) deltas
+  pub joined : state ≡ joined_history deltas
+
+-- the line that begins after these lines says nothing that a delta is, and each before it does; it has this number,
+-- from 1 on, and 2^64 - 1 stands for more. `ended` is known where nothing comes after it
+pub record FirstFault (ended : Type 0) (bytes : List ℕ) (number : ℕ) : Type 0 where
+  pub lines : List (List ℕ)
+  pub line : List ℕ
+  pub after : List ℕ
+  pub whole : bytes ≡ stream_of lines (line ++ after)
+  pub each : All HasNoFeed lines
+  pub one : HasNoFeed line
+  pub ends : IsAfterLine ended after
+  pub deltas : List Entries
+  pub said : Say lines deltas
+  pub faulty : (others : List Entries) → ¬ Says (without_return line) others
+  pub counted : number ≡ min (length lines + 1) (2 ^ 64 - 1)
+
+-- ---- lines out
+
+-- the line that pushes a delta
+abbrev pub push_line : Entries → List ℕ
+push_line delta = push_word ++ delta_text delta ++ 10 ∷ []
+
+-- the lines, one after another
+abbrev pub push_lines : List Entries → List ℕ
+push_lines deltas = flat_map push_line deltas
+
+-- all their cells, one delta after another
+abbrev pub cells_in : List Entries → Entries
+cells_in deltas = flat_map (λ d. d) deltas
+
+-- a delta's line has no room for the first of the cells that come after it
+abbrev pub HasNoRoomFor : Entries → Entries → Type 0
+HasNoRoomFor delta [] = ⊤
+HasNoRoomFor delta (entry ∷ entries) = ¬ FitsLine (delta ++ entry ∷ [])
+
+-- no line has room for the first cell after it, `next` standing after them all
+abbrev pub AreFull : List Entries → Entries → Type 0
+AreFull [] next = ⊤
+AreFull (d ∷ []) next = HasNoRoomFor d next
+AreFull (d ∷ e ∷ es) next = HasNoRoomFor d e × AreFull (e ∷ es) next
+
+-- the deltas divide the cells, in order, each has a line, and none could take the first cell of the next
+pub record Divide (deltas : List Entries) (cells : Entries) : Type 0 where
+  pub whole : cells_in deltas ≡ cells
+  pub lawful : All IsDelta deltas
+  pub each : All (λ d. IsLine (delta_text d) d) deltas
+  pub full : AreFull deltas []
+
+-- SQUASHED: the text pushes as few deltas as the cells of the joined lines need, and they say the same together
+pub record IsSquashed (bytes text : List ℕ) : Type 0 where
+  pub state : State
+  pub given : SayTogether bytes state
+  pub fewer : List Entries
+  pub cells : Entries
+  pub divide : Divide fewer cells
+  pub spelled : text ≡ push_lines fewer
+  pub same : joined_history fewer ≡ state
+
+-- the joined state of the lines has a cell that no line has room for
+pub record HasWideCell (bytes : List ℕ) : Type 0 where
+  pub state : State
+  pub given : SayTogether bytes state
+  pub cell : ℕ
+  pub wide : ¬ FitsLine ((cell, state cell) ∷ [])

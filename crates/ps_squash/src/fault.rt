@@ -1,0 +1,16 @@
+//! Why lines aren't squashed.
+
+/// Why lines aren't squashed.
+#[derive(Clone, Copy, PartialEq, Eq)]
+pub enum SquashFault {
+    /// There was no memory; nothing was written.
+    Memory,
+    /// The line of this number, counted from 1 on, is no delta's; nothing was written. 2^64 - 1 stands for more.
+    Line(u64),
+    /// What the lines hold together of one cell has no line; nothing was written.
+    TooLong,
+    /// The source failed; nothing was written.
+    Source,
+    /// The sink failed.
+    Sink,
+}

@@ -1,0 +1,227 @@
+//! The lines of a source, joined as they come.
+ghost use Rattle.std.specs.Prelude.{◌≡◌, ◌⊎◌, ◌+◌, ◌-◌, ◌^◌, ◌<◌, ◌≤◌, ℕ, List, [], Err, IfOk, IfErr, OnOk, ⊤};
+ghost use Rattle.std.specs.Prelude.{length, min, take};
+ghost use Rattle.std.specs.Io.KnownBytes.{Consumes, IsAtEnd};
+ghost use Rattle.ps_grid.specs.declared.refusal.Refusal.TheVariants as refusals;
+ghost use Rattle.ps_delta.specs.Deltas.{Entries, joined_history};
+ghost use Rattle.ps_delta.specs.State.{joined_state, state_at};
+ghost use Rattle.ps_session.specs.Feeding.{without_return};
+ghost use Rattle.ps_squash.specs.Squashed.{FirstFault, SayTogether, Says, after_push};
+ghost use Rattle.ps_squash.specs.Inside.{Fails, GoesOn, Holds, IsOfIntake, IsOfLines, Stands};
+ghost use Rattle.ps_squash.specs.declared.fault.SquashFault.TheVariants.{Line as FaultyLine};
+
+use crate::fault::SquashFault;
+use crate::lines::PUSH;
+use ps_delta::Grid;
+use ps_device::{PIECE_BYTES, Source};
+use ps_grid::Refusal;
+use ps_session::{Line, Session};
+use ps_wire::decode;
+use std::alloc::Global;
+
+/// Lines that are being taken in: the one that is being read, and what all before it say together.
+#[derive(Drop)]
+struct Intake {
+    /// What memory is taken from.
+    alloc: Global,
+    /// The line that is being read.
+    session: Session,
+    /// The join of what the lines say.
+    state: Grid,
+    /// How many lines have ended; 2^64 - 1 stands for more.
+    ended: u64,
+}
+
+/// The delta's line in a line, which may push it.
+fn delta_part(line: &[u8]) -> &[u8]
+    ensures { result.now ≡ after_push line.now }
+{
+    if line.starts_with(PUSH) {
+        &line[PUSH.len()..]
+    } else {
+        line
+    }
+}
+
+/// Joins what a line says into the state. Refused as `Delta` where it isn't empty and no delta's line, and as `Memory`.
+fn join_line(alloc: Global, line: &[u8], state: &mut Grid) -> Result<(), Refusal>
+    ensures joined { OnOk result ((deltas : List Entries) × Says line.now deltas
+        × (state_at state.new ≡ joined_state (state_at state.old) (joined_history deltas))) }
+    ensures faulty { result ≡ Err refusals.Delta → (deltas : List Entries) → ¬ Says line.now deltas }
+    ensures refused { IfErr result (λ e. (e ≡ refusals.Delta) ⊎ (e ≡ refusals.Memory)) }
+{
+    if line.is_empty() {
+        return Ok(());
+    }
+    let delta = decode(alloc, delta_part(line))?;
+    state.join(alloc, &delta)?;
+    Ok(())
+}
+
+impl Intake {
+    /// Takes in the line that has ended.
+    fn close(&mut self, line: Line) -> Result<(), SquashFault>
+        ensures joined { OnOk result ((raw : List ℕ) → Holds line self.old.session raw
+            → (deltas : List Entries) × Says (without_return raw) deltas
+            × (state_at self.new.state ≡ joined_state (state_at self.old.state) (joined_history deltas))) }
+        ensures faulty { IfErr result (λ f. (number : ℕ) → f ≡ FaultyLine number
+            → (raw : List ℕ) → Holds line self.old.session raw
+            → ((deltas : List Entries) → ¬ Says (without_return raw) deltas)
+            × (number ≡ min (self.old.ended + 1) (2 ^ 64 - 1))) }
+        ensures counted { OnOk result (self.new.ended ≡ min (self.old.ended + 1) (2 ^ 64 - 1)) }
+        ensures session { self.new.session ≡ self.old.session }
+        ensures refused { IfErr result IsOfLines }
+    {
+        let number = self.ended.saturating_add(1);
+        match line {
+            Line::None => {}
+            Line::Full => match join_line(self.alloc, self.session.line(), &mut self.state) {
+                Ok(()) => {}
+                Err(Refusal::Delta) => return Err(SquashFault::Line(number)),
+                Err(_) => return Err(SquashFault::Memory),
+            },
+            Line::TooLong => return Err(SquashFault::Line(number)),
+        }
+        self.ended = number;
+        Ok(())
+    }
+
+    /// Takes in a piece up to its first line feed, and the line that it ends.
+    fn turn(&mut self, piece: &[u8]) -> Result<usize, SquashFault>
+        requires some { 0 < length piece.now }
+        ensures within { IfOk result (λ taken. (0 < taken) × (taken ≤ length piece.now)) }
+        ensures stands { IfOk result (λ taken. GoesOn (take taken piece.now)
+            self.old.session.pending (state_at self.old.state) self.old.ended
+            self.new.session.pending (state_at self.new.state) self.new.ended) }
+        ensures faulty { IfErr result (λ f. (number : ℕ) → f ≡ FaultyLine number
+            → Fails ⊥ piece.now self.old.session.pending (state_at self.old.state) self.old.ended number) }
+        ensures refused { IfErr result IsOfLines }
+    {
+        let fed = self.session.feed(piece);
+        match fed.line {
+            Line::None => Ok(fed.taken),
+            line => match self.close(line) {
+                Ok(()) => Ok(fed.taken),
+                Err(fault) => Err(fault),
+            },
+        }
+    }
+
+    /// Takes in a whole piece, and each line that it ends.
+    fn take_in(&mut self, piece: &[u8]) -> Result<(), SquashFault>
+        ensures stands { OnOk result (GoesOn piece.now
+            self.old.session.pending (state_at self.old.state) self.old.ended
+            self.new.session.pending (state_at self.new.state) self.new.ended) }
+        ensures faulty { IfErr result (λ f. (number : ℕ) → f ≡ FaultyLine number
+            → Fails ⊥ piece.now self.old.session.pending (state_at self.old.state) self.old.ended number) }
+        ensures refused { IfErr result IsOfLines }
+    {
+        let mut start = 0;
+        'turns: while start < piece.len() {
+            match self.turn(&piece[start..]) {
+                Ok(taken) => start += taken,
+                Err(fault) => return Err(fault),
+            }
+        }
+        Ok(())
+    }
+
+    /// At the end of the input: takes in what remains, if it is a line.
+    fn finish(&mut self) -> Result<(), SquashFault>
+        ensures together { OnOk result ((read : List ℕ)
+            → Stands read self.old.session.pending (state_at self.old.state) self.old.ended
+            → SayTogether read (state_at self.new.state)) }
+        ensures faulty { IfErr result (λ f. (number : ℕ) → f ≡ FaultyLine number
+            → (read : List ℕ)
+            → Stands read self.old.session.pending (state_at self.old.state) self.old.ended
+            → FirstFault ⊤ read number) }
+        ensures refused { IfErr result IsOfLines }
+    {
+        match self.session.end() {
+            Line::None => Ok(()),
+            line => match self.close(line) {
+                Ok(()) => Ok(()),
+                Err(fault) => Err(fault),
+            },
+        }
+    }
+}
+
+/// Reads the source to its end, and takes in each line that ends there.
+fn read_on<S: Source>(intake: &mut Intake, source: &mut S) -> Result<(), SquashFault>
+    ensures read { OnOk result ((read : List ℕ)
+        × Consumes (S.remaining source.old) (S.remaining source.new) read × IsAtEnd (S.remaining source.new)
+        × (Stands [] intake.old.session.pending (state_at intake.old.state) intake.old.ended
+        → Stands read intake.new.session.pending (state_at intake.new.state) intake.new.ended)) }
+    ensures faulty { IfErr result (λ f. (number : ℕ) → f ≡ FaultyLine number
+        → (read : List ℕ) × Consumes (S.remaining source.old) (S.remaining source.new) read
+        × (Stands [] intake.old.session.pending (state_at intake.old.state) intake.old.ended
+        → FirstFault ⊥ read number)) }
+    ensures calm { OnOk result (S.failures source.new ≡ S.failures source.old) }
+    ensures failed { result ≡ Err SquashFault.Source → S.failures source.old < S.failures source.new }
+    ensures refused { IfErr result IsOfIntake }
+{
+    let mut piece = [0u8; PIECE_BYTES];
+    'pieces: loop {
+        let count = match source.take(&mut piece) {
+            Ok(count) => count,
+            Err(_) => return Err(SquashFault::Source),
+        };
+        if count == 0 {
+            return Ok(());
+        }
+        match intake.take_in(&piece[..count]) {
+            Ok(()) => {}
+            Err(fault) => return Err(fault),
+        }
+    }
+}
+
+/// What all lines of a source say together: its bytes are read to their end.
+///
+/// Refused as `Line` at the first line that isn't empty and no delta's, as `Source` where the source fails, and as
+/// `Memory`.
+///
+/// Cost: that of the lines, of joining their deltas, and the room of one line.
+pub(crate) fn taken_in<S: Source>(alloc: Global, source: &mut S) -> Result<Grid, SquashFault>
+    ensures together { IfOk result (λ state. (read : List ℕ)
+        × Consumes (S.remaining source.old) (S.remaining source.new) read × IsAtEnd (S.remaining source.new)
+        × SayTogether read (state_at state)) }
+    ensures faulty { IfErr result (λ f. (number : ℕ) → f ≡ FaultyLine number
+        → (read : List ℕ) × Consumes (S.remaining source.old) (S.remaining source.new) read
+        × FirstFault (IsAtEnd (S.remaining source.new)) read number) }
+    ensures calm { IfOk result (λ _. S.failures source.new ≡ S.failures source.old) }
+    ensures failed { result ≡ Err SquashFault.Source → S.failures source.old < S.failures source.new }
+    ensures refused { IfErr result IsOfIntake }
+{
+    let mut intake = begin(alloc)?;
+    match read_on(&mut intake, source) {
+        Ok(()) => {}
+        Err(fault) => return Err(fault),
+    }
+    match intake.finish() {
+        Ok(()) => Ok(intake.state),
+        Err(fault) => Err(fault),
+    }
+}
+
+/// No line is taken in yet.
+fn begin(alloc: Global) -> Result<Intake, SquashFault>
+    ensures stands { IfOk result (λ intake. Stands [] intake.session.pending (state_at intake.state) intake.ended) }
+    ensures memory { IfErr result (λ f. f ≡ SquashFault.Memory) }
+{
+    let session = match Session::new(alloc) {
+        Ok(session) => session,
+        Err(_) => return Err(SquashFault::Memory),
+    };
+    let state = match Grid::new(alloc) {
+        Ok(state) => state,
+        Err(_) => return Err(SquashFault::Memory),
+    };
+    Ok(Intake {
+        alloc,
+        session,
+        state,
+        ended: 0,
+    })
+}

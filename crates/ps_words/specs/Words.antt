@@ -1,0 +1,129 @@
+-- The command line of the program, as `clap` sees it, and what its matches give.
+use Rattle.std.specs.Prelude.{◌≡◌, ⊤, ℕ, Bool, true, false, List, [], ◌∷◌, Option, Some, None, codes, pos}
+use Rattle.std.specs.Str.Parse.{digits_value, without_leading_plus}
+use Rattle.clap.specs.Words.{App, Row, Rule, Text, new_app, new_rule, one_of, with_rule}
+use Rattle.clap.specs.Words.{with_subcommand}
+use Rattle.clap.specs.Simple.{on_top}
+use Rattle.clap.specs.declared.builder.action.ArgAction.TheVariants.{Set, SetTrue}
+use Rattle.clap.specs.declared.builder.value_parser.ValueParser.TheVariants as vp
+use Rattle.ps_grid.specs.declared.parties.TheConstants.{REPLICAS, SEATS, WORKERS}
+use Rattle.ps_words.specs.declared.options.TheConstants.{LONGEST_IDLE, LONGEST_PAUSE, LONGEST_WAIT, MOST_SESSIONS}
+use Rattle.ps_words.specs.declared.arguments.TheConstants.{LAST_PORT}
+use Rattle.ps_words.specs.declared.options.Options.{Options}
+use Rattle.ps_words.specs.declared.options.Options.TheVariants.{Follow, Page, Run, Serve, Squash, Sync, Table}
+
+-- an option with a number from least to most, which may be left out ..
+abbrev pub ranged_option : Text → ℕ → ℕ → Rule
+ranged_option id least most = record (new_rule id) {
+  long = Some id;
+  action = Some Set;
+  parser = Some (vp.Signed (pos least) (pos most));
+}
+
+-- .. and is this then
+abbrev pub usual_option : Text → ℕ → ℕ → Text → Rule
+usual_option id least most usual = record (ranged_option id least most) { defaults = usual ∷ [] }
+
+-- an option with a number from 1 to most, 1 where it is not given
+abbrev pub number_option : Text → ℕ → Rule
+number_option id most = record (ranged_option id 1 most) { defaults = codes "1" ∷ [] }
+
+-- .. which has to be given
+abbrev pub needed_option : Text → ℕ → Rule
+needed_option id most = record (ranged_option id 1 most) { required = true }
+
+-- an option without a value
+abbrev pub flag_option : Text → Rule
+flag_option id = record (new_rule id) { long = Some id; action = Some SetTrue }
+
+-- a command with the options of one that opens a sheet
+abbrev pub with_sheet_options : App → App
+with_sheet_options app =
+    with_rule (with_rule app (number_option (codes "workers") WORKERS)) (number_option (codes "replica") REPLICAS)
+
+abbrev pub run_app : App
+run_app = with_rule (with_rule (with_sheet_options (new_app (codes "run"))) (flag_option (codes "explain")))
+    (flag_option (codes "strict"))
+
+abbrev pub table_app : App
+table_app = with_rule (with_rule (with_rule (new_app (codes "table")) (number_option (codes "workers") WORKERS))
+    (flag_option (codes "entries"))) (flag_option (codes "explain"))
+
+abbrev pub serve_app : App
+serve_app = with_sheet_options (with_rule (with_rule (with_rule (with_rule (with_rule (new_app (codes "serve"))
+    (needed_option (codes "port") LAST_PORT))
+    (ranged_option (codes "sessions") 1 MOST_SESSIONS))
+    (usual_option (codes "seats") 1 SEATS (codes "16")))
+    (usual_option (codes "wait") 0 LONGEST_WAIT (codes "5")))
+    (ranged_option (codes "idle") 1 LONGEST_IDLE))
+
+abbrev pub sync_app : App
+sync_app = with_rule (with_rule (new_app (codes "sync")) (needed_option (codes "from") LAST_PORT))
+    (needed_option (codes "to") LAST_PORT)
+
+abbrev pub follow_app : App
+follow_app = with_rule (with_rule (with_rule (new_app (codes "follow")) (needed_option (codes "from") LAST_PORT))
+    (flag_option (codes "until-now"))) (usual_option (codes "every") 1 LONGEST_PAUSE (codes "50"))
+
+abbrev pub page_app : App
+page_app = with_rule (with_rule (with_rule (new_app (codes "page")) (needed_option (codes "from") LAST_PORT))
+    (needed_option (codes "port") LAST_PORT)) (usual_option (codes "browsers") 1 SEATS (codes "8"))
+
+abbrev pub squash_app : App
+squash_app = new_app (codes "squash")
+
+-- the program has one of the commands, and a version
+abbrev pub sheet_app : App
+sheet_app = with_subcommand (with_subcommand (with_subcommand (with_subcommand (with_subcommand (with_subcommand
+    (with_subcommand (on_top (λ s. record s {
+      subcommand_required = true;
+      has_version = true;
+    }) (new_app (codes "sheet"))) run_app.top) table_app.top) serve_app.top) sync_app.top) follow_app.top) page_app.top)
+    squash_app.top
+
+-- among a command's matches the option has this number
+abbrev pub GivesNumber : List Row → Text → ℕ → Type 0
+GivesNumber rows id n = (text : Text) × (one_of id rows ≡ Some text)
+    × (digits_value 10 (without_leading_plus text) ≡ n)
+
+-- .. or none, where it isn't there
+abbrev pub GivesCount : List Row → Text → Option ℕ → Type 0
+GivesCount rows id None = one_of id rows ≡ None
+GivesCount rows id (Some n) = GivesNumber rows id n
+
+-- .. the flag is set, or isn't
+abbrev pub GivesFlag : List Row → Text → Bool → Type 0
+GivesFlag rows id b = (one_of id rows ≡ Some (codes "true") → b ≡ true)
+    × (one_of id rows ≡ Some (codes "false") → b ≡ false) × (one_of id rows ≡ None → b ≡ false)
+
+-- the command's name
+abbrev pub name_of : Options → Text
+name_of (Run o) = codes "run"
+name_of (Table o) = codes "table"
+name_of (Serve o) = codes "serve"
+name_of (Sync o) = codes "sync"
+name_of (Follow o) = codes "follow"
+name_of (Page o) = codes "page"
+name_of Squash = codes "squash"
+
+-- among a command's matches its options have these numbers, and its flags are set so
+abbrev pub GivesNumbers : List Row → Options → Type 0
+GivesNumbers rows (Run o) = GivesNumber rows (codes "workers") o.sheet.workers
+    × GivesNumber rows (codes "replica") o.sheet.replica
+    × GivesFlag rows (codes "explain") o.explain × GivesFlag rows (codes "strict") o.strict
+GivesNumbers rows (Table o) = GivesNumber rows (codes "workers") o.workers
+    × GivesFlag rows (codes "entries") o.entries × GivesFlag rows (codes "explain") o.explain
+GivesNumbers rows (Serve o) = GivesNumber rows (codes "port") o.port × GivesCount rows (codes "sessions") o.sessions
+    × GivesNumber rows (codes "seats") o.seats × GivesNumber rows (codes "wait") o.wait
+    × GivesCount rows (codes "idle") o.idle
+    × GivesNumber rows (codes "workers") o.workers × GivesNumber rows (codes "replica") o.replica
+GivesNumbers rows (Sync o) = GivesNumber rows (codes "from") o.from × GivesNumber rows (codes "to") o.to
+GivesNumbers rows (Follow o) = GivesNumber rows (codes "from") o.from × GivesFlag rows (codes "until-now") o.until_now
+    × GivesNumber rows (codes "every") o.every
+GivesNumbers rows (Page o) = GivesNumber rows (codes "from") o.from × GivesNumber rows (codes "port") o.port
+    × GivesNumber rows (codes "browsers") o.browsers
+GivesNumbers rows Squash = ⊤
+
+-- the matches are those of the command with its numbers
+abbrev pub GivesOptions : Option (Text × List Row) → Options → Type 0
+GivesOptions matches options = (rows : List Row) × (matches ≡ Some (name_of options, rows)) × GivesNumbers rows options

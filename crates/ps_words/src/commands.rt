@@ -1,0 +1,151 @@
+//! The commands, each with its options.
+ghost use Rattle.std.specs.Prelude.{◌≡◌, false, IfOk};
+ghost use Rattle.clap.specs.Words.{app_of};
+ghost use Rattle.clap.specs.declared.builder.command.Command.TheViews.{out-Command as fields_of};
+ghost use Rattle.ps_words.specs.Words.{
+  follow_app,
+  page_app,
+  run_app,
+  serve_app,
+  sheet_app,
+  squash_app,
+  sync_app,
+  table_app,
+};
+
+use crate::arguments::{
+    LAST_PORT, flag_option, needed_option, new_command, number_option, ranged_option, usual_option,
+    with_option, with_sheet_options,
+};
+use crate::help::{
+    BROWSERS_HELP, ENTRIES_HELP, EVERY_HELP, EXPLAIN_HELP, FOLLOW_HELP, FOLLOWED_HELP, FROM_HELP,
+    IDLE_HELP, PAGE_HELP, PORT_HELP, RUN_HELP, SEATS_HELP, SERVE_HELP, SERVER_HELP, SESSIONS_HELP,
+    SHEET_HELP, SQUASH_HELP, STRICT_HELP, SYNC_HELP, TABLE_HELP, TO_HELP, UNTIL_NOW_HELP,
+    WAIT_HELP, WORKERS_HELP,
+};
+use crate::options::{LONGEST_IDLE, LONGEST_PAUSE, LONGEST_WAIT, MOST_SESSIONS};
+use clap::Command;
+use ps_grid::{SEATS, WORKERS};
+use std::alloc::{AllocError, Global};
+
+/// What `--version` prints after the program's name.
+const VERSION: &str = "0.1.0";
+
+/// The command `run`.
+fn run_command<'a>(alloc: Global) -> Result<Command<'a>, AllocError>
+    ensures app { IfOk result (λ command. app_of command ≡ run_app) }
+    ensures local { IfOk result (λ command. (fields_of command).has_globals ≡ false) }
+{
+    let about = "answers each line of standard input on standard output";
+    let command = with_sheet_options(alloc, new_command(alloc, "run", about, RUN_HELP))?;
+    let explain = flag_option(alloc, "explain", EXPLAIN_HELP);
+    let command = with_option(command, explain)?;
+    let strict = flag_option(alloc, "strict", STRICT_HELP);
+    with_option(command, strict)
+}
+
+/// The command `table`.
+fn table_command<'a>(alloc: Global) -> Result<Command<'a>, AllocError>
+    ensures app { IfOk result (λ command. app_of command ≡ table_app) }
+    ensures local { IfOk result (λ command. (fields_of command).has_globals ≡ false) }
+{
+    let about = "reads a table of CSV and writes its settled values as CSV";
+    let workers = number_option(alloc, "workers", WORKERS as u32, WORKERS_HELP);
+    let command = with_option(new_command(alloc, "table", about, TABLE_HELP), workers)?;
+    let entries = flag_option(alloc, "entries", ENTRIES_HELP);
+    let command = with_option(command, entries)?;
+    let explain = flag_option(alloc, "explain", EXPLAIN_HELP);
+    with_option(command, explain)
+}
+
+/// The command `serve`.
+fn serve_command<'a>(alloc: Global) -> Result<Command<'a>, AllocError>
+    ensures app { IfOk result (λ command. app_of command ≡ serve_app) }
+    ensures local { IfOk result (λ command. (fields_of command).has_globals ≡ false) }
+{
+    let about = "answers the lines of several sessions over TCP";
+    let port = needed_option(alloc, "port", LAST_PORT, PORT_HELP);
+    let command = with_option(new_command(alloc, "serve", about, SERVE_HELP), port)?;
+    let sessions = ranged_option(alloc, "sessions", 1, MOST_SESSIONS, SESSIONS_HELP);
+    let command = with_option(command, sessions)?;
+    let seats = usual_option(alloc, "seats", 1, SEATS as u32, "16", SEATS_HELP);
+    let command = with_option(command, seats)?;
+    let wait = usual_option(alloc, "wait", 0, u32::from(LONGEST_WAIT), "5", WAIT_HELP);
+    let command = with_option(command, wait)?;
+    let idle = ranged_option(alloc, "idle", 1, LONGEST_IDLE, IDLE_HELP);
+    with_sheet_options(alloc, with_option(command, idle)?)
+}
+
+/// The command `sync`.
+fn sync_command<'a>(alloc: Global) -> Result<Command<'a>, AllocError>
+    ensures app { IfOk result (λ command. app_of command ≡ sync_app) }
+    ensures local { IfOk result (λ command. (fields_of command).has_globals ≡ false) }
+{
+    let about = "hands all that one replica has to another";
+    let from = needed_option(alloc, "from", LAST_PORT, FROM_HELP);
+    let command = with_option(new_command(alloc, "sync", about, SYNC_HELP), from)?;
+    let to = needed_option(alloc, "to", LAST_PORT, TO_HELP);
+    with_option(command, to)
+}
+
+/// The command `follow`.
+fn follow_command<'a>(alloc: Global) -> Result<Command<'a>, AllocError>
+    ensures app { IfOk result (λ command. app_of command ≡ follow_app) }
+    ensures local { IfOk result (λ command. (fields_of command).has_globals ≡ false) }
+{
+    let about = "writes what a replica has and gets as lines to push";
+    let from = needed_option(alloc, "from", LAST_PORT, FOLLOWED_HELP);
+    let command = with_option(new_command(alloc, "follow", about, FOLLOW_HELP), from)?;
+    let until_now = flag_option(alloc, "until-now", UNTIL_NOW_HELP);
+    let command = with_option(command, until_now)?;
+    let every = usual_option(
+        alloc,
+        "every",
+        1,
+        u32::from(LONGEST_PAUSE),
+        "50",
+        EVERY_HELP,
+    );
+    with_option(command, every)
+}
+
+/// The command `page`.
+fn page_command<'a>(alloc: Global) -> Result<Command<'a>, AllocError>
+    ensures app { IfOk result (λ command. app_of command ≡ page_app) }
+    ensures local { IfOk result (λ command. (fields_of command).has_globals ≡ false) }
+{
+    let about = "shows the sheet of a server in a browser";
+    let from = needed_option(alloc, "from", LAST_PORT, SERVER_HELP);
+    let command = with_option(new_command(alloc, "page", about, PAGE_HELP), from)?;
+    let port = needed_option(alloc, "port", LAST_PORT, PORT_HELP);
+    let command = with_option(command, port)?;
+    let browsers = usual_option(alloc, "browsers", 1, SEATS as u32, "8", BROWSERS_HELP);
+    with_option(command, browsers)
+}
+
+/// The command `squash`.
+fn squash_command<'a>(alloc: Global) -> Command<'a>
+    ensures app { app_of result ≡ squash_app }
+    ensures local { (fields_of result).has_globals ≡ false }
+{
+    let about = "makes few push lines of many delta lines";
+    new_command(alloc, "squash", about, SQUASH_HELP)
+}
+
+/// The whole command line.
+pub(crate) fn sheet_command<'a>(alloc: Global) -> Result<Command<'a>, AllocError>
+    ensures { IfOk result (λ command. app_of command ≡ sheet_app) }
+{
+    Command::new(alloc, "sheet")
+        .about("a replicated spreadsheet")
+        .after_help(SHEET_HELP)
+        .subcommand_required(true)
+        .version(VERSION)
+        .subcommand(run_command(alloc)?)?
+        .subcommand(table_command(alloc)?)?
+        .subcommand(serve_command(alloc)?)?
+        .subcommand(sync_command(alloc)?)?
+        .subcommand(follow_command(alloc)?)?
+        .subcommand(page_command(alloc)?)?
+        .subcommand(squash_command(alloc))
+}

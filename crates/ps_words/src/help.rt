@@ -1,0 +1,226 @@
+//! What `--help` prints.
+
+/// What `--workers` means, with the range 1 to `WORKERS`.
+pub const WORKERS_HELP: &str =
+    "how many threads may evaluate formulas, 1 to 16; no reply hangs on it";
+
+/// What `--replica` means, with the range 1 to `REPLICAS`.
+pub const REPLICA_HELP: &str = "the number of this replica, 1 to 32";
+
+/// What `--port` means.
+pub const PORT_HELP: &str = "the port of this machine to listen on, 1 to 65535";
+
+/// What `--sessions` means, with the range 1 to `MOST_SESSIONS`.
+pub const SESSIONS_HELP: &str =
+    "how many sessions to serve before it ends, 1 to 1000000; without it, until it is stopped";
+
+/// What `--seats` means, with the range 1 to `SEATS`.
+pub const SEATS_HELP: &str = "how many sessions to serve at a time, 1 to 16";
+
+/// What `--wait` means, with the range 0 to `LONGEST_WAIT`.
+pub const WAIT_HELP: &str = "how many seconds a connection may wait for a seat, 0 to 60";
+
+/// What `--idle` means, with the range 1 to `LONGEST_IDLE`.
+pub const IDLE_HELP: &str =
+    "after how many seconds a session ends whose peer sends nothing, 1 to 86400; without it, never";
+
+/// What `--from` of `sync` means.
+pub const FROM_HELP: &str = "the port of the replica whose deltas are pulled, 1 to 65535";
+
+/// What `--to` means.
+pub const TO_HELP: &str = "the port of the replica that takes them in, 1 to 65535";
+
+/// What `--from` of `follow` means.
+pub const FOLLOWED_HELP: &str = "the port of the replica that is followed, 1 to 65535";
+
+/// What `--until-now` means.
+pub const UNTIL_NOW_HELP: &str = "ends once all that the replica has is written";
+
+/// What `--every` means, with the range 1 to `LONGEST_PAUSE`.
+pub const EVERY_HELP: &str = "how many milliseconds to wait before it asks for more, 1 to 60000";
+
+/// What `--from` of `page` means.
+pub const SERVER_HELP: &str = "the port of the server whose sheet is shown, 1 to 65535";
+
+/// What `--browsers` means, with the range 1 to `SEATS`.
+pub const BROWSERS_HELP: &str = "how many browsers may have a session at a time, 1 to 16";
+
+/// What `--explain` means.
+pub const EXPLAIN_HELP: &str =
+    "tells on standard error what is refused or looks like a number, with a hint";
+
+/// What `--strict` means.
+pub const STRICT_HELP: &str = "ends with status 3 where a line was refused";
+
+/// What `--entries` means.
+pub const ENTRIES_HELP: &str = "writes what was typed, in place of what the cells show";
+
+/// What stands below the commands of `sheet --help`: the refusals.
+pub const SHEET_HELP: &str = "\
+What is refused changes nothing, and is told by `err`, a number and a name:
+
+   1 cell        name a cell, A1 to CZ1024, its letters in capitals
+   2 text        keep a text to 64 bytes of UTF-8, without tabs
+   3 formula     write it as =SUM([.A1:.A3])*2
+   4 too-long    divide it: an entry has at most 512 bytes, a formula 256
+   5 not-tally   make the cell a counter first: set A1 @tally
+   6 not-choice  make the cell a set of options first: set A1 @choice
+   7 amount      give an amount of 1 to 1000000, in digits
+   8 option      give an option of 0 to 63, in digits
+   9 replica     number a replica 1 to 32
+  10 tally-full  count on in another cell, or at another replica
+  11 choice-full choose in another cell, or at another replica
+  12 not-chosen  take out an option that is in
+  13 clock-full  use another cell: this one has been set to its last time
+  14 delta       push a line as pull gave it, without `delta` and its number
+  15 line        shorten the line: it has at most 262208 bytes
+  16 command     begin with a verb, and put one space between two words
+  17 version     pull from a version that there is, and at most 16 deltas
+  18 csv         divide the table: it has at most 1024 records of 104 fields
+  19 memory      try again once there is more memory
+  20 device      see to the input, the output, the port or the connection
+  21 seat        come again once a session has ended
+
+`run --explain` and `table --explain` tell each refusal's line or cell, with a hint.";
+
+/// What stands below the options of `sheet run --help`.
+pub const RUN_HELP: &str = "\
+Each line of standard input is a command, and has a reply on standard output:
+
+  set A1 5              A1 holds a number            ok 1
+  set B1 =[.A1]*2       .. or a formula              ok 2
+  get B1                what a cell shows            val 10
+  set C1 @tally         C1 is a counter              ok 3
+  add C1 4  sub C1 1    .. raised, lowered           ok 4, ok 5
+  set D1 @choice        D1 is a set of options       ok 6
+  choose D1 7           .. with option 7 in it       ok 7
+  unchoose D1 7         .. and taken out again       ok 8
+  rows A1:B1            a table of what cells show   rows 1, then 5,10
+  entry B1              what was typed into it       entry =[.A1]*2
+  entries A1:B1         a table of what was typed    entries 1, then 5,=[.A1]*2
+  pull 0 16             what was done, as one line   delta 8 [[\"A1\", ..
+  push [[\"A1\", ..       .. taken in elsewhere        ok 1
+
+`ok` comes with the version, the number of changes so far; `err` with the number
+and the name of what was refused (`sheet --help` lists them), and the session goes
+on: the status is 0 in the end, or 3 with `--strict`. The line that a `pull` gives
+can be kept, and be pushed at another replica, in any order and again. Cells are
+A1 to CZ1024. A formula is written =SUM([.A1:.A3])*2, and anything that is no
+number and no formula is a text.
+
+Example:
+
+  printf 'set A1 5\\nset B1 =[.A1]*2\\nget B1\\n' | sheet run";
+
+/// What stands below the options of `sheet table --help`.
+pub const TABLE_HELP: &str = "\
+Standard input is a table of CSV: its first record goes to row 1, its first field
+to column A. A field is an entry, as in `set`: a number, a formula, a text. What
+comes out is the table of what the cells show, or with `--entries` of what was
+typed, which can be taken in again.
+
+Example:
+
+  printf '2,=[.A1]*3\\n\"x,y\",@tally\\n' | sheet table
+
+writes
+
+  2,6
+  \"x,y\",0";
+
+/// What stands below the options of `sheet serve --help`.
+pub const SERVE_HELP: &str = "\
+It opens an empty sheet, listens on this machine, 127.0.0.1, and writes `listening`
+and the port. Each connection is a session: its lines are commands, as in `run`,
+and all sessions change and read the one sheet side by side. When one ends, its
+seat goes to the next connection. One that finds no free seat waits for one; after
+the time to wait it is answered `err 21 seat` and closed.
+
+With `--sessions` it writes `closed` and the number of changes once so many sessions
+have ended, and ends. The sheet ends with it: `pull` or `sync` carries it elsewhere
+before.
+
+Example:
+
+  sheet serve --port 7001 --sessions 2 --replica 1
+
+writes
+
+  listening 7001
+
+and once two connections have come, each of them with a `set`, and have ended
+
+  closed 2";
+
+/// What stands below the options of `sheet sync --help`.
+pub const SYNC_HELP: &str = "\
+Both replicas listen on this machine, 127.0.0.1. All deltas of the first are
+pulled, from version 0 on, up to 16 in a line, and each line is pushed to the
+second; what the second has already changes nothing. At the end comes `synced`
+and the number of lines. Nothing goes the other way: for that call it again with
+the ports exchanged.
+
+Example:
+
+  sheet sync --from 7001 --to 7002
+
+writes
+
+  synced 1";
+
+/// What stands below the options of `sheet follow --help`.
+pub const FOLLOW_HELP: &str = "\
+The replica listens on this machine, 127.0.0.1. All that it has is written on
+standard output, from the first change on, up to 16 changes in a line, each line
+after the word `push`; and then each new change as it comes, until the replica
+closes the connection or whoever reads on does. Any other replica may be given the
+lines, in any order and again. With --until-now it ends once it has all there is;
+a replica that closes before that is refused as `err 15 line`.
+
+Examples:
+
+  sheet follow --from 7001 --until-now > all.lines
+  sheet follow --from 7001 | nc 127.0.0.1 7002 > replies
+
+The first keeps a replica as a file, the second hands each change of one replica
+to another as it comes. A line is such as
+
+  push [[\"A1\",[1,1,\"5\"],[],[]]]";
+
+/// What stands below the options of `sheet page --help`.
+pub const PAGE_HELP: &str = "\
+It listens on this machine, 127.0.0.1, writes `page` and the address to open in a
+browser, and runs until it is stopped. The page shows the sheet of the `serve` on the
+other port, and changes it. Each browser is a session of that server; a session is
+opened when the first browser wants it, and kept for the next.
+
+Example:
+
+  sheet serve --port 7001 &
+  sheet page --from 7001 --port 8080
+
+writes
+
+  listening 7001
+  page http://127.0.0.1:8080/";
+
+/// What stands below the options of `sheet squash --help`.
+pub const SQUASH_HELP: &str = "\
+Each line of standard input is the line of a delta, with or without `push ` before
+it. What they say together is written as lines that push it: cell after cell, as
+many in a line as it has room for. A sheet that takes in the one or the other
+shows the same. Nothing is written where a line is none of a delta: standard error
+has `err 14 delta` and the line's number. Keep the lines in a file and squash it
+while no sheet writes to it:
+
+  sheet squash < plan.lines > small && mv small plan.lines
+
+Example, from
+
+  push [[\"A1\",[1,1,\"5\"],[],[]]]
+  push [[\"A1\",[2,1,\"6\"],[],[]]]
+  push [[\"B1\",[1,1,\"7\"],[],[]]]
+
+it writes
+
+  push [[\"A1\",[2,1,\"6\"],[],[]],[\"B1\",[1,1,\"7\"],[],[]]]";

@@ -1,0 +1,28 @@
+//! The program's command line: its commands, their options, and what `--help` says of each.
+//!
+//! It is not the program: it runs no command, and whoever calls it gives it the words.
+//!
+//! The contract to use is that of [`read_words`]: the command, its numbers and its flags are those of the matches that
+//! `clap` finds in the words, each number in its range.
+//!
+//! From the words `sheet run --replica 2`, [`read_words`] returns the options of `run` with one worker, replica 2, and
+//! no flag set.
+//!
+//! Cost: linear in the bytes of the words.
+#![tactic(auto)]
+
+mod arguments;
+mod commands;
+mod help;
+mod options;
+mod words;
+
+pub use help::{
+    BROWSERS_HELP, EVERY_HELP, IDLE_HELP, REPLICA_HELP, RUN_HELP, SEATS_HELP, SESSIONS_HELP,
+    WAIT_HELP, WORKERS_HELP,
+};
+pub use options::{
+    FollowOptions, LONGEST_IDLE, LONGEST_PAUSE, LONGEST_WAIT, LineOptions, MOST_SESSIONS, Options,
+    PageOptions, RunOptions, ServeOptions, SyncOptions, TableOptions,
+};
+pub use words::read_words;

@@ -1,0 +1,134 @@
+//! The words that the program is started with.
+ghost use Rattle.std.specs.Option.{ForSome};
+ghost use Rattle.std.specs.Prelude.{◌≤◌};
+ghost use Rattle.ps_grid.specs.declared.parties.TheConstants.{REPLICAS, SEATS, WORKERS};
+ghost use Rattle.ps_words.specs.declared.options.TheConstants.{LONGEST_IDLE, LONGEST_PAUSE, LONGEST_WAIT, MOST_SESSIONS};
+
+/// The most sessions that `serve` can be asked for.
+pub const MOST_SESSIONS: u32 = 1_000_000;
+
+/// The longest that a connection may wait for a seat, in seconds.
+pub const LONGEST_WAIT: u8 = 60;
+
+/// The longest after which a session ends whose peer sends nothing, in seconds: a day.
+pub const LONGEST_IDLE: u32 = 86_400;
+
+/// The greatest number of milliseconds that `follow` waits before it asks for more.
+pub const LONGEST_PAUSE: u16 = 60_000;
+
+/// What a sheet is opened with.
+#[derive(Clone, Copy, PartialEq, Eq)]
+pub struct RunOptions {
+    /// How many workers may evaluate a level, 1 to `WORKERS`.
+    pub workers: u8,
+    /// The replica's number, 1 to `REPLICAS`.
+    pub replica: u8,
+    ghost workers_in_range: { (1 ≤ workers) × (workers ≤ WORKERS) },
+    ghost replica_in_range: { (1 ≤ replica) × (replica ≤ REPLICAS) },
+}
+
+/// What `sheet run` is asked for.
+#[derive(Clone, Copy, PartialEq, Eq)]
+pub struct LineOptions {
+    /// What its sheet is opened with.
+    pub sheet: RunOptions,
+    /// Whether standard error is told of lines, with hints.
+    pub explain: bool,
+    /// Whether a refused line is a fault in the end.
+    pub strict: bool,
+}
+
+/// What `sheet table` is asked for.
+#[derive(Clone, Copy, PartialEq, Eq)]
+pub struct TableOptions {
+    /// How many workers may evaluate a level, 1 to `WORKERS`.
+    pub workers: u8,
+    /// Whether the entries of the cells are written, in place of what they show.
+    pub entries: bool,
+    /// Whether standard error is told of fields, with hints.
+    pub explain: bool,
+    ghost workers_in_range: { (1 ≤ workers) × (workers ≤ WORKERS) },
+}
+
+/// What `sheet serve` is asked for.
+#[derive(Clone, Copy, PartialEq, Eq)]
+pub struct ServeOptions {
+    /// The port to listen on, 1 or more.
+    pub port: u16,
+    /// How many sessions to serve, 1 to `MOST_SESSIONS`; none where it serves until it is stopped.
+    pub sessions: Option<u32>,
+    /// How many sessions to serve at a time, 1 to `SEATS`.
+    pub seats: u8,
+    /// How many seconds a connection waits for a seat, up to `LONGEST_WAIT`.
+    pub wait: u8,
+    /// After how many seconds a session ends whose peer sends nothing, 1 to `LONGEST_IDLE`; never where there is none.
+    pub idle: Option<u32>,
+    /// How many workers may evaluate a level, 1 to `WORKERS`.
+    pub workers: u8,
+    /// The replica's number, 1 to `REPLICAS`.
+    pub replica: u8,
+    ghost port_in_range: { 1 ≤ port },
+    ghost sessions_in_range: { ForSome sessions (λ n. (1 ≤ n) × (n ≤ MOST_SESSIONS)) },
+    ghost seats_in_range: { (1 ≤ seats) × (seats ≤ SEATS) },
+    ghost wait_in_range: { wait ≤ LONGEST_WAIT },
+    ghost idle_in_range: { ForSome idle (λ n. (1 ≤ n) × (n ≤ LONGEST_IDLE)) },
+    ghost workers_in_range: { (1 ≤ workers) × (workers ≤ WORKERS) },
+    ghost replica_in_range: { (1 ≤ replica) × (replica ≤ REPLICAS) },
+}
+
+/// What `sheet sync` is asked for.
+#[derive(Clone, Copy, PartialEq, Eq)]
+pub struct SyncOptions {
+    /// The port of the replica whose deltas are pulled, 1 or more.
+    pub from: u16,
+    /// The port of the replica to which they are pushed, 1 or more.
+    pub to: u16,
+    ghost from_in_range: { 1 ≤ from },
+    ghost to_in_range: { 1 ≤ to },
+}
+
+/// What `sheet follow` is asked for.
+#[derive(Clone, Copy, PartialEq, Eq)]
+pub struct FollowOptions {
+    /// The port of the replica that is followed, 1 or more.
+    pub from: u16,
+    /// Whether it ends once the replica has no more.
+    pub until_now: bool,
+    /// For how many milliseconds it waits before it asks for more, 1 to `LONGEST_PAUSE`.
+    pub every: u16,
+    ghost from_in_range: { 1 ≤ from },
+    ghost every_in_range: { (1 ≤ every) × (every ≤ LONGEST_PAUSE) },
+}
+
+/// What `sheet page` is asked for.
+#[derive(Clone, Copy, PartialEq, Eq)]
+pub struct PageOptions {
+    /// The port of the server whose sheet is shown, 1 or more.
+    pub from: u16,
+    /// The port to listen on, 1 or more.
+    pub port: u16,
+    /// How many browsers may have a session at a time, 1 to `SEATS`.
+    pub browsers: u8,
+    ghost from_in_range: { 1 ≤ from },
+    ghost port_in_range: { 1 ≤ port },
+    ghost browsers_in_range: { (1 ≤ browsers) × (browsers ≤ SEATS) },
+}
+
+/// A command with its numbers.
+#[derive(Clone, Copy)]
+pub enum Options {
+    /// Answers standard input line by line.
+    Run(LineOptions),
+    /// Reads a table and writes its settled values.
+    Table(TableOptions),
+    /// Answers the lines of several sessions over TCP.
+    Serve(ServeOptions),
+    /// Hands all that one replica has to another.
+    Sync(SyncOptions),
+    /// Writes what a replica has and gets as lines to push.
+    Follow(FollowOptions),
+    /// Shows the sheet of a server in a browser.
+    Page(PageOptions),
+    /// Makes few push lines of many delta lines.
+    Squash,
+}

@@ -1,0 +1,203 @@
+//! Reading the program's words.
+ghost use Rattle.std.specs.Prelude.{◌≡◌, ◌≤◌, IfOk, IfSome, codes, map, string_bytes};
+ghost use Rattle.clap.specs.Words.{found_of, rows_of, subcommand_of};
+ghost use Rattle.ps_words.specs.Words.{GivesCount, GivesFlag, GivesNumber, GivesNumbers, GivesOptions, name_of};
+ghost use Rattle.ps_words.specs.Words.{sheet_app};
+
+use crate::commands::sheet_command;
+use crate::options::{
+    FollowOptions, LONGEST_IDLE, LONGEST_PAUSE, LONGEST_WAIT, LineOptions, MOST_SESSIONS, Options,
+    PageOptions, RunOptions, ServeOptions, SyncOptions, TableOptions,
+};
+use clap::{ArgMatches, Error};
+use ps_grid::{REPLICAS, SEATS, WORKERS};
+use std::alloc::{AllocError, Global};
+
+/// The number of an option, if it lies in 1..=most.
+fn number_of(matches: &ArgMatches<'_>, id: &str, most: u8) -> Option<u8>
+    ensures number { IfSome result (GivesNumber (rows_of (found_of matches.now)) id.now) }
+    ensures range { IfSome result (λ n. (1 ≤ n) × (n ≤ most)) }
+{
+    match matches.get_one::<u8>(id) {
+        Some(number) if 1 <= number && number <= most => Some(number),
+        _ => None,
+    }
+}
+
+/// The number of an option that may be left out, if it lies in 1..=most.
+fn count_of(matches: &ArgMatches<'_>, id: &str, most: u32) -> Option<Option<u32>>
+    ensures number { IfSome result (GivesCount (rows_of (found_of matches.now)) id.now) }
+    ensures range { IfSome result (λ count. IfSome count (λ n. (1 ≤ n) × (n ≤ most))) }
+{
+    if !matches.contains_id(id) {
+        return Some(None);
+    }
+    match matches.get_one::<u32>(id) {
+        Some(number) if 1 <= number && number <= most => Some(Some(number)),
+        _ => None,
+    }
+}
+
+/// The number of an option, if it is at most this.
+fn number_to(matches: &ArgMatches<'_>, id: &str, most: u8) -> Option<u8>
+    ensures number { IfSome result (GivesNumber (rows_of (found_of matches.now)) id.now) }
+    ensures range { IfSome result (λ n. n ≤ most) }
+{
+    match matches.get_one::<u8>(id) {
+        Some(number) if number <= most => Some(number),
+        _ => None,
+    }
+}
+
+/// The number of milliseconds of an option, if it lies in 1..=most.
+fn pause_of(matches: &ArgMatches<'_>, id: &str, most: u16) -> Option<u16>
+    ensures number { IfSome result (GivesNumber (rows_of (found_of matches.now)) id.now) }
+    ensures range { IfSome result (λ n. (1 ≤ n) × (n ≤ most)) }
+{
+    match matches.get_one::<u16>(id) {
+        Some(number) if 1 <= number && number <= most => Some(number),
+        _ => None,
+    }
+}
+
+/// Whether a flag is set.
+fn flag_of(matches: &ArgMatches<'_>, id: &str) -> bool
+    ensures { GivesFlag (rows_of (found_of matches.now)) id.now result }
+{
+    matches.get_flag(id)
+}
+
+/// The port of an option, if it is one.
+fn port_of(matches: &ArgMatches<'_>, id: &str) -> Option<u16>
+    ensures number { IfSome result (GivesNumber (rows_of (found_of matches.now)) id.now) }
+    ensures range { IfSome result (λ n. 1 ≤ n) }
+{
+    match matches.get_one::<u16>(id) {
+        Some(number) if 1 <= number => Some(number),
+        _ => None,
+    }
+}
+
+/// The numbers of `run`, and its flags.
+fn run_options(matches: &ArgMatches<'_>) -> Option<Options>
+    ensures { IfSome result (λ options. (name_of options ≡ codes "run")
+        × GivesNumbers (rows_of (found_of matches.now)) options) }
+{
+    let workers = number_of(matches, "workers", WORKERS as u8)?;
+    let replica = number_of(matches, "replica", REPLICAS)?;
+    Some(Options::Run(LineOptions {
+        sheet: RunOptions { workers, replica },
+        explain: flag_of(matches, "explain"),
+        strict: flag_of(matches, "strict"),
+    }))
+}
+
+/// The number of `table`, and its flags.
+fn table_options(matches: &ArgMatches<'_>) -> Option<Options>
+    ensures { IfSome result (λ options. (name_of options ≡ codes "table")
+        × GivesNumbers (rows_of (found_of matches.now)) options) }
+{
+    let workers = number_of(matches, "workers", WORKERS as u8)?;
+    Some(Options::Table(TableOptions {
+        workers,
+        entries: flag_of(matches, "entries"),
+        explain: flag_of(matches, "explain"),
+    }))
+}
+
+/// The numbers of `serve`.
+fn serve_options(matches: &ArgMatches<'_>) -> Option<Options>
+    ensures { IfSome result (λ options. (name_of options ≡ codes "serve")
+        × GivesNumbers (rows_of (found_of matches.now)) options) }
+{
+    let port = port_of(matches, "port")?;
+    let sessions = count_of(matches, "sessions", MOST_SESSIONS)?;
+    let seats = number_of(matches, "seats", SEATS as u8)?;
+    let wait = number_to(matches, "wait", LONGEST_WAIT)?;
+    let idle = count_of(matches, "idle", LONGEST_IDLE)?;
+    let workers = number_of(matches, "workers", WORKERS as u8)?;
+    let replica = number_of(matches, "replica", REPLICAS)?;
+    Some(Options::Serve(ServeOptions {
+        port,
+        sessions,
+        seats,
+        wait,
+        idle,
+        workers,
+        replica,
+    }))
+}
+
+/// The numbers of `sync`.
+fn sync_options(matches: &ArgMatches<'_>) -> Option<Options>
+    ensures { IfSome result (λ options. (name_of options ≡ codes "sync")
+        × GivesNumbers (rows_of (found_of matches.now)) options) }
+{
+    let from = port_of(matches, "from")?;
+    let to = port_of(matches, "to")?;
+    Some(Options::Sync(SyncOptions { from, to }))
+}
+
+/// The port, the flag and the pause of `follow`.
+fn follow_options(matches: &ArgMatches<'_>) -> Option<Options>
+    ensures { IfSome result (λ options. (name_of options ≡ codes "follow")
+        × GivesNumbers (rows_of (found_of matches.now)) options) }
+{
+    let from = port_of(matches, "from")?;
+    let until_now = flag_of(matches, "until-now");
+    let every = pause_of(matches, "every", LONGEST_PAUSE)?;
+    Some(Options::Follow(FollowOptions {
+        from,
+        until_now,
+        every,
+    }))
+}
+
+/// The numbers of `page`.
+fn page_options(matches: &ArgMatches<'_>) -> Option<Options>
+    ensures { IfSome result (λ options. (name_of options ≡ codes "page")
+        × GivesNumbers (rows_of (found_of matches.now)) options) }
+{
+    let from = port_of(matches, "from")?;
+    let port = port_of(matches, "port")?;
+    let browsers = number_of(matches, "browsers", SEATS as u8)?;
+    Some(Options::Page(PageOptions {
+        from,
+        port,
+        browsers,
+    }))
+}
+
+/// The options of a command by its name.
+fn options_of(name: &str, matches: &ArgMatches<'_>) -> Option<Options>
+    ensures { IfSome result (λ options. (name_of options ≡ name.now)
+        × GivesNumbers (rows_of (found_of matches.now)) options) }
+{
+    match name {
+        "run" => run_options(matches),
+        "table" => table_options(matches),
+        "serve" => serve_options(matches),
+        "sync" => sync_options(matches),
+        "follow" => follow_options(matches),
+        "page" => page_options(matches),
+        "squash" => Some(Options::Squash),
+        _ => None,
+    }
+}
+
+/// Reads the program's words, the first of which is its own name: the command and the numbers are those of `clap`'s
+/// matches. Where the words are none, or ask for help or the version, the error has the text, and the exit status.
+///
+/// Cost: O(n) in the n bytes of the words.
+pub fn read_words<'a>(alloc: Global, words: &'a [String]) -> Result<Options, Error>
+    ensures { IfOk result (GivesOptions (subcommand_of sheet_app (map string_bytes words.now))) }
+{
+    let matches = sheet_command(alloc)?.try_get_matches_from(words)?;
+    let Some((name, found)) = matches.subcommand() else {
+        return Err(AllocError.into());
+    };
+    let Some(options) = options_of(name, found) else {
+        return Err(AllocError.into());
+    };
+    Ok(options)
+}
