@@ -3,6 +3,8 @@
 `./test` has all of it, `./test --program` the latter alone, and `./test --program TEXT` those whose name has the text.
 `./test --wrong` tries the wrong bodies alone, and `./test --wrong CRATE` those of a crate, over what is proved already.
 The last line is `N passed, M failed` over everything that ran, and the exit status is 0 only where nothing failed.
+Tests that want a browser are left out where there is none, and by `./test --program` those that want the tests of the
+crates, which `rt ci` builds: then `, K skipped` follows.
 `./test --hunt MINUTES` looks for trouble by chance (`hunt/`, `docs/HUNT.md`), and ends in the same way.
 """
 import re
@@ -14,7 +16,7 @@ from typing import NamedTuple
 
 import compared
 import wrong
-from program import TOP
+from program import NO_BROWSER, NO_TESTS, TOP
 from wrong import Fault
 
 USAGE = (
@@ -22,26 +24,35 @@ USAGE = (
 )
 
 class Tally(NamedTuple):
-    """How many passed, and how many failed."""
+    """How many passed, how many failed, and how many were left out for want of what they need."""
 
     passed: int
     failed: int
+    skipped: int = 0
 
     def and_also(self, other):
         """The sum of both."""
-        return Tally(self.passed + other.passed, self.failed + other.failed)
+        return Tally(self.passed + other.passed, self.failed + other.failed, self.skipped + other.skipped)
+
+    def __str__(self):
+        """The last line of what ran."""
+        skipped = f", {self.skipped} skipped" if self.skipped else ""
+        return f"{self.passed} passed, {self.failed} failed{skipped}"
 
 
 class Shown(unittest.TestResult):
     """Shows each test once it has ended, below what went wrong in it, and counts.
 
-    A test that is skipped or expected to fail counts as failed, so that none is left out.
+    A test that is expected to fail counts as failed, and so does one that is skipped, but for these reasons, so that no
+    other is left out.
     """
 
-    def __init__(self):
+    def __init__(self, reasons):
         super().__init__()
         self.tally = Tally(0, 0)
         self.faults = []
+        self.reasons = dict.fromkeys(reasons, 0)
+        self.is_left_out = False
 
     def stopTest(self, test):
         super().stopTest(test)
@@ -49,10 +60,12 @@ class Shown(unittest.TestResult):
 
     def end(self, test):
         """Counts and shows the test."""
-        is_well = not self.faults
-        self.tally = self.tally.and_also(Tally(int(is_well), int(not is_well)))
-        print(*self.faults, f"{test.id()}: {'ok' if is_well else 'FAILED'}", sep="\n", flush=True)
+        is_well = not self.faults and not self.is_left_out
+        self.tally = self.tally.and_also(Tally(int(is_well), int(bool(self.faults)), int(self.is_left_out)))
+        end = "FAILED" if self.faults else "skipped" if self.is_left_out else "ok"
+        print(*self.faults, f"{test.id()}: {end}", sep="\n", flush=True)
         self.faults = []
+        self.is_left_out = False
 
     def addError(self, test, err):
         self.faults.append("".join(traceback.format_exception(*err)))
@@ -68,7 +81,11 @@ class Shown(unittest.TestResult):
             self.faults.append(f"{subtest.id()}\n{''.join(traceback.format_exception(*err))}")
 
     def addSkip(self, test, reason):
-        self.faults.append(f"skipped: {reason}")
+        if reason in self.reasons:
+            self.is_left_out = True
+            self.reasons[reason] += 1
+        else:
+            self.faults.append(f"skipped: {reason}")
 
     def addExpectedFailure(self, test, err):
         self.faults.append("expected to fail, and does")
@@ -121,8 +138,9 @@ def refused(crate=""):
     return tally if tally != Tally(0, 0) else failed("there is no wrong body to try")
 
 
-def program(text):
-    """Has the program proved where it isn't, and runs the tests of this folder whose names have the text."""
+def program(text, reasons):
+    """Has the program proved where it isn't, and runs the tests of this folder whose names have the text. A test may be
+    left out for these reasons."""
     build = [TOP / "build", "--prove"]
     if subprocess.run(build, stdin=subprocess.DEVNULL, stdout=subprocess.DEVNULL).returncode != 0:
         return failed("the program isn't built, so it wasn't tested")
@@ -131,8 +149,11 @@ def program(text):
     tests = loader.discover(str(TOP / "tests"))
     if tests.countTestCases() == 0:
         return failed("there is no such test of the program")
-    shown = Shown()
+    shown = Shown(reasons)
     tests.run(shown)
+    for reason, count in shown.reasons.items():
+        if count:
+            print(f"test: {count} tests were skipped, since {reason}", flush=True)
     return shown.tally
 
 
@@ -151,8 +172,10 @@ def main(words):
     if not words:
         tally = tally.and_also(released())
     if words[:1] != ["--wrong"]:
-        tally = tally.and_also(program("".join(words[1:])))
-    print(f"{tally.passed} passed, {tally.failed} failed")
+        # (the gate has built the tests of the crates)
+        reasons = (NO_BROWSER, NO_TESTS) if words else (NO_BROWSER,)
+        tally = tally.and_also(program("".join(words[1:]), reasons))
+    print(tally)
     return 1 if tally.failed else 0
 
 

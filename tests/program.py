@@ -13,6 +13,10 @@ SHEET = str(TOP / "sheet")
 # The longest wait for anything, in seconds.
 LIMIT = 60
 DEVICE_FAILED = b"err 20 device\n"
+# Why a test of the page is left out, which `./test` counts as skipped; any other skip counts as failed.
+NO_BROWSER = "there is no browser: apt-get install -y chromium"
+# .. and why a test may be left out that runs the tests of a crate.
+NO_TESTS = "the tests of the crates aren't built: rt ci"
 
 
 class Ended(NamedTuple):

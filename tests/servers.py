@@ -133,9 +133,9 @@ class Server:
 
 @contextlib.contextmanager
 def serving(sessions, *words, port=None, **files):
-    """A server for so many sessions, with these further words, once it listens."""
+    """A server for so many sessions, or without an end, with these further words, once it listens."""
     port = port or free_port()
-    asked = ["serve", "--port", str(port), "--sessions", str(sessions), *words]
+    asked = ["serve", "--port", str(port), *(["--sessions", str(sessions)] if sessions else []), *words]
     with started(*asked, stdin=subprocess.DEVNULL, stdout=subprocess.PIPE, **files) as session:
         server = Server(session, port)
         try:

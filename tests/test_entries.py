@@ -97,6 +97,27 @@ class Entries(ProgramTest):
                 if chance.once_in(5):
                     self.assertEqual(run("table", given=table), Ended(0, self.shown(told)))
 
+    def test_the_entries_of_tables_by_chance_are_the_same_table(self):
+        for number in range(TABLES):
+            chance = Chance("table-entries", number)
+            records = valid_fields(chance)
+            told = [[contents.canonical_text(contents.read_entry(field)) for field in fields] for fields in records]
+            table = b"".join(written_record(fields) + b"\n" for fields in told)
+            given = b"".join(written_record(fields) + b"\n" for fields in records)
+            with self.subTest(number=number, table=table):
+                self.assertEqual(run("table", "--entries", given=given), Ended(0, table))
+                # what is written, taken in again, gives the same entries
+                self.assertEqual(run("table", "--entries", given=table), Ended(0, table))
+
+    def test_a_table_of_entries(self):
+        given = b'2,=[.A1] * 3\n"x,y",@tally\n +7,007\n'
+        self.assertEqual(run("table", "--entries", given=given), Ended(0, b'2,=[.A1]*3\n"\'x,y",@tally\n\' +7,7\n'))
+        self.assertEqual(run("table", "--entries", given=b""), Ended(0))
+        self.assertEqual(run("table", "--entries", given=b'""\n'), Ended(0, b'""\n'))
+
+    def test_a_refused_table_has_no_entries(self):
+        self.assertEqual(run("table", "--entries", given=b"1,=bad\n"), Ended(3, b"", lines("err 3 formula")))
+
     def shown(self, told):
         """The table that `FORMATS.md` has a sheet show with these entries."""
         sheet = Sheet()

@@ -20,12 +20,16 @@ class Statuses(ProgramTest):
         given = lines("walk", "get A0", "get A1")
         self.assertEqual(run("run", given=given), Ended(0, lines("err 16 command", "err 1 cell", "val ")))
 
+    def test_3_where_lines_of_a_strict_session_were_refused(self):
+        replies, told = lines("err 16 command", "err 1 cell", "val "), lines("refused lines: 2")
+        self.assertEqual(run("run", "--strict", given=lines("walk", "get A0", "get A1")), Ended(3, replies, told))
+
     def test_1_where_a_device_fails(self):
         with open("/dev/full", "wb") as full:
             self.assertEqual(run("run", given=b"get A1\n", stdout=full), Ended(1, b"", DEVICE_FAILED))
 
     def test_2_without_a_command(self):
-        said = "error: 'sheet' requires a subcommand but one was not provided\n  [subcommands: run, table, serve, sync, help]"
+        said = "error: 'sheet' requires a subcommand but one was not provided\n  [subcommands: run, table, serve, sync, follow, page, squash, help]"
         self.assert_no_command_line([], said, USAGE)
 
     def test_2_for_an_unknown_command(self):
@@ -43,7 +47,8 @@ class Statuses(ProgramTest):
 
     def test_2_for_an_option_of_the_other_command(self):
         said = "error: unexpected argument '--replica' found"
-        self.assert_no_command_line(["table", "--replica", "2"], said, TABLE_USAGE)
+        tip = "  tip: a similar argument exists: '--explain'"
+        self.assert_no_command_line(["table", "--replica", "2"], said, tip, "Usage: sheet table --explain")
 
     def test_2_for_an_option_that_is_given_twice(self):
         said = "error: the argument '--replica <replica>' cannot be used multiple times"

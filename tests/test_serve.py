@@ -421,9 +421,12 @@ class Ends(ProgramTest):
 
 class CommandLine(ProgramTest):
     def test_numbers_that_are_missing_or_out_of_range(self):
-        for words in ([], ["--port", "7001"], ["--sessions", "1"], ["--port", "0", "--sessions", "1"],
+        for words in ([], ["--sessions", "1"], ["--port", "0", "--sessions", "1"],
                       ["--port", "65536", "--sessions", "1"], ["--port", "7001", "--sessions", "0"],
-                      ["--port", "7001", "--sessions", "17"], ["--port", "x", "--sessions", "1"],
+                      ["--port", "7001", "--sessions", "1000001"], ["--port", "x", "--sessions", "1"],
+                      ["--port", "7001", "--seats", "0"], ["--port", "7001", "--seats", "17"],
+                      ["--port", "7001", "--wait", "61"], ["--port", "7001", "--idle", "0"],
+                      ["--port", "7001", "--idle", "86401"], ["--port", "7001", "--sessions"],
                       ["--port", "7001", "--sessions", "1", "--replica", "33"],
                       ["--port", "7001", "--sessions", "1", "--workers", "17"]):
             with self.subTest(words=words):
@@ -435,5 +438,6 @@ class CommandLine(ProgramTest):
         ended = run("serve", "--help")
         self.assertEqual(ended.status, 0)
         self.assertIn(b"  sheet serve --port 7001 --sessions 2 --replica 1\n", ended.output)
-        for word in (b"--port", b"--sessions", b"--workers", b"--replica", b"1 to 65535", b"1 to 16", b"1 to 32"):
+        for word in (b"--port", b"--sessions", b"--seats", b"--wait", b"--idle", b"--workers", b"--replica",
+                     b"1 to 65535", b"1 to 1000000", b"1 to 16", b"0 to 60", b"1 to 86400", b"1 to 32"):
             self.assertIn(word, ended.output)

@@ -61,7 +61,7 @@ class Recipes(Pasting):
     def test_each_writes_the_block_after_it(self):
         # ports of the test's own for those that the page names
         ports = {named: str(free_port()) for named in ("7001", "7002")}
-        self.assertEqual(len(RECIPES), 9)
+        self.assertEqual(len(RECIPES), 10)
         for commands, shown in RECIPES:
             with self.subTest(commands=commands):
                 commands, shown = (re.sub(r"\b700[12]\b", lambda port: ports[port[0]], it) for it in (commands, shown))
@@ -72,7 +72,7 @@ class Recipes(Pasting):
 
     def test_one_whose_port_is_taken_ends_and_says_nothing_to_who_has_it(self):
         recipes = [commands.removeprefix("bash\n") for commands, _ in RECIPES if "start " in commands]
-        self.assertEqual(len(recipes), 3)
+        self.assertEqual(len(recipes), 4)
         with socket.create_server((HERE, 0)) as listener:
             port = str(listener.getsockname()[1])
             for commands in recipes:
@@ -85,7 +85,7 @@ class Recipes(Pasting):
 
 
 class Keeping(Pasting):
-    """Nothing is lost by `keep`, from `run` and from `serve`, and by the `ask` of `README.md`."""
+    """Nothing is lost by `keep` from `run`, by `follow` from `serve`, and by the `ask` of `README.md`."""
 
     def from_run(self):
         """Keeps what the file `given` does at `run`."""
@@ -97,7 +97,7 @@ class Keeping(Pasting):
         self.assertEqual(self.paste(f"""
             start log ./sheet serve --port {port} --sessions 2 &&
             nc -N {HERE} {port} < given > replies &&
-            keep nc -N {HERE} {port} < /dev/null > kept &&
+            ./sheet follow --from {port} --until-now > kept &&
             wait
         """), Ended(0))
         self.assertNotIn(b"err", (self.place / "replies").read_bytes())

@@ -79,20 +79,27 @@ class Help(ProgramTest):
             self.assertIn(text, ended.output.decode())
 
     def test_help_names_the_commands(self):
-        self.assert_tells(["--help"], "Usage: sheet <COMMAND>", "run", "table", "serve", "sync")
+        self.assert_tells(["--help"], "Usage: sheet <COMMAND>", "run", "table", "serve", "sync", "follow", "page", "squash")
+
+    def test_help_lists_the_refusals(self):
+        listed = (TOP / "docs/FORMATS.md").read_text().split("## Refusals\n\n")[1].split("\n\n")[0]
+        refusals = [refusal.split() for refusal in listed.split("·")]
+        self.assertEqual([int(number) for number, _ in refusals], list(range(1, 22)))
+        self.assert_tells(["--help"], *(f"\n  {number:>2} {name:11} " for number, name in refusals))
 
     def test_help_of_run_names_its_options_and_each_line(self):
         verbs = ["set", "add", "sub", "get", "choose", "unchoose", "rows", "entry", "entries", "pull", "push"]
-        self.assert_tells(["run", "--help"], "Usage: sheet run", "--workers", "--replica", *(f"{it} " for it in verbs))
+        self.assert_tells(["run", "--help"], "Usage: sheet run", "--workers", "--replica", "--explain", "--strict",
+                          *(f"{it} " for it in verbs))
 
-    def test_help_of_table_names_its_option(self):
-        self.assert_tells(["table", "--help"], "Usage: sheet table", "--workers")
+    def test_help_of_table_names_its_options(self):
+        self.assert_tells(["table", "--help"], "Usage: sheet table", "--workers", "--entries", "--explain")
 
     def test_the_version_is_told(self):
         self.assertEqual(run("--version"), Ended(0, b"sheet 0.1.0\n"))
 
     def test_the_short_option_and_the_command_help_tell_the_same(self):
-        for words in ([], ["run"], ["table"], ["serve"], ["sync"]):
+        for words in ([], ["run"], ["table"], ["serve"], ["sync"], ["follow"], ["page"], ["squash"]):
             with self.subTest(words=words):
                 told = run(*words, "--help").output
                 self.assertEqual(run(*words, "-h"), Ended(0, told))

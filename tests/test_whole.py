@@ -4,7 +4,7 @@ import shutil
 import stat
 import subprocess
 
-from program import LIMIT, TOP, Ended, ProgramTest
+from program import LIMIT, NO_BROWSER, NO_TESTS, TOP, Ended, ProgramTest
 
 TESTS = """\
 import unittest
@@ -118,6 +118,21 @@ class Whole(ProgramTest):
             with self.subTest(statement=statement):
                 self.use_test(statement)
                 self.assert_fails("11 passed, 1 failed")
+
+    def test_a_test_without_its_browser_is_skipped(self):
+        self.use_test(f"self.skipTest({NO_BROWSER!r})")
+        shown = "test_stand.Stand.test_in: skipped\n"
+        shown += f"test: 1 tests were skipped, since {NO_BROWSER}\n0 passed, 0 failed, 1 skipped\n"
+        self.assertEqual(self.start("--program"), Ended(0, shown, ""))
+        self.use_test(f"self.skipTest({NO_BROWSER!r} + '?')")
+        self.assert_fails("0 passed, 1 failed", "--program")
+
+    def test_only_the_tests_of_the_program_alone_leave_out_what_wants_those_of_the_crates(self):
+        self.use_test(f"self.skipTest({NO_TESTS!r})")
+        shown = "test_stand.Stand.test_in: skipped\n"
+        shown += f"test: 1 tests were skipped, since {NO_TESTS}\n0 passed, 0 failed, 1 skipped\n"
+        self.assertEqual(self.start("--program"), Ended(0, shown, ""))
+        self.assert_fails("11 passed, 1 failed")
 
     def test_a_file_of_tests_that_cannot_be_read_is_a_failure(self):
         (self.top / "tests/test_stand.py").write_text("class\n")

@@ -1,0 +1,31 @@
+"""`./sheet page` under way, beside a server."""
+import contextlib
+import subprocess
+
+from program import lines, started
+from servers import free_port
+
+
+class Gateway:
+    """A gateway that listens on its port."""
+
+    def __init__(self, session, port):
+        self.session, self.port = session, port
+        self.url = f"http://127.0.0.1:{port}/"
+
+    def memory(self):
+        """How many bytes it holds in memory."""
+        with open(f"/proc/{self.session.pid}/status") as status:
+            return next(int(row.split()[1]) for row in status if row.startswith("VmRSS:")) * 1024
+
+
+@contextlib.contextmanager
+def paging(server_port, *words, port=None):
+    """A gateway beside the server on a port, with these further words, once it listens."""
+    port = port or free_port()
+    asked = ["page", "--from", str(server_port), "--port", str(port), *words]
+    with started(*asked, stdin=subprocess.DEVNULL, stdout=subprocess.PIPE) as session:
+        first = session.stdout.readline()
+        if first != lines(f"page http://127.0.0.1:{port}/"):
+            raise AssertionError(f"the first line is {first!r}")
+        yield Gateway(session, port)

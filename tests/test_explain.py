@@ -1,0 +1,190 @@
+"""Words that help: `--explain` of `run` and `table`, and `--strict` of `run`."""
+import csv
+import io
+import os
+import pty
+import subprocess
+
+from hunt import contents, entries
+from hunt.chance import Chance
+from hunt.records import written_record
+from hunt.scripts import NO_CELLS, VERBS
+from program import LIMIT, SHEET, Ended, ProgramTest, lines, run
+
+FUNCTIONS = "SUM, MIN, MAX, COUNT, IF, MOD, QUOTIENT, ABS, AND, OR, NOT, TRUE, FALSE"
+# What people write by habit into a cell, the reply to it, and what is told of it.
+HABITS = (
+    ("=A1+1", "err 3 formula", "err 3 formula: A1 is written [.A1]"),
+    ("=SUM(A1:A3)", "err 3 formula", "err 3 formula: A1:A3 is written [.A1:.A3]"),
+    ("=IF(1,2,3)", "err 3 formula", "err 3 formula: arguments have ; between them, and numbers are whole"),
+    ('="yes"', "err 3 formula", "err 3 formula: a formula has no texts"),
+    ("=12.5*2", "err 3 formula", "err 3 formula: 12.5: numbers are whole"),
+    ("=TRUE", "err 3 formula", "err 3 formula: TRUE is written TRUE()"),
+    ("=AVERAGE([.A1:.A3])", "err 3 formula",
+     f"err 3 formula: AVERAGE is no function; the functions are {FUNCTIONS}"),
+    ("=[.A1]/2", "err 3 formula", "err 3 formula: / is written QUOTIENT(a;b)"),
+    ("x" * 71, "err 2 text", "err 2 text: 71 bytes of at most 64"),
+    ("12.50", "ok", "12.50 is kept as a text: numbers are whole"),
+    ("1,200", "ok", "1,200 is kept as a text: numbers have no commas"),
+    (" 7", "ok", '" 7" is kept as a text: a blank stands before or after it'),
+    ("$5", "ok", "$5 is kept as a text: numbers have no sign of a currency"),
+    ("7", "ok", ""), ("=[.A1]+1", "ok", ""), ("'12.50", "ok", ""), ("apples", "ok", ""),
+)
+# Lines that are refused, the reply, and what is told.
+LINES = (
+    ("SET A1 5", "err 16 command", "SET is written set"),
+    ("walk", "err 16 command", "walk is no verb; the verbs are get, set, add, sub, choose, unchoose, rows, entry, "
+     "entries, push, pull"),
+    ("get a1", "err 1 cell", "a1 is written A1"),
+    ("get A1 ", "err 16 command", "one space stands between two words, and none at the end"),
+    ("add A1 1", "err 5 not-tally", "set A1 @tally makes it a counter"),
+    ("pull 0 17", "err 17 version", "pull has a version that there is, and at most 16 deltas"),
+)
+
+
+def by_chance(chance):
+    """A line by chance, many of them refused."""
+    verb = chance.choice(VERBS[:-1])
+    cell = chance.choice(NO_CELLS) if chance.once_in(8) else chance.choice((b"A1", b"B2", b"CZ1024", b"A1:B2"))
+    last = entries.entry(chance, [b"A1", b"B2"]) if chance.once_in(2) else chance.choice((b"1", b"0", b"x", b"1.5"))
+    return b" ".join((verb, cell, last)).replace(b"\n", b" ").rstrip(b"\r")
+
+
+class OfLines(ProgramTest):
+    def test_habits_are_told_with_their_line(self):
+        given, replies, told, version = [], [], [], 0
+        for number, (entry, reply, note) in enumerate(HABITS, 1):
+            given.append(f"set B1 {entry}")
+            version += reply == "ok"
+            replies.append(f"ok {version}" if reply == "ok" else reply)
+            told += [f"line {number}: {note}"] if note else []
+        ended = run("run", "--explain", given=lines(*given))
+        self.assertEqual(ended, Ended(0, lines(*replies), lines(*told)))
+        # and nothing is told where nobody asks
+        self.assertEqual(run("run", given=lines(*given)), Ended(0, lines(*replies)))
+
+    def test_words_of_lines(self):
+        told = [f"line {number}: {reply}: {note}" for number, (_, reply, note) in enumerate(LINES, 1)]
+        ended = run("run", "--explain", given=lines(*(line for line, _, _ in LINES)))
+        self.assertEqual(ended, Ended(0, lines(*(reply for _, reply, _ in LINES)), lines(*told)))
+
+    def test_empty_lines_and_lines_that_are_too_long_count(self):
+        given = b"\n\r\n" + b"x" * 300_000 + b"\nset A1 1.5\nget a1"
+        told = lines("line 3: err 15 line: nothing of so long a line is carried out",
+                     "line 4: 1.5 is kept as a text: numbers are whole", "line 5: err 1 cell: a1 is written A1")
+        ended = run("run", "--explain", given=given)
+        self.assertEqual(ended, Ended(0, lines("err 15 line", "ok 1", "err 1 cell"), told))
+
+    def test_lines_by_chance_have_the_same_replies_and_each_refusal_is_told(self):
+        for number in range(100):
+            chance = Chance("explain", number)
+            given = [by_chance(chance) for _ in range(chance.randint(1, 20))]
+            given = [line for line in given if not line.startswith((b"rows", b"entries", b"push", b"pull"))]
+            with self.subTest(number=number, given=given):
+                plain = run("run", given=b"".join(line + b"\n" for line in given))
+                ended = run("run", "--explain", given=b"".join(line + b"\n" for line in given))
+                self.assertEqual((ended.status, ended.output), (0, plain.output))
+                refused = [b"line %d: %s: " % (line, reply) for line, reply in enumerate(plain.output.split(b"\n"), 1)
+                           if reply.startswith(b"err")]
+                told = [note for note in ended.error.splitlines(True) if b" is kept as a text: " not in note]
+                self.assertEqual(len(told), len(refused))
+                for note, begin in zip(told, refused):
+                    self.assertTrue(note.startswith(begin) and note.endswith(b"\n") and len(note) > len(begin) + 5)
+
+    def test_an_error_output_that_is_full_changes_nothing(self):
+        with open("/dev/full", "wb") as full:
+            ended = subprocess.run([SHEET, "run", "--explain"], input=b"walk\nset A1 1\n", stdout=subprocess.PIPE,
+                                   stderr=full, timeout=LIMIT)
+        self.assertEqual((ended.returncode, ended.stdout), (0, lines("err 16 command", "ok 1")))
+
+
+class AtATerminal(ProgramTest):
+    def typed(self, *words, is_terminal):
+        """What standard error has once a refused line was typed at a terminal, and standard error is one or isn't."""
+        person, terminal = pty.openpty()
+        try:
+            error = terminal if is_terminal else subprocess.PIPE
+            with subprocess.Popen([SHEET, *words], stdin=terminal, stdout=subprocess.PIPE, stderr=error) as session:
+                os.write(person, b"get a1\n\x04")
+                output, told = session.communicate(timeout=LIMIT)
+                self.assertEqual((session.returncode, output), (0, lines("err 1 cell")))
+                return os.read(person, 4096) if is_terminal else told
+        finally:
+            os.close(person)
+            os.close(terminal)
+
+    def test_hints_are_told_where_a_person_types_and_reads(self):
+        self.assertIn(b"line 1: err 1 cell: a1 is written A1", self.typed("run", is_terminal=True))
+
+    def test_no_hints_where_the_errors_go_elsewhere(self):
+        self.assertEqual(self.typed("run", is_terminal=False), b"")
+
+
+class OfTables(ProgramTest):
+    def assert_told(self, rows, status, output, *told):
+        table = io.StringIO(newline="")
+        csv.writer(table).writerows(rows)
+        ended = run("table", "--explain", given=table.getvalue().encode())
+        self.assertEqual(ended, Ended(status, output, lines(*told)))
+
+    def test_a_refused_field_has_its_place(self):
+        rows = [["1", "2", "3"]] * 9 + [["1", "2", "x" * 71]] + [["=A1", "2", "3"]]
+        self.assert_told(rows, 3, b"", "row 10, column C: err 2 text: 71 bytes of at most 64", "err 2 text")
+        self.assert_told([["1", "=A1+1"]], 3, b"", "row 1, column B: err 3 formula: A1 is written [.A1]",
+                         "err 3 formula")
+
+    def test_the_last_column(self):
+        self.assert_told([[""] * 103 + ["=A1"]], 3, b"", "row 1, column CZ: err 3 formula: A1 is written [.A1]",
+                         "err 3 formula")
+
+    def test_fields_that_look_like_numbers(self):
+        self.assert_told([["7", "12.50"], [" 7", "$5"]], 0, b"7,12.50\n 7,$5\n",
+                         "row 1, column B: 12.50 is kept as a text: numbers are whole",
+                         'row 2, column A: " 7" is kept as a text: a blank stands before or after it',
+                         "row 2, column B: $5 is kept as a text: numbers have no sign of a currency")
+
+    def test_a_table_that_is_too_large(self):
+        self.assert_told([["1"]] * 1025, 3, b"", "row 1025: err 18 csv: a table has at most 1024 records", "err 18 csv")
+        self.assert_told([["1"], ["1"] * 105], 3, b"", "row 2: err 18 csv: a record has at most 104 fields",
+                         "err 18 csv")
+
+    def test_tables_by_chance_are_taken_in_alike(self):
+        for number in range(60):
+            chance = Chance("explained-tables", number)
+            rows = [[entries.entry(chance, [b"A1", b"B2"]) for _ in range(3)] for _ in range(chance.randint(1, 5))]
+            given = b"".join(written_record(row) + b"\n" for row in rows)
+            with self.subTest(number=number, given=given):
+                plain = run("table", given=given)
+                ended = run("table", "--explain", given=given)
+                self.assertEqual((ended.status, ended.output), (plain.status, plain.output))
+                told = ended.error.splitlines(True)
+                if plain.error.startswith((b"err 2", b"err 3", b"err 4")):
+                    # the place is that of the first field that the model refuses
+                    row, column = next((down, across) for down, fields in enumerate(rows)
+                                       for across, field in enumerate(fields)
+                                       if isinstance(contents.read_entry(field), contents.Refusal))
+                    begin = b"row %d, column %c: %s: " % (row + 1, ord("A") + column, plain.error.rstrip(b"\n"))
+                    self.assertTrue(told[-2].startswith(begin), (told, begin))
+                    self.assertEqual(told.pop(), plain.error)
+                    told.pop()
+                self.assertTrue(all(b" is kept as a text: " in note for note in told))
+
+
+class Strict(ProgramTest):
+    def test_a_refused_line_is_a_fault_in_the_end(self):
+        given, replies = lines("walk", "set A1 5", "get a1", "get A1"), lines("err 16 command", "ok 1", "err 1 cell", "val 5")
+        self.assertEqual(run("run", "--strict", given=given), Ended(3, replies, lines("refused lines: 2")))
+        self.assertEqual(run("run", given=given), Ended(0, replies))
+
+    def test_no_refused_line_is_none(self):
+        given = lines("set A1 1.5", "", "get A1")
+        self.assertEqual(run("run", "--strict", given=given), Ended(0, lines("ok 1", "val 1.5")))
+        self.assertEqual(run("run", "--strict", given=b""), Ended(0))
+
+    def test_with_hints(self):
+        told = lines("line 1: err 1 cell: a1 is written A1", "refused lines: 1")
+        self.assertEqual(run("run", "--explain", "--strict", given=b"get a1\n"), Ended(3, lines("err 1 cell"), told))
+
+    def test_a_device_that_fails_comes_first(self):
+        with open("/dev/full", "wb") as full:
+            self.assertEqual(run("run", "--strict", given=b"walk\n", stdout=full), Ended(1, b"", b"err 20 device\n"))

@@ -1,0 +1,421 @@
+"""The page of `sheet page` in a real browser: what one types another sees, each key, counters, choices, pictures."""
+import contextlib
+import os
+import signal
+import unittest
+from pathlib import Path
+
+import browser
+from browser import CONTROL, SHIFT, Browser
+from browser_gateway import paging
+from program import LIMIT, NO_BROWSER, ProgramTest
+from servers import serving
+
+SESSIONS = 16
+# Where pictures of the page are kept; nowhere unless the variable is set.
+PICTURES = os.environ.get("SHEET_PICTURES")
+
+
+class BrowserTest(ProgramTest):
+    """A test of the page, for which one browser is started."""
+
+    browser = None
+    words = ()
+
+    @classmethod
+    def tearDownClass(cls):
+        if cls.browser is not None:
+            cls.browser.end()
+            cls.browser = None
+
+    def setUp(self):
+        if browser.program() is None:
+            self.skipTest(NO_BROWSER)
+        if self.browser is None:
+            type(self).browser = Browser()
+        with contextlib.ExitStack() as stack:
+            self.server = stack.enter_context(serving(SESSIONS))
+            self.gateway = stack.enter_context(paging(self.server.port, *self.words))
+            self.addCleanup(stack.pop_all().close)
+        self.client = self.server.client()
+
+    def page(self):
+        """A page that is connected, and at whose end nothing went wrong."""
+        page = self.browser.page(self.gateway.url)
+        self.addCleanup(page.close)
+        self.addCleanup(lambda: self.assertEqual(page.problems, []))
+        page.wait_for("document.getElementById('link').textContent", "connected")
+        page.wait_for("seenAt !== ''")
+        return page
+
+    def assert_shows(self, page, cell, text):
+        """A page comes to show a text in a cell; how long that took."""
+        column, row = cell
+        return page.wait_for(f"(document.getElementById('cell-' + keyOf({column}, {row})) || {{}}).textContent", text)
+
+    def assert_held(self, line, reply):
+        """The server comes to answer this line so."""
+        self.client.wait_for(line, reply)
+
+    def middle(self, page, column, row, part=""):
+        """Where the middle of a cell, or of a part of it, is."""
+        return page.middle(f"document.querySelector('#cell-' + keyOf({column}, {row}) + ' {part}'.trimEnd())")
+
+    def button(self, page, name):
+        """Where the button of an example is, once the page knows that the sheet is empty."""
+        page.wait_for("document.getElementById('examples').hidden", False)
+        return page.middle(f"document.getElementById('{name}')")
+
+    def current(self, page):
+        """The name of the current cell."""
+        return page.value("document.getElementById('name').value")
+
+    def keep_picture(self, page, name):
+        """Has a picture of a page that isn't empty, and keeps it where that is asked for."""
+        picture = page.picture()
+        self.assertTrue(picture.startswith(b"\x89PNG"))
+        if PICTURES:
+            (Path(PICTURES) / f"{name}.png").write_bytes(picture)
+        return picture
+
+
+class Two(BrowserTest):
+    def test_what_one_types_the_other_shows(self):
+        first, second = self.page(), self.page()
+        first.type("5")
+        first.key("Enter")
+        self.assert_shows(second, (0, 0), "5")
+        second.key("ArrowDown")
+        second.type("=a1*2,")
+        second.key("Backspace")
+        second.key("Enter")
+        self.assert_shows(first, (0, 1), "10")
+        self.assert_held("entry A2", "entry =[.A1]*2")
+        # also while one types
+        first.type("=SUM(")
+        second.key("Home", CONTROL)
+        second.type("7")
+        second.key("Tab")
+        self.assert_shows(first, (0, 1), "14")
+        self.assertEqual(first.value("document.getElementById('editor').value"), "=SUM(")
+
+    def test_a_change_shows_within_half_a_second(self):
+        page = self.page()
+        # the machine may be busy: of some changes one has to show in time
+        for number in range(1, 21):
+            self.assertEqual(self.client.ask(f"set C3 {number}"), f"ok {number}")
+            if self.assert_shows(page, (2, 2), str(number)) < 0.5:
+                return
+        self.fail("no change showed in time")
+
+    def test_counters(self):
+        first, second = self.page(), self.page()
+        first.click(*first.middle("document.getElementById('tally')"))
+        self.assert_held("entry A1", "entry @tally")
+        for page in (first, second):
+            page.wait_for("document.querySelectorAll('#cell-0 button').length", 2)
+        for _ in range(3):
+            second.click(*self.middle(second, 0, 0, "[data-action=add]"))
+        first.click(*self.middle(first, 0, 0, "[data-action=sub]"))
+        first.key("+")
+        first.key("-")
+        self.assert_held("get A1", "val 2")
+        first.wait_for("shownAt([0, 0])", "2")
+        second.wait_for("shownAt([0, 0])", "2")
+
+    def test_choices(self):
+        page = self.page()
+        page.click(*page.middle("document.getElementById('choice')"))
+        page.wait_for("heldAt([0, 0])", "@choice")
+        page.key("Enter")
+        page.wait_for("document.getElementById('options').hidden", False)
+        for option in (3, 5):
+            page.click(*page.middle(f"document.querySelectorAll('#options input')[{option}]"))
+        self.assert_held("get A1", "val {3,5}")
+        page.click(*page.middle("document.querySelectorAll('#options input')[3]"))
+        self.assert_held("get A1", "val {5}")
+        # others' marks show while the options are open
+        self.assertEqual(self.client.ask("choose A1 7")[:3], "ok ")
+        page.wait_for("document.querySelectorAll('#options input')[7].checked", True)
+        self.assertEqual(self.client.ask("unchoose A1 7")[:3], "ok ")
+        page.wait_for("document.querySelectorAll('#options input')[7].checked", False)
+        page.key("Escape")
+        page.wait_for("document.getElementById('options').hidden", True)
+        page.wait_for("document.querySelector('#cell-0 .marks').textContent", "5")
+
+    def test_the_vote(self):
+        first, second = self.page(), self.page()
+        first.click(*self.button(first, "vote"))
+        self.assert_held("entry B7", "entry =MAX([.B2:.B4])")
+        for page in (first, second):
+            page.wait_for("document.querySelectorAll('.tally button').length", 6)
+        second.click(*self.middle(second, 1, 1, "[data-action=add]"))
+        first.click(*self.middle(first, 1, 2, "[data-action=add]"))
+        second.click(*self.middle(second, 1, 2, "[data-action=add]"))
+        for page in (first, second):
+            self.assert_shows(page, (1, 5), "3")
+            self.assert_shows(page, (1, 6), "2")
+            page.wait_for("document.getElementById('examples').hidden", True)
+
+    def test_the_plan(self):
+        page = self.page()
+        page.click(*self.button(page, "plan"))
+        self.assert_held("entry D6", "entry =SUM([.D2:.D4])")
+        self.assertEqual(self.client.ask("choose B2 1")[:3], "ok ")
+        self.assertEqual(self.client.ask("choose B2 2")[:3], "ok ")
+        self.assert_shows(page, (3, 5), "12")
+
+
+class Keys(BrowserTest):
+    def test_moves(self):
+        page = self.page()
+        for key, modifiers, cell in (
+            ("ArrowRight", 0, "B1"), ("ArrowDown", 0, "B2"), ("ArrowLeft", 0, "A2"), ("ArrowUp", 0, "A1"),
+            ("ArrowUp", 0, "A1"), ("Tab", 0, "B1"), ("Tab", SHIFT, "A1"), ("PageDown", 0, None), ("PageUp", 0, "A1"),
+            ("Tab", 0, "B1"), ("Home", 0, "A1"), ("ArrowDown", 0, "A2"), ("Enter", SHIFT, "A1"), ("ArrowDown", 0, "A2"),
+            ("ArrowRight", 0, "B2"), ("Home", CONTROL, "A1"),
+        ):
+            page.key(key, modifiers)
+            if cell is not None:
+                self.assertEqual(self.current(page), cell)
+
+    def test_edits(self):
+        page = self.page()
+        page.type("12")
+        page.key("Enter")
+        self.assertEqual(self.current(page), "A2")
+        self.assert_held("get A1", "val 12")
+        page.type("13")
+        page.key("Tab")
+        self.assertEqual(self.current(page), "B2")
+        page.type("14")
+        page.key("Tab", SHIFT)
+        self.assertEqual(self.current(page), "A2")
+        self.assert_held("get B2", "val 14")
+        self.assertEqual(self.client.ask("rows A1:B2"), "rows 2")
+        self.assertEqual((self.client.reply(), self.client.reply()), ("12,", "13,14"))
+        page.type("9")
+        page.key("Escape")
+        self.assert_held("get A2", "val 13")
+        page.wait_for("shownAt([0, 1])", "13")
+        page.key("Enter")
+        self.assertEqual(page.value("document.getElementById('editor').value"), "13")
+        page.type("0")
+        page.key("Enter", SHIFT)
+        self.assert_held("get A2", "val 130")
+        self.assertEqual(self.current(page), "A1")
+        page.key("Delete")
+        self.assert_held("get A1", "val ")
+
+    def test_the_line_above_the_grid(self):
+        page = self.page()
+        page.click(*page.middle("document.getElementById('line')"))
+        page.type("=1+2")
+        page.key("Enter")
+        self.assert_held("get A1", "val 3")
+        page.key("ArrowUp")
+        page.wait_for("document.getElementById('value').textContent", "= 3")
+        self.assertEqual(page.value("document.getElementById('line').value"), "=1+2")
+        page.click(*page.middle("document.getElementById('name')"))
+        page.type("cz1024")
+        page.key("Enter")
+        self.assertEqual(self.current(page), "CZ1024")
+        page.type("end")
+        page.key("Enter")
+        self.assert_held("get CZ1024", "val end")
+        self.assert_shows(page, (103, 1023), "end")
+
+    def test_texts_stay_texts(self):
+        page = self.page()
+        typed_and_held = (("'12", "'12"), ("apples", "'apples"), ("gr\u00fc\u00df", "'gr\u00fc\u00df"), ("a1", "'a1"))
+        for row, (typed, entry) in enumerate(typed_and_held, 1):
+            page.type(typed)
+            page.key("Enter")
+            self.assert_held(f"entry A{row}", f"entry {entry}")
+        page.key("Home", CONTROL)
+        page.wait_for("document.getElementById('line').value", "'12")
+        page.key("ArrowDown")
+        page.wait_for("document.getElementById('line').value", "apples")
+
+    def test_a_rectangle_is_copied_and_pasted(self):
+        page = self.page()
+        self.client.ask("set A1 1")
+        self.client.ask("set B1 two")
+        self.client.ask("set A2 =[.A1]+2")
+        page.wait_for("shownAt([0, 1])", "3")
+        page.key("ArrowRight", SHIFT)
+        page.key("ArrowDown", SHIFT)
+        self.assertEqual(page.value("copied()"), "1\ttwo\n3\t")
+        page.value("pasteText('4\\t5\\n\\t6\\n')")
+        self.assert_held("get B2", "val 6")
+        self.assert_held("get A1", "val 4")
+        self.assert_held("get B1", "val 5")
+        self.assert_held("get A2", "val ")
+        page.key("Delete")
+        self.assert_held("get B2", "val ")
+        self.assert_held("get A1", "val ")
+
+    def test_the_clipboard(self):
+        page = self.page()
+        page.type("31")
+        page.key("Enter")
+        page.key("ArrowUp")
+        page.wait_for("shownAt([0, 0])", "31")
+        page.key("c", CONTROL)
+        page.key("ArrowRight")
+        page.key("v", CONTROL)
+        self.assert_held("get B1", "val 31")
+        page.wait_for("shownAt([1, 0])", "31")
+        page.key("x", CONTROL)
+        self.assert_held("get B1", "val ")
+        page.key("ArrowDown")
+        page.key("v", CONTROL)
+        self.assert_held("get B2", "val 31")
+
+
+class Pointer(BrowserTest):
+    def test_a_click_picks_a_cell(self):
+        page = self.page()
+        page.click(*self.middle(page, 2, 4))
+        self.assertEqual(self.current(page), "C5")
+        page.click(*self.middle(page, 3, 5), modifiers=SHIFT)
+        self.assertEqual(page.value("JSON.stringify(selected())"), '{"left":2,"top":4,"right":3,"bottom":5}')
+
+    def test_a_double_click_edits(self):
+        page = self.page()
+        self.client.ask("set B2 40")
+        page.wait_for("shownAt([1, 1])", "40")
+        page.click(*self.middle(page, 1, 1), times=2)
+        page.type("2")
+        page.key("Enter")
+        self.assert_held("get B2", "val 402")
+
+    def test_cells_are_picked_into_a_formula(self):
+        page = self.page()
+        self.client.ask("set A1 5")
+        self.client.ask("set A3 7")
+        page.click(*self.middle(page, 1, 0))
+        page.type("=")
+        page.click(*self.middle(page, 0, 0))
+        page.type("+SUM(")
+        page.mouse("mousePressed", *self.middle(page, 0, 0), clickCount=1, buttons=1)
+        page.mouse("mouseMoved", *self.middle(page, 0, 1), buttons=1)
+        page.mouse("mouseMoved", *self.middle(page, 0, 2), buttons=1)
+        page.mouse("mouseReleased", *self.middle(page, 0, 2), clickCount=1)
+        page.type(")")
+        self.assertEqual(page.value("document.getElementById('editor').value"), "=A1+SUM(A1:A3)")
+        page.key("Enter")
+        self.assert_held("get B1", "val 17")
+
+
+class Told(BrowserTest):
+    words = ("--browsers", "2")
+
+    def test_refusals_are_told_in_words(self):
+        page = self.page()
+        page.type("=1+")
+        page.key("Enter")
+        page.wait_for("document.getElementById('refusal').hidden", False)
+        self.assertIn("A1: This is no formula", page.value("document.getElementById('refusal').textContent"))
+        page.wait_for("document.getElementById('editor').value", "=1+")
+        page.key("Escape")
+        page.wait_for("document.getElementById('refusal').hidden", True)
+
+    def test_faults_have_a_word(self):
+        page = self.page()
+        self.client.ask("set A1 =[.A1]")
+        page.wait_for("document.getElementById('hint').textContent",
+                      "#CYCLE! a circle: the cell refers to itself, perhaps over others")
+        self.assertEqual(page.value("document.getElementById('cell-0').className.includes('cycle')"), True)
+        # a text that only looks like a fault
+        self.client.ask("set A1 '#CYCLE!")
+        page.wait_for("heldAt([0, 0])", "'#CYCLE!")
+        page.wait_for("document.getElementById('cell-0').className.includes('cycle')", False)
+
+    def test_a_browser_too_many_is_told_so(self):
+        first, _ = self.page(), self.page()
+        third = self.browser.page(self.gateway.url)
+        self.addCleanup(third.close)
+        third.wait_for("document.getElementById('link').textContent", "all places are taken, trying again")
+        first.open("about:blank")
+        third.wait_for("document.getElementById('link').textContent", "connected")
+
+    def test_what_is_there_is_not_made_another(self):
+        page = self.page()
+        self.client.ask("set A1 Friday")
+        page.wait_for("shownAt([0, 0])", "Friday")
+        page.click(*page.middle("document.getElementById('tally')"))
+        page.wait_for("document.getElementById('refusal').textContent", "A1: This cell holds something. Delete it first.")
+        self.assertEqual(self.client.ask("get A1"), "val Friday")
+
+    def test_a_lost_connection(self):
+        page = self.page()
+        port = self.server.port
+        os.killpg(self.server.session.pid, signal.SIGKILL)
+        self.server.session.wait(LIMIT)
+        page.wait_for("document.getElementById('link').textContent", "the server does not answer, trying again")
+        self.assertEqual(page.value("document.body.className"), "lost")
+        page.type("5")
+        page.wait_for("document.getElementById('refusal').textContent",
+                      "There is no connection: nothing can be changed now.")
+        with serving(SESSIONS, port=port):
+            page.wait_for("document.body.className", "")
+            page.type("5")
+            page.key("Enter")
+            self.assert_shows(page, (0, 0), "5")
+
+
+class Looks(BrowserTest):
+    def filled(self):
+        """A page with something of each kind."""
+        page = self.page()
+        page.click(*self.button(page, "vote"))
+        self.assert_held("entry B7", "entry =MAX([.B2:.B4])")
+        for line in ("add B2 3", "add B3 5", "add B4 2", "set D1 Days", "set D2 @choice", "choose D2 1", "choose D2 4",
+                     "set D4 =[.A2]+1", "set D5 =[.D5]", "set D6 -1250"):
+            self.assertEqual(self.client.ask(line)[:3], "ok ")
+        page.wait_for("shownAt([3, 5])", "-1250")
+        page.wait_for("shownAt([1, 6])", "5")
+        return page
+
+    def test_light_and_dark(self):
+        page = self.filled()
+        pictures = {}
+        for scheme in ("light", "dark"):
+            page.call("Emulation.setEmulatedMedia", features=[{"name": "prefers-color-scheme", "value": scheme}])
+            pictures[scheme] = page.value("getComputedStyle(document.body).backgroundColor")
+            page.value("new Promise(done => setTimeout(done, 1500))")
+            self.keep_picture(page, scheme)
+        self.assertEqual(pictures, {"light": "rgb(255, 255, 255)", "dark": "rgb(21, 24, 29)"})
+
+    def test_four_hundred_pixels(self):
+        page = self.filled()
+        page.call("Emulation.setDeviceMetricsOverride", width=400, height=700, deviceScaleFactor=1, mobile=False)
+        page.wait_for("innerWidth", 400)
+        self.assertLessEqual(page.value("document.documentElement.scrollWidth"), 400)
+        page.click(*self.middle(page, 1, 1, "[data-action=add]"))
+        self.assert_held("get B2", "val 4")
+        for box in ("name", "line", "tally", "choice", "link"):
+            self.assertLessEqual(page.value(f"document.getElementById('{box}').getBoundingClientRect().right"), 400)
+        self.keep_picture(page, "narrow")
+
+    def test_a_screen_reader_finds_the_grid(self):
+        page = self.filled()
+        nodes = page.call("Accessibility.getFullAXTree")["nodes"]
+        found = {(node.get("role", {}).get("value"), node.get("name", {}).get("value")) for node in nodes}
+        for wanted in (("grid", "Sheet"), ("gridcell", "Pizza"), ("columnheader", "A"), ("rowheader", "1"),
+                       ("button", "one more"), ("textbox", "Content of the cell"), ("textbox", "Cell")):
+            self.assertIn(wanted, found)
+
+    def test_the_whole_sheet_by_scrolling(self):
+        page = self.page()
+        self.client.ask("set CZ1024 end")
+        page.value("grid.scrollTo(1e6, 1e6)")
+        self.assert_shows(page, (103, 1023), "end")
+        self.assertLess(page.value("document.querySelectorAll('.cell').length"), 2000)
+        page.value("grid.scrollTo(0, 0)")
+        self.assert_shows(page, (0, 0), "")
+
+
+if __name__ == "__main__":
+    unittest.main()
