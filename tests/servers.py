@@ -1,32 +1,79 @@
 """Servers, and clients that speak to them over TCP."""
 import contextlib
-import itertools
 import os
 import select
 import socket
 import struct
 import subprocess
+import threading
 import time
 
 import peers
 from program import LIMIT, Ended, lines, run, started
 
 HERE = "127.0.0.1"
-# The ports for servers, each once. They are below those that connections are given, one of which could take a port
-# between the look at it and its use.
-PORTS = itertools.count(10_000 + os.getpid() % 18_000)
+# The ports for servers: so many blocks of so many. They are below those that connections are given, one of which could
+# take a port between the look at it and its use.
+FIRST_PORT, BLOCK, BLOCKS = 10_000, 100, 180
 # The pause between two tries, in seconds.
 PAUSE = 0.01
 
 
+class Ports:
+    """Ports in turn, from blocks of which no other process that tests at the same time takes any."""
+
+    def __init__(self):
+        self.lock = threading.Lock()
+        self.turn = os.getpid()
+        self.ports, self.held = [], []
+
+    def next(self):
+        """The next port. Each comes once, until all have."""
+        with self.lock:
+            while not self.ports:
+                self.turn += 1
+                self.take(self.turn % BLOCKS)
+            return self.ports.pop(0)
+
+    def take(self, block):
+        """Takes a block, unless another process has it; the one before it is kept as long, since servers that are just
+        being started may have its ports."""
+        held = socket.socket(socket.AF_UNIX)
+        try:
+            # (a name without a file, which is given up with the socket at the latest when the process ends)
+            held.bind(f"\0sheet-test-ports-{block}")
+        except OSError:
+            held.close()
+            return
+        self.held.append(held)
+        while len(self.held) > 2:
+            self.held.pop(0).close()
+        begin = FIRST_PORT + block * BLOCK
+        self.ports = [*range(begin, begin + BLOCK)]
+
+
+PORTS = Ports()
+
+
 def free_port():
     """A port on which nothing listens."""
-    for port in PORTS:
+    while True:
+        port = PORTS.next()
         with contextlib.suppress(OSError), socket.socket() as look:
             # it doesn't listen, so it hinders nobody where a program that is just being started still holds it
             look.setsockopt(socket.SOL_SOCKET, socket.SO_REUSEADDR, 1)
             look.bind((HERE, port))
             return port
+
+
+def comes_to(holds, seconds=LIMIT):
+    """Waits until this holds, for so many seconds at most, and returns whether it came to."""
+    deadline = time.monotonic() + seconds
+    while not holds():
+        if time.monotonic() > deadline:
+            return False
+        time.sleep(PAUSE)
+    return True
 
 
 class Client(peers.Peer):
@@ -88,6 +135,15 @@ class Client(peers.Peer):
         while piece := self.connection.recv(65_536):
             pieces.append(piece)
         self.received = b""
+        return b"".join(pieces)
+
+    def told(self):
+        """The same, where the other side may close though it hasn't read all that was sent, which breaks off what comes
+        after what it has told."""
+        pieces = []
+        with contextlib.suppress(ConnectionError):
+            while piece := self.connection.recv(65_536):
+                pieces.append(piece)
         return b"".join(pieces)
 
     def leave(self):
