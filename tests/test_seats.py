@@ -1,15 +1,16 @@
 """The seats of `sheet serve`: they go on from one session to the next, and who finds none waits, and is told so."""
+import contextlib
 import threading
 import time
 from pathlib import Path
 
-from program import Ended, ProgramTest, lines
-from servers import Client, serving
+from program import LIMIT, Ended, ProgramTest, lines
+from servers import Client, comes_to, serving
 from shortage import PROGRAM
 
 NO_SEAT = lines("err 21 seat")
-# The longest that a server takes to see that something has changed, in seconds.
-SOON = 5
+# The longest that a server takes to see that something has changed, in seconds, on a machine that does much else.
+SOON = LIMIT / 2
 
 
 class Memory:
@@ -96,7 +97,7 @@ class Turns(ProgramTest):
             self.assertTrue(server.is_running())
 
     def test_so_many_sessions_end_it_though_they_are_more_than_the_seats(self):
-        with serving(40) as server:
+        with serving(40, "--wait", "60") as server:
             def change(number):
                 client = Client(server.port)
                 client.send(lines(f"set A{number + 1} 1"))
@@ -115,14 +116,23 @@ class Waiting(ProgramTest):
             begun = time.monotonic()
             late = server.client()
             late.send(b"get A1\n")
-            self.assertEqual(late.rest(), NO_SEAT)
+            self.assertEqual(late.told(), NO_SEAT)
             self.assertGreaterEqual(time.monotonic() - begun, 0.9)
             self.assertLess(time.monotonic() - begun, 1 + SOON)
             # the others go on, and a seat that is left is given
             for client in clients:
                 self.assertEqual(client.ask("get A16"), "val 16")
             clients[0].leave()
-            self.assertEqual(server.client().ask("get A16"), "val 16")
+            self.assertTrue(comes_to(lambda: self.is_answered(server, "get A16", "val 16"), SOON))
+
+    def is_answered(self, server, line, reply):
+        """Whether a new session gets a seat, and this reply to a line; else it is told that there is none."""
+        client = server.client()
+        client.send(lines(line))
+        client.stop_sending()
+        found = client.told()
+        self.assertIn(found, (lines(reply), NO_SEAT))
+        return found == lines(reply)
 
     def test_nobody_waits_where_no_wait_is_asked_for(self):
         with serving(None, "--seats", "1", "--wait", "0") as server:
@@ -131,9 +141,7 @@ class Waiting(ProgramTest):
             for _ in range(3):
                 self.assertEqual(server.client().rest(), NO_SEAT)
             client.leave()
-            deadline = time.monotonic() + SOON
-            while (other := server.client()).leave() == NO_SEAT:
-                self.assertLess(time.monotonic(), deadline)
+            self.assertTrue(comes_to(lambda: server.client().leave() == b"", SOON))
             self.assertTrue(server.is_running())
 
     def test_who_was_told_counts_as_no_session(self):
@@ -171,42 +179,66 @@ class Waiting(ProgramTest):
         with serving(None, "--seats", "1", "--wait", "60") as server:
             client = server.client()
             self.assertEqual(client.ask("set A1 5"), "ok 1")
-            waiting = [server.client() for _ in range(512)]
-            over = server.client()
-            self.assertEqual(over.rest(), NO_SEAT)
+            others = [server.client() for _ in range(513)]
+
+            def told():
+                return [it for it in others if it.is_answered_within(0)]
+
+            # mostly the last one; but where they come faster than a busy server takes them, the system may have taken
+            # them in another order
+            self.assertTrue(comes_to(told))
             self.assertEqual(client.ask("get A1"), "val 5")
-            self.assertFalse(waiting[-1].is_answered_within(0))
+            [over] = told()
+            self.assertEqual(over.rest(), NO_SEAT)
 
 
 class Idle(ProgramTest):
+    """With `--idle`. A machine that does much else may not let this side send in time: then it tries again."""
+
+    def begun(self, server, given, reply, **how):
+        """A session that has sent these bytes in time and got this reply, and a time before it sent them."""
+        for _ in range(LIMIT):
+            begun = time.monotonic()
+            client = server.client(**how)
+            with contextlib.suppress(ConnectionError, EOFError):
+                client.send(given)
+                self.assertEqual(client.reply(), reply)
+                return client, begun
+            self.assertGreaterEqual(time.monotonic() - begun, 0.9)
+        self.fail("no session could send in time")
+
     def test_a_session_whose_peer_sends_nothing_ends(self):
         with serving(None, "--seats", "1", "--idle", "1", "--wait", "60") as server:
-            silent = server.client()
-            self.assertEqual(silent.ask("set A1 5"), "ok 1")
-            silent.send(b"get A")
-            other = server.client()
-            begun = time.monotonic()
-            self.assertEqual(other.ask("get A1"), "val 5")
-            self.assertGreaterEqual(time.monotonic() - begun, 0.5)
+            silent, begun = self.begun(server, b"set A1 5\nget A", "ok 1")
+            self.assertEqual(server.client().ask("get A1"), "val 5")
+            self.assertGreaterEqual(time.monotonic() - begun, 0.9)
             self.assertLess(time.monotonic() - begun, 1 + SOON)
             self.assertEqual(silent.rest(), b"")
 
     def test_one_that_sends_now_and_then_goes_on(self):
-        with serving(None, "--seats", "1", "--idle", "2") as server:
-            client = server.client()
-            for number in range(1, 7):
-                time.sleep(0.5)
-                self.assertEqual(client.ask(f"set A1 {number}"), f"ok {number}")
+        idle, pause, count = 2, 0.5, 6
+        with serving(None, "--seats", "1", "--idle", str(idle), "--wait", "60") as server:
+            def goes_on():
+                client, sent = server.client(), time.monotonic()
+                try:
+                    for _ in range(count):
+                        time.sleep(pause)
+                        since, sent = sent, time.monotonic()
+                        self.assertEqual(client.ask("get A1"), "val ")
+                    return True
+                except (ConnectionError, EOFError):
+                    # (to end it is right only after so long)
+                    self.assertGreaterEqual(time.monotonic() - since, idle - 0.1)
+                    return False
+
+            self.assertTrue(comes_to(goes_on))
 
     def test_a_session_whose_peer_never_reads_ends(self):
         with serving(None, "--seats", "1", "--idle", "1", "--wait", "60") as server:
-            client = server.client(room=10_000)
-            self.assertEqual(client.ask(f"set A2 {'x' * 64}"), "ok 1")
-            try:
+            client, _ = self.begun(server, lines(f"set A2 {'x' * 64}"), "ok 1", room=10_000)
+            # (where it ends meanwhile, the connection is broken off)
+            with contextlib.suppress(ConnectionError):
                 self.assertTrue(client.send_to_the_brim(b"get A2\n" * 10_000, most=1_000))
-            except ConnectionError:
-                # it ended meanwhile
-                pass
             self.assertEqual(server.client().ask("get A3"), "val ")
 
     def test_without_it_a_session_waits(self):
@@ -218,28 +250,37 @@ class Idle(ProgramTest):
 
 
 class Many(ProgramTest):
-    def test_memory_and_threads_stay_as_they_are_over_300_sessions_by_32_clients(self):
+    def test_memory_and_threads_stay_as_they_are_over_10_000_sessions_by_32_clients(self):
+        clients, first, second, third = 32, 10, 100, 203
+        self.assertGreater(clients * (first + second + third), 10_000)
         # (without the launcher, whose process isn't meant)
         with serving(None, "--wait", "60", program=PROGRAM) as server:
             process = Memory(server.session.pid)
 
-            def sessions(each):
+            def sessions(each, *given):
                 def play(number):
                     for _ in range(each):
                         client = Client(server.port)
-                        client.send(lines(f"set A{number + 1} 1", "get B1"))
-                        found = client.leave()
-                        self.assertRegex(found, rb"^ok \d+\nval \n$")
+                        client.send(lines(*given))
+                        self.assertEqual(client.leave()[:3], b"val")
 
                 return play
 
-            beside(sessions(4), 32)
+            def has_settled():
+                """Whether no session is left: of threads that of the listener, and of files the standard ones and it."""
+                return process.threads() == 1 and process.files() <= 3 + 1
+
+            beside(sessions(first, "get B1", "set A1 1"), clients)
+            self.assertTrue(comes_to(has_settled))
             before = process.resident()
-            beside(sessions(10), 32)
-            # what stays is the history, of some 300 bytes a change
-            self.assertLess(process.resident() - before, 2_000)
-            self.assertLessEqual(process.threads(), 17)
+            # they change nothing, so nothing of them stays
+            beside(sessions(second, "get B1", "rows A1:B2", "walk"), clients)
+            self.assertTrue(comes_to(has_settled))
+            between = process.resident()
+            self.assertLess(between - before, 2_000)
+            # of each that changes something a change stays, of some 500 bytes
+            beside(sessions(third, "get B1", "set A1 1"), clients)
+            self.assertTrue(comes_to(has_settled))
+            self.assertLess(process.resident() - between, 2_000 + clients * third)
             last = server.client()
-            self.assertEqual(last.ask("set A100 1"), f"ok {14 * 32 + 1}")
-            # standard files, the listener, and connections that are there or have just ended
-            self.assertLessEqual(process.files(), 3 + 1 + 17)
+            self.assertEqual(last.ask("set A1 5"), f"ok {clients * (first + third) + 1}")
