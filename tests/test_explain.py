@@ -1,4 +1,5 @@
 """Words that help: `--explain` of `run` and `table`, and `--strict` of `run`."""
+import contextlib
 import csv
 import io
 import os
@@ -105,13 +106,22 @@ class AtATerminal(ProgramTest):
         try:
             error = terminal if is_terminal else subprocess.PIPE
             with subprocess.Popen([SHEET, *words], stdin=terminal, stdout=subprocess.PIPE, stderr=error) as session:
+                os.close(terminal)
                 os.write(person, b"get a1\n\x04")
                 output, told = session.communicate(timeout=LIMIT)
                 self.assertEqual((session.returncode, output), (0, lines("err 1 cell")))
-                return os.read(person, 4096) if is_terminal else told
+                return self.shown(person) if is_terminal else told
         finally:
             os.close(person)
-            os.close(terminal)
+
+    def shown(self, person):
+        """All that a terminal shows which nobody holds any more."""
+        pieces = []
+        # (its end is told as a device that is gone)
+        with contextlib.suppress(OSError):
+            while piece := os.read(person, 4096):
+                pieces.append(piece)
+        return b"".join(pieces)
 
     def test_hints_are_told_where_a_person_types_and_reads(self):
         self.assertIn(b"line 1: err 1 cell: a1 is written A1", self.typed("run", is_terminal=True))
