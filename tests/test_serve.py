@@ -6,7 +6,7 @@ import subprocess
 import threading
 
 from program import DEVICE_FAILED, LIMIT, Ended, ProgramTest, lines, run
-from servers import HERE, PAUSE, free_port, serving, sync
+from servers import HERE, PAUSE, comes_to, free_port, serving, sync
 from shortage import PROGRAM
 
 
@@ -408,14 +408,28 @@ class Ends(ProgramTest):
         def bound():
             resource.setrlimit(resource.RLIMIT_NOFILE, (5, 5))
 
-        with serving(3, program=PROGRAM, preexec_fn=bound) as server:
-            first = server.client()
-            self.assertEqual(first.ask("set A1 5"), "ok 1")
-            server.client()
-            # the session that runs goes on
-            self.assertEqual(first.ask("get A1"), "val 5")
-            self.assertTrue(server.is_running())
-            first.leave()
+        with serving(100, program=PROGRAM, preexec_fn=bound) as server:
+            session = server.client()
+            self.assertEqual(session.ask("set A1 5"), "ok 1")
+
+            def has_failed():
+                """Whether the server ends once a session does during which another connection came. Where it comes to
+                that one only when the session is over, that is the next session."""
+                nonlocal session
+                following = server.client()
+                following.send(b"get A1\n")
+                # the session that runs goes on
+                self.assertEqual(session.ask("get A1"), "val 5")
+                self.assertTrue(server.is_running())
+                session.leave()
+                session = following
+                try:
+                    self.assertEqual(following.reply(), "val 5")
+                    return False
+                except (EOFError, ConnectionError):
+                    return True
+
+            self.assertTrue(comes_to(has_failed))
             self.assertEqual(server.ended(), Ended(1, b"", DEVICE_FAILED))
 
 
