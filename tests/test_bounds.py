@@ -8,9 +8,10 @@ from sizes import COLUMNS, LARGEST_TABLE, LONGEST_DELTA, name, pushes
 
 # A sheet of 100,048 cells.
 ROWS = 962
-# The longest that a line may take, in seconds, and how often it is tried on a machine that does other work too.
+# The longest that a line may take, in seconds of a processor where the machine does other work too, and how often it is
+# tried.
 BOUND = 0.1
-TRIES = 5
+TRIES = 10
 STACK_KB = 2_048
 ENDLESS_KB = 1_024
 # In this the dearest table is refused for what is at fault in it.
@@ -73,16 +74,22 @@ class Stack(ProgramTest):
         self.assert_replies(given, replies, "--workers", "16")
 
 
+def processor_time(process):
+    """The seconds of processors that a process has had so far."""
+    # the number of the clock of a process, as the C library makes it
+    return time.clock_gettime(~process << 3 | 2)
+
+
 class Time(ProgramTest):
     def assert_in_time(self, peer, line, replies):
         """One of several tries of this line has all its lines of replies within the bound."""
         tries = []
         while len(tries) < TRIES and min(tries, default=BOUND) >= BOUND:
-            begun = time.monotonic()
+            begun, had = time.monotonic(), processor_time(peer.session.pid)
             self.assertNotIn("err", peer.ask(line))
             for _ in range(replies - 1):
                 peer.reply()
-            tries.append(time.monotonic() - begun)
+            tries += [time.monotonic() - begun, processor_time(peer.session.pid) - had]
         self.assertLess(min(tries), BOUND, line[:60])
 
     def test_lines_on_a_sheet_of_100_048_cells(self):
