@@ -15,6 +15,8 @@ BLOCKS = (TOP / "docs/SERVING.md").read_text().split("```")[1::2]
 # What the page has first: the functions that its recipes call.
 FUNCTIONS = BLOCKS[0].removeprefix("bash\n")
 RECIPES = list(zip(BLOCKS[1::2], BLOCKS[2::2]))
+# How long recipes wait for what goes on beside them, and how long they wait when they are tried again.
+PAUSE, LONGER = "sleep 2 &&\n", "sleep 15 &&\n"
 # What the recipes ask of `nc -N`: to send its input as it comes, and to show what comes back, to the end. It stands in
 # for `nc`, which not every machine has.
 NC = f"""#!{sys.executable}
@@ -59,16 +61,23 @@ class Pasting(ProgramTest):
 
 class Recipes(Pasting):
     def test_each_writes_the_block_after_it(self):
-        # ports of the test's own for those that the page names
-        ports = {named: str(free_port()) for named in ("7001", "7002")}
         self.assertEqual(len(RECIPES), 10)
         for commands, shown in RECIPES:
             with self.subTest(commands=commands):
-                commands, shown = (re.sub(r"\b700[12]\b", lambda port: ports[port[0]], it) for it in (commands, shown))
                 self.assertTrue(commands.startswith("bash\n"))
                 self.assertTrue(shown.startswith("text\n"))
-                shown = shown.removeprefix("text\n").encode()
-                self.assertEqual(self.paste(commands.removeprefix("bash\n")), Ended(0, shown))
+                commands, shown = commands.removeprefix("bash\n"), shown.removeprefix("text\n")
+                ended, wanted = self.pasted(commands, shown)
+                if PAUSE in commands and ended != wanted:
+                    # what comes meanwhile may take longer on a machine that does much else
+                    ended, wanted = self.pasted(commands.replace(PAUSE, LONGER), shown)
+                self.assertEqual(ended, wanted)
+
+    def pasted(self, commands, shown):
+        """How these commands end, and how they have to, with ports of the test's own for those that they name."""
+        ports = {named: str(free_port()) for named in ("7001", "7002")}
+        commands, shown = (re.sub(r"\b700[12]\b", lambda port: ports[port[0]], it) for it in (commands, shown))
+        return self.paste(commands), Ended(0, shown.encode())
 
     def test_one_whose_port_is_taken_ends_and_says_nothing_to_who_has_it(self):
         recipes = [commands.removeprefix("bash\n") for commands, _ in RECIPES if "start " in commands]
