@@ -19,7 +19,8 @@ FEW_SCRIPTS, FEW_LINES = 60, 12
 class Command(ProgramTest):
     def start(self, *words):
         """Runs `./test` with these words to its end."""
-        how = {"stdin": subprocess.DEVNULL, "capture_output": True, "text": True, "timeout": LIMIT}
+        # (the last plan is run to its end, whatever the time)
+        how = {"stdin": subprocess.DEVNULL, "capture_output": True, "text": True, "timeout": 4 * LIMIT}
         return subprocess.run([TOP / "test", *words], **how)
 
     def test_it_counts_what_it_compared(self):

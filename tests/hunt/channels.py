@@ -112,7 +112,7 @@ class Server:
 
     def settled(self, is_settled):
         """What is measured once this holds of it, or after some time whatever there is."""
-        deadline = time.monotonic() + LIMIT / 6
+        deadline = time.monotonic() + LIMIT / 2
         while not is_settled(found := self.measured()) and time.monotonic() < deadline:
             time.sleep(0.01)
         return found

@@ -3,7 +3,7 @@ import json
 import time
 
 # So many trials end the work, or so many seconds, whatever is left.
-TRIALS, SECONDS = 2_000, 40
+TRIALS, SECONDS = 2_000, 120
 
 
 def cells_of(line):
