@@ -13,6 +13,8 @@ mod region;
 #[cfg(test)]
 mod shown;
 #[cfg(test)]
+mod sums;
+#[cfg(test)]
 mod wire;
 #[cfg(test)]
 mod workers;

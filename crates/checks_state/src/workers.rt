@@ -331,8 +331,8 @@ fn is_shared<R: Threads + Sync>(
     Ok(level.is_shared_evenly())
 }
 
-/// Each of the workers, or of as many as there are cells, has its part, and they are there at once; each passes the gate
-/// just before each of its evaluations, and for nothing else.
+/// Each of the workers, or of as many as there are cells, has its part, and they are there at once; each passes the
+/// gate just before each of its evaluations, and for nothing else.
 #[test]
 fn each_worker_has_its_part(rt: HostRuntime) -> Result<(), Fail> {
     for workers in 1..=16 {

@@ -15,11 +15,12 @@ ghost use Rattle.ps_cells.specs.Inside.Steps.{flag_at, HasRoom, ShowsAll, StepsL
 
 use crate::contents::formula_of;
 use crate::screen::Screen;
+use crate::sums::remember_sums;
 use crate::walk::show;
 use ps_delta::{Grid, grids_are_shared};
-use ps_eval::{Look, Meter};
+use ps_eval::{Look, Meter, Summary};
 use ps_formula::{Formula, Formulas};
-use ps_grid::{CELLS, Cell, Refusal};
+use ps_grid::{CELLS, Cell, Rect, Refusal};
 use ps_index::Index;
 use ps_shown::Kept;
 use ps_value::{Operand, Value};
@@ -84,6 +85,10 @@ impl Look for Looks<'_> {
 
     fn operand(&self, cell: Cell) -> Operand {
         self.shown.operand(cell)
+    }
+
+    fn summary(&self, rect: Rect) -> Summary {
+        self.shown.summary(rect)
     }
 }
 
@@ -201,6 +206,7 @@ fn settle_due<R: Threads + Sync, G: Gate, L: Ledger>(
     ensures metered { meter.new ≡ meter.old + length due.now.cells.now }
 {
     let (values, _) = places.split_at_mut(due.cells.len());
+    remember_sums(inputs.grid, due.cells, shown);
     evaluate(workers, inputs.grid, due.cells, shown, values, meter);
     show_due(inputs.index, due.cells, values, due.is_last, shown, flags);
 }

@@ -1,6 +1,20 @@
 //! What the cells of one replica hold and show: a state, and the settled value of each cell.
 //!
-//! It knows no history, no replica and no edit.
+//! A change is a delta that is staged: it is joined to the state, and the cells that it can reach are settled again.
+//! Then it is committed, or cancelled as if it had never been. Here it is decided which formulas a change has
+//! evaluated. It knows no history, no replica and no edit.
+//!
+//! The contract to use is that of [`Cells::stage`]: afterwards the state is the join, what the cells show is settled
+//! for it (`IsSettled`), and exactly the region was recalculated (`IsRecalculated`), of which [`Work`] tells how much;
+//! out of memory, everything is as before. [`Cells::cancel`] brings back what was held and shown, and takes no memory,
+//! and neither does [`Cells::commit`].
+//!
+//! Say B1 holds `=[.A1]*2`, and a delta that gives A1 the number 5 is staged: B1 shows 10, the formula of one cell was
+//! evaluated, and [`Cells::list_changed`] lists A1 and B1. After a cancel both show what they did.
+//!
+//! Cost: for each cell of the grid what it holds, what it shows and some numbers for recalculating. A change costs its
+//! join and its region: the cells that it reaches, their references and the evaluations, which workers share; and it
+//! looks once at each cell that shows `#CYCLE!`.
 #![tactic(auto)]
 
 mod cells;
@@ -10,6 +24,7 @@ mod crossing;
 mod level;
 mod region;
 mod screen;
+mod sums;
 mod tables;
 mod walk;
 

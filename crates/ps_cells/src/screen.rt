@@ -9,15 +9,17 @@ ghost use Rattle.ps_value.specs.declared.value.Value.TheVariants.{Empty as Nothi
 ghost use Rattle.ps_shown.specs.Kept.{value_of as value_kept};
 ghost use Rattle.ps_shown.specs.Shown.{shown_at, with_value};
 ghost use Rattle.ps_cells.specs.Inside.Steps.{flag_at};
-ghost use Rattle.ps_eval.specs.Items.{Assignment};
+ghost use Rattle.ps_eval.specs.Summarized.{Summarizes};
+ghost use Rattle.ps_eval.specs.Items.{Assignment, range_items};
 ghost use Rattle.ps_cells.specs.Inside.Screens.{AddsCyclic, Differ, IsNoted, ListsDiffering, ShowCycle};
 ghost use Rattle.ps_cells.specs.Inside.Screens.{before_of, cells_in, put_back, was_cyclic};
 ghost use Rattle.ps_cells.specs.Inside.Waiting.{is_waiting};
 ghost use Rattle.ps_cells.specs.Changes.{IsChanged};
 
 use crate::tables::no_flags;
-use ps_grid::{CELLS, Cell, Refusal};
-use ps_shown::{Kept, Shown};
+use ps_eval::Summary;
+use ps_grid::{CELLS, Cell, Rect, Refusal};
+use ps_shown::{Kept, LONG, Shown};
 use ps_value::{Fault, Operand, Value};
 use std::alloc::Global;
 use std::marker::Model;
@@ -28,6 +30,8 @@ use std::marker::Model;
 pub(crate) struct Screen {
     /// what each cell shows
     shown: Shown,
+    /// whether a formula that came had a long range, so that what formulas sum is to be remembered
+    expects_long: bool,
     /// the cells that were put, each once, with what they showed before; there is room for all
     olds: Vec<(Cell, Kept)>,
     /// whether a cell is among these
@@ -76,6 +80,7 @@ impl Screen {
         let shown = Shown::new(alloc)?;
         Ok(Screen {
             shown,
+            expects_long: false,
             olds,
             is_put,
             cells,
@@ -111,6 +116,38 @@ impl Screen {
         ensures { result ≡ operand_of (shown_at self.now.kept cell) }
     {
         self.shown.operand(cell)
+    }
+
+    /// What SUM, MIN, MAX and COUNT need to know of the items of a range.
+    #[inline]
+    pub(crate) fn summary(&self, rect: Rect) -> Summary
+        ensures { Summarizes (range_items (shown_at self.now.kept) rect) result }
+    {
+        self.shown.summary(rect)
+    }
+
+    /// Expects that formulas sum such a range.
+    pub(crate) fn expect(&mut self, rect: Rect)
+        ensures { self.new ≡ self.old }
+    {
+        if rect.height() >= LONG {
+            self.expects_long = true;
+        }
+    }
+
+    /// Whether a long range was ever expected.
+    #[inline]
+    pub(crate) fn expects_long(&self) -> bool {
+        self.expects_long
+    }
+
+    /// Remembers what SUM, MIN, MAX and COUNT need to know of a range, if it is a long one.
+    pub(crate) fn remember(&mut self, rect: Rect)
+        ensures { self.new ≡ self.old }
+    {
+        if rect.height() >= LONG {
+            self.shown.remember(rect);
+        }
     }
 
     /// Whether a cell shows `#CYCLE!`.

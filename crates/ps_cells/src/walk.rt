@@ -18,6 +18,7 @@ ghost use Rattle.ps_cells.specs.Inside.Screens.{before_of};
 use crate::contents::holds_formula;
 use crate::level::{Inputs, Level, Step, Workers};
 use crate::screen::Screen;
+use crate::sums::expect_sums;
 use ps_delta::Grid;
 use ps_eval::Meter;
 use ps_grid::{CELLS, Cell};
@@ -83,6 +84,7 @@ fn show_first(
     ensures before { before_of shown.new ≡ before_of shown.old }
 {
     if holds_formula(grid.at(cell)) {
+        expect_sums(grid.at(cell), shown);
         flags[cell.index()] = true;
     } else {
         show(index, cell, kept, shown, flags);

@@ -8,14 +8,14 @@ use Rattle.std.specs.Prelude.{not, ◌&&◌, ◌||◌}
 use Rattle.std.specs.Int.{int_min, int_max}
 use Rattle.std.specs.Option.{option_or}
 use Rattle.std.proofs.lemmas.List.Sums.{fold-append}
-use Rattle.std.proofs.lemmas.Bool.{cond_both, ltb-false, ltb-true}
-use Rattle.std.proofs.lemmas.Int.{ints}
-use Rattle.std.proofs.Common.{◌-◌, ◌^◌, negsuc, FitsSigned, w64}
+use Rattle.std.proofs.lemmas.Bool.{cond_both, lt-ltb, ltb-false, ltb-true}
+use Rattle.std.proofs.lemmas.Int.{ints, clamps, fold-int_min_bounds, fold-int_max_bounds}
+use Rattle.std.proofs.Common.{◌-◌, ◌^◌, ◌≤◌, ◌≢◌, ◌≤ℤ◌, sym, true, fold, negsuc, FitsSigned, w64}
 use Rattle.std.specs.Prelude.{nat_lt}
-use Rattle.ps_eval.specs.Inside.Summarized.{least_or, greatest_or}
+use Rattle.ps_eval.specs.Summarized.{lowest_of, highest_of}
 use Rattle.ps_value.specs.declared.value.Fault.{Fault}
-use Rattle.ps_eval.specs.Number.{Number, is_zero}
-use Rattle.ps_eval.specs.Items.{numbers_in, first_fault, total}
+use Rattle.ps_eval.specs.Number.{Number, is_zero, in_range}
+use Rattle.ps_eval.specs.Items.{numbers_in, first_fault, total, least, greatest}
 
 pub numbers_in-append : (xs ys : List Number) → numbers_in (xs ++ ys) ≡ numbers_in xs ++ numbers_in ys
 numbers_in-append [] ys = refl
@@ -68,35 +68,104 @@ numbers_in-fault [] fault = refl
 numbers_in-fault (Ok n ∷ items) fault = ap (λ ns. n ∷ ns) (numbers_in-fault items fault)
 numbers_in-fault (Err first ∷ items) fault = numbers_in-fault items fault
 
-int_min_top : (n : ℤ) → FitsSigned w64 n → n ≡ int_min (pos (2 ^ 63 - 1)) n
-int_min_top (negsuc k) fits = refl
-int_min_top (pos k) fits =
-    cond_both (nat_lt k (2 ^ 63 - 1)) (pos k) (pos (2 ^ 63 - 1)) (λ x. pos k ≡ x) (λ e. refl)
-    (λ e. ap pos (let b = ltb-false k (2 ^ 63 - 1) e in omega (arith, ints, fits, b)))
+-- ---- the least and the greatest
 
-int_max_top : (n : ℤ) → FitsSigned w64 n → n ≡ int_max (negsuc (2 ^ 63 - 1)) n
-int_max_top (pos k) fits = refl
-int_max_top (negsuc k) fits =
-    cond_both (nat_lt (2 ^ 63 - 1) k) (negsuc (2 ^ 63 - 1)) (negsuc k) (λ x. negsuc k ≡ x)
-    (λ e. absurd (let b = ltb-true (2 ^ 63 - 1) k e in omega (arith, ints, fits, b))) (λ e. refl)
+pub lowest_more : (items : List Number) (n : ℤ)
+    → lowest_of (numbers_in (items ++ Ok n ∷ [])) ≡ int_min (lowest_of (numbers_in items)) n
+lowest_more items n =
+    ap lowest_of (numbers_in-append items (Ok n ∷ [])) ∙ fold-append int_min (pos (2 ^ 63 - 1)) (numbers_in items) (n ∷ [])
 
-pub lowest_next : (items : List Number) (n : ℤ) → FitsSigned w64 n →
-    least_or (pos (2 ^ 63 - 1)) (numbers_in (items ++ Ok n ∷ [])) ≡
-    int_min (least_or (pos (2 ^ 63 - 1)) (numbers_in items)) n
-lowest_next items n fits =
-    ap (least_or (pos (2 ^ 63 - 1))) (numbers_in-append items (Ok n ∷ [])) ∙ push (numbers_in items)
-  where
-    push : (ns : List ℤ) → least_or (pos (2 ^ 63 - 1)) (ns ++ n ∷ []) ≡ int_min (least_or (pos (2 ^ 63 - 1)) ns) n
-    push [] = int_min_top n fits
-    push (m ∷ ns) = fold-append int_min m ns (n ∷ [])
+pub highest_more : (items : List Number) (n : ℤ)
+    → highest_of (numbers_in (items ++ Ok n ∷ [])) ≡ int_max (highest_of (numbers_in items)) n
+highest_more items n =
+    ap highest_of (numbers_in-append items (Ok n ∷ []))
+    ∙ fold-append int_max (negsuc (2 ^ 63 - 1)) (numbers_in items) (n ∷ [])
 
-pub highest_next : (items : List Number) (n : ℤ) → FitsSigned w64 n →
-    greatest_or (negsuc (2 ^ 63 - 1)) (numbers_in (items ++ Ok n ∷ [])) ≡
-    int_max (greatest_or (negsuc (2 ^ 63 - 1)) (numbers_in items)) n
-highest_next items n fits =
-    ap (greatest_or (negsuc (2 ^ 63 - 1))) (numbers_in-append items (Ok n ∷ [])) ∙ push (numbers_in items)
-  where
-    push : (ns : List ℤ)
-        → greatest_or (negsuc (2 ^ 63 - 1)) (ns ++ n ∷ []) ≡ int_max (greatest_or (negsuc (2 ^ 63 - 1)) ns) n
-    push [] = int_max_top n fits
-    push (m ∷ ns) = fold-append int_max m ns (n ∷ [])
+in_range-fits : (n : ℤ) → FitsSigned w64 n → in_range n ≡ true
+in_range-fits (pos k) fits = lt-ltb k (2 ^ 63) (omega (arith, ints, fits))
+in_range-fits (negsuc k) fits = lt-ltb k (2 ^ 63) (omega (arith, ints, fits))
+
+pub ranged_more : (items : List Number) (n : ℤ) → FitsSigned w64 n → list_all in_range (numbers_in items) ≡ true
+    → list_all in_range (numbers_in (items ++ Ok n ∷ [])) ≡ true
+ranged_more items n fits ranged =
+    ap (list_all in_range) (numbers_in-append items (Ok n ∷ []))
+    ∙ list_all-append in_range (numbers_in items) (n ∷ [])
+    ∙ (λ i. ranged i && (and-true (in_range n) ∙ in_range-fits n fits) i)
+
+least_first : (n : ℤ) → in_range n ≡ true → int_min (pos (2 ^ 63 - 1)) n ≡ n
+least_first (negsuc k) h = refl
+least_first (pos k) h =
+    let b = ltb-true k (2 ^ 63) h in
+    cond_both (nat_lt k (2 ^ 63 - 1)) (pos k) (pos (2 ^ 63 - 1)) (λ x. x ≡ pos k) (λ e. refl)
+    (λ e. ap pos (let a = ltb-false k (2 ^ 63 - 1) e in omega (arith, a, b)))
+
+greatest_first : (n : ℤ) → in_range n ≡ true → int_max (negsuc (2 ^ 63 - 1)) n ≡ n
+greatest_first (pos k) h = refl
+greatest_first (negsuc k) h =
+    let b = ltb-true k (2 ^ 63) h in
+    cond_both (nat_lt (2 ^ 63 - 1) k) (negsuc (2 ^ 63 - 1)) (negsuc k) (λ x. x ≡ negsuc k)
+    (λ e. absurd (let a = ltb-true (2 ^ 63 - 1) k e in omega (arith, a, b))) (λ e. refl)
+
+head_ranged : (n : ℤ) (ns : List ℤ) → list_all in_range (n ∷ ns) ≡ true → in_range n ≡ true
+head_ranged n ns h = grind arith
+
+-- of some numbers the least is the lowest
+pub least_is : (ns : List ℤ) → length ns ≢ 0 → list_all in_range ns ≡ true → lowest_of ns ≡ least ns
+least_is [] some ranged = absurd (some refl)
+least_is (n ∷ ns) some ranged = ap (λ m. fold int_min m ns) (least_first n (head_ranged n ns ranged))
+
+pub greatest_is : (ns : List ℤ) → length ns ≢ 0 → list_all in_range ns ≡ true → highest_of ns ≡ greatest ns
+greatest_is [] some ranged = absurd (some refl)
+greatest_is (n ∷ ns) some ranged = ap (λ m. fold int_max m ns) (greatest_first n (head_ranged n ns ranged))
+
+pub least_of_none : (ns : List ℤ) → length ns ≡ 0 → least ns ≡ pos 0
+least_of_none [] none = refl
+least_of_none (n ∷ ns) none = absurd (omega (arith, none))
+
+pub greatest_of_none : (ns : List ℤ) → length ns ≡ 0 → greatest ns ≡ pos 0
+greatest_of_none [] none = refl
+greatest_of_none (n ∷ ns) none = absurd (omega (arith, none))
+
+-- ---- items after others
+
+pub first_fault-append : (xs ys : List Number) → first_fault (xs ++ ys) ≡ option_or (first_fault xs) (first_fault ys)
+first_fault-append [] ys = refl
+first_fault-append (Ok n ∷ xs) ys = first_fault-append xs ys
+first_fault-append (Err fault ∷ xs) ys = refl
+
+total_from : (a : ℤ) (ns : List ℤ) → fold ◌+ℤ◌ a ns ≡ a +ℤ total ns
+total_from a [] = omega (arith, ints)
+total_from a (n ∷ ns) = let p = total_from (a +ℤ n) ns in let q = total_from (pos 0 +ℤ n) ns in omega (arith, ints, p, q)
+
+pub total-append : (ns ms : List ℤ) → total (ns ++ ms) ≡ total ns +ℤ total ms
+total-append ns ms = fold-append ◌+ℤ◌ (pos 0) ns ms ∙ total_from (total ns) ms
+
+lowest_from : (a : ℤ) (ns : List ℤ) → a ≤ℤ pos (2 ^ 63 - 1) → fold int_min a ns ≡ int_min a (lowest_of ns)
+lowest_from a [] h = omega (arith, ints, clamps)
+lowest_from a (n ∷ ns) h =
+    let p = lowest_from (int_min a n) ns (omega (arith, ints, clamps)) in
+    let q = lowest_from (int_min (pos (2 ^ 63 - 1)) n) ns (omega (arith, ints, clamps)) in
+    p ∙ omega (arith, ints, clamps) ∙ ap (int_min a) (sym q)
+
+pub lowest-append : (ns ms : List ℤ) → lowest_of (ns ++ ms) ≡ int_min (lowest_of ns) (lowest_of ms)
+lowest-append ns ms =
+    let low = fold-int_min_bounds (pos (2 ^ 63 - 1)) ns (lowest_of ns) refl in
+    fold-append int_min (pos (2 ^ 63 - 1)) ns ms ∙ lowest_from (lowest_of ns) ms low.0
+
+highest_from : (a : ℤ) (ns : List ℤ) → negsuc (2 ^ 63 - 1) ≤ℤ a → fold int_max a ns ≡ int_max a (highest_of ns)
+highest_from a [] h = omega (arith, ints, clamps)
+highest_from a (n ∷ ns) h =
+    let p = highest_from (int_max a n) ns (omega (arith, ints, clamps)) in
+    let q = highest_from (int_max (negsuc (2 ^ 63 - 1)) n) ns (omega (arith, ints, clamps)) in
+    p ∙ omega (arith, ints, clamps) ∙ ap (int_max a) (sym q)
+
+pub highest-append : (ns ms : List ℤ) → highest_of (ns ++ ms) ≡ int_max (highest_of ns) (highest_of ms)
+highest-append ns ms =
+    let high = fold-int_max_bounds (negsuc (2 ^ 63 - 1)) ns (highest_of ns) refl in
+    fold-append int_max (negsuc (2 ^ 63 - 1)) ns ms ∙ highest_from (highest_of ns) ms high.0
+
+-- there are no more numbers than items
+pub fewer_numbers : (items : List Number) → length (numbers_in items) ≤ length items
+fewer_numbers [] = omega arith
+fewer_numbers (Ok n ∷ items) = let p = fewer_numbers items in omega (arith, p)
+fewer_numbers (Err fault ∷ items) = let p = fewer_numbers items in omega (arith, p)

@@ -28,4 +28,5 @@ mod truths;
 pub use laws::{cycle_comes_from_references, depends_on_references_alone};
 pub use look::Look;
 pub use meter::{Counted, Meter};
+pub use summary::Summary;
 pub use tree::{eval, eval_number};

@@ -2,8 +2,11 @@
 
 ghost use Rattle.std.specs.Prelude.{◌≡◌, ℕ};
 ghost use Rattle.ps_value.specs.Operand.{operand_of};
+ghost use Rattle.ps_eval.specs.Items.{range_items};
+ghost use Rattle.ps_eval.specs.Summarized.{Summarizes};
 
-use ps_grid::Cell;
+use crate::summary::Summary;
+use ps_grid::{Cell, Rect};
 use ps_value::{Operand, Value};
 
 /// Whoever knows what each cell shows.
@@ -22,4 +25,27 @@ pub trait Look {
     /// What evaluation reads of what a cell shows.
     fn operand(&self, cell: Cell) -> Operand
         ensures { result ≡ operand_of (value_at self.now cell) };
+
+    /// What SUM, MIN, MAX and COUNT need to know of the items of a range, cell by cell and row by row.
+    ///
+    /// Cost: the cells of the range.
+    fn summary_by_cells(&self, rect: Rect) -> Summary
+        ensures { Summarizes (range_items (value_at self.now) rect) result }
+    {
+        let mut summary = Summary::new();
+        for cell in rect.cells() {
+            summary.take_cell(self.operand(cell));
+        }
+        summary
+    }
+
+    /// What SUM, MIN, MAX and COUNT need to know of the items of a range. Whoever keeps what the cells show in a table
+    /// may walk that in an order of its own.
+    ///
+    /// Cost: the cells of the range.
+    fn summary(&self, rect: Rect) -> Summary
+        ensures { Summarizes (range_items (value_at self.now) rect) result }
+    {
+        self.summary_by_cells(rect)
+    }
 }

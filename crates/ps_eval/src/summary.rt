@@ -1,16 +1,17 @@
 //! What SUM, MIN, MAX and COUNT need to know of their items.
 
 ghost use Rattle.std.specs.Prelude.{◌≡◌, ◌+◌, ◌*◌, ◌^◌, ◌<◌, ◌≤◌, ◌==◌, not, ◌&&◌, ◌||◌, if◌then◌else◌};
-ghost use Rattle.std.specs.Prelude.{List, [], ◌∷◌, ◌++◌, unsigned_abs};
+ghost use Rattle.std.specs.Prelude.{List, [], ◌∷◌, ◌++◌, unsigned_abs, is_some};
 ghost use Rattle.std.specs.Int.{int_max, int_min};
 ghost use Rattle.ps_eval.specs.Number.{Number};
 
 use crate::total::Total;
 use ps_value::{Fault, Operand};
 
-/// What is known of the items so far.
+/// What is known of the items so far: how many numbers there are, their exact sum, the least and the greatest of them,
+/// and the first fault. A contract says by `Summarizes` of which items.
 #[derive(Drop)]
-pub(crate) struct Summary {
+pub struct Summary {
     /// how many numbers there are, and their sum
     count: u128,
     sum: Total,
@@ -23,12 +24,14 @@ pub(crate) struct Summary {
 }
 
 impl Summary {
-    ghost use Rattle.ps_eval.specs.Items.{count_of, max_of, min_of, sum_of};
+    ghost use Rattle.ps_eval.specs.Items.{count_of, first_fault, max_of, min_of, sum_of};
     ghost use Rattle.ps_eval.specs.Inside.Operands.{items_from};
-    ghost use Rattle.ps_eval.specs.Inside.Summarized.{Summarizes};
+    ghost use Rattle.ps_eval.specs.Summarized.{Summarizes, numbers_taken};
 
     /// Of no items.
-    pub(crate) fn new() -> Summary
+    ///
+    /// Cost: constant.
+    pub fn new() -> Summary
         ensures { Summarizes [] result }
     {
         Summary {
@@ -41,7 +44,7 @@ impl Summary {
     }
 
     /// One more number.
-    #[inline]
+    #[inline(always)]
     fn take_number(&mut self, number: i64)
         requires { self.old.count < 2 ^ 100 }
         ensures items { (items : List Number)
@@ -80,19 +83,51 @@ impl Summary {
     }
 
     /// The operand of one more cell, which may be no item.
-    #[inline]
-    pub(crate) fn take_cell(&mut self, operand: Operand)
-        requires { self.old.count < 2 ^ 100 }
+    ///
+    /// Cost: constant.
+    #[inline(always)]
+    pub fn take_cell(&mut self, operand: Operand)
+        requires { numbers_taken self.old < 2 ^ 100 }
         ensures items { (items : List Number)
             → Summarizes items self.old
             → Summarizes (items ++ items_from operand) self.new }
-        ensures count { self.new.count ≤ self.old.count + 1 }
+        ensures count { numbers_taken self.new ≤ numbers_taken self.old + 1 }
     {
         match operand {
             Operand::Empty | Operand::Text => {}
             Operand::Num(number) => self.take_number(number),
             Operand::Err(fault) => self.take_fault(fault),
         }
+    }
+
+    /// All items of another summary after those of this one.
+    ///
+    /// Cost: constant.
+    #[inline]
+    pub fn join(&mut self, other: &Summary)
+        requires room { numbers_taken self.old < 2 ^ 100 }
+        requires room_of_other { numbers_taken other.now < 2 ^ 100 }
+        ensures items { (items others : List Number)
+            → Summarizes items self.old
+            → Summarizes others other.now
+            → Summarizes (items ++ others) self.new }
+        ensures count { numbers_taken self.new ≡ numbers_taken self.old + numbers_taken other.now }
+    {
+        self.least = self.least.min(other.least);
+        self.greatest = self.greatest.max(other.greatest);
+        self.count += other.count;
+        self.sum.join(&other.sum);
+        self.fault = self.fault.or(other.fault);
+    }
+
+    /// Whether there is a fault among the items.
+    ///
+    /// Cost: constant.
+    #[inline]
+    pub fn has_fault(&self) -> bool
+        ensures { (items : List Number) → Summarizes items self.now → result ≡ is_some (first_fault items) }
+    {
+        self.fault.is_some()
     }
 
     /// SUM of the items.

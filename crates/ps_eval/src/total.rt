@@ -38,7 +38,7 @@ impl Total {
     }
 
     /// Adds a number. Most additions stay within the 64 bits.
-    #[inline]
+    #[inline(always)]
     pub(crate) fn add(&mut self, number: i64)
         requires { unsigned_abs self.old < 2 ^ 180 }
         ensures { self.new ≡ self.old +ℤ number }
@@ -49,7 +49,21 @@ impl Total {
         }
     }
 
+    /// Adds another sum.
+    #[inline]
+    pub(crate) fn join(&mut self, other: &Total)
+        requires small { unsigned_abs self.old < 2 ^ 170 }
+        requires small_other { unsigned_abs other.now < 2 ^ 170 }
+        ensures { self.new ≡ self.old +ℤ other.now }
+    {
+        // for the fact that both fit in 64 bits
+        let _ = (self.low, other.low);
+        self.turns += other.turns;
+        self.add(other.low);
+    }
+
     /// Adds a number that may go round.
+    #[inline(always)]
     fn carry(&mut self, number: i64)
         requires { unsigned_abs self.old < 2 ^ 180 }
         ensures { self.new ≡ self.old +ℤ number }

@@ -7,7 +7,7 @@ ghost use Rattle.ps_formula.specs.TreeOf.{item_of, tree_of};
 ghost use Rattle.ps_eval.specs.Number.{Number};
 ghost use Rattle.ps_eval.specs.Items.{Assignment, range_items};
 ghost use Rattle.ps_eval.specs.Inside.Operands.{single_of};
-ghost use Rattle.ps_eval.specs.Inside.Summarized.{Judges, Summarizes};
+ghost use Rattle.ps_eval.specs.Summarized.{Judges, Summarizes, numbers_taken};
 ghost use Rattle.ps_eval.specs.Value.{called, ev, items_alone, items_in, items_of, number_of, value_in, values_of};
 
 use crate::arithmetic::{absolute, modulo, operation, prefixed, quotient, truth};
@@ -233,11 +233,11 @@ fn items<K: Look>(arguments: &[Argument], look: &K) -> Summary
 /// The items of one more argument.
 #[cycle(numbers)]
 fn take_argument<K: Look>(summary: &mut Summary, argument: &Argument, look: &K)
-    requires { summary.old.count < 2 ^ 90 }
+    requires { numbers_taken summary.old < 2 ^ 90 }
     ensures items { (items : List Number)
         → Summarizes items summary.old
         → Summarizes (items ++ items_in (item_of argument.now) (K.value_at look.now)) summary.new }
-    ensures count { summary.new.count ≤ summary.old.count + CELLS }
+    ensures count { numbers_taken summary.new ≤ numbers_taken summary.old + CELLS }
 {
     match argument {
         Argument::Range(rect) => take_range(summary, *rect, look),
@@ -264,15 +264,15 @@ fn cell_alone(tree: &Expr) -> Option<Cell>
     }
 }
 
-/// The items of a range, row by row.
+/// The items of a range.
 fn take_range<K: Look>(summary: &mut Summary, rect: Rect, look: &K)
-    requires { summary.old.count < 2 ^ 90 }
+    requires { numbers_taken summary.old < 2 ^ 90 }
     ensures items { (items : List Number)
         → Summarizes items summary.old
         → Summarizes (items ++ range_items (K.value_at look.now) rect) summary.new }
-    ensures count { summary.new.count ≤ summary.old.count + CELLS }
+    ensures count { numbers_taken summary.new ≤ numbers_taken summary.old + CELLS }
 {
-    for cell in rect.cells() {
-        summary.take_cell(look.operand(cell));
-    }
+    // for the fact that the range lies in the grid
+    let _ = rect.area();
+    summary.join(&look.summary(rect));
 }

@@ -18,7 +18,7 @@ pub(crate) struct Truths {
 
 impl Truths {
     ghost use Rattle.ps_eval.specs.Items.{all_of, any_of};
-    ghost use Rattle.ps_eval.specs.Inside.Summarized.{Judges};
+    ghost use Rattle.ps_eval.specs.Summarized.{Judges};
 
     /// Of no values.
     pub(crate) fn new() -> Truths

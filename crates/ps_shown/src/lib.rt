@@ -10,12 +10,21 @@
 //! only that there is a text, and `Shown::operand` of `B1` is the number 7. `Shown::put` of `Kept::Num(1)` at `A1`
 //! returns the kept text, and the same call with that text makes the table what it was.
 //!
-//! Cost: a table takes room of 1.7 MB once, of which as much is written as lies before the last cell that was put, and
-//! so does its twin. No other call takes memory, and each is constant but for that.
+//! For SUM, MIN, MAX and COUNT a table remembers what they need to know of blocks of 57 rows of a column. `remember`
+//! makes that for a range, `summary` reads it, and `put` drops that of one block. No contract above mentions it: that
+//! what is remembered is that of the cells as they are now is the table's own invariant.
+//!
+//! Cost: a table takes room of 2 MB once, of which as much is written as lies before the last cell that was put, and so
+//! does its twin, which remembers nothing yet. No other call takes memory, and each is constant but for that and for
+//! two: `summary` takes one step for each block of its range that is remembered and for each other cell, and `remember`
+//! walks the cells of the blocks that aren't remembered yet.
 #![tactic(auto)]
 
+mod blocks;
 mod kept;
+mod run;
 mod shown;
 
+pub use blocks::LONG;
 pub use kept::Kept;
 pub use shown::Shown;

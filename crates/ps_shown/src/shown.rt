@@ -1,32 +1,45 @@
 //! What each cell shows.
 ghost use Rattle.std.specs.Prelude.{◌≡◌, ◌<◌, ◌≤◌, ℕ, length, slice_index_or, vec_capacity, IfOk, IfErr};
 ghost use Rattle.ps_grid.specs.declared.size.TheConstants.{CELLS as ALL};
+ghost use Rattle.ps_grid.specs.Rectangle.{LiesInGrid};
 ghost use Rattle.ps_grid.specs.declared.refusal.Refusal.TheVariants.{Memory};
 ghost use Rattle.ps_value.specs.declared.value.Value.TheVariants.{Empty as Nothing};
 ghost use Rattle.ps_value.specs.Operand.{operand_of};
 ghost use Rattle.ps_shown.specs.declared.kept.Kept.TheVariants.{Empty};
 ghost use Rattle.ps_shown.specs.Kept.{value_of};
 ghost use Rattle.ps_shown.specs.Shown.{place_of, shown_at, with_value};
+ghost use Rattle.ps_shown.specs.Sums.{column_items, items_by_columns};
+ghost use Rattle.ps_eval.specs.Summarized.{Summarizes};
+ghost use Rattle.ps_eval.specs.Items.{range_items};
 
+use crate::blocks::{BLOCK, forget, remember_between, summary_between};
 use crate::kept::Kept;
-use ps_grid::{COLUMNS, Cell, Refusal, Twin};
+use ps_eval::{Look, Summary};
+use ps_grid::{COLUMNS, Cell, ROWS, Rect, Refusal, Twin};
 use ps_value::{Operand, Value};
 use std::alloc::Global;
 use std::marker::Model;
 use std::mem;
 
-/// How far apart two neighbours of a row lie: the rows, and a few places more, so that the cells of a row don't share
-/// one set of the processor's cache.
-const STRIDE: usize = 1_028;
+/// How far apart two neighbours of a row lie: a column has as many whole blocks as its rows take.
+const STRIDE: usize = (ROWS + BLOCK - 1) / BLOCK * BLOCK;
+
+/// A range of several columns with fewer rows is walked row by row: so short a run of a column doesn't pay.
+const FEW_ROWS: usize = 4;
 
 /// How many places a table has.
 const PLACES: usize = STRIDE * COLUMNS;
+
+/// How many blocks it has.
+const BLOCKS: usize = PLACES / BLOCK;
 
 /// What each cell shows. A contract sees it as a list, and speaks of it by `shown_at`, the value that each cell shows.
 #[derive(Drop)]
 pub struct Shown {
     /// what is kept of each cell, column after column, up to the last that was put; there is room for all
     kept: Vec<Kept>,
+    /// the summaries of blocks that are remembered, up to the last block that ever was; there is room for all
+    sums: Vec<Option<Summary>>,
     /// what is lent for a cell after those
     empty: Kept,
 }
@@ -35,13 +48,15 @@ impl Model for Shown {
     ghost use Rattle.std.specs.Prelude.{◌≡◌, ◌≤◌, List, vec_capacity};
     ghost use Rattle.ps_shown.specs.declared.kept.Kept.{Kept};
     ghost use Rattle.ps_shown.specs.declared.kept.Kept.TheVariants.{Empty};
-    ghost use Rattle.ps_shown.specs.declared.shown.TheConstants.{PLACES};
+    ghost use Rattle.ps_shown.specs.declared.shown.TheConstants.{BLOCKS, PLACES};
+    ghost use Rattle.ps_shown.specs.Blocks.{AreRemembered};
 
     ghost Value = { List Kept };
 
     ghost view = { λ s. s.kept.items };
 
-    ghost invariant = { λ s. (PLACES ≤ vec_capacity s.kept) × (s.empty ≡ Empty) };
+    ghost invariant = { λ s. (PLACES ≤ vec_capacity s.kept) × (s.empty ≡ Empty)
+        × (BLOCKS ≤ vec_capacity s.sums) × AreRemembered s.kept.items s.sums.items };
 }
 
 /// Where a cell lies.
@@ -70,14 +85,16 @@ fn reach(kept: &mut Vec<Kept>, place: usize)
 impl Shown {
     /// The table where each cell shows nothing. Refused only when out of memory.
     ///
-    /// Cost: one allocation of 1.7 MB, of which nothing is written yet.
+    /// Cost: two allocations of 2 MB together, of which nothing is written yet.
     pub fn new(alloc: Global) -> Result<Shown, Refusal>
         ensures empty { IfOk result (λ s. shown_at s ≡ λ _. Nothing) }
         ensures memory { IfErr result (λ e. e ≡ Memory) }
     {
         let kept = Vec::with_capacity(alloc, PLACES)?;
+        let sums = Vec::with_capacity(alloc, BLOCKS)?;
         Ok(Shown {
             kept,
+            sums,
             empty: Kept::Empty,
         })
     }
@@ -116,17 +133,107 @@ impl Shown {
         self.kept(cell).operand()
     }
 
+    /// What SUM, MIN, MAX and COUNT need to know of the items of a range.
+    ///
+    /// Cost: column after column a step for each block that lies in the range whole and is remembered, and one for each
+    /// other cell; and the cells row by row, too, where there is a fault among those of several columns, for the first
+    /// one counts.
+    pub fn summary(&self, rect: Rect) -> Summary
+        ensures { Summarizes (range_items (shown_at self.now) rect) result }
+    {
+        if rect.width() == 1 {
+            return self.columns(rect);
+        }
+        if rect.height() < FEW_ROWS {
+            return self.summary_by_cells(rect);
+        }
+        let summary = self.columns(rect);
+        if summary.has_fault() {
+            self.summary_by_cells(rect)
+        } else {
+            summary
+        }
+    }
+
+    /// What is known of the items of a range, column after column.
+    fn columns(&self, rect: Rect) -> Summary
+        ensures summary { Summarizes (items_by_columns (shown_at self.now) rect rect.width) result }
+        ensures in_grid { LiesInGrid rect }
+    {
+        // for the fact that the range lies in the grid
+        let _ = rect.area();
+        let mut summary = Summary::new();
+        for across in 0..rect.width() {
+            summary.join(&self.column(rect, across));
+        }
+        summary
+    }
+
+    /// What is known of the items of one column of a range.
+    fn column(&self, rect: Rect, across: usize) -> Summary
+        requires { across < rect.width }
+        ensures { Summarizes (column_items (shown_at self.now) rect across) result }
+    {
+        // for the fact that the range lies in the grid
+        let _ = rect.area();
+        let top = place(rect.at(across, 0));
+        summary_between(&self.kept, &self.sums, top, top + rect.height())
+    }
+
+    /// Remembers what SUM, MIN, MAX and COUNT need to know of each block of 57 rows that lies in the range, so that
+    /// `summary` doesn't walk those cells again before one of the block is put. What the cells show stays.
+    ///
+    /// Cost: the blocks of the range, and the cells of those that aren't remembered yet.
+    pub fn remember(&mut self, rect: Rect)
+        ensures { self.new ≡ self.old }
+    {
+        for column in 0..rect.width() {
+            self.remember_column(rect, column);
+        }
+    }
+
+    /// The same of one column of the range.
+    fn remember_column(&mut self, rect: Rect, across: usize)
+        requires { across < rect.width }
+        ensures { self.new ≡ self.old }
+    {
+        // for the fact that the range lies in the grid
+        let _ = rect.area();
+        let top = place(rect.at(across, 0));
+        remember_between(&self.kept, &mut self.sums, top, top + rect.height());
+    }
+
     /// Puts what a cell shows from now on, and returns what was kept of it. It takes no memory.
     ///
-    /// Cost: constant; but the first that lies further on in the table than all before writes what is between, so that
-    /// all calls together write the table once more at most.
+    /// Cost: constant, and what is remembered of the cell's block is dropped; but the first that lies further on in the
+    /// table than all before writes what is between, so that all calls together write the table once more at most.
     pub fn put(&mut self, cell: Cell, kept: Kept) -> Kept
         ensures shown { shown_at self.new ≡ with_value (shown_at self.old) cell (value_of kept) }
         ensures old { value_of result ≡ shown_at self.old cell }
     {
         let place = place(cell);
+        forget(&mut self.sums, place);
         reach(&mut self.kept, place);
         mem::replace(&mut self.kept[place], kept)
+    }
+}
+
+/// A table is looked at as it lies.
+impl Look for Shown {
+    ghost use Rattle.ps_shown.specs.Shown.{shown_at};
+
+    ghost value_at = { λ s. shown_at s };
+
+    fn at(&self, cell: Cell) -> Value {
+        self.kept(cell).value()
+    }
+
+    fn operand(&self, cell: Cell) -> Operand {
+        self.kept(cell).operand()
+    }
+
+    fn summary(&self, rect: Rect) -> Summary {
+        Shown::summary(self, rect)
     }
 }
 
@@ -134,11 +241,13 @@ impl Shown {
 impl Twin for Shown {
     fn twin(&self, alloc: Global) -> Result<Shown, Refusal> {
         let mut kept = Vec::with_capacity(alloc, PLACES)?;
+        let sums = Vec::with_capacity(alloc, BLOCKS)?;
         for one in &self.kept {
             kept.push(one.twin(alloc)?)?;
         }
         Ok(Shown {
             kept,
+            sums,
             empty: Kept::Empty,
         })
     }

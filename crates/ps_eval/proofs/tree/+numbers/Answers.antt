@@ -4,7 +4,7 @@ use Rattle.ps_formula.specs.Tree.{in_row}
 use Rattle.ps_formula.specs.TreeOf.{item_of}
 use Rattle.ps_tokens.specs.declared.token.Function.TheVariants.{If, Mod, Quotient, Abs, Not, True, False}
 use Rattle.ps_eval.specs.Value.{items_of, values_of}
-use Rattle.ps_eval.specs.Inside.Summarized.{Judges, Summarizes}
+use Rattle.ps_eval.specs.Summarized.{Judges, Summarizes}
 use Rattle.ps_eval.proofs.CallLemmas.{items_of-push, values_of-push, if_many, fewer_than_two, more_than_two}
 use Rattle.ps_eval.proofs.CallLemmas.{more_than_one, more_than_none}
 use Rattle.ps_eval.proofs.tree.+numbers.Goals as goal

@@ -3,7 +3,7 @@ use Rattle.ps_grid.specs.declared.size.TheConstants.{CELLS}
 use Rattle.ps_formula.specs.Tree.{in_row}
 use Rattle.ps_formula.specs.TreeOf.{item_of}
 use Rattle.ps_eval.specs.Value.{items_of, values_of}
-use Rattle.ps_eval.specs.Inside.Summarized.{Judges, Summarizes}
+use Rattle.ps_eval.specs.Summarized.{Judges, Summarizes}
 use Rattle.ps_eval.proofs.tree.+numbers.Given as goal
 
 abbrev pub invariant-operands-loop-argument : goal.invariant-operands-loop-argument

@@ -1,36 +1,13 @@
-use Rattle.std.proofs.Common.{◌≡◌, ◌++◌, ap, sym, ◌∙◌, subst, arith}
-use Rattle.std.proofs.lemmas.Iterator.Consumers.{YieldsList-from_first, YieldsList-turn, YieldsList-end}
-use Rattle.std.proofs.lemmas.List.{map-id}
-use Rattle.ps_grid.specs.Rectangle.{cells_of}
-use Rattle.ps_grid.proofs.AreaLemmas.{area-le, length-cells_of}
-use Rattle.ps_eval.specs.Inside.Summarized.{Summarizes}
-use Rattle.ps_eval.proofs.RangeItems.{items_at, range_items_are}
+use Rattle.std.proofs.Common.{arith}
+use Rattle.ps_eval.proofs.RangeItems.{few_numbers}
 use Rattle.ps_eval.proofs.tree.take_range.Goals as goal
 
-pub take_cell-requires : goal.take_cell-requires
-take_cell-requires g c =
-    let a = c.args.rect in
-    let road = YieldsList-from_first (λ x. x) (λ rest. rest) (cells_of a)
-    (c.into_iter-cell-iterator.ensures.into_iter_gives ∙ c.cells-cell-items.ensures.cells) in
-    let turn = YieldsList-turn road c.loop-cell.yielded _ c.loop-cell.yielded_by _ _ c.in-Some.cell c.in-Some.is
-    c.next.ensures.steps in
-    omega (arith, c.loop-cell.invariant.1, turn.0, length-cells_of a, area-le a c.cells-cell-items.ensures.in_grid)
-
-pub returns-clause-items : goal.returns-clause-items
-returns-clause-items g c = λ items s.
-    let a = c.args.rect in
-    let v = g.K.Look.value_at c.args.look.now in
-    let road = YieldsList-from_first (λ x. x) (λ rest. rest) (cells_of a)
-    (c.into_iter-cell-iterator.ensures.into_iter_gives ∙ c.cells-cell-items.ensures.cells) in
-    let end = YieldsList-end road c.loop-cell.yielded _ c.loop-cell.yielded_by _ _ c.in-None.is c.next.ensures.steps in
-    let all : c.loop-cell.yielded ≡ cells_of a = sym (map-id c.loop-cell.yielded) ∙ end.0 in
-    let whole = ap (items_at v) all ∙ sym (range_items_are v a c.cells-cell-items.ensures.in_grid) in
-    subst (λ ns. Summarizes (items ++ ns) c.loop-cell.summary) whole (c.loop-cell.invariant.0 items s)
+pub join-requires-clause-room_of_other : goal.join-requires-clause-room_of_other
+join-requires-clause-room_of_other g c =
+    let few = few_numbers (g.K.Look.value_at c.args.look.now) c.args.rect c.area.ensures.in_grid in
+    omega (arith, few, c.summary.ensures.counted)
 
 pub returns-clause-count : goal.returns-clause-count
 returns-clause-count g c =
-    let a = c.args.rect in
-    let road = YieldsList-from_first (λ x. x) (λ rest. rest) (cells_of a)
-    (c.into_iter-cell-iterator.ensures.into_iter_gives ∙ c.cells-cell-items.ensures.cells) in
-    let end = YieldsList-end road c.loop-cell.yielded _ c.loop-cell.yielded_by _ _ c.in-None.is c.next.ensures.steps in
-    omega (arith, c.loop-cell.invariant.1, end.1, length-cells_of a, area-le a c.cells-cell-items.ensures.in_grid)
+    let few = few_numbers (g.K.Look.value_at c.args.look.now) c.args.rect c.area.ensures.in_grid in
+    omega (arith, few, c.summary.ensures.counted, c.join.ensures.count)

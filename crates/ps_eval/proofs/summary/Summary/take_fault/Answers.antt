@@ -1,7 +1,9 @@
-use Rattle.std.proofs.Common.{Some, ap, sym, ◌∙◌, ◌-◌, ◌^◌, length, negsuc, pos}
+use Rattle.std.proofs.Common.{Some, ap, sym, ◌∙◌, length}
+use Rattle.std.specs.List.{list_all}
 use Rattle.std.specs.Option.{option_or}
-use Rattle.ps_eval.specs.Inside.Summarized.{least_or, greatest_or}
+use Rattle.ps_eval.specs.Summarized.{lowest_of, highest_of}
 use Rattle.ps_eval.specs.Items.{total}
+use Rattle.ps_eval.specs.Number.{in_range}
 use Rattle.ps_eval.proofs.SummaryLemmas.{numbers_in-fault, first_fault-fault}
 use Rattle.ps_eval.proofs.summary.Summary.take_fault.Goals as goal
 
@@ -11,8 +13,9 @@ returns-clause-items c = λ items s.
     record {
       counted = s.counted ∙ ap length same;
       summed = s.summed ∙ ap total same;
-      lowest = s.lowest ∙ ap (least_or (pos (2 ^ 63 - 1))) same;
-      highest = s.highest ∙ ap (greatest_or (negsuc (2 ^ 63 - 1))) same;
+      lowest = s.lowest ∙ ap lowest_of same;
+      highest = s.highest ∙ ap highest_of same;
       first = c.or-self.ensures ∙ ap (λ known. option_or known (Some c.args.fault)) s.first
           ∙ sym (first_fault-fault items c.args.fault);
+      ranged = ap (list_all in_range) (numbers_in-fault items c.args.fault) ∙ s.ranged;
     }

@@ -1,7 +1,7 @@
 use Rattle.std.proofs.Common.{◌+◌, ◌+ℤ◌, ap, sym, ◌∙◌, rules, FitsSigned, w64}
 use Rattle.std.specs.Int.{int_max, int_min}
 use Rattle.std.proofs.lemmas.Int.{to_z-of_z}
-use Rattle.ps_eval.proofs.SummaryLemmas.{counted_more, summed_more, lowest_next, highest_next}
+use Rattle.ps_eval.proofs.SummaryLemmas.{counted_more, summed_more, lowest_more, highest_more, ranged_more}
 use Rattle.ps_eval.proofs.SummaryLemmas.{first_fault-number}
 use Rattle.ps_eval.proofs.summary.Summary.take_number.Goals as goal
 
@@ -19,8 +19,9 @@ returns-clause-items c = λ items s.
       counted = ap (λ k. k + 1) s.counted ∙ sym (counted_more items n);
       summed = (simp to_z-of_z at c.add.ensures) ∙ ap (λ z. z +ℤ n) s.summed ∙ sym (summed_more items n);
       lowest = to_z-of_z w64 c.min-self.result low ∙ least_is.value
-          ∙ (λ i. int_min (s.lowest i) n) ∙ sym (lowest_next items n fits);
+          ∙ (λ i. int_min (s.lowest i) n) ∙ sym (lowest_more items n);
       highest = to_z-of_z w64 c.max-self.result high ∙ greatest_is.value
-          ∙ (λ i. int_max (s.highest i) n) ∙ sym (highest_next items n fits);
+          ∙ (λ i. int_max (s.highest i) n) ∙ sym (highest_more items n);
       first = s.first ∙ sym (first_fault-number items n);
+      ranged = ranged_more items n fits s.ranged;
     }

@@ -1,0 +1,44 @@
+//! What formulas sum of long ranges is remembered before a level of them is evaluated, since the workers of the level
+//! read what is shown and change nothing.
+//!
+//! A contract sees none of it. A sheet that never had a formula with a long range pays a test for each level.
+
+ghost use Rattle.std.specs.Prelude.{◌≡◌};
+
+use crate::contents::formula_of;
+use crate::screen::Screen;
+use ps_delta::{CellState, Grid};
+use ps_grid::Cell;
+
+/// Expects the ranges of the formula of a touched cell.
+pub(crate) fn expect_sums(state: &CellState, shown: &mut Screen)
+    ensures { shown.new ≡ shown.old }
+{
+    if let Some(formula) = formula_of(state) {
+        for rect in formula.rects() {
+            shown.expect(*rect);
+        }
+    }
+}
+
+/// Remembers what the formulas of the cells sum, if a long range was ever expected.
+pub(crate) fn remember_sums(grid: &Grid, cells: &[Cell], shown: &mut Screen)
+    ensures { shown.new ≡ shown.old }
+{
+    if shown.expects_long() {
+        for cell in cells {
+            remember_of(grid.at(*cell), shown);
+        }
+    }
+}
+
+/// Remembers what the formula of a cell sums.
+fn remember_of(state: &CellState, shown: &mut Screen)
+    ensures { shown.new ≡ shown.old }
+{
+    if let Some(formula) = formula_of(state) {
+        for rect in formula.rects() {
+            shown.remember(*rect);
+        }
+    }
+}

@@ -1,0 +1,139 @@
+//! Summaries of blocks of the table that are remembered until a cell of the block is put.
+ghost use Rattle.std.specs.Prelude.{◌≡◌, ◌≢◌, ◌+◌, ◌*◌, ◌^◌, ◌/◌, ◌<◌, ◌≤◌, ℕ, List, ◌++◌, None, Some};
+ghost use Rattle.std.specs.Prelude.{IfSome, length, slice_index_or, vec_capacity};
+ghost use Rattle.ps_eval.specs.Number.{Number};
+ghost use Rattle.ps_eval.specs.Summarized.{Summarizes, numbers_taken};
+ghost use Rattle.ps_eval.specs.declared.summary.Summary.{Summary as Sum};
+ghost use Rattle.ps_shown.specs.Blocks.{AreRemembered, block_items, items_between};
+ghost use Rattle.ps_shown.specs.declared.shown.TheConstants.{PLACES};
+
+use crate::kept::Kept;
+use crate::run::summary_of_run;
+use ps_eval::Summary;
+
+/// How many places a block has. It is no power of two, and neither is a column of whole blocks, so that the cells of a
+/// row don't share a few sets of the processor's cache.
+pub(crate) const BLOCK: usize = 57;
+
+/// From how many rows on it is worth while to remember what is summed of a range: a whole block lies in it then.
+pub const LONG: usize = 2 * BLOCK;
+
+/// What is known of the items from one place up to another one, which are walked. The table may end before.
+fn walk(kept: &[Kept], from: usize, to: usize) -> Summary
+    requires { from ≤ to }
+    ensures { Summarizes (items_between kept.now from to) result }
+{
+    let reached = kept.len();
+    summary_of_run(&kept[from.min(reached)..to.min(reached)])
+}
+
+/// What is remembered of a block.
+#[inline]
+fn known(sums: &[Option<Summary>], block: usize) -> Option<&Summary>
+    ensures { IfSome result (λ s. slice_index_or sums.now block None ≡ Some s.now) }
+{
+    if block < sums.len() {
+        sums[block].as_ref()
+    } else {
+        None
+    }
+}
+
+/// The items of one more block: what is remembered of them, or else they are walked.
+fn take_block(summary: &mut Summary, kept: &[Kept], sums: &[Option<Summary>], block: usize)
+    requires remembered { AreRemembered kept.now sums.now }
+    requires block { block * BLOCK + BLOCK ≤ PLACES }
+    requires room { numbers_taken summary.old < 2 ^ 90 }
+    ensures { (items : List Number)
+        → Summarizes items summary.old
+        → Summarizes (items ++ block_items kept.now block) summary.new }
+{
+    match known(sums, block) {
+        Some(known) => summary.join(known),
+        None => summary.join(&walk(kept, block * BLOCK, block * BLOCK + BLOCK)),
+    }
+}
+
+/// What is known of the items from one place up to another one: block by block, and what lies before the first whole
+/// block and after the last one is walked.
+pub(crate) fn summary_between(
+    kept: &[Kept],
+    sums: &[Option<Summary>],
+    from: usize,
+    to: usize,
+) -> Summary
+    requires remembered { AreRemembered kept.now sums.now }
+    requires order { from ≤ to }
+    requires within { to ≤ PLACES }
+    ensures { Summarizes (items_between kept.now from to) result }
+{
+    let first = from.div_ceil(BLOCK);
+    let end = to / BLOCK;
+    if end <= first {
+        return walk(kept, from, to);
+    }
+    let mut summary = walk(kept, from, first * BLOCK);
+    for block in first..end {
+        take_block(&mut summary, kept, sums, block);
+    }
+    summary.join(&walk(kept, end * BLOCK, to));
+    summary
+}
+
+/// Remembers the summary of a block, if it isn't yet.
+fn remember_block(kept: &[Kept], sums: &mut Vec<Option<Summary>>, block: usize)
+    requires remembered { AreRemembered kept.now sums.old.items }
+    requires block { block * BLOCK + BLOCK ≤ PLACES }
+    requires room { block < vec_capacity sums.old }
+    ensures remembered { AreRemembered kept.now sums.new.items }
+    ensures capacity { vec_capacity sums.old ≤ vec_capacity sums.new }
+{
+    reach(sums, block);
+    if sums[block].is_none() {
+        sums[block] = Some(walk(kept, block * BLOCK, block * BLOCK + BLOCK));
+    }
+}
+
+/// Remembers nothing of the blocks up to this one that the list doesn't reach yet.
+fn reach(sums: &mut Vec<Option<Summary>>, block: usize)
+    requires room { block < vec_capacity sums.old }
+    ensures reached { block < length sums.new.items }
+    ensures same { (b : ℕ) → slice_index_or sums.new.items b None ≡ slice_index_or sums.old.items b None }
+    ensures capacity { vec_capacity sums.old ≤ vec_capacity sums.new }
+{
+    while sums.len() <= block {
+        let _ = sums.push(None);
+    }
+}
+
+/// Remembers the summaries of the whole blocks from one place up to another one.
+pub(crate) fn remember_between(
+    kept: &[Kept],
+    sums: &mut Vec<Option<Summary>>,
+    from: usize,
+    to: usize,
+)
+    requires remembered { AreRemembered kept.now sums.old.items }
+    requires within { to ≤ PLACES }
+    requires room { PLACES ≤ vec_capacity sums.old * BLOCK }
+    ensures remembered { AreRemembered kept.now sums.new.items }
+    ensures capacity { vec_capacity sums.old ≤ vec_capacity sums.new }
+{
+    for block in from.div_ceil(BLOCK)..to / BLOCK {
+        remember_block(kept, sums, block);
+    }
+}
+
+/// Forgets the summary of the block in which a place lies.
+#[inline]
+pub(crate) fn forget(sums: &mut Vec<Option<Summary>>, place: usize)
+    ensures left { (b : ℕ) (s : Sum) → slice_index_or sums.new.items b None ≡ Some s → b ≢ place / BLOCK }
+    ensures there { (b : ℕ) (s : Sum) → slice_index_or sums.new.items b None ≡ Some s
+        → slice_index_or sums.old.items b None ≡ Some s }
+    ensures capacity { vec_capacity sums.old ≤ vec_capacity sums.new }
+{
+    let block = place / BLOCK;
+    if block < sums.len() {
+        sums[block] = None;
+    }
+}
