@@ -1,4 +1,4 @@
-"""The lines `entry` and `entries`: what was typed, and a table of it that is taken in again."""
+"""The lines `entry` and `entries`: the canonical text of what a cell holds, and a table of it that is taken in again."""
 from hunt import contents, tables_by_chance
 from hunt.chance import Chance
 from hunt.model import Sheet

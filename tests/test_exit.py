@@ -29,7 +29,8 @@ class Statuses(ProgramTest):
             self.assertEqual(run("run", given=b"get A1\n", stdout=full), Ended(1, b"", DEVICE_FAILED))
 
     def test_2_without_a_command(self):
-        said = "error: 'sheet' requires a subcommand but one was not provided\n  [subcommands: run, table, serve, sync, follow, page, squash, help]"
+        said = ("error: 'sheet' requires a subcommand but one was not provided\n"
+                "  [subcommands: run, table, serve, sync, follow, page, squash, help]")
         self.assert_no_command_line([], said, USAGE)
 
     def test_2_for_an_unknown_command(self):

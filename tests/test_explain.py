@@ -1,5 +1,4 @@
-"""Words that help: `--explain` of `run` and `table`, and `--strict` of `run`."""
-import contextlib
+"""Words that help: `--explain` of each command that has it, and `--strict` of `run`."""
 import csv
 import io
 import os
@@ -10,7 +9,8 @@ from hunt import contents, entries
 from hunt.chance import Chance
 from hunt.records import written_record
 from hunt.scripts import NO_CELLS, VERBS
-from program import LIMIT, SHEET, Ended, ProgramTest, lines, run
+from program import DEVICE_FAILED, LIMIT, SHEET, Ended, ProgramTest, lines, run
+from servers import free_port, serving
 
 FUNCTIONS = "SUM, MIN, MAX, COUNT, IF, MOD, QUOTIENT, ABS, AND, OR, NOT, TRUE, FALSE"
 # What people write by habit into a cell, the reply to it, and what is told of it.
@@ -35,11 +35,13 @@ HABITS = (
 LINES = (
     ("SET A1 5", "err 16 command", "SET is written set"),
     ("walk", "err 16 command", "walk is no verb; the verbs are get, set, add, sub, choose, unchoose, rows, entry, "
-     "entries, push, pull"),
+     "entries, push, pull, replica"),
     ("get a1", "err 1 cell", "a1 is written A1"),
     ("get A1 ", "err 16 command", "one space stands between two words, and none at the end"),
     ("add A1 1", "err 5 not-tally", "set A1 @tally makes it a counter"),
     ("pull 0 17", "err 17 version", "pull has a version that there is, and at most 16 deltas"),
+    ("Replica 1", "err 16 command", "Replica is written replica"),
+    ("replica 33", "err 9 replica", "replicas are 1 to 32"),
 )
 
 
@@ -116,18 +118,75 @@ class AtATerminal(ProgramTest):
 
     def shown(self, person):
         """All that a terminal shows which nobody holds any more."""
-        pieces = []
-        # (its end is told as a device that is gone)
-        with contextlib.suppress(OSError):
-            while piece := os.read(person, 4096):
-                pieces.append(piece)
-        return b"".join(pieces)
+        pieces = [b""]
+        while True:
+            try:
+                pieces.append(os.read(person, 4096))
+            except OSError:
+                # its end is told as a device that is gone
+                return b"".join(pieces)
 
     def test_hints_are_told_where_a_person_types_and_reads(self):
         self.assertIn(b"line 1: err 1 cell: a1 is written A1", self.typed("run", is_terminal=True))
 
     def test_no_hints_where_the_errors_go_elsewhere(self):
         self.assertEqual(self.typed("run", is_terminal=False), b"")
+
+
+def words_with_port(port):
+    """The words of each command that is to listen on this port, and of each that is to connect to it."""
+    return (
+        (["serve", "--port", port], ["page", "--from", "7001", "--port", port]),
+        (["sync", "--from", port, "--to", port], ["follow", "--from", port], ["follow", "--from", port, "--until-now"]),
+    )
+
+
+class OfPorts(ProgramTest):
+    def assert_told(self, words, told):
+        """These words end as a device that fails, and with `--explain` this line is told of it."""
+        self.assertEqual(run(*words), Ended(1, b"", DEVICE_FAILED))
+        self.assertEqual(run(*words, "--explain"), Ended(1, b"", DEVICE_FAILED + lines(told)))
+
+    def test_a_port_that_another_program_has(self):
+        with serving(None) as server:
+            for words in words_with_port(str(server.port))[0]:
+                with self.subTest(words=words):
+                    self.assert_told(words, f"port {server.port}: another program listens on it")
+
+    def test_a_port_on_which_nobody_listens(self):
+        port = free_port()
+        told = f"port {port}: nobody listens on it; sheet serve --port {port} would"
+        for words in words_with_port(str(port))[1]:
+            with self.subTest(words=words):
+                self.assert_told(words, told)
+
+    def test_the_second_port_of_sync(self):
+        port = free_port()
+        with serving(None) as server:
+            self.assert_told(["sync", "--from", str(server.port), "--to", str(port)],
+                             f"port {port}: nobody listens on it; sheet serve --port {port} would")
+
+    def test_a_port_that_can_be_had(self):
+        with serving(None, "--explain") as server:
+            self.assertEqual(run("follow", "--from", str(server.port), "--until-now", "--explain"), Ended(0))
+
+    def test_other_faults_of_devices_have_no_such_line(self):
+        with serving(None) as server, open("/dev/full", "wb") as full:
+            self.assertEqual(server.client().ask("set A1 5"), "ok 1")
+            words = ["follow", "--from", str(server.port), "--until-now", "--explain"]
+            self.assertEqual(run(*words, stdout=full), Ended(1, b"", DEVICE_FAILED))
+
+    def test_at_a_terminal_it_is_told_by_itself(self):
+        port = free_port()
+        person, terminal = pty.openpty()
+        try:
+            words = [SHEET, "sync", "--from", str(port), "--to", str(port)]
+            with subprocess.Popen(words, stdin=terminal, stdout=subprocess.PIPE, stderr=terminal) as session:
+                self.assertEqual((session.communicate(timeout=LIMIT)[0], session.returncode), (b"", 1))
+            self.assertIn(b"nobody listens on it", os.read(person, 4096))
+        finally:
+            os.close(person)
+            os.close(terminal)
 
 
 class OfTables(ProgramTest):

@@ -322,6 +322,18 @@ class Ends(ProgramTest):
             with serving(SESSIONS, port=server.port), WebSocket(gateway.port) as opened:
                 self.assertEqual(opened.ask("get A1"), "val \n")
 
+    def test_a_session_that_the_server_ended_while_it_waited_is_not_given_to_a_browser(self):
+        with serving(None, "--seats", "1", "--idle", "1", "--wait", "60") as server:
+            with paging(server.port) as gateway:
+                with WebSocket(gateway.port) as opened:
+                    self.assertEqual(opened.ask("set A1 5"), "ok 1\n")
+                # the only seat is free once the session that waits for the next browser has ended
+                client = server.client()
+                self.assertEqual(client.ask("get A1"), "val 5")
+                client.leave()
+                with WebSocket(gateway.port) as opened:
+                    self.assertEqual(opened.ask("get A1"), "val 5\n")
+
     def test_a_port_that_is_taken(self):
         with serving(1) as server:
             self.assertEqual(run("page", "--from", "7001", "--port", str(server.port)), Ended(1, b"", DEVICE_FAILED))

@@ -12,6 +12,7 @@ from shortage import ALL, Short, build, each, refusing, requests_in
 
 # The tests of each crate, by their calls.
 TESTS = {
+    "checks_keep": ("sheet::refused_open_kept",),
     "checks_state": (
         "delta::refused::refused_joined", "index::refused_set", "wire::refused_decode", "wire::refused_encode",
     ),

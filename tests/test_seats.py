@@ -267,7 +267,7 @@ class Many(ProgramTest):
                 return play
 
             def has_settled():
-                """Whether no session is left: of threads that of the listener, and of files the standard ones and it."""
+                """Whether no session is left: only the listener's thread, and its file beside the standard ones."""
                 return process.threads() == 1 and process.files() <= 3 + 1
 
             beside(sessions(first, "get B1", "set A1 1"), clients)

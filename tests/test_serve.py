@@ -290,6 +290,16 @@ class Replicas(ProgramTest):
             self.assertEqual(first.ended(), Ended(0, lines("closed 3")))
             self.assertEqual(second.ended(), Ended(0, lines("closed 2")))
 
+    def test_each_session_tells_the_replica_whichever_it_names(self):
+        with serving(2, "--replica", "7") as server:
+            first, second = server.client(), server.client()
+            self.assertEqual(first.ask("set A1 5"), "ok 1")
+            self.assertEqual([first.ask(line) for line in ("replica", "replica 7", "replica 1", "replica 33")],
+                             ["replica 7", "replica 7", "replica 7", "err 9 replica"])
+            self.assertEqual((second.ask("replica 2"), second.ask("pull 1")), ("replica 7", "end 1"))
+            self.assertEqual((first.leave(), second.leave()), (b"", b""))
+            self.assertEqual(server.ended(), Ended(0, lines("closed 1")))
+
     def test_a_replica_is_handed_to_itself(self):
         with serving(3) as server:
             client = server.client()

@@ -61,7 +61,7 @@ class Pasting(ProgramTest):
 
 class Recipes(Pasting):
     def test_each_writes_the_block_after_it(self):
-        self.assertEqual(len(RECIPES), 10)
+        self.assertEqual(len(RECIPES), 11)
         for commands, shown in RECIPES:
             with self.subTest(commands=commands):
                 self.assertTrue(commands.startswith("bash\n"))
@@ -70,8 +70,14 @@ class Recipes(Pasting):
                 ended, wanted = self.pasted(commands, shown)
                 if PAUSE in commands and ended != wanted:
                     # what comes meanwhile may take longer on a machine that does much else
+                    self.forget()
                     ended, wanted = self.pasted(commands.replace(PAUSE, LONGER), shown)
                 self.assertEqual(ended, wanted)
+
+    def forget(self):
+        """Takes away the sheets that are kept, which the recipe begins without."""
+        for file in self.place.glob("*.lines"):
+            file.unlink()
 
     def pasted(self, commands, shown):
         """How these commands end, and how they have to, with ports of the test's own for those that they name."""

@@ -91,6 +91,53 @@ class Squash(ProgramTest):
             lines('push [["A1",[1,2,"@tally"],[[1,5,2],[4,1,0]],[]],["B1",null,[],[[7,1,1,1],[8,1,2,0]]],'
                   '["C1",[2,1,"6"],[],[]]]'))
 
+    def test_the_first_line_of_a_kept_file(self):
+        """It stays, and the lines after it are squashed as without it, though there are none."""
+        given = lines('push [["A1",[1,1,"5"],[],[]]]', '[["B1",[1,2,"7"],[],[]]]', 'push [["A1",[2,1,"6"],[],[]]]')
+        small = lines('push [["A1",[2,1,"6"],[],[]],["B1",[1,2,"7"],[],[]]]')
+        for replica in (1, 3, 9, 10, 29, 32):
+            first = b"replica %d\n" % replica
+            with self.subTest(replica=replica):
+                self.assert_squashed(first + given, first + small)
+                self.assert_squashed(first.replace(b"\n", b"\r\n") + given, first + small)
+                for empty in (b"", b"\n", b"\r\n\n"):
+                    self.assert_squashed(first + empty, first)
+                self.assert_squashed(first[:-1], first)
+
+    def test_a_replica_anywhere_else(self):
+        """Which of two lines would hold can't be told, so it is refused as any line that is none of a delta."""
+        good = b'push [["A1",[1,1,"5"],[],[]]]\n'
+        for before in (b"replica 1\n", b"replica 2\n", good, b"\n", b"\r\n"):
+            for after in (b"", good):
+                with self.subTest(before=before, after=after):
+                    self.assertEqual(run("squash", given=before + b"replica 1\n" + after),
+                                     Ended(3, b"", REFUSED % 2))
+        self.assertEqual(run("squash", given=b"replica 1\n" + good * 15 + b"replica 1"), Ended(3, b"", REFUSED % 17))
+        self.assertEqual(run("squash", given=b"replica 1\nx\n"), Ended(3, b"", REFUSED % 2))
+
+    def test_a_first_line_that_tells_no_replica(self):
+        """Only what a kept file begins with is taken."""
+        for faulty in (b"replica", b"replica ", b"replica 0", b"replica 33", b"replica 03", b"replica 3 ",
+                       b"replica  3", b" replica 3", b"replica 3\r", b"Replica 3", b"replica +3", b"replica 3 4",
+                       b"replica 320", b"replica x", b"push replica 3", b"replica 3" + b" " * LONGEST_LINE):
+            with self.subTest(faulty=faulty[:40]):
+                self.assertEqual(run("squash", given=faulty + b"\r\n" + b'push [["A1",[1,1,"5"],[],[]]]\n'),
+                                 Ended(3, b"", REFUSED % 1))
+
+    def test_a_kept_sheet(self):
+        """Squashed between two runs it is a shorter file of the same replica, with the same sheet."""
+        path = self.folder() / "plan.lines"
+        looks = lines("replica", "rows A1:C9", "entries A1:C9")
+        edits = lines("set A1 @tally", *["add A1 2"] * 40, *[f"set B{k % 9 + 1} {k}" for k in range(60)])
+        shown = run("run", "--replica", "7", "--keep", str(path), given=edits + looks).output.split(b"replica ", 1)[1]
+        for _ in range(2):
+            small = run("squash", given=path.read_bytes())
+            self.assertEqual((small.status, small.output.count(b"\n")), (0, 2))
+            self.assertTrue(small.output.startswith(b"replica 7\n"))
+            path.write_bytes(small.output)
+            again = run("run", "--replica", "7", "--keep", str(path), given=looks)
+            self.assertEqual((again.status, again.output.split(b"replica ", 1)[1]), (0, shown))
+
     def test_nothing_says_nothing(self):
         for given in (b"", b"\n", b"\r\n\n", b"\r"):
             with self.subTest(given=given):

@@ -1,5 +1,6 @@
 """Starting the program: the first example, the launcher, and the help."""
 import os
+import re
 import subprocess
 
 from program import LIMIT, SHEET, TOP, Ended, ProgramTest, lines, run
@@ -13,6 +14,7 @@ sed -n 's/^delta [0-9]* /push /p' one two > lines
 (cat lines; printf 'get A1\nget B1\n') | ./sheet run --replica 1 | tail -n 2
 (tac lines; cat lines; printf 'get A1\nget B1\n') | ./sheet run --replica 2 | tail -n 2
 """
+COMMANDS = ("run", "table", "serve", "sync", "follow", "page", "squash")
 TABLE_EXAMPLE = r"""printf '2,=[.A1]*3\n"x,y",@tally\n' | ./sheet table"""
 
 
@@ -79,7 +81,7 @@ class Help(ProgramTest):
             self.assertIn(text, ended.output.decode())
 
     def test_help_names_the_commands(self):
-        self.assert_tells(["--help"], "Usage: sheet <COMMAND>", "run", "table", "serve", "sync", "follow", "page", "squash")
+        self.assert_tells(["--help"], "Usage: sheet <COMMAND>", *COMMANDS)
 
     def test_help_lists_the_refusals(self):
         listed = (TOP / "docs/FORMATS.md").read_text().split("## Refusals\n\n")[1].split("\n\n")[0]
@@ -88,18 +90,46 @@ class Help(ProgramTest):
         self.assert_tells(["--help"], *(f"\n  {number:>2} {name:11} " for number, name in refusals))
 
     def test_help_of_run_names_its_options_and_each_line(self):
-        verbs = ["set", "add", "sub", "get", "choose", "unchoose", "rows", "entry", "entries", "pull", "push"]
-        self.assert_tells(["run", "--help"], "Usage: sheet run", "--workers", "--replica", "--explain", "--strict",
+        verbs = ["set", "add", "sub", "get", "choose", "unchoose", "rows", "entry", "entries", "pull", "push", "replica"]
+        self.assert_tells(["run", "--help"], "Usage: sheet run", "--workers", "--replica", "--explain", "--strict", "--keep",
                           *(f"{it} " for it in verbs))
 
     def test_help_of_table_names_its_options(self):
         self.assert_tells(["table", "--help"], "Usage: sheet table", "--workers", "--entries", "--explain")
 
+    def examples(self, *words):
+        """The words of each example of the help after these, from the name of the program on."""
+        told = run(*words, "--help").output.decode()
+        after = re.split(r"^Examples?\b.*:$", told, maxsplit=1, flags=re.MULTILINE)[1]
+        found = re.findall(r"^  (?:.* \| )?sheet ([^|<>&\n]+)", after, flags=re.MULTILINE)
+        return told, [example.split() for example in found]
+
+    def test_each_command_has_an_example(self):
+        _, examples = self.examples()
+        self.assertEqual({words[0] for words in examples}, {*COMMANDS, "help", "--version"})
+
+    def test_each_option_has_an_example(self):
+        for command in COMMANDS:
+            with self.subTest(command=command):
+                told, examples = self.examples(command)
+                options = set(re.findall(r"^ +(?:-\w, )?(--[a-z-]+)", told, flags=re.MULTILINE)) - {"--help"}
+                own = [words for words in examples if words[0] == command]
+                self.assertEqual({word for words in own for word in words if word.startswith("--")}, options)
+                self.assertTrue(own)
+
+    def test_the_words_of_each_example_are_taken(self):
+        for command in ([], *([command] for command in COMMANDS)):
+            for words in self.examples(*command)[1]:
+                with self.subTest(words=words):
+                    # what comes before the word for help is read first
+                    ended = run(*words, *(["--help"] if words[0] in COMMANDS else []))
+                    self.assertEqual((ended.status, ended.error), (0, b""))
+
     def test_the_version_is_told(self):
         self.assertEqual(run("--version"), Ended(0, b"sheet 0.1.0\n"))
 
     def test_the_short_option_and_the_command_help_tell_the_same(self):
-        for words in ([], ["run"], ["table"], ["serve"], ["sync"], ["follow"], ["page"], ["squash"]):
+        for words in ([], *([command] for command in COMMANDS)):
             with self.subTest(words=words):
                 told = run(*words, "--help").output
                 self.assertEqual(run(*words, "-h"), Ended(0, told))

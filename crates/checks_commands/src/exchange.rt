@@ -1,7 +1,7 @@
 //! A port on which nothing listens.
 ghost use Rattle.ps_grid.specs.Blanks.{IsBlankOf};
 
-use ps_commands::{ProgramFault, status_of, sync_on};
+use ps_commands::{PortTrouble, ProgramFault, port_fault, status_of, sync_on};
 use ps_device::MemorySink;
 use std::alloc::Global;
 use std::marker::Brand;
@@ -32,12 +32,18 @@ fn unheard_on<R: Net<Stream = TcpStream>, O: Ledger>(
     sync_on(rt, alloc, port, port, &mut out).err()
 }
 
-/// A port on which nothing listens is a device that failed, and the exit status is 1.
+/// A port on which nothing listens is a device that failed, with its own words, and the exit status is 1.
 #[test]
 fn nothing_listens(rt: HostRuntime) -> Result<(), Fail> {
-    match unheard(&rt, rt.alloc())? {
-        Some(fault) => assert!(rt; status_of(&fault) == 1),
-        None => assert!(rt; false),
-    }
+    let fault = unheard(&rt, rt.alloc())?.ok_or("a fault")?;
+    assert!(rt; status_of(&fault) == 1);
+    assert!(rt; format!(in rt.alloc(); "{fault}")?.as_str() == "err 20 device");
+    let port = port_fault(&fault).ok_or("a port")?;
+    assert!(rt; port.trouble == PortTrouble::Silent);
+    let number = port.port;
+    let due = format!(in rt.alloc();
+        "port {number}: nobody listens on it; sheet serve --port {number} would"
+    )?;
+    assert!(rt; format!(in rt.alloc(); "{port}")?.as_str() == due.as_str());
     Ok(())
 }

@@ -174,7 +174,7 @@ fn texts_that_look_otherwise(rt: HostRuntime) -> Result<(), Fail> {
 }
 
 /// Lines that are refused, with what is told.
-const LINES: [(&str, Refusal, &str); 30] = [
+const LINES: [(&str, Refusal, &str); 34] = [
     ("get a1", Refusal::Cell, "1 cell: a1 is written A1"),
     ("get A1025", Refusal::Cell, "1 cell: cells are A1 to CZ1024"),
     (
@@ -293,7 +293,7 @@ const LINES: [(&str, Refusal, &str); 30] = [
         "walk A1",
         Refusal::Command,
         "16 command: walk is no verb; the verbs are get, set, add, sub, choose, unchoose, rows, \
-            entry, entries, push, pull",
+            entry, entries, push, pull, replica",
     ),
     (
         "add A1",
@@ -309,6 +309,26 @@ const LINES: [(&str, Refusal, &str); 30] = [
         "pull 0 17",
         Refusal::Version,
         "17 version: pull has a version that there is, and at most 16 deltas",
+    ),
+    (
+        "REPLICA",
+        Refusal::Command,
+        "16 command: REPLICA is written replica",
+    ),
+    (
+        "replica 3 4",
+        Refusal::Command,
+        "16 command: it is written replica or replica <number>",
+    ),
+    (
+        "replica 33",
+        Refusal::Replica,
+        "9 replica: replicas are 1 to 32",
+    ),
+    (
+        "replica ",
+        Refusal::Replica,
+        "9 replica: one space stands between two words, and none at the end",
     ),
 ];
 
@@ -360,7 +380,7 @@ fn lengths_are_told(rt: HostRuntime) -> Result<(), Fail> {
     Ok(())
 }
 
-/// A line of each verb that the hints name is refused for its cell, its version or its delta, and not for its verb.
+/// A line of each verb that the hints name is refused for its cell or another word, and not for its verb.
 #[test]
 fn the_verbs_are_those_of_lines(rt: HostRuntime) -> Result<(), Fail> {
     for (verb, form) in VERBS {

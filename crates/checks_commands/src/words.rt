@@ -58,17 +58,21 @@ fn options_are_read(rt: HostRuntime) -> Result<(), Fail> {
     Ok(())
 }
 
-/// Which flags of `run` or `table` are set: to explain, to be strict, and for entries.
+/// Which flags of a command are set: to explain, to be strict, and for entries.
 fn flags(alloc: Global, line: &str) -> Result<[bool; 3], AllocError> {
     let words = words(alloc, line)?;
     Ok(match read_words(alloc, words.as_slice()) {
         Ok(Options::Run(options)) => [options.explain, options.strict, false],
         Ok(Options::Table(options)) => [options.explain, false, options.entries],
+        Ok(Options::Serve(options)) => [options.explain, false, false],
+        Ok(Options::Sync(options)) => [options.explain, false, false],
+        Ok(Options::Follow(options)) => [options.explain, false, false],
+        Ok(Options::Page(options)) => [options.explain, false, false],
         _ => [true, true, true],
     })
 }
 
-/// The flags of `run` and `table`, set or left out.
+/// The flags of each command, set or left out.
 #[test]
 fn flags_are_read(rt: HostRuntime) -> Result<(), Fail> {
     for (line, due) in [
@@ -78,6 +82,17 @@ fn flags_are_read(rt: HostRuntime) -> Result<(), Fail> {
         ("sheet table", [false, false, false]),
         ("sheet table --entries", [false, false, true]),
         ("sheet table --workers 2 --explain", [true, false, false]),
+        ("sheet serve --port 1", [false, false, false]),
+        ("sheet serve --port 1 --explain", [true, false, false]),
+        ("sheet sync --from 1 --to 2", [false, false, false]),
+        ("sheet sync --explain --from 1 --to 2", [true, false, false]),
+        ("sheet follow --from 1 --until-now", [false, false, false]),
+        ("sheet follow --from 1 --explain", [true, false, false]),
+        ("sheet page --from 1 --port 2", [false, false, false]),
+        (
+            "sheet page --from 1 --explain --port 2",
+            [true, false, false],
+        ),
     ] {
         assert!(rt; flags(rt.alloc(), line)? == due, "at {line}");
     }
@@ -112,6 +127,41 @@ fn what_ends_a_server_is_read(rt: HostRuntime) -> Result<(), Fail> {
     Ok(())
 }
 
+/// The file of `run` or `serve`, if it has one.
+fn kept(alloc: Global, line: &str) -> Result<Option<String>, AllocError> {
+    let words = words(alloc, line)?;
+    let path = match read_words(alloc, words.as_slice()) {
+        Ok(Options::Run(options)) => options.keep,
+        Ok(Options::Serve(options)) => options.keep,
+        _ => None,
+    };
+    match path {
+        Some(path) => Ok(Some(path.to_string(alloc)?)),
+        None => Ok(None),
+    }
+}
+
+/// The file that a sheet is to be kept in is read as it is written, or left out.
+#[test]
+fn the_file_is_read(rt: HostRuntime) -> Result<(), Fail> {
+    for (line, due) in [
+        ("sheet run", ""),
+        ("sheet serve --port 1", ""),
+        ("sheet run --keep plan.lines", "plan.lines"),
+        ("sheet run --replica 2 --keep=/tmp/Plan-7", "/tmp/Plan-7"),
+        ("sheet serve --keep 007 --port 1", "007"),
+        ("sheet serve --port 1 --keep=true", "true"),
+    ] {
+        let found = kept(rt.alloc(), line)?;
+        let found = match &found {
+            Some(path) => path.as_str(),
+            None => "",
+        };
+        assert!(rt; found == due, "at {line}");
+    }
+    Ok(())
+}
+
 /// Words that are refused, a command line a line.
 const REFUSED: &str = "\
 sheet
@@ -123,6 +173,10 @@ sheet run --replica 33
 sheet run --replica x
 sheet run --entries
 sheet table --strict
+sheet table --keep plan.lines
+sheet run --keep
+sheet run --keep a --keep b
+sheet squash --keep plan.lines
 sheet serve --sessions 1
 sheet serve --port=1 --sessions=0
 sheet serve --port=1 --sessions=1000001

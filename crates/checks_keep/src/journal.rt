@@ -1,8 +1,6 @@
 //! What no clause says: that calls succeed, and that files of the system are what they are told.
 
-use ps_keep::{
-    Collected, FileFault, FoundFile, Journal, MemoryDevice, MemoryFile, OpenFault, open,
-};
+use ps_keep::{FileFault, FoundFile, Journal, MemoryDevice, MemoryFile, first_line, open};
 use std::alloc::{AllocError, Global};
 use std::fs;
 use std::test::Fail;
@@ -15,47 +13,49 @@ fn file(alloc: Global, bytes: &[u8], calls: u64) -> Result<MemoryFile, AllocErro
     })
 }
 
-/// The lines that a start reads of these bytes.
-fn read(alloc: Global, bytes: &[u8]) -> Result<Collected, AllocError> {
-    let mut taken = Collected::new(alloc);
-    let _ = open(alloc, file(alloc, bytes, 9)?, &mut taken);
-    Ok(taken)
-}
-
 /// The journal of such a file, if it is opened.
 fn opened(
     alloc: Global,
     bytes: &[u8],
     calls: u64,
 ) -> Result<Option<Journal<MemoryDevice>>, AllocError> {
-    let mut taken = Collected::new(alloc);
-    match open(alloc, file(alloc, bytes, calls)?, &mut taken) {
+    match open(alloc, file(alloc, bytes, calls)?) {
         Ok(journal) => Ok(Some(journal)),
         Err(_) => Ok(None),
     }
 }
 
-/// Two whole lines and a piece: the lines are taken, the piece is not.
+/// Two whole lines, one of them empty, and a piece: the lines are read, the piece is not.
 #[test]
-fn the_torn_end_is_cut(rt: HostRuntime) -> Result<(), Fail> {
-    let taken = read(rt.alloc(), b"ab\ncd\ne")?;
-    assert_eq!(rt; taken.lines.len(), 2);
-    assert_eq!(rt; taken.lines[1].as_slice(), b"cd".as_slice());
+fn lines_are_read(rt: HostRuntime) -> Result<(), Fail> {
+    let mut read = Vec::new(rt.alloc());
+    let mut left = b"ab\n\ncd".as_slice();
+    for _ in 0..3 {
+        if let Some((line, rest)) = first_line(left) {
+            read.push(line)?;
+            left = rest;
+        }
+    }
+    assert_eq!(rt; read.len(), 2);
+    assert_eq!(rt; read[0], b"ab".as_slice());
+    assert_eq!(rt; read[1], b"".as_slice());
+    assert_eq!(rt; left, b"cd".as_slice());
     Ok(())
 }
 
-/// An empty line, which the taker doesn't take: it is named, and the file comes back as it was.
+/// Two whole lines and a piece: the file is the lines, and what is settled after them.
 #[test]
-fn a_faulty_line_is_named(rt: HostRuntime) -> Result<(), Fail> {
+fn the_torn_end_is_cut(rt: HostRuntime) -> Result<(), Fail> {
     let alloc = rt.alloc();
-    let mut taken = Collected::new(alloc);
-    let bytes = b"ab\n\ncd\n";
-    match open(alloc, file(alloc, bytes, 9)?, &mut taken) {
-        Err((OpenFault::Line(number), Some(back))) => {
-            assert_eq!(rt; number, 2);
-            assert_eq!(rt; back.bytes.as_slice(), bytes.as_slice());
+    match opened(alloc, b"ab\ncd\ne", 9)? {
+        Some(mut journal) => {
+            journal.note(b"fg")?;
+            assert!(rt; journal.settle().is_ok());
+            let device = journal.into_device();
+            assert_eq!(rt; device.bytes.as_slice(), b"ab\ncd\nfg\n".as_slice());
+            assert_eq!(rt; device.synced, 9);
         }
-        _ => assert!(rt; false),
+        None => assert!(rt; false),
     }
     Ok(())
 }
@@ -75,40 +75,39 @@ fn a_failed_sync_stops_the_journal(rt: HostRuntime) -> Result<(), Fail> {
     Ok(())
 }
 
-/// Lines that are settled stand in the file; while a journal has it nobody else opens it; a torn end is cut off it.
+/// Lines that are settled stand in the file; while a journal has it nobody else opens it; a torn end is cut off it. A
+/// folder is no file.
 #[test]
 fn a_file_of_the_system(rt: HostRuntime) -> Result<(), Fail> {
     let alloc = rt.alloc();
     let path = "kept.lines";
     let _ = fs::remove_file(&rt, path);
-    {
-        let found = FoundFile::open(&rt, alloc, path);
-        let mut taken = Collected::new(alloc);
-        match found {
-            Ok(found) => match open(alloc, found, &mut taken) {
-                Ok(mut journal) => {
-                    journal.note(b"ab")?;
-                    journal.note(b"cd")?;
-                    assert!(rt; journal.settle().is_ok());
-                    match FoundFile::open(&rt, alloc, path) {
-                        Err(FileFault::Busy) => {}
-                        _ => assert!(rt; false),
-                    }
+    match FoundFile::open(&rt, alloc, path) {
+        Ok(found) => match open(alloc, found) {
+            Ok(mut journal) => {
+                journal.note(b"ab")?;
+                journal.note(b"cd")?;
+                assert!(rt; journal.settle().is_ok());
+                match FoundFile::open(&rt, alloc, path) {
+                    Err(FileFault::Busy) => {}
+                    _ => assert!(rt; false),
                 }
-                Err(_) => assert!(rt; false),
-            },
+            }
             Err(_) => assert!(rt; false),
-        }
+        },
+        Err(_) => assert!(rt; false),
     }
     assert_eq!(rt; fs::read(&rt, path)?.as_slice(), b"ab\ncd\n".as_slice());
     fs::write(&rt, path, b"ab\ncd\nxyz")?;
-    let mut taken = Collected::new(alloc);
     match FoundFile::open(&rt, alloc, path) {
-        Ok(found) => assert!(rt; open(alloc, found, &mut taken).is_ok()),
+        Ok(found) => assert!(rt; open(alloc, found).is_ok()),
         Err(_) => assert!(rt; false),
     }
-    assert_eq!(rt; taken.lines.len(), 2);
     assert_eq!(rt; fs::read(&rt, path)?.as_slice(), b"ab\ncd\n".as_slice());
     fs::remove_file(&rt, path)?;
+    match FoundFile::open(&rt, alloc, ".") {
+        Err(FileFault::Device) => {}
+        _ => assert!(rt; false),
+    }
     Ok(())
 }

@@ -40,6 +40,15 @@ fn lines_are_refused(rt: HostRuntime) {
         (b"push", Refusal::Command),
         (b"push ", Refusal::Delta),
         (b"push [[\"A1\",[1,2,\"5\"],[],[]]", Refusal::Delta),
+        (b"replica 0", Refusal::Replica),
+        (b"replica 33", Refusal::Replica),
+        (b"replica ", Refusal::Replica),
+        (b"replica x", Refusal::Replica),
+        (b"replica +3", Refusal::Replica),
+        (b"replica 18446744073709551617", Refusal::Replica),
+        (b"replica x 1", Refusal::Command),
+        (b"replica 3 ", Refusal::Command),
+        (b"Replica", Refusal::Command),
     ] {
         assert_eq!(rt; refusal_of(rt.alloc(), line), Some(want));
     }
@@ -116,4 +125,25 @@ fn looks(rt: HostRuntime) {
     assert_eq!(rt; asked(alloc, b"pull 99"), Some((0, 99)));
     assert_eq!(rt; asked(alloc, b"pull 00 16"), Some((16, 0)));
     assert_eq!(rt; asked(alloc, b"push [[\"A1\",[1,2,\"5\"],[],[]]]"), None);
+}
+
+/// The number beside `replica`, 0 where none stands there.
+fn named(alloc: Global, line: &[u8]) -> Option<u8> {
+    match Command::read(alloc, line).ok()? {
+        Command::Replica(number) => Some(number.unwrap_or(0)),
+        _ => None,
+    }
+}
+
+/// A line may name a replica or none, and its number may begin with zeros.
+#[test]
+fn replicas(rt: HostRuntime) {
+    for (line, want) in [
+        (b"replica".as_slice(), Some(0)),
+        (b"replica 1", Some(1)),
+        (b"replica 0032", Some(32)),
+        (b"rows A1:B2", None),
+    ] {
+        assert_eq!(rt; named(rt.alloc(), line), want);
+    }
 }

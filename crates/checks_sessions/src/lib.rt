@@ -1,8 +1,8 @@
 //! Tests of sessions and of desks, by public calls alone.
 //!
 //! `commands` asks what lines ask for, `session` how bytes are put together to lines, `runs` what a sheet's session
-//! replies, `exchange` and `following` what peers may reply, all of `ps_session`. `desk` has a sheet shared by several
-//! sessions, of `ps_desk`.
+//! replies, `keeping` what one hands on whose keeper or sink fails, `exchange` and `following` what peers may reply,
+//! all of `ps_session`. `desk` has a sheet shared by several sessions, of `ps_desk`.
 //!
 //! A crate with tests is proved a second time with them, so these stand apart from what they test.
 #![tactic(auto)]
@@ -15,6 +15,8 @@ mod desk;
 mod exchange;
 #[cfg(test)]
 mod following;
+#[cfg(test)]
+mod keeping;
 #[cfg(test)]
 mod runs;
 #[cfg(test)]

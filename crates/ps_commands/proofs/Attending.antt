@@ -1,9 +1,10 @@
 -- The lines that a session at a desk answered, whatever it came to.
-use Rattle.std.proofs.Common.{◌≡◌, ◌∙◌, sym, ap, subst, inl, inr, refl, ℕ, List, [], ◌∷◌, ◌++◌, Option, Result, Ok, Err}
-use Rattle.std.proofs.Common.{append-nil, append_assoc}
+use Rattle.std.proofs.Common.{◌≡◌, ◌≢◌, ◌∙◌, sym, ap, subst, inl, inr, refl, ℕ, List, [], ◌∷◌, ◌++◌, Option}
+use Rattle.std.proofs.Common.{append-nil, append_assoc, Result, Ok, Err}
 use Rattle.std.specs.Prelude.{IfOk}
 use Rattle.ps_delta.specs.Deltas.{Entries}
-use Rattle.ps_session.specs.Transcript.{Answered, Answering, Cut, Run, Stopped, Transcribed}
+use Rattle.ps_session.specs.Keeping.{IsCovered}
+use Rattle.ps_session.specs.Transcript.{Answered, Answering, Run, Stopped, Transcribed}
 use Rattle.ps_session.specs.declared.transcript.RunFault.{RunFault}
 use Rattle.ps_session.specs.declared.transcript.RunFault.TheVariants as faults
 use Rattle.ps_desk.specs.Passes.{PassView}
@@ -36,6 +37,29 @@ module _ {State : Type 0} (Line : Answering State) where
     one_more run.1 middle last lines line run.2 reply run.5 one,
   )
 
+  -- more lines after them
+  run_on : (first middle last : State) (lines more : List (List ℕ)) (text due : List ℕ)
+      → Run Line first lines text middle → Run Line middle more due last
+      → Run Line first (lines ++ more) (text ++ due) last
+  run_on first middle last [] more text due run on =
+      subst (λ t. Run Line first more (t ++ due) last) (sym run.0)
+      (subst (λ s. Run Line s more due last) run.1 on)
+  run_on first middle last (l ∷ lines) more text due run on = (
+    run.0,
+    run.1,
+    run.2 ++ due,
+    run.3,
+    ap (λ t. t ++ due) run.4 ∙ append_assoc run.0 run.2 due,
+    run_on run.1 middle last lines more run.2 due run.5 on,
+  )
+
+  -- .. all lines of a session that has a keeper
+  pub ran_covered : (covers : State → Type 0) (ended : Type 0) (first last : State) (written contents : Option (List ℕ))
+      (read waiting : List ℕ) → IsCovered Line covers ended first written read last contents waiting
+      → Ran Line first last
+  ran_covered covers ended first last written contents read waiting t =
+      (_, _, run_on first t.state last t.lines t.others t.text t.due t.run t.since)
+
   module _ (first last : State) (written contents : Option (List ℕ)) where
     ran_to_end : (read : List ℕ) (answered : ℕ) → Transcribed Line first written read last contents answered
         → Ran Line first last
@@ -59,12 +83,15 @@ module _ {State : Type 0} (Line : Answering State) where
         → (read : List ℕ) × Read read × Stopped Line ended first written read last contents)
         → (result ≡ Err faults.Source
         → (read : List ℕ) × Read read × Answered Line first written read last contents)
+        → result ≢ Err faults.Keep
         → (result ≡ Err faults.Memory → source × sink × (last ≡ first))
         → Ran Line first last
-    ran Read ended source sink (Ok answered) all cut some none = ran_to_end all.0 answered all.3
-    ran Read ended source sink (Err faults.Sink) all cut some none = ran_till_stopped (cut refl).0 ended (cut refl).2
-    ran Read ended source sink (Err faults.Source) all cut some none = ran_so_far (some refl).0 (some refl).2
-    ran Read ended source sink (Err faults.Memory) all cut some none = ([], [], (refl, (none refl).2))
+    ran Read ended source sink (Ok answered) all cut some kept none = ran_to_end all.0 answered all.3
+    ran Read ended source sink (Err faults.Sink) all cut some kept none =
+        ran_till_stopped (cut refl).0 ended (cut refl).2
+    ran Read ended source sink (Err faults.Source) all cut some kept none = ran_so_far (some refl).0 (some refl).2
+    ran Read ended source sink (Err faults.Keep) all cut some kept none = absurd (kept refl)
+    ran Read ended source sink (Err faults.Memory) all cut some kept none = ([], [], (refl, (none refl).2))
 
 -- a seat that was entered with a pass, and gave back what its lines left of it
 pub attended : {r : ℕ} {h : List Entries} {seat last : PassView} (pass left : PassView) → seat ≡ pass → left ≡ last

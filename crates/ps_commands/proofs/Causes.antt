@@ -2,8 +2,7 @@
 use Rattle.std.specs.Prelude.{Result, Ok, Err}
 use Rattle.ps_grid.specs.declared.refusal.Refusal.{Refusal}
 use Rattle.ps_commands.specs.declared.fault.ProgramFault.{ProgramFault}
-use Rattle.ps_commands.specs.declared.fault.ProgramFault.TheVariants.{DeltaRefused, LinesRefused, PeerRefused}
-use Rattle.ps_commands.specs.declared.fault.ProgramFault.TheVariants.{ReaderFailed, Refused}
+use Rattle.ps_commands.specs.declared.fault.ProgramFault.TheVariants.{Refused}
 
 -- the fault that a result has, or this one
 abbrev pub fault_in : {X : Type 0} → ProgramFault → Result X ProgramFault → ProgramFault
@@ -13,7 +12,4 @@ fault_in other (Err fault) = fault
 -- the refusal that a fault is, or this one
 abbrev pub refusal_of : Refusal → ProgramFault → Refusal
 refusal_of other (Refused e) = e
-refusal_of other (ReaderFailed error) = other
-refusal_of other (PeerRefused reply) = other
-refusal_of other (LinesRefused count) = other
-refusal_of other (DeltaRefused number) = other
+refusal_of other _ = other

@@ -8,7 +8,6 @@ use Rattle.ps_csv.specs.Exports.{exported, exported_entries, held_in}
 use Rattle.ps_csv.specs.Faults.{ReaderFails, TableFault, WholeTable}
 use Rattle.ps_csv.specs.Imports.{ImportsTable}
 use Rattle.ps_commands.specs.declared.fault.ProgramFault.{ProgramFault}
-use Rattle.ps_commands.specs.declared.fault.ProgramFault.TheVariants.{DeltaRefused, LinesRefused, PeerRefused}
 use Rattle.ps_commands.specs.declared.fault.ProgramFault.TheVariants.{ReaderFailed, Refused}
 
 -- the sheet is the empty one of this replica
@@ -48,9 +47,7 @@ pub record IsTableOf (entries : Bool) (bytes text : List ℕ) : Type 0 where
 abbrev pub IsCauseOf : Option (List ℕ) → Option (List ℕ) → ProgramFault → Type 0
 IsCauseOf old new (Refused e) = TableFault (joined_history []) old new e
 IsCauseOf old new (ReaderFailed error) = WholeTable old new (λ bytes. ReaderFails (joined_history []) bytes error)
-IsCauseOf old new (PeerRefused reply) = ⊥
-IsCauseOf old new (LinesRefused count) = ⊥
-IsCauseOf old new (DeltaRefused number) = ⊥
+IsCauseOf old new _ = ⊥
 
 -- a line of a word, with its space, and a number
 abbrev pub notice : List ℕ → ℕ → List ℕ

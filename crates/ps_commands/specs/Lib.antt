@@ -1,3 +1,5 @@
 pub mod Commands
+pub mod Elsewhere
+pub mod Kept
 pub mod Sessions
 pub mod Status

@@ -1,17 +1,36 @@
 -- How the program ends before its work is done.
-use Rattle.std.specs.Prelude.{ℕ, Option, Some, None}
+use Rattle.std.specs.Prelude.{◌≡◌, ℕ, Option, Some, None}
 use Rattle.csv.specs.declared.error.Error.{Error}
 use Rattle.ps_grid.specs.declared.refusal.Refusal.{Refusal}
 use Rattle.ps_grid.specs.declared.refusal.Refusal.TheVariants.{Device}
 use Rattle.ps_commands.specs.declared.fault.ProgramFault.{ProgramFault}
-use Rattle.ps_commands.specs.declared.fault.ProgramFault.TheVariants.{ReaderFailed, Refused}
+use Rattle.ps_commands.specs.declared.fault.ProgramFault.TheVariants.{KeptFailed, PortFailed, ReaderFailed, Refused}
+use Rattle.ps_commands.specs.declared.kept.KeptTrouble.{KeptTrouble}
+use Rattle.ps_commands.specs.declared.kept.KeptTrouble.TheVariants as troubles
+use Rattle.ps_commands.specs.declared.port.PortFault.{PortFault}
+
+-- 1 where another program keeps the file, 3 where it has no lines of the replica's sheet
+abbrev pub kept_status : KeptTrouble → ℕ
+kept_status troubles.Busy = 1
+kept_status _ = 3
 
 -- 1 where a device failed, 3 at any other refusal
 abbrev pub exit_status : ProgramFault → ℕ
 exit_status (Refused Device) = 1
+exit_status (PortFailed port) = 1
+exit_status (KeptFailed fault) = kept_status fault.trouble
 exit_status _ = 3
 
 -- the fault of an import: the error of `csv`'s own reader, or else its refusal
 abbrev pub program_fault : Option Error → Refusal → ProgramFault
 program_fault None refusal = Refused refusal
 program_fault (Some error) refusal = ReaderFailed error
+
+-- the port that a fault tells of
+abbrev pub port_fault_of : ProgramFault → Option PortFault
+port_fault_of (PortFailed p) = Some p
+port_fault_of _ = None
+
+-- the fault is that this port can't be had
+abbrev pub HasNoPort : ℕ → ProgramFault → Type 0
+HasNoPort port f = (p : PortFault) × (p.port ≡ port) × (f ≡ PortFailed p)

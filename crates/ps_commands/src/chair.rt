@@ -2,12 +2,14 @@
 ghost use Rattle.std.specs.Prelude.{◌≡◌, ◌+◌, ◌<◌, ◌^◌, true, MatchResult};
 ghost use Rattle.ps_commands.specs.Sessions.{Attended, IsAttended};
 
-use crate::connection::attend;
 use crate::door::Door;
+use crate::host::Host;
 use ps_desk::{Desk, DeskName, Pass, desk_crosses};
+use ps_keep::Device;
+use ps_kept_desk::keeper_crosses;
 use std::alloc::Global;
 use std::marker::Model;
-use std::net::TcpStream;
+use std::net::{Shutdown, TcpStream};
 use std::snapshot::Snapshot;
 use std::sync::Wait;
 use std::sync::atomic::{AtomicU64, Ordering};
@@ -56,6 +58,8 @@ pub(crate) struct Chair<'s, L: DeskName> {
     first: Snapshot<Pass<L>>,
     begun: u64,
     sign: Sign<'s>,
+    /// the connection of the last session once more, where the host keeps it
+    second: Option<TcpStream>,
     /// out while it changes
     state: Option<Result<PromisedHandle<Pass<L>, ComesBack<L>>, Pass<L>>>,
 }
@@ -86,6 +90,7 @@ impl<'s, L: DeskName> Chair<'s, L> {
             first: Snapshot::of(&pass),
             begun: 0,
             sign,
+            second: None,
             state: Some(Err(pass)),
         }
     }
@@ -117,6 +122,16 @@ impl<'s, L: DeskName> Chair<'s, L> {
         }
     }
 
+    /// Closes the connection of the session that has it, where the host keeps it, so that the session ends.
+    pub(crate) fn hang_up(&self) {
+        match &self.second {
+            Some(stream) => {
+                let _ = stream.shutdown(Shutdown::Both);
+            }
+            None => {}
+        }
+    }
+
     /// Waits for the end of the session that has it, and gives the pass up.
     pub(crate) fn end<R: Threads>(self, rt: &R) -> Pass<L>
         ensures { Attended L.replica L.opening self.entry.begun self.entry.first result }
@@ -130,12 +145,18 @@ impl<'s, L: DeskName> Chair<'s, L> {
 
     /// Takes the pass back, if the session that has it is over, and gives it to the connection that waits first, if
     /// it is free.
-    pub(crate) fn turn<E, W: Wait + Drop + Send + 's, R: Threads + Wait + Sync>(
+    pub(crate) fn turn<
+        E,
+        W: Wait + Drop + Send + 's,
+        D: Device + Drop + Send + 's,
+        R: Threads + Wait + Sync,
+    >(
         &mut self,
         scope: &Scope<'s, E>,
         rt: &'s R,
         alloc: Global,
         desk: &'s Desk<L, W>,
+        host: &'s Host<L, D>,
         door: &mut Door<'_>,
     )
     where
@@ -145,18 +166,19 @@ impl<'s, L: DeskName> Chair<'s, L> {
         self.take_back(rt);
         if self.is_free() {
             if let Some(stream) = door.next() {
-                self.begin(scope, rt, alloc, desk, stream);
+                self.begin(scope, rt, alloc, desk, host, stream);
             }
         }
     }
 
     /// Begins a session over a connection.
-    fn begin<E, W: Wait + Drop + Send + 's, R: Threads + Wait + Sync>(
+    fn begin<E, W: Wait + Drop + Send + 's, D: Device + Drop + Send + 's, R: Threads + Wait + Sync>(
         &mut self,
         scope: &Scope<'s, E>,
         rt: &'s R,
         alloc: Global,
         desk: &'s Desk<L, W>,
+        host: &'s Host<L, D>,
         stream: TcpStream,
     )
     where
@@ -170,7 +192,8 @@ impl<'s, L: DeskName> Chair<'s, L> {
             Err(pass) => pass,
         };
         self.sign.lower();
-        self.state = Some(begin(scope, rt, alloc, desk, pass, stream, self.sign));
+        self.second = host.second(&stream);
+        self.state = Some(begin(scope, rt, alloc, desk, host, pass, stream, self.sign));
         self.begun += 1;
     }
 }
@@ -181,12 +204,14 @@ fn begin<
     E,
     L: DeskName + Send + Sync + 's,
     W: Wait + Drop + Send + 's,
+    D: Device + Drop + Send + 's,
     R: Threads + Wait + Sync,
 >(
     scope: &Scope<'s, E>,
     rt: &'s R,
     alloc: Global,
     desk: &'s Desk<L, W>,
+    host: &'s Host<L, D>,
     pass: Pass<L>,
     stream: TcpStream,
     sign: Sign<'s>,
@@ -194,13 +219,14 @@ fn begin<
     ensures { MatchResult result (λ h. h.promise.0.value ≡ pass) (λ p. IsAttended L.replica L.opening pass p) }
 {
     desk_crosses::<L, W>();
+    keeper_crosses::<L, D>();
     let promise = ComesBack(Snapshot::of(&pass));
     let begun = scope.spawn_with(
         promise,
         move || -> Pass<L>
             ensures { IsAttended L.replica L.opening pass result }
         {
-            let back = attend(rt, alloc, desk, pass, &stream);
+            let back = host.attend(rt, alloc, desk, pass, &stream);
             drop(stream);
             sign.raise();
             back

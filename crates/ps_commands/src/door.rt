@@ -1,5 +1,6 @@
 //! The door of a server: its listener, and the connections that wait for a seat.
 
+use crate::serving::Entrance;
 use std::alloc::{AllocError, Global};
 use std::io::{ErrorKind, Read, Write};
 use std::net::{Shutdown, TcpListener, TcpStream};
@@ -37,27 +38,29 @@ pub(crate) struct Door<'a> {
     patience: Duration,
     /// after how long a session ends whose peer sends nothing
     idle: Option<Duration>,
+    /// whether it never waits for a connection, so that it can be closed at any time
+    is_watchful: bool,
 }
 
 impl<'a> Door<'a> {
     /// A door at which nobody waits.
     pub(crate) fn new(
         alloc: Global,
-        listener: &'a TcpListener,
-        patience: Duration,
-        idle: Option<Duration>,
+        entrance: Entrance<'a>,
+        is_watchful: bool,
     ) -> Result<Door<'a>, AllocError> {
         Ok(Door {
-            listener,
+            listener: entrance.listener,
             waits: true,
             waiting: Vec::with_capacity(alloc, WAITING)?,
-            patience,
-            idle,
+            patience: entrance.serving.wait,
+            idle: entrance.serving.idle,
+            is_watchful,
         })
     }
 
     /// Lets one connection in, if so many sessions more are wanted. It waits for one to come where nobody waits for a
-    /// seat, and else makes a pause where none has come.
+    /// seat and it isn't watchful, and else makes a pause where none has come.
     pub(crate) fn let_in<R: Clock + Wait>(&mut self, rt: &R, left: Option<u64>) -> io::Result<()> {
         let come = if self.is_enough(left) {
             None
@@ -79,9 +82,9 @@ impl<'a> Door<'a> {
         }
     }
 
-    /// The next connection. Where nobody waits for a seat, it waits for one to come.
+    /// The next connection. Where nobody waits for a seat and it isn't watchful, it waits for one to come.
     fn come<R: Wait>(&mut self, rt: &R) -> io::Result<Option<TcpStream>> {
-        let waits = self.waiting.is_empty();
+        let waits = self.waiting.is_empty() && !self.is_watchful;
         self.wait_for_one(waits)?;
         accept(rt, self.listener)
     }

@@ -8,28 +8,14 @@ ghost use Rattle.ps_commands.specs.declared.fault.ProgramFault.TheVariants.{Refu
 
 use crate::fault::ProgramFault;
 use crate::notice::tell;
+use crate::port::connect;
 use ps_device::{ConsoleOutput, Reading, Sink};
 use ps_grid::Refusal;
 use ps_session::{Peer, sync};
 use std::alloc::Global;
 use std::marker::Brand;
-use std::net::{Ipv4Addr, Net, TcpStream};
+use std::net::{Net, TcpStream};
 use std::sync::ledger::{Blank, Ledger};
-
-/// Connects to a port of this machine. A request isn't kept back until the one before is acknowledged.
-pub(crate) fn connect<R: Net<Stream = TcpStream>>(
-    rt: &R,
-    port: u16,
-) -> Result<TcpStream, ProgramFault> {
-    match TcpStream::connect(rt, (Ipv4Addr::LOCALHOST, port)) {
-        Ok(stream) => {
-            // (without it a request may only come later)
-            let _ = stream.set_nodelay(true);
-            Ok(stream)
-        }
-        Err(_) => Err(ProgramFault::Refused(Refusal::Device)),
-    }
-}
 
 /// Hands what the peer of one connection has to the peer of another; the failures of the four sides are counted by
 /// these blanks.
@@ -59,7 +45,8 @@ fn sync_between<I: Ledger, O: Ledger, J: Ledger, P: Ledger>(
 /// Connects to two ports of this machine, first to `p` and then to `q`, hands all that the replica at `p` has to the
 /// one at `q`, and writes `synced` and the number of lines that were pushed.
 ///
-/// Refused as `Device` where a port can't be connected to, or a connection or `out` fails; else as [`sync`] is.
+/// A port that can't be connected to is a fault of its own. Refused as `Device` where a connection or `out` fails; else
+/// as [`sync`] is.
 ///
 /// Cost: that of [`sync`], and 0.8 MB of memory.
 pub fn sync_on<R: Net<Stream = TcpStream>, K: Sink>(

@@ -3,11 +3,12 @@
 //! It only looks on: nothing that is done or replied hangs on it. What it can't write, or has no memory for, is lost.
 
 use crate::fault::ProgramFault;
+use crate::notice::tell_line;
 use csv::{ByteRecord, Reader, ReaderBuilder};
 use ps_content::read_entry;
-use ps_grid::{COLUMNS, Cell, ROWS, Refusal};
-use ps_hints::{Note, field_note, line_note, record_note};
-use ps_session::Watcher;
+use ps_grid::{COLUMNS, Cell, ROWS};
+use ps_hints::{field_note, line_note, record_note};
+use ps_session::{Seen, Watcher};
 use std::alloc::Global;
 use std::cell::RefCell;
 use std::io;
@@ -50,23 +51,20 @@ impl<W: Write + Drop> Onlooker<W> {
 }
 
 impl<W: Write + Drop> Watcher for Onlooker<W> {
-    fn saw(&mut self, line: &[u8], refusal: Option<Refusal>) {
+    fn saw(&mut self, line: &[u8], seen: Seen<'_>) {
         self.lines = self.lines.saturating_add(1);
+        let refusal = match seen {
+            Seen::Refused(refusal) => Some(refusal),
+            Seen::Answered | Seen::Received(_) => None,
+        };
         if refusal.is_some() {
             self.refused = self.refused.saturating_add(1);
         }
         if let Some(out) = &mut self.out {
             if let Some(note) = line_note(self.lines, line, refusal) {
-                tell(self.alloc, &note, out);
+                tell_line(self.alloc, &note, out);
             }
         }
-    }
-}
-
-/// Writes a note as a line, at once.
-fn tell<W: Write>(alloc: Global, note: &Note<'_>, out: &mut W) {
-    if let Ok(line) = format!(in alloc; "{note}\n") {
-        let _ = out.write_all(line.as_bytes());
     }
 }
 
@@ -145,7 +143,7 @@ fn explain_record<W: Write>(
 ) -> Option<()> {
     for column in 0..fields.len() {
         let Some(cell) = cell_of(row, column) else {
-            tell(alloc, &record_note((row as u64).saturating_add(1)), out);
+            tell_line(alloc, &record_note((row as u64).saturating_add(1)), out);
             return None;
         };
         explain_field(alloc, cell, fields.get(column)?, out)?;
@@ -165,7 +163,7 @@ fn cell_of(row: usize, column: usize) -> Option<Cell> {
 fn explain_field<W: Write>(alloc: Global, cell: Cell, field: &[u8], out: &mut W) -> Option<()> {
     let refusal = read_entry(alloc, field).err();
     if let Some(note) = field_note(cell, field, refusal) {
-        tell(alloc, &note, out);
+        tell_line(alloc, &note, out);
     }
     match refusal {
         Some(_) => None,

@@ -2,6 +2,8 @@
 ghost use Rattle.std.specs.Prelude.{◌≡◌};
 ghost use Rattle.ps_commands.specs.Status.{exit_status, program_fault};
 
+use crate::kept::KeptFault;
+use crate::port::PortFault;
 use ps_csv::ImportFault;
 use ps_grid::Refusal;
 use ps_session::SyncFault;
@@ -27,6 +29,12 @@ pub enum ProgramFault {
     /// A line of the input is no delta's. The text is that of `Delta`, and below it the line's number, from 1 on.
     #[error("err {} {}\nline {}", Refusal::Delta.number(), Refusal::Delta.name(), .0)]
     DeltaRefused(u64),
+    /// A port of this machine can't be had. The text is that of `Device`.
+    #[error("err {} {}", Refusal::Device.number(), Refusal::Device.name())]
+    PortFailed(PortFault),
+    /// A file isn't taken to keep a sheet in.
+    #[error("{0}")]
+    KeptFailed(KeptFault),
 }
 
 impl From<Refusal> for ProgramFault {
@@ -62,14 +70,15 @@ pub fn fault_of_import(fault: ImportFault) -> ProgramFault
     }
 }
 
-/// The exit status: 1 where a device failed, else 3.
+/// The exit status: 1 where a device failed, or a file is kept by another program, else 3.
 ///
 /// Cost: constant.
 pub fn status_of(fault: &ProgramFault) -> u8
     ensures { result ≡ exit_status fault.now }
 {
     match fault {
-        ProgramFault::Refused(Refusal::Device) => 1,
+        ProgramFault::Refused(Refusal::Device) | ProgramFault::PortFailed(_) => 1,
+        ProgramFault::KeptFailed(fault) => fault.status(),
         ProgramFault::Refused(_)
         | ProgramFault::ReaderFailed(_)
         | ProgramFault::PeerRefused(_)

@@ -4,8 +4,8 @@ ghost use Rattle.ps_grid.specs.Blanks.{IsBlankOf};
 ghost use Rattle.ps_session.specs.Exchange.{IsAll, IsHalted, IsLeft};
 ghost use Rattle.ps_session.specs.Peers.{PeerView};
 
-use crate::exchange::connect;
 use crate::fault::ProgramFault;
+use crate::port::connect;
 use ps_device::{ConsoleOutput, Reading, Sink};
 use ps_session::{Following, Peer, follow};
 use ps_words::FollowOptions;
@@ -18,7 +18,8 @@ use std::time::{Clock, Duration};
 /// Connects to a port of this machine, and writes all that the replica there has, and each change that it gets, as
 /// lines to push, until it has no more or closes.
 ///
-/// Refused as `Device` where the port can't be connected to, or the connection or `out` fails; else as [`follow`] is.
+/// A port that can't be connected to is a fault of its own. Refused as `Device` where the connection or `out` fails;
+/// else as [`follow`] is.
 ///
 /// Cost: that of [`follow`], and 0.4 MB of memory.
 pub fn follow_on<R: Net<Stream = TcpStream>, C: Clock, K: Sink>(

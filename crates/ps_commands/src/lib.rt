@@ -1,9 +1,9 @@
 //! The commands of the program `sheet`, over any source and sink: sessions, tables, `serve`, `sync`, `follow`, `page`,
 //! `squash`, and how each ends.
 //!
-//! It is not the program: it knows no standard input or output, and whoever calls it gives it what the words ask for. It
-//! keeps nothing from one call to the next: the lines `pull` and `push` carry deltas, and who starts the programs keeps
-//! them.
+//! It is not the program: it knows no standard input or output, and whoever calls it gives it what the words ask for.
+//! It keeps nothing from one call to the next but in the file of a kept sheet: the lines `pull` and `push` carry
+//! deltas, and who starts the programs keeps them.
 //!
 //! The contracts to use: [`answer_lines`] makes what was read and written the transcript of an empty sheet,
 //! [`table_on`] what was written the table of what an empty sheet has or shows once it has taken the table in.
@@ -12,6 +12,12 @@
 //! of a seat at the desk. [`sync_on`] and [`follow_on`] do what `ps_session` says of `sync` and `follow`, with the
 //! replicas that listen on ports, and [`squash_on`] what `ps_squash` says of lines. A [`ProgramFault`] is what ends
 //! the program early, and [`status_of`] its exit status: 1 where a device failed, 3 for any other refusal.
+//! [`port_fault`] says of a port that can't be had why.
+//!
+//! A sheet that is kept in a file begins with [`keep_sheet`], which reads what the file has. [`answer_kept`] and
+//! [`attend_kept`] hand nothing on but what is on the disk, whatever they come to (`IsCovered`, of `ps_session`), and
+//! at the end of [`serve_kept_on`] the journal has all of the sheet. A [`KeptFault`] says why a file isn't taken. A
+//! [`Warner`] tells once that the replica of a kept sheet makes changes elsewhere, too.
 //!
 //! From a source of `set A1 5` and `get A1`, [`answer_lines`] writes `ok 1` and `val 5` on its sink; from one of
 //! `2,=[.A1]*3`, [`table_on`] writes `2,6`.
@@ -22,12 +28,18 @@
 mod chair;
 mod connection;
 mod door;
+mod elsewhere;
 mod exchange;
 mod explain;
 mod fault;
 mod follow;
+mod host;
+mod kept;
+mod kept_connection;
+mod kept_server;
 mod notice;
 mod page;
+mod port;
 mod server;
 mod serving;
 mod session;
@@ -36,13 +48,18 @@ mod squash;
 mod table;
 
 pub use connection::{Attended, attend_lines};
+pub use elsewhere::{KeptOnlooker, NumberElsewhere, Warner, is_all_by};
 pub use exchange::sync_on;
 pub use explain::{KeptReader, Onlooker, explain_table};
 pub use fault::{ProgramFault, status_of};
 pub use follow::follow_on;
+pub use kept::{KeptFault, KeptTrouble, Opened, keep_sheet, open_file};
+pub use kept_connection::{KeptAttended, KeptDesk, attend_kept};
+pub use kept_server::{KeptClosed, serve_kept, serve_kept_on};
 pub use page::open_page;
+pub use port::{PortFault, PortTrouble, port_fault};
 pub use server::{Closed, serve, serve_on};
-pub use serving::Serving;
-pub use session::{answer_lines, open_sheet};
+pub use serving::{Entrance, Serving};
+pub use session::{answer_kept, answer_lines, open_sheet};
 pub use squash::squash_on;
 pub use table::table_on;

@@ -5,6 +5,9 @@ ghost use Rattle.ps_commands.specs.Commands.{notice};
 
 use itoa::Buffer;
 use ps_device::{Failed, Sink, hand_on, put_all};
+use std::alloc::Global;
+use std::fmt::Display;
+use std::io::Write;
 
 /// Writes a word with its space, a number and a line feed, and hands all of it on.
 pub(crate) fn tell<K: Sink>(word: &[u8], number: u64, out: &mut K) -> Result<(), Failed>
@@ -19,4 +22,11 @@ pub(crate) fn tell<K: Sink>(word: &[u8], number: u64, out: &mut K) -> Result<(),
     put_all(out, b"\n")?;
     hand_on(out)?;
     Ok(())
+}
+
+/// Writes a text as a line, at once. What it can't write, or has no memory for, is lost.
+pub(crate) fn tell_line<T: Display, W: Write>(alloc: Global, text: &T, out: &mut W) {
+    if let Ok(line) = format!(in alloc; "{text}\n") {
+        let _ = out.write_all(line.as_bytes());
+    }
 }

@@ -1,12 +1,13 @@
 //! The command `page`: the sheet of a running `serve`, in a browser.
-ghost use Rattle.std.specs.Prelude.{◌≡◌, ◌<◌, ◌⊎◌, ◌++◌, [], Err, OnErr, OnOk, decimal};
+ghost use Rattle.std.specs.Prelude.{◌≡◌, ◌<◌, ◌⊎◌, ◌++◌, [], IsErrAnd, OnErr, OnOk, decimal};
 ghost use Rattle.std.specs.Io.KnownBytes.{Appends};
 ghost use Rattle.ps_grid.specs.declared.refusal.Refusal.TheVariants as Refusal;
 ghost use Rattle.ps_commands.specs.Commands.{page_text};
+ghost use Rattle.ps_commands.specs.Status.{HasNoPort};
 ghost use Rattle.ps_commands.specs.declared.fault.ProgramFault.TheVariants.{Refused};
 
 use crate::fault::ProgramFault;
-use crate::server::listen;
+use crate::port::listen;
 use itoa::Buffer;
 use ps_device::{Failed, Sink, hand_on, put_all};
 use ps_grid::Refusal;
@@ -39,15 +40,15 @@ fn tell_between<K: Sink>(first: &[u8], number: u16, last: &[u8], out: &mut K) ->
 /// another port to the browsers that ask for it, each with a session of its own, up to the number that was asked for.
 /// What passes between them is what `ps_page` says.
 ///
-/// It ends only as `Device`: where the port can't be listened on, `out` fails, or no connection can be accepted any
-/// more.
+/// It ends only by a fault: where the port can't be listened on, and as `Device` where `out` fails, or no connection
+/// can be accepted any more.
 ///
 /// Cost: that of the browsers' lines, and a thread for each connection.
 pub fn open_page<
     R: Net<Listener = TcpListener, Stream = TcpStream> + Threads + Wait + Clock + Sync,
     K: Sink,
 >(rt: &R, alloc: Global, options: PageOptions, out: &mut K) -> Result<(), ProgramFault>
-    ensures ended { result ≡ Err (Refused Refusal.Device) }
+    ensures ended { IsErrAnd result (λ f. (f ≡ Refused Refusal.Device) ⊎ HasNoPort options.port f) }
     ensures told { (out.new ≡ out.old)
         ⊎ (Appends (K.contents out.old) (K.contents out.new) (page_text options.port)
         × (K.waiting out.new ≡ []) × (K.failures out.new ≡ K.failures out.old))
@@ -55,7 +56,7 @@ pub fn open_page<
 {
     let listener = match listen(rt, options.port) {
         Ok(listener) => listener,
-        Err(_) => return Err(ProgramFault::Refused(Refusal::Device)),
+        Err(fault) => return Err(fault),
     };
     if tell_between(b"page http://127.0.0.1:", options.port, b"/\n", out).is_err() {
         return Err(ProgramFault::Refused(Refusal::Device));

@@ -6,21 +6,26 @@ ghost use Rattle.ps_sheet.specs.Sheet.{SheetView};
 ghost use Rattle.ps_desk.specs.Opening.{IsNamed};
 ghost use Rattle.ps_commands.specs.Commands.{IsOpened, closed_text, listening_text};
 ghost use Rattle.ps_commands.specs.Sessions.{IsServed};
+ghost use Rattle.ps_commands.specs.Status.{HasNoPort};
 ghost use Rattle.ps_commands.specs.declared.fault.ProgramFault.TheVariants.{Refused};
 
+use crate::elsewhere::Warner;
 use crate::fault::ProgramFault;
+use crate::host::Host;
 use crate::notice::tell;
-use crate::serving::Serving;
+use crate::port::listen;
+use crate::serving::{Entrance, Serving};
 use crate::session::open_sheet;
 use crate::sessions::serve_all;
 use ps_desk::{Desk, DeskName, Parts};
 use ps_device::Sink;
 use ps_grid::Refusal;
+use ps_keep::MemoryDevice;
 use ps_sheet::Sheet;
 use ps_words::{RunOptions, ServeOptions};
 use std::alloc::Global;
 use std::marker::Brand;
-use std::net::{Ipv4Addr, Net, TcpListener, TcpStream};
+use std::net::{Net, TcpListener, TcpStream};
 use std::sync::Wait;
 use std::thread::Threads;
 use std::time::{Clock, Duration};
@@ -78,7 +83,7 @@ pub fn serve_on<R: Threads + Wait + Clock + Sync, K: Sink>(
 }
 
 /// How many seats are made: no more than there are sessions.
-fn seats_for(serving: Serving) -> usize
+pub(crate) fn seats_for(serving: Serving) -> usize
     ensures { (1 ≤ result) × (result ≤ serving.seats) }
 {
     match serving.sessions {
@@ -104,7 +109,11 @@ fn serve_parts<L: DeskName + Send + Sync, R: Threads + Wait + Clock + Sync>(
         Ok(opened) => opened,
         Err((_, refusal)) => return Err(refusal),
     };
-    match serve_all(rt, alloc, &desk, listener, passes, serving) {
+    let host = Host::<L, MemoryDevice>::new(None);
+    let entrance = Entrance { listener, serving };
+    // (where nothing is kept, nobody is warned)
+    let mut warner = Warner::<Vec<u8>>::new(alloc, None);
+    match serve_all(rt, alloc, &desk, &host, entrance, passes, &mut warner) {
         Ok((sessions, back)) => Ok(Closed {
             sheet: desk.close(rt, back),
             sessions,
@@ -114,9 +123,9 @@ fn serve_parts<L: DeskName + Send + Sync, R: Threads + Wait + Clock + Sync>(
 }
 
 /// How the seats are given, as the words ask for it.
-fn serving_of(options: ServeOptions) -> Serving
-    ensures sessions { result.sessions ≡ options.sessions }
-    ensures seats { result.seats ≡ options.seats }
+pub(crate) fn serving_of(options: ServeOptions<'_>) -> Serving
+    ensures sessions { result.sessions ≡ options.entry.sessions }
+    ensures seats { result.seats ≡ options.entry.seats }
 {
     Serving {
         sessions: widened(options.sessions),
@@ -139,42 +148,31 @@ fn widened(number: Option<u32>) -> Option<u64>
     }
 }
 
-/// Listens on a port of this machine.
-pub(crate) fn listen<R: Net<Listener = TcpListener, Stream = TcpStream>>(
-    rt: &R,
-    port: u16,
-) -> Result<TcpListener, ProgramFault>
-    ensures { IfErr result (λ f. f ≡ Refused Device) }
-{
-    match TcpListener::bind(rt, (Ipv4Addr::LOCALHOST, port)) {
-        Ok(listener) => Ok(listener),
-        Err(_) => Err(ProgramFault::Refused(Refusal::Device)),
-    }
-}
-
 /// Listens on a port of this machine, opens an empty sheet of the replica that was asked for, writes `listening` and
 /// the port, and serves sessions on the sheet as [`serve_on`] does. Returns the sheet that it closed.
 ///
-/// Refused as `Device` where the port can't be listened on, and as `Memory` where there is none for the sheet; else as
-/// [`serve_on`] is.
+/// A port that can't be listened on is a fault of its own, at which nothing is written. Refused as `Memory` where there
+/// is none for the sheet; else as [`serve_on`] is.
 ///
 /// Cost: that of opening a sheet, and of [`serve_on`].
 pub fn serve<
     R: Net<Listener = TcpListener, Stream = TcpStream> + Threads + Wait + Clock + Sync,
     K: Sink,
->(rt: &R, alloc: Global, options: ServeOptions, out: &mut K) -> Result<Closed, ProgramFault>
-    ensures asked { IfOk result (λ closed. options.sessions ≡ Some closed.sessions) }
-    ensures served { IfOk result (λ closed. (first : SheetView) × IsOpened options.replica first
-        × IsServed options.seats closed.sessions first closed.sheet) }
+>(rt: &R, alloc: Global, options: ServeOptions<'_>, out: &mut K) -> Result<Closed, ProgramFault>
+    ensures asked { IfOk result (λ closed. options.entry.sessions ≡ Some closed.sessions) }
+    ensures served { IfOk result (λ closed. (first : SheetView) × IsOpened options.entry.replica first
+        × IsServed options.entry.seats closed.sessions first closed.sheet) }
     ensures told { IfOk result (λ closed. Appends (K.contents out.old) (K.contents out.new)
-        (listening_text options.port ++ closed_text (length closed.sheet.history))) }
+        (listening_text options.entry.port ++ closed_text (length closed.sheet.history))) }
     ensures settled { OnOk result (K.waiting out.new ≡ []) }
     ensures calm { OnOk result (K.failures out.new ≡ K.failures out.old) }
     ensures untold { IfErr result (λ f. (out.new ≡ out.old)
-        ⊎ (Appends (K.contents out.old) (K.contents out.new) (listening_text options.port)
+        ⊎ (Appends (K.contents out.old) (K.contents out.new) (listening_text options.entry.port)
         × (K.waiting out.new ≡ []) × (K.failures out.new ≡ K.failures out.old))
         ⊎ ((f ≡ Refused Device) × (K.failures out.old < K.failures out.new))) }
-    ensures refused { IfErr result (λ f. (f ≡ Refused Memory) ⊎ (f ≡ Refused Seat) ⊎ (f ≡ Refused Device)) }
+    ensures refused { IfErr result (λ f. (f ≡ Refused Memory) ⊎ (f ≡ Refused Seat) ⊎ (f ≡ Refused Device)
+        ⊎ HasNoPort options.entry.port f) }
+    ensures unheard { IfErr result (λ f. HasNoPort options.entry.port f → out.new ≡ out.old) }
 {
     let listener = match listen(rt, options.port) {
         Ok(listener) => listener,

@@ -3,6 +3,7 @@ ghost use Rattle.std.specs.Option.{ForSome};
 ghost use Rattle.std.specs.Prelude.{◌≤◌};
 ghost use Rattle.ps_grid.specs.declared.parties.TheConstants.{SEATS};
 
+use std::net::TcpListener;
 use std::time::Duration;
 
 /// How a server gives its seats.
@@ -18,4 +19,13 @@ pub struct Serving {
     pub idle: Option<Duration>,
     ghost sessions_in_range: { ForSome sessions (λ n. 1 ≤ n) },
     ghost seats_in_range: { (1 ≤ seats) × (seats ≤ SEATS) },
+}
+
+/// Where sessions come in, and how they are given their seats.
+#[derive(Clone, Copy)]
+pub struct Entrance<'a> {
+    /// What they connect to.
+    pub listener: &'a TcpListener,
+    /// How the seats are given.
+    pub serving: Serving,
 }

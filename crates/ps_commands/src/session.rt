@@ -1,9 +1,12 @@
 //! The command `run`: lines in, the replies of a sheet out.
-ghost use Rattle.std.specs.Prelude.{◌≡◌, ◌⊎◌, ◌<◌, ◌≤◌, ℕ, List, [], IfOk, IfErr, OnOk};
+ghost use Rattle.std.specs.Prelude.{◌≡◌, ◌⊎◌, ◌<◌, ◌≤◌, ℕ, List, [], IfOk, IfErr, OnOk, false};
 ghost use Rattle.std.specs.Io.KnownBytes.{Consumes, IsAtEnd};
 ghost use Rattle.ps_sheet.specs.Sheet.{IsSheet, SheetView};
 ghost use Rattle.ps_session.specs.Answers.{SheetLines};
+ghost use Rattle.ps_session.specs.Held.{held_contents, held_waiting};
+ghost use Rattle.ps_session.specs.Keeping.{IsCovered};
 ghost use Rattle.ps_session.specs.Transcript.{Answered, Stopped, Transcribed};
+ghost use Rattle.ps_kept.specs.Kept.{IsKept, IsNoted};
 ghost use Rattle.ps_commands.specs.Commands.{IsOpened};
 ghost use Rattle.ps_commands.specs.declared.fault.ProgramFault.TheVariants.{Refused};
 
@@ -11,7 +14,9 @@ use crate::fault::ProgramFault;
 use ps_device::{Sink, Source};
 use ps_eval::Meter;
 use ps_grid::Refusal;
-use ps_session::{RunFault, Watcher, run_watched};
+use ps_keep::Device;
+use ps_kept::{SheetKeeper, longer_histories_fit};
+use ps_session::{HeldOutput, RunFault, Watcher, run_kept, run_watched};
 use ps_sheet::Sheet;
 use ps_words::RunOptions;
 use std::alloc::Global;
@@ -79,6 +84,67 @@ pub fn answer_lines<R: Threads + Sync, S: Source, K: Sink, L: Ledger, W: Watcher
         Ok(_) => Ok(()),
         Err(RunFault::Memory) => Err(ProgramFault::Refused(Refusal::Memory)),
         Err(RunFault::Source) => Err(ProgramFault::Refused(Refusal::Device)),
+        Err(RunFault::Sink | RunFault::Keep) => Err(ProgramFault::Refused(Refusal::Device)),
+    }
+}
+
+/// Answers each line of the source on the output by a kept sheet, to the end of the input, while a watcher looks on.
+/// All that the session has seen is kept before any reply is handed on.
+///
+/// At any end, also after a fault, there is a state of the sheet, between the lines that were carried out, whose
+/// history the journal has on the disk, and what was handed on are replies to the lines up to it (`IsCovered`). At the
+/// end of the input it is the last one.
+///
+/// Refused as `Memory` where there is none to begin with, and as `Device` where the source, the sink or the keeper
+/// fails, after which nothing more is handed on.
+///
+/// Cost: that of [`run_kept`]. The memory of the sheet isn't given back, for the program ends next.
+pub fn answer_kept<
+    R: Threads + Sync,
+    S: Source,
+    K: Sink + Drop,
+    N: Ledger,
+    L: Ledger,
+    W: Watcher,
+    D: Device + Drop,
+>(
+    rt: &R,
+    alloc: Global,
+    source: &mut S,
+    sink: &mut HeldOutput<K, N>,
+    sheet: Sheet,
+    keeper: &mut SheetKeeper<D>,
+    meter: &mut Meter<L>,
+    watcher: &mut W,
+) -> Result<(), ProgramFault>
+    requires noted { IsNoted sheet.replica sheet.history keeper.old }
+    requires open { keeper.old.has_failed ≡ false }
+    ensures done { OnOk result ((last : SheetView) × (read : List ℕ) × (answered : ℕ)
+        × Consumes (S.remaining source.old) (S.remaining source.new) read × IsAtEnd (S.remaining source.new)
+        × Transcribed SheetLines sheet (held_contents K.contents sink.old) read
+        last (held_contents K.contents sink.new) answered
+        × IsKept last.replica last.history keeper.new) }
+    ensures covered { (last : SheetView) × (read : List ℕ)
+        × Consumes (S.remaining source.old) (S.remaining source.new) read
+        × IsCovered SheetLines (λ state. IsKept state.replica state.history keeper.new)
+        (IsAtEnd (S.remaining source.new)) sheet (held_contents K.contents sink.old) read
+        last (held_contents K.contents sink.new) (held_waiting K.waiting sink.new) }
+    ensures settled { OnOk result (held_waiting K.waiting sink.new ≡ []) }
+    ensures calm { OnOk result (S.failures source.new ≡ S.failures source.old) }
+    ensures refused { IfErr result (λ f. (f ≡ Refused Refusal.Memory) ⊎ (f ≡ Refused Refusal.Device)) }
+    ensures memory { result ≡ Err (Refused Refusal.Memory)
+        → (source.new ≡ source.old) × (sink.new ≡ sink.old) × (keeper.new ≡ keeper.old) }
+{
+    longer_histories_fit();
+    let mut sheet = sheet;
+    let done = run_kept(rt, alloc, source, sink, &mut sheet, meter, watcher, keeper);
+    // The program ends after this, and the system takes back at once what would be freed piece by piece.
+    mem::forget(sheet);
+    match done {
+        Ok(_) => Ok(()),
+        Err(RunFault::Memory) => Err(ProgramFault::Refused(Refusal::Memory)),
+        Err(RunFault::Source) => Err(ProgramFault::Refused(Refusal::Device)),
         Err(RunFault::Sink) => Err(ProgramFault::Refused(Refusal::Device)),
+        Err(RunFault::Keep) => Err(ProgramFault::Refused(Refusal::Device)),
     }
 }

@@ -5,16 +5,26 @@ ghost use Rattle.ps_commands.specs.Sessions.{AreBack, Back};
 
 use crate::chair::{Chair, Sign};
 use crate::door::Door;
-use crate::serving::Serving;
+use crate::elsewhere::Warner;
+use crate::host::Host;
+use crate::serving::Entrance;
 use ps_desk::{Desk, DeskName, Pass};
 use ps_grid::Refusal;
+use ps_keep::Device;
 use std::alloc::Global;
-use std::net::TcpListener;
+use std::io::Write;
 use std::sync::Wait;
 use std::sync::atomic::AtomicU64;
 use std::thread;
 use std::thread::{Scope, Threads};
 use std::time::Clock;
+
+/// A desk, and who holds its sessions.
+#[derive(Drop)]
+struct Hosted<'s, L: DeskName, W: Wait + Drop, D: Device + Drop> {
+    desk: &'s Desk<L, W>,
+    host: &'s Host<L, D>,
+}
 
 /// A seat for each pass, which nobody has had.
 fn set_up<'s, L: DeskName>(
@@ -57,38 +67,42 @@ fn turn_all<
     E,
     L: DeskName + Send + Sync + 's,
     W: Wait + Drop + Send + 's,
+    D: Device + Drop + Send + 's,
     R: Threads + Wait + Sync,
 >(
     scope: &Scope<'s, E>,
     rt: &'s R,
     alloc: Global,
-    desk: &'s Desk<L, W>,
+    at: &Hosted<'s, L, W, D>,
     door: &mut Door<'_>,
     chairs: &mut Vec<Chair<'s, L>>,
 )
     ensures { map (λ t. t.first) chairs.new.items ≡ map (λ t. t.first) chairs.old.items }
 {
     for chair in chairs.iter_mut() {
-        chair.turn(scope, rt, alloc, desk, door);
+        chair.turn(scope, rt, alloc, at.desk, at.host, door);
     }
 }
 
 /// Gives the seats to the connections that come, until as many sessions as were asked for have begun, and returns their
-/// number; none where a connection can't be accepted.
+/// number; none where a connection can't be accepted, or sessions may not go on. It warns where the host says so.
 fn give_seats<
     's,
     E,
     L: DeskName + Send + Sync + 's,
     W: Wait + Drop + Send + 's,
+    D: Device + Drop + Send + 's,
     R: Threads + Wait + Clock + Sync,
+    T: Write + Drop,
 >(
     scope: &Scope<'s, E>,
     rt: &'s R,
     alloc: Global,
-    desk: &'s Desk<L, W>,
+    at: &Hosted<'s, L, W, D>,
     door: &mut Door<'_>,
     chairs: &mut Vec<Chair<'s, L>>,
     asked: Option<u64>,
+    warner: &mut Warner<'_, T>,
 ) -> Option<u64>
     ensures firsts { map (λ t. t.first) chairs.new.items ≡ map (λ t. t.first) chairs.old.items }
     ensures asked { IfSome result (λ n. (asked ≡ Some n) × (sum_by (λ t. t.begun) chairs.new.items ≡ n)) }
@@ -98,13 +112,33 @@ fn give_seats<
         if left == Some(0) {
             return asked;
         }
-        if door.let_in(rt, left).is_err() {
+        if !at.host.goes_on() || door.let_in(rt, left).is_err() {
             return None;
         }
-        turn_all(scope, rt, alloc, desk, door, chairs);
+        turn_all(scope, rt, alloc, at, door, chairs);
         door.turn_away_late(rt);
+        warn_by(at.host, warner);
     }
     unreachable!()
+}
+
+/// Warns once the sessions were pushed changes of the desk's own replica that were new.
+fn warn_by<L: DeskName, D: Device + Drop, T: Write + Drop>(
+    host: &Host<L, D>,
+    warner: &mut Warner<'_, T>,
+) {
+    if host.is_elsewhere() {
+        warner.warn();
+    }
+}
+
+/// Has each session that is under way end soon, where they may not go on.
+fn hang_up<L: DeskName, D: Device + Drop>(host: &Host<L, D>, chairs: &Vec<Chair<'_, L>>) {
+    if !host.goes_on() {
+        for chair in chairs {
+            chair.hang_up();
+        }
+    }
 }
 
 /// Waits for the end of each session that is under way, and gives the passes up.
@@ -122,51 +156,59 @@ fn end_all<L: DeskName, R: Threads>(rt: &R, chairs: Vec<Chair<'_, L>>, back: &mu
 /// Serves the connections that come, as many at a time as there are passes, and gives the passes back with the number
 /// of sessions once as many as were asked for have ended.
 ///
-/// Refused as `Device` where a connection can't be accepted, once the sessions that were begun have ended, and out of
-/// memory before the first is accepted.
+/// Refused as `Device` where a connection can't be accepted, or what the sessions have seen can't be kept, once the
+/// sessions that were begun have ended, and out of memory before the first is accepted.
 pub(crate) fn serve_all<
     L: DeskName + Send + Sync,
     W: Wait + Drop + Send,
+    D: Device + Drop + Send,
     R: Threads + Wait + Clock + Sync,
+    T: Write + Drop,
 >(
     rt: &R,
     alloc: Global,
     desk: &Desk<L, W>,
-    listener: &TcpListener,
+    host: &Host<L, D>,
+    entrance: Entrance<'_>,
     passes: Vec<Pass<L>>,
-    serving: Serving,
+    warner: &mut Warner<'_, T>,
 ) -> Result<(u64, Vec<Pass<L>>), Refusal>
     ensures len { IfOk result (λ r. vec_len r.1 ≡ vec_len passes) }
-    ensures asked { IfOk result (λ r. serving.sessions ≡ Some r.0) }
+    ensures asked { IfOk result (λ r. entrance.entry.serving.sessions ≡ Some r.0) }
     ensures back { IfOk result (λ r. AreBack L.replica L.opening r.0 passes.items r.1.items) }
     ensures refused { IfErr result (λ e. (e ≡ Memory) ⊎ (e ≡ Device)) }
 {
     let word = AtomicU64::new(0);
     let signs = &word;
+    let hosted = Hosted { desk, host };
+    let at = &hosted;
     thread::scope(
         thread::scope_env(),
         rt,
         |scope| -> Result<(u64, Vec<Pass<L>>), Refusal>
             ensures len { IfOk result (λ r. vec_len r.1 ≡ vec_len passes) }
-            ensures asked { IfOk result (λ r. serving.sessions ≡ Some r.0) }
+            ensures asked { IfOk result (λ r. entrance.entry.serving.sessions ≡ Some r.0) }
             ensures back { IfOk result (λ r. AreBack L.replica L.opening r.0 passes.items r.1.items) }
             ensures refused { IfErr result (λ e. (e ≡ Memory) ⊎ (e ≡ Device)) }
         {
             let mut chairs = Vec::with_capacity(alloc, passes.len())?;
             let mut back = Vec::with_capacity(alloc, passes.len())?;
-            let mut door = Door::new(alloc, listener, serving.wait, serving.idle)?;
+            let mut door = Door::new(alloc, entrance, host.is_watchful())?;
             set_up(passes, signs, &mut chairs);
             let given = give_seats(
                 scope,
                 rt,
                 alloc,
-                desk,
+                at,
                 &mut door,
                 &mut chairs,
-                serving.sessions,
+                entrance.serving.sessions,
+                warner,
             );
             door.close();
+            hang_up(host, &chairs);
             end_all(rt, chairs, &mut back);
+            warn_by(host, warner);
             match given {
                 Some(sessions) => Ok((sessions, back)),
                 None => Err(Refusal::Device),

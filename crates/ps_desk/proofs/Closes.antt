@@ -11,7 +11,8 @@ pub deltas : (xs ys : List Note) → map delta_of (xs ++ ys) ≡ map delta_of xs
 deltas [] ys = refl
 deltas (x ∷ xs) ys = ap (λ ds. x.delta ∷ ds) (deltas xs ys)
 
-history_begins : (h : List Entries) (xs ys : List Note) → IsPrefix xs ys → IsPrefix (history_of h xs) (history_of h ys)
+pub history_begins : (h : List Entries) (xs ys : List Note) → IsPrefix xs ys
+    → IsPrefix (history_of h xs) (history_of h ys)
 history_begins h xs ys p = (
   map delta_of p.0,
   append_assoc h (map delta_of xs) (map delta_of p.0) ∙ ap (λ ds. h ++ ds) (sym (deltas xs p.0))

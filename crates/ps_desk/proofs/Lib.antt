@@ -1,9 +1,8 @@
-mod Closes
+pub mod Closes
 mod Locked
 mod Receipted
 mod Noted
 mod Owners
-mod Pulled
 mod Read
 pub mod SeatLemmas
 pub mod SeatRuns

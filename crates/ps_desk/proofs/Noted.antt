@@ -1,5 +1,5 @@
 -- The change that is staged in a sheet, and its patch.
-use Rattle.std.proofs.Common.{◌≡◌, ℕ, true, false, List, [], ◌∷◌, map, refl, sym, ap, ◌∙◌, subst, All}
+use Rattle.std.proofs.Common.{◌≡◌, ℕ, true, false, List, [], ◌∷◌, map, refl, sym, ap, subst, All}
 use Rattle.std.proofs.Common.{Option, Some, None, is_some}
 use Rattle.std.specs.Prelude.{IsSomeAnd, unwrap_or}
 use Rattle.std.specs.List.Sorted.{IsStrictlyIncreasing}
@@ -12,7 +12,6 @@ use Rattle.ps_sheet.specs.Prepared.{PreparedView, shown_after, shown_before}
 use Rattle.ps_sheet.specs.Staging.{IsListed, IsSameChange, IsStagedAs, IsStaging, IsWorkedOut}
 use Rattle.ps_sheet.specs.Staging.{StagedView, StagingView, prepared_of}
 use Rattle.ps_face.specs.Legal.{Follows}
-use Rattle.ps_face.specs.declared.patch.Note.{Note}
 use Rattle.ps_face.proofs.Noted.{prepared_follows}
 use Rattle.ps_desk.specs.Patches.{KeepsChange, change_in, no_change, note_of, shown_of, staged_in}
 

@@ -1,18 +1,16 @@
 -- What a session at a desk does with a line is the answer to the line.
-use Rattle.std.proofs.Common.{◌≡◌, ◌⊎◌, ◌∙◌, inl, inr, refl, ap, sym, subst, arith, max, length, ℕ, ◌<◌, List, Ok, Err}
+use Rattle.std.proofs.Common.{◌⊎◌, ◌∙◌, inl, inr, refl, ap, sym, subst, arith, max, length, ℕ, ◌<◌, List, Ok, Err}
 use Rattle.std.specs.Prelude.{unwrap_or}
 use Rattle.ps_grid.specs.declared.refusal.Refusal.{Refusal}
 use Rattle.ps_delta.specs.Deltas.{Entries}
 use Rattle.ps_face.specs.Legal.{history_of}
 use Rattle.ps_session.specs.Answers.{TakesMemory}
-use Rattle.ps_grid.specs.Rectangle.{spanned}
-use Rattle.ps_grid.specs.declared.refusal.Refusal.TheVariants as refusals
 use Rattle.ps_session.specs.Boards.{BoardAnswers, HandsOn, Obeyed}
 use Rattle.ps_session.specs.Commands.{Read, ReadsLine}
-use Rattle.ps_session.specs.Replies.{refusal_text}
+use Rattle.ps_session.specs.Replies.{refusal_text, replica_text}
 use Rattle.ps_session.specs.declared.command.Command.{Command}
 use Rattle.ps_session.specs.declared.command.Command.TheVariants.{Edit, Entries as AllEntries, Entry, Get, Pull, Push}
-use Rattle.ps_session.specs.declared.command.Command.TheVariants.{Rows}
+use Rattle.ps_session.specs.declared.command.Command.TheVariants.{Replica, Rows}
 use Rattle.ps_session.proofs.AnswerLemmas.{memory_or_other}
 use Rattle.ps_session.proofs.PulledDeltas.{hands_out}
 use Rattle.ps_desk.specs.Passes.{PassView}
@@ -125,6 +123,9 @@ module _ (r : ℕ) (h : List Entries) where
       answer_of_command old new line text (Push delta) reads
       (inr (record { some = tt; told = lacks.1; counted = ap (λ (p : PassView). p.appended) lacks.0 }))
       (subst (GoesOn old) (sym lacks.0) (goes_itself old))
+  answer_of old new line text (Ok (Replica named)) reads did =
+      answer_of_command old new line text (Replica named) reads
+      (inl (did.1.1, did.2 ∙ ap replica_text did.1.0)) (subst (GoesOn old) (sym did.1.1) (goes_itself old))
   answer_of old new line text (Err refusal) reads did =
       subst (λ (p : PassView). SeatAnswers r h old line text p) (sym did.0)
       (subst (λ (t : List ℕ). SeatAnswers r h old line t old) (sym did.1) (answer_of_refusal old line refusal reads))

@@ -6,7 +6,7 @@
 --     let more : GoesOn c.new-seat.result c.talk.new.board =
 --     talked GoesOn goes_itself goes_trans (BoardAnswers (SeatCalls r h)) (answers_go_on r h) _ _ _ _ _ _ _ _
 --     c.talk.result
---     told.transcribed told.sink told.source told.memory in
+--     told.transcribed told.sink told.source told.keep told.memory in
 use Rattle.std.proofs.Common.{◌∙◌, inl, inr, refl, arith, ℕ, List}
 use Rattle.ps_delta.specs.Deltas.{Entries}
 use Rattle.ps_face.proofs.Beginnings.{begins_itself, begins_trans}

@@ -18,11 +18,12 @@ use Rattle.ps_session.specs.Answers.{TakesMemory}
 use Rattle.ps_session.specs.Boards.{BoardAnswers, Calls, told}
 use Rattle.ps_session.specs.Commands.{Read, ReadsLine}
 use Rattle.ps_session.specs.Handing.{HandsOut}
-use Rattle.ps_session.specs.Replies.{done_text, entries_reply, entry_reply, refusal_text, rows_text, value_text}
+use Rattle.ps_session.specs.Replies.{done_text, entries_reply, entry_reply, refusal_text, replica_text, rows_text}
+use Rattle.ps_session.specs.Replies.{value_text}
 use Rattle.ps_session.specs.Transcript.{Answering, Lines}
 use Rattle.ps_session.specs.declared.command.Command.{Command}
 use Rattle.ps_session.specs.declared.command.Command.TheVariants.{Edit, Entries as AllEntries, Entry, Get, Pull, Push}
-use Rattle.ps_session.specs.declared.command.Command.TheVariants.{Rows}
+use Rattle.ps_session.specs.declared.command.Command.TheVariants.{Replica, Rows}
 use Rattle.ps_desk.specs.Passes.{PassView}
 use Rattle.ps_desk.specs.Receipts.{IsAppended, Tells}
 use Rattle.ps_desk.specs.declared.receipt.Receipt.{Receipt}
@@ -103,6 +104,7 @@ SeatObeys r h (Ok (AllEntries first last)) old text new = IsHeld h
     (λ held. entries_reply ((spanned first last).height) (exported_entries held (spanned first last))) old text new
 SeatObeys r h (Ok (Pull from most)) old text new = IsHandedOut h from (unwrap_or most 1) old text new
 SeatObeys r h (Ok (Push delta)) old text new = IsTakenIn h delta old text new
+SeatObeys r h (Ok (Replica named)) old text new = (new ≡ old) × (text ≡ replica_text r)
 SeatObeys r h (Err refusal) old text new = (new ≡ old) × (text ≡ refusal_text refusal)
 
 -- out of memory, where what was asked for takes some; nothing was appended
@@ -175,6 +177,10 @@ abbrev pub SeatPulls : List Entries → PassView → ℕ → ℕ → Read (List 
 SeatPulls h old from most (Ok deltas) new = IsPulled h from most deltas old new × GoesOn old new
 SeatPulls h old from most (Err refusal) new = IsUnpulled h from refusal old new × GoesOn old new
 
+-- the replica of the desk is told, and nothing is waited for or looked at
+abbrev pub SeatReplica : ℕ → PassView → ℕ → PassView → Type 0
+SeatReplica r old number new = (number ≡ r) × (new ≡ old)
+
 abbrev pub SeatCalls : ℕ → List Entries → Calls PassView
 SeatCalls r h = record {
   edits = SeatEdits r h;
@@ -184,6 +190,7 @@ SeatCalls r h = record {
   holds = SeatHolds h;
   lists = SeatLists h;
   pulls = SeatPulls h;
+  replica = SeatReplica r;
 }
 
 -- a line does what it asks for

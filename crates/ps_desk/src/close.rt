@@ -1,13 +1,15 @@
 //! Closing a desk.
 
 ghost use Rattle.std.specs.Prelude.{◌≡◌, ◌+◌, ◌≤◌, All, length, vec_len};
+ghost use mathlib.Core.List.{IsPrefix};
 ghost use Rattle.ps_sheet.specs.Sheet.{IsSheet};
-ghost use Rattle.ps_face.specs.Legal.{IsLegal};
+ghost use Rattle.ps_face.specs.Legal.{IsLegal, history_of};
 ghost use Rattle.ps_desk.specs.Closing.{EndsAt, HistoryBegins, IsClosed, appended_of};
 
 use crate::desk::Desk;
 use crate::name::DeskName;
 use crate::pass::Pass;
+use crate::place::Place;
 use ps_face::Front;
 use ps_sheet::Sheet;
 use std::sync::Wait;
@@ -29,8 +31,29 @@ impl<L: DeskName, W: Wait + Drop> Desk<L, W> {
         ensures one { IsClosed L.opening result.history passes.items }
         ensures sheet { IsSheet result }
     {
+        // for the fact that there is a seat
+        let _ = self.seats();
+        let mut place = passes[0].place();
+        self.close_at(wait, passes, &mut place)
+    }
+
+    /// Ends the desk as [`Desk::close`] does, for somebody else who has seen its list up to a place. The place is then
+    /// the end of the list, which the history of the sheet stands for.
+    ///
+    /// Cost: that of freeing the published copies.
+    pub fn close_at<V: Wait>(self, wait: &V, passes: Vec<Pass<L>>, place: &mut Place<L>) -> Sheet
+        requires passes { vec_len passes ≡ self }
+        ensures replica { result.replica ≡ L.replica }
+        ensures begins { HistoryBegins L.opening result.history passes.items }
+        ensures grown { length result.history ≡ length L.opening + appended_of passes.items }
+        ensures one { IsClosed L.opening result.history passes.items }
+        ensures sheet { IsSheet result }
+        ensures later { IsPrefix place.old place.new }
+        ensures end { result.history ≡ history_of L.opening place.new }
+    {
         let state = self.into_state();
         let mut all = gather(wait, state.front(), passes);
+        place.catch_up(wait, state.front());
         state.end(&mut all)
     }
 }

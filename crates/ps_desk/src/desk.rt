@@ -15,6 +15,7 @@ ghost use Rattle.ps_desk.specs.Receipts.{IsAppended, Tells};
 
 use crate::name::DeskName;
 use crate::pass::Pass;
+use crate::place::Place;
 use crate::receipt::Receipt;
 use crate::state::DeskState;
 use ps_delta::Delta;
@@ -32,6 +33,8 @@ use std::thread::Threads;
 pub struct Desk<L: DeskName, W: Wait + Drop> {
     state: Mutex<DeskState<L, W>>,
     seats: usize,
+    /// that of the sheet, which no change of it changes
+    replica: u8,
 }
 
 impl<L: DeskName, W: Wait + Drop> Model for Desk<L, W> {
@@ -41,19 +44,21 @@ impl<L: DeskName, W: Wait + Drop> Model for Desk<L, W> {
 
     ghost view = { λ d. d.seats };
 
-    ghost invariant = { λ d. (d.seats ≡ L.parts) × (1 ≤ d.seats) };
+    ghost invariant = { λ d. (d.seats ≡ L.parts) × (1 ≤ d.seats) × (d.replica ≡ L.replica) };
 }
 
 impl<L: DeskName, W: Wait + Drop> Desk<L, W> {
     /// A desk of what is to lie under its lock.
-    pub(crate) fn new(state: DeskState<L, W>, seats: usize) -> Desk<L, W>
+    pub(crate) fn new(state: DeskState<L, W>, seats: usize, replica: u8) -> Desk<L, W>
         requires parts { seats ≡ L.parts }
         requires some { 1 ≤ seats }
+        requires replica { replica ≡ L.replica }
         ensures { result ≡ seats }
     {
         Desk {
             state: Mutex::new(state),
             seats,
+            replica,
         }
     }
 
@@ -62,7 +67,7 @@ impl<L: DeskName, W: Wait + Drop> Desk<L, W> {
         ensures parts { self ≡ L.parts }
         ensures some { 1 ≤ self }
     {
-        let Desk { state, seats: _ } = self;
+        let Desk { state, .. } = self;
         state.into_inner()
     }
 
@@ -72,8 +77,18 @@ impl<L: DeskName, W: Wait + Drop> Desk<L, W> {
     pub fn seats(&self) -> usize
         ensures seats { result ≡ self.now }
         ensures parts { result ≡ L.parts }
+        ensures some { 1 ≤ result }
     {
         self.seats
+    }
+
+    /// The replica of the sheet. It waits for nobody.
+    ///
+    /// Cost: constant.
+    pub fn replica(&self) -> u8
+        ensures replica { result ≡ L.replica }
+    {
+        self.replica
     }
 
     /// Makes the delta of an edit over the sheet's state, appends it to the history, and shows it to all who read.
@@ -82,7 +97,7 @@ impl<L: DeskName, W: Wait + Drop> Desk<L, W> {
     /// where there is such a delta. It may wait for other calls, and for those that still read what was published
     /// before the last patch.
     ///
-    /// Cost: that of [`ps_sheet::Sheet::prepare`], and twice the cells that show another value.
+    /// Cost: that of [`ps_sheet::Staging::stage`], and twice the cells that show another value.
     pub fn edit<R: Threads + Sync, V: Wait, M: Ledger>(
         &self,
         rt: &R,
@@ -117,7 +132,7 @@ impl<L: DeskName, W: Wait + Drop> Desk<L, W> {
     ///
     /// Refused only when out of memory, where the delta was to be appended. It may wait as [`Desk::edit`] does.
     ///
-    /// Cost: that of [`ps_sheet::Sheet::prepare`], and twice the cells that show another value.
+    /// Cost: that of [`ps_sheet::Staging::stage`], and twice the cells that show another value.
     pub fn receive<R: Threads + Sync, V: Wait, M: Ledger>(
         &self,
         rt: &R,
@@ -172,6 +187,33 @@ impl<L: DeskName, W: Wait + Drop> Desk<L, W> {
         let state = self.state.lock(wait);
         pass.catch_up(wait, state.front());
         state.deltas_after(alloc, from, at_most)
+    }
+
+    /// The deltas of the history after the number `from`, in order, for somebody who isn't at one of the seats: no pass
+    /// sees more for it. The place is then the end of the published list.
+    ///
+    /// Refused where the history is shorter than the number, and when out of memory, where there are such deltas. It
+    /// may wait for other calls.
+    ///
+    /// Cost: the deltas that are handed out.
+    pub fn later<V: Wait>(
+        &self,
+        wait: &V,
+        alloc: Global,
+        place: &mut Place<L>,
+        from: u64,
+    ) -> Result<Vec<Arc<Delta>>, Refusal>
+        ensures later { IsPrefix place.old place.new }
+        ensures legal { IsLegal L.opening place.new }
+        ensures deltas { IfOk result (λ ds. map arc_value ds.items ≡ drop from (history_of L.opening place.new)) }
+        ensures bound { IfOk result (λ _. length (history_of L.opening place.new) < 2 ^ 64) }
+        ensures refused { IfErr result (λ e. (e ≡ Memory)
+            ⊎ ((e ≡ Version) × (length (history_of L.opening place.new) < from))) }
+        ensures asked { IfErr result (λ e. e ≡ Memory → from < length (history_of L.opening place.new)) }
+    {
+        let state = self.state.lock(wait);
+        place.catch_up(wait, state.front());
+        state.deltas_after(alloc, from, usize::MAX)
     }
 
     /// What a cell holds: its entry. The pass has then seen all that is published.

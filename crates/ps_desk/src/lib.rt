@@ -22,6 +22,10 @@
 //! after a line is what it has seen before the next (`specs/Seats.antt`). What a whole session leaves of its pass goes
 //! on from what it was (`GoesOn`), whatever the session came to: the lemmas of `proofs/SeatRuns.antt`.
 //!
+//! Somebody who isn't at one of the seats, as a journal, follows the list from [`Place`] to place: [`Desk::later`]
+//! hands out the deltas after a number, and no pass sees more for it. [`Desk::close_at`] brings such a place to the end
+//! of the list that is closed.
+//!
 //! A desk is opened from [`Parts`], which are made before its name is picked; [`Desk::open`] is called in a function
 //! that is generic in the name. It gives a pass for each seat, and each has seen nothing; or the sheet comes back.
 //!
@@ -44,6 +48,7 @@ mod open;
 mod parts;
 mod pass;
 mod patch;
+mod place;
 mod receipt;
 mod seat;
 mod shot;
@@ -55,6 +60,7 @@ pub use laws::seats_answer_lines;
 pub use name::DeskName;
 pub use parts::Parts;
 pub use pass::Pass;
+pub use place::Place;
 pub use receipt::Receipt;
 pub use seat::Seat;
 pub use shot::Shot;

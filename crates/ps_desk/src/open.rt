@@ -43,10 +43,11 @@ impl<L: DeskName, W: Wait + Drop> Desk<L, W> {
             seats,
         } = parts;
         let (book, all) = blank.open::<L>();
+        let replica = sheet.replica();
         match open_copies(keep, alloc, opened, &sheet, all, seats) {
             Ok((copies, passes)) => {
                 let state = DeskState::new(sheet, copies, book);
-                Ok((Desk::new(state, seats), passes))
+                Ok((Desk::new(state, seats, replica), passes))
             }
             Err(refusal) => Err((sheet, refusal)),
         }

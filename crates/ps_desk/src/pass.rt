@@ -11,6 +11,7 @@ ghost use Rattle.ps_desk.specs.Passes.{IsShown, owned_by};
 ghost use Rattle.ps_desk.specs.Seats.{GoesOn, Tabled};
 
 use crate::name::DeskName;
+use crate::place::Place;
 use crate::shot::Shot;
 use ps_csv::exported_text;
 use ps_face::{FaceReader, Front, Seen};
@@ -171,6 +172,30 @@ impl<L: DeskName> Pass<L> {
         ensures { result ≡ self.now.seat }
     {
         self.seat
+    }
+
+    /// The place in the list up to which the pass has seen it.
+    ///
+    /// Cost: constant, no memory.
+    pub fn place(&self) -> Place<L>
+        ensures { result ≡ self.now.list }
+    {
+        Place::new(self.reader.as_ref().unwrap().front().again())
+    }
+
+    /// Has seen the list up to a place too, or further where it had.
+    ///
+    /// Cost: constant, no memory.
+    pub fn learn(&mut self, place: &Place<L>)
+        ensures later { IsPrefix self.old.list self.new.list }
+        ensures seen { IsPrefix place.now self.new.list }
+        ensures pass { self.new ≡ record self.old { list = self.new.list } }
+    {
+        let mut reader = self.reader.take().unwrap();
+        if !place.front.begins(reader.front()) {
+            let _ = reader.learn(&place.front);
+        }
+        self.reader = Some(reader);
     }
 
     /// Has seen the whole published list. No run meets a pass that has seen more, for which it would wait for ever.

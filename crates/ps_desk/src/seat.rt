@@ -5,10 +5,11 @@ ghost use Rattle.std.specs.Prelude.{◌≡◌};
 use crate::desk::Desk;
 use crate::name::DeskName;
 use crate::pass::Pass;
+use crate::place::Place;
 use ps_delta::Delta;
 use ps_eval::Meter;
 use ps_grid::{Cell, Rect, Refusal};
-use ps_session::Board;
+use ps_session::{Board, Taken};
 use ps_sheet::Edit;
 use ps_value::Value;
 use std::alloc::Global;
@@ -46,6 +47,15 @@ impl<'a, L: DeskName, W: Wait + Drop, V: Wait> Seat<'a, L, W, V> {
         ensures { result ≡ pass }
     {
         Seat { desk, wait, pass }
+    }
+
+    /// The place in the list up to which the session has seen it.
+    ///
+    /// Cost: constant, no memory.
+    pub fn place(&self) -> Place<L>
+        ensures { result ≡ self.now.list }
+    {
+        self.pass.place()
     }
 
     /// Gives the pass back.
@@ -86,12 +96,15 @@ impl<L: DeskName, W: Wait + Drop, V: Wait, M: Ledger> Board<Meter<M>> for Seat<'
         alloc: Global,
         delta: Arc<Delta>,
         meter: &mut Meter<M>,
-    ) -> Result<u64, Refusal> {
+    ) -> Result<Taken, Refusal> {
         match self
             .desk
             .receive(rt, self.wait, alloc, &mut self.pass, delta, meter)
         {
-            Ok(taken) => Ok(taken.number),
+            Ok(receipt) => Ok(Taken {
+                number: receipt.number,
+                is_new: receipt.fresh,
+            }),
             Err(refusal) => Err(refusal),
         }
     }
@@ -119,5 +132,9 @@ impl<L: DeskName, W: Wait + Drop, V: Wait, M: Ledger> Board<Meter<M>> for Seat<'
 
     fn pull(&mut self, alloc: Global, from: u64, most: usize) -> Result<Vec<Arc<Delta>>, Refusal> {
         self.desk.pull(self.wait, alloc, &mut self.pass, from, most)
+    }
+
+    fn replica(&mut self) -> u8 {
+        self.desk.replica()
     }
 }

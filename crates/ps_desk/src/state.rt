@@ -22,6 +22,7 @@ use ps_delta::Delta;
 use ps_eval::Meter;
 use ps_face::{FaceWriter, Front};
 use ps_grid::{Cell, Rect, Refusal};
+use ps_session::deltas_after;
 use ps_sheet::{Change, Sheet, Staging};
 use ps_workers::Open;
 use std::alloc::Global;
@@ -154,18 +155,9 @@ impl<L: DeskName, W: Wait + Drop> DeskState<L, W> {
         ensures asked { result ≡ Err Memory → from < length (history_of L.opening self.now) }
         ensures bound { length (history_of L.opening self.now) < 2 ^ 64 }
     {
-        let history = self.sheet.history();
-        if from > history.len() as u64 {
-            return Err(Refusal::Version);
-        }
-        if from == history.len() as u64 {
-            return Ok(Vec::new(alloc));
-        }
-        let later = &history[from as usize..];
-        if at_most < later.len() {
-            return copy_deltas(alloc, &later[..at_most]);
-        }
-        copy_deltas(alloc, later)
+        // for the fact that a number counts the history
+        let _ = self.sheet.version();
+        deltas_after(alloc, self.sheet.history(), from, at_most)
     }
 }
 
@@ -197,16 +189,4 @@ impl<L: DeskName, W: Wait + Drop> Holds for DeskState<L, W> {
     fn held(&self, cell: Cell) -> Option<&Content> {
         self.sheet.content(cell)
     }
-}
-
-/// The same deltas once more. Refused only when out of memory.
-fn copy_deltas(alloc: Global, deltas: &[Arc<Delta>]) -> Result<Vec<Arc<Delta>>, Refusal>
-    ensures copied { IfOk result (λ c. map arc_value c.items ≡ map arc_value deltas.now) }
-    ensures memory { IfErr result (λ e. e ≡ Memory) }
-{
-    let mut copied = Vec::with_capacity(alloc, deltas.len())?;
-    for delta in deltas {
-        copied.push(delta.clone()?)?;
-    }
-    Ok(copied)
 }

@@ -7,7 +7,7 @@ use Rattle.std.specs.Io.KnownBytes.{Appends, Keeps, append_known}
 use Rattle.std.proofs.lemmas.Bool.{false≢true}
 use Rattle.std.proofs.lemmas.List.{take-append-le, take-append-drop, drop-drop}
 use Rattle.std.proofs.Math.Seq.{take-add, take-length, take-append-add}
-use Rattle.ps_device.specs.Device.{failed_put, Sends}
+use Rattle.ps_device.specs.Device.{failed_put, HoldsBack, Sends}
 
 pub Appends-nil : (old : Option (List ℕ)) → Appends old old []
 Appends-nil None = tt
@@ -19,6 +19,19 @@ Appends-append None mid new first second p q = tt
 Appends-append (Some x) None new first second p q = absurd p
 Appends-append (Some x) (Some y) None first second p q = absurd q
 Appends-append (Some x) (Some y) (Some z) first second p q = q ∙ ap (λ l. l ++ second) p ∙ append_assoc x first second
+
+-- nothing was taken, so nothing more waits
+pub HoldsBack-none : (old : Option (List ℕ)) (waiting : List ℕ) → HoldsBack old old waiting waiting
+HoldsBack-none old waiting = ([], Appends-nil old, sym (append-nil waiting))
+
+-- one after another
+pub HoldsBack-after : (old mid new : Option (List ℕ)) (waited between waiting : List ℕ)
+    → HoldsBack old mid waited between → HoldsBack mid new between waiting → HoldsBack old new waited waiting
+HoldsBack-after old mid new waited between waiting p q = (
+  p.0 ++ q.0,
+  Appends-append old mid new p.0 q.0 p.1 q.1,
+  q.2 ∙ ap (λ l. l ++ q.0) p.2 ∙ append_assoc waited p.0 q.0,
+)
 
 -- the bytes from the start on, as the code takes them
 pub rest-range : (bytes : List ℕ) (start : ℕ) → take (length bytes - start) (drop start bytes) ≡ drop start bytes

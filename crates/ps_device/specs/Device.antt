@@ -1,5 +1,6 @@
 -- What a call of a device did.
-use Rattle.std.specs.Prelude.{ℕ, zero, suc, ◌<◌, List, [], ◌∷◌, length, take, Option, Result, Ok, Err, MatchResult}
+use Rattle.std.specs.Prelude.{ℕ, zero, suc, ◌<◌, ◌≡◌, List, [], ◌∷◌, ◌++◌, length, take, Option, Result, Ok, Err}
+use Rattle.std.specs.Prelude.{MatchResult}
 use Rattle.std.specs.Io.KnownBytes.{Appends}
 
 -- how many failures a read was: one where it returned an error
@@ -24,3 +25,7 @@ abbrev pub Sends : {E : Type 0} → Option (List ℕ) → Option (List ℕ) → 
 Sends old new result bytes =
     MatchResult result (λ _. Appends old new bytes)
     (λ _. (count : ℕ) × (count < length bytes) × Appends old new (take count bytes))
+
+-- whatever was taken, from these bytes to those, waits after what waited before
+abbrev pub HoldsBack : Option (List ℕ) → Option (List ℕ) → List ℕ → List ℕ → Type 0
+HoldsBack old new waited waiting = (taken : List ℕ) × Appends old new taken × (waiting ≡ waited ++ taken)

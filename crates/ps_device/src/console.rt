@@ -105,6 +105,8 @@ impl<W: Write + Drop, L: Ledger> Sink for ConsoleOutput<W, L> {
 
     ghost failures = { λ output. output.sink.failed };
 
+    ghost holds_back = { ⊥ };
+
     /// Keeps bytes from the front of the piece; where the room is full, it is sent first. Some of a piece that isn't
     /// empty is taken at Ok.
     ///

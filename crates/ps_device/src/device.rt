@@ -1,7 +1,7 @@
 //! Where bytes come from and where they go.
 ghost use Rattle.std.specs.Prelude.{◌≡◌, ℕ, ◌+◌, ◌<◌, ◌≤◌, List, [], Option, length, IfOk, OnOk, OnErr};
 ghost use Rattle.std.specs.Io.KnownBytes.{Keeps, ReadConsumes, WriteAppends};
-ghost use Rattle.ps_device.specs.Device.{failed_take, failed_put, failed_settle, Sends};
+ghost use Rattle.ps_device.specs.Device.{failed_take, failed_put, failed_settle, HoldsBack, Sends};
 
 /// A device failed.
 #[derive(Clone, Copy, Debug, PartialEq, Eq)]
@@ -47,13 +47,18 @@ pub trait Sink {
     /// How many calls failed so far.
     ghost failures: { Self → ℕ };
 
+    /// It holds back all that is put, until it is settled.
+    ghost holds_back: { Type 0 };
+
     /// Takes bytes from the front of the piece and returns how many.
     ///
     /// Cost: linear in the bytes that it takes, but for the time that the device takes.
     fn put(&mut self, piece: &[u8]) -> Result<usize, Failed>
         ensures within { IfOk result (λ count. count ≤ length piece.now) }
         ensures bytes { WriteAppends (contents self.old) (contents self.new) result piece.now }
-        ensures counted { failures self.new ≡ failures self.old + failed_put result piece.now };
+        ensures counted { failures self.new ≡ failures self.old + failed_put result piece.now }
+        ensures held { holds_back
+            → HoldsBack (contents self.old) (contents self.new) (waiting self.old) (waiting self.new) };
 
     /// Hands on all that waits. Nothing that was put is lost by it, also where it fails.
     ///
@@ -71,6 +76,8 @@ pub fn put_all<K: Sink>(sink: &mut K, bytes: &[u8]) -> Result<(), Failed>
     ensures sent { Sends (K.contents sink.old) (K.contents sink.new) result bytes.now }
     ensures calm { OnOk result (K.failures sink.new ≡ K.failures sink.old) }
     ensures failed { OnErr result (K.failures sink.old < K.failures sink.new) }
+    ensures held { K.holds_back
+        → HoldsBack (K.contents sink.old) (K.contents sink.new) (K.waiting sink.old) (K.waiting sink.new) }
 {
     let mut start = 0;
     while start < bytes.len() {

@@ -74,6 +74,8 @@ impl<L: Ledger> Sink for MemorySink<L> {
 
     ghost failures = { λ sink. sink.failed };
 
+    ghost holds_back = { ⊥ };
+
     fn put(&mut self, piece: &[u8]) -> Result<usize, Failed> {
         if self.bytes.extend_from_slice(piece).is_err() {
             self.failed.rise();

@@ -108,6 +108,8 @@ impl<W: Write + Drop, L: Ledger> Sink for Writing<W, L> {
 
     ghost failures = { λ sink. sink.failed };
 
+    ghost holds_back = { ⊥ };
+
     fn put(&mut self, piece: &[u8]) -> Result<usize, Failed> {
         if piece.is_empty() {
             return Ok(0);

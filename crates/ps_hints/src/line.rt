@@ -42,6 +42,8 @@ fn words_hint(line: &[u8], refusal: Refusal) -> LineHint<'_> {
         Refusal::Cell => cell_hint(verb, word),
         Refusal::Amount => amount_hint(last),
         Refusal::OptionRange => option_hint(last),
+        Refusal::Replica if word.is_empty() => LineHint::Spaces,
+        Refusal::Replica => LineHint::Replica,
         Refusal::NotTally => LineHint::NoTally(text_of(word).unwrap_or("A1")),
         Refusal::NotChoice => LineHint::NoChoice(text_of(word).unwrap_or("A1")),
         Refusal::Delta if rest.starts_with(b"delta ") => LineHint::WholeReply,

@@ -1,11 +1,12 @@
 //! What a hint about the words of a line says.
 
 use crate::case::{Capitals, Small};
+use ps_grid::REPLICAS;
 use ps_lattice::{AMOUNT_LIMIT, COUNT_LIMIT, OPTIONS, SEQUENCES};
 use std::fmt;
 
 /// The verbs of lines, each with the form of its line.
-pub const VERBS: [(&str, &str); 11] = [
+pub const VERBS: [(&str, &str); 12] = [
     ("get", "get <cell>"),
     ("set", "set <cell> <entry>"),
     ("add", "add <cell> <amount>"),
@@ -17,6 +18,7 @@ pub const VERBS: [(&str, &str); 11] = [
     ("entries", "entries <cell>:<cell>"),
     ("push", "push <delta line>"),
     ("pull", "pull <from> or pull <from> <most>"),
+    ("replica", "replica or replica <number>"),
 ];
 
 /// What to do about a line whose words are refused, or that the sheet refuses.
@@ -70,6 +72,8 @@ pub enum LineHint<'a> {
     LongLine,
     /// A version, or a size of a group, that is none.
     NoVersion,
+    /// The number of a replica out of range, or none.
+    Replica,
     /// A table with too many records.
     Records(usize),
     /// A record with too many fields.
@@ -141,6 +145,7 @@ impl fmt::Display for LineHint<'_> {
             LineHint::NoVersion => {
                 f.write_str("pull has a version that there is, and at most 16 deltas")
             }
+            LineHint::Replica => write!(f, "replicas are 1 to {REPLICAS}"),
             other => write_state(other, f),
         }
     }

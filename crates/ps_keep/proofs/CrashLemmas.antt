@@ -1,14 +1,13 @@
 -- What a crash leaves of a journal.
-use Rattle.std.proofs.Common.{◌≡◌, ◌≤◌, ◌<◌, Bool, true, false, ℕ, zero, suc, List, [], ◌∷◌, ◌++◌, length, take}
+use Rattle.std.proofs.Common.{◌≡◌, ◌≤◌, ℕ, zero, suc, List, [], ◌∷◌, ◌++◌, length, take}
 use Rattle.std.proofs.Common.{drop, refl, sym, ◌∙◌, ap, subst, arith, append_assoc, take-append-drop}
 use Rattle.std.proofs.lemmas.List.{append-nil}
 use mathlib.Core.List.{IsPrefix}
 use Rattle.ps_keep.specs.Lines.{AreLines, IsLine, text, whole_lines}
-use Rattle.ps_keep.specs.Crash.{IsLeft, IsTorn, SurvivesCrashes, SurvivesTears}
+use Rattle.ps_keep.specs.Crash.{IsLeft, SurvivesCrashes, SurvivesTears}
 use Rattle.ps_keep.specs.Journals.{IsJournal, JournalView}
 use Rattle.ps_keep.proofs.LineLemmas.{front_lines, no_lines, parts, parts_lines, text_first, whole_are, whole_of_text}
 use Rattle.ps_keep.proofs.LineLemmas.{whole_text}
-use Rattle.ps_keep.specs.Openings.{AllGood, IsFirstFault}
 
 -- of two beginnings of one list the shorter begins the longer
 pub shorter_begins : (a b all : List ℕ) → IsPrefix a all → IsPrefix b all → length a ≤ length b → IsPrefix a b
@@ -110,26 +109,3 @@ start_again bytes left is =
     ∙ ap (λ (ls : List (List ℕ)). p.lines ++ ls) (no_lines [] there.0 (front_line there.0 is.front.0 p.rest tails
     p.open_end))
     ∙ append-nil p.lines ∙ sym lines
-
-good_first : (is_good : List ℕ → Bool) (kept rest before : List (List ℕ)) (line : List ℕ) (behind : List (List ℕ))
-    → kept ++ rest ≡ before ++ line ∷ behind → AllGood is_good kept → is_good line ≡ false → length kept ≤ length before
-good_first is_good [] rest before line behind e good bad = omega arith
-good_first is_good (k ∷ kept) rest [] line behind e good bad =
-    let same : k ≡ line = cc in
-    absurd (differ (sym good.0 ∙ ap is_good same ∙ bad))
-  where
-    differ : true ≡ false → ⊥
-    differ f = cc
-good_first is_good (k ∷ kept) rest (b ∷ before) line behind e good bad =
-    let more : kept ++ rest ≡ before ++ line ∷ behind = cc in
-    omega (arith, good_first is_good kept rest before line behind more good.1 bad)
-
--- a line that isn't taken, in what a crash left, stands behind all that were acknowledged
-pub fault_after : (j : JournalView) (left : List ℕ) (is_good : List ℕ → Bool) (number : ℕ) → IsJournal j
-    → IsTorn j.written j.synced left → AllGood is_good j.kept → IsFirstFault is_good (whole_lines left) number
-    → length j.kept < number
-fault_after j left is_good number is torn good fault =
-    let begins = journal_torn j is left torn in
-    let le = good_first is_good j.kept begins.0 fault.before fault.line fault.behind (begins.1
-    ∙ fault.is) good fault.faulty in
-    omega (arith, le, fault.counts)

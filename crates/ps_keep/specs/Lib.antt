@@ -1,5 +1,4 @@
 pub mod Crash
 pub mod Journals
 pub mod Lines
-pub mod Openings
 pub mod Traces

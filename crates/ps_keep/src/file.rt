@@ -7,6 +7,7 @@ use ps_device::Failed;
 use std::alloc::Global;
 use std::fs::{File, OpenOptions, TryLockError};
 use std::io::{ErrorKind, Read, Write};
+use std::path::{AsPath, Path};
 use std::rt::Files;
 
 /// Why a file couldn't be opened.
@@ -29,24 +30,16 @@ pub struct FoundFile {
 }
 
 impl FoundFile {
-    /// Opens the file of this path, or makes it, locks it and reads it. Refused as `Busy` where another process has it
-    /// locked, and as `Device` where it is no regular file.
+    /// Opens the file of this path, or makes it, locks it, has its name on the disk and reads it. Refused as `Busy` where
+    /// another process has it locked, and as `Device` where it is no regular file; such a file isn't read.
     ///
-    /// Cost: linear in the file, and its memory.
+    /// Cost: linear in the file, and its memory; one sync of the folder.
     pub fn open<R: Files<File = File>>(
         rt: &R,
         alloc: Global,
         path: &str,
     ) -> Result<FoundFile, FileFault> {
-        let opened = OpenOptions::new()
-            .read(true)
-            .append(true)
-            .create(true)
-            .open(rt, path);
-        let mut file = match opened {
-            Ok(file) => file,
-            Err(_) => return Err(FileFault::Device),
-        };
+        let mut file = open_or_make(rt, path)?;
         match file.try_lock() {
             Ok(()) => {}
             Err(TryLockError::WouldBlock) => return Err(FileFault::Busy),
@@ -57,12 +50,59 @@ impl FoundFile {
             Ok(about) if about.is_file() => {}
             _ => return Err(FileFault::Device),
         }
+        sync_folder(rt, path)?;
         let mut bytes = Vec::new(alloc);
         match file.read_to_end(&mut bytes) {
             Ok(_) => Ok(FoundFile { file, bytes }),
             Err(error) if error.kind() == ErrorKind::OutOfMemory => Err(FileFault::Memory),
             Err(_) => Err(FileFault::Device),
         }
+    }
+}
+
+/// Opens the file of this path for reading and appending; made where there is none.
+fn open_or_make<R: Files<File = File>>(rt: &R, path: &str) -> Result<File, FileFault> {
+    match open_there(rt, path, false) {
+        Ok(file) => Ok(file),
+        Err(ErrorKind::NotFound) => match open_there(rt, path, true) {
+            Ok(file) => Ok(file),
+            // another process was quicker
+            Err(ErrorKind::AlreadyExists) => open_there(rt, path, false).map_err(
+                |_| FileFault::Device,
+            ),
+            Err(_) => Err(FileFault::Device),
+        },
+        Err(_) => Err(FileFault::Device),
+    }
+}
+
+/// Opens a file for reading and appending: one that is there, or one that is made now, in the very folder that the path
+/// names.
+fn open_there<R: Files<File = File>>(rt: &R, path: &str, is_new: bool) -> Result<File, ErrorKind> {
+    let opened = OpenOptions::new()
+        .read(true)
+        .append(true)
+        .create_new(is_new)
+        .open(rt, path);
+    match opened {
+        Ok(file) => Ok(file),
+        Err(error) => Err(error.kind()),
+    }
+}
+
+/// Has the names of the file's folder on the disk, so that the file is there after a crash. At each start, since a crash
+/// may have come before an earlier one did so.
+fn sync_folder<R: Files<File = File>>(rt: &R, path: &str) -> Result<(), FileFault> {
+    let folder = match Path::new(path).parent() {
+        Some(parent) if !parent.path_text().is_empty() => parent,
+        _ => Path::new("."),
+    };
+    match File::open(rt, folder) {
+        Ok(folder) => match folder.sync_all() {
+            Ok(()) => Ok(()),
+            Err(_) => Err(FileFault::Device),
+        },
+        Err(_) => Err(FileFault::Device),
     }
 }
 

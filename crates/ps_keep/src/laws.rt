@@ -1,9 +1,8 @@
 //! Laws of journals.
-ghost use Rattle.std.specs.Prelude.{◌≡◌, ◌<◌, ℕ, Bool, List, length};
-ghost use Rattle.ps_keep.specs.Crash.{IsLeft, IsTorn, SurvivesCrashes, SurvivesTears};
+ghost use Rattle.std.specs.Prelude.{◌≡◌, ℕ, List, length};
+ghost use Rattle.ps_keep.specs.Crash.{IsLeft, SurvivesCrashes, SurvivesTears};
 ghost use Rattle.ps_keep.specs.Journals.{IsJournal, JournalView};
 ghost use Rattle.ps_keep.specs.Lines.{text, whole_lines};
-ghost use Rattle.ps_keep.specs.Openings.{AllGood, IsFirstFault};
 
 /// Whatever a crash leaves of a journal's file, its lines begin with all that were acknowledged, and are a beginning of
 /// all that were noted.
@@ -33,14 +32,4 @@ pub fn reading_twice()
 pub fn a_start_may_crash()
     ensures { (bytes left : List ℕ) → IsLeft bytes (length (text (whole_lines bytes))) left
         → whole_lines left ≡ whole_lines bytes }
-{}
-
-/// Where a crash has torn the end of a file, and a line of what it left isn't taken, that line stands after all that
-/// were acknowledged.
-///
-/// Cost: none.
-pub fn faults_come_after_the_acknowledged()
-    ensures { (j : JournalView) (left : List ℕ) (is_good : List ℕ → Bool) (number : ℕ) → IsJournal j
-        → IsTorn j.written j.synced left → AllGood is_good j.kept
-        → IsFirstFault is_good (whole_lines left) number → length j.kept < number }
 {}

@@ -1,30 +1,28 @@
 //! A journal: lines that outlive a crash.
 //!
 //! A [`Journal`] is a file that lines are appended to. A line is noted first, and acknowledged once a settle has all
-//! that were noted on the disk: so one sync serves many lines. [`open`] is the start: each whole line of the file is
-//! handed to a [`Taker`], and a piece after the last line feed, which a crash amid a write has left, is cut off.
+//! that were noted on the disk: so one sync serves many lines. At the start [`first_line`] reads the whole lines of the
+//! file one after another, and [`open`] makes it a journal; a piece after the last line feed, which a crash amid a
+//! write has left, is cut off.
 //!
-//! It is not the sheet: it knows no deltas and no replies, and which lines a file may have is the taker's word. It
+//! It is not the sheet: it knows no deltas and no replicas, and which lines a file may have is its caller's word. It
 //! starts no thread and keeps no lock but that of the file, which ends with the process.
 //!
 //! The contracts to use: that of [`Journal::settle`], after which all lines noted are kept, or after a failure those
-//! that were; that of [`open`], after which the journal's lines are the whole lines of the file, each of them taken, or
-//! which names the first line that isn't taken and gives the file back as it was; and the laws, whatever a crash leaves
-//! of the file: its lines begin with all that were acknowledged, and are a beginning of those that were noted.
+//! that were; that of [`open`], after which the journal's lines are the whole lines of the file; and the laws, whatever
+//! a crash leaves of the file: its lines begin with all that were acknowledged, and are a beginning of those that were
+//! noted. Only [`open`] cuts a file, and it takes it: so whoever reads a file first and refuses it leaves it as it was.
 //!
 //! The devices: memory ([`MemoryFile`], [`MemoryDevice`]), which can fail and crash, and a file of the system
 //! ([`FoundFile`], [`KeptFile`]). Of the latter, clauses say what its calls were told; that the system keeps what it
 //! synced, in order, is trusted.
 //!
-//! From a file of `ab`, `cd` and a piece `e`, [`open`] hands `ab` and `cd` to the taker and cuts `e` off; after a note
-//! of `fg` and a settle the file is `ab`, `cd` and `fg`, each with its line feed.
+//! From a file of `ab`, `cd` and a piece `e`, [`first_line`] reads `ab`, then `cd`, then none, and [`open`] cuts `e`
+//! off; after a note of `fg` and a settle the file is `ab`, `cd` and `fg`, each with its line feed.
 //!
-//! No crate uses it yet.
-//!
-//! Cost: a start is linear in the file, and has its bytes in memory; a settle is one append and one sync.
+//! Cost: a file that is found has its bytes in memory; a settle is one append and one sync.
 #![tactic(auto)]
 
-mod collected;
 mod device;
 mod file;
 mod journal;
@@ -33,13 +31,11 @@ mod memory;
 mod opening;
 mod trace;
 
-pub use collected::Collected;
 pub use device::{Device, Found};
 pub use file::{FileFault, FoundFile, KeptFile};
 pub use journal::Journal;
 pub use laws::{
-    a_start_may_crash, crashes_keep_the_acknowledged, faults_come_after_the_acknowledged,
-    reading_twice, tears_keep_the_acknowledged,
+    a_start_may_crash, crashes_keep_the_acknowledged, reading_twice, tears_keep_the_acknowledged,
 };
 pub use memory::{MemoryDevice, MemoryFile};
-pub use opening::{OpenFault, TakeFault, Taker, open};
+pub use opening::{first_line, open};

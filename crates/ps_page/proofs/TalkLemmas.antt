@@ -5,7 +5,7 @@ use Rattle.std.specs.Io.KnownBytes.{Appends, Consumes}
 use Rattle.std.proofs.lemmas.Grind.{flat_map-append}
 use Rattle.tungstenite.specs.Socket.{Socket}
 use Rattle.tungstenite.proofs.SocketLemmas.{appends-chain, consumes-chain}
-use Rattle.ps_page.specs.declared.session.Session.{Session}
+use Rattle.ps_page.specs.declared.session.ServerSession.{ServerSession}
 use Rattle.std.specs.Prelude.{OnOk, is_err}
 use Rattle.std.proofs.lemmas.List.{append-nil}
 use Rattle.tungstenite.proofs.SocketLemmas.{appends-nil, consumes-nil}
@@ -25,7 +25,7 @@ Talks-push heard told old mid new (x ∷ xs) t talks is turns =
     (talks.0, (talks.1.0, talks.1.1, Talks-push heard told talks.1.0 mid new xs t talks.1.2 is turns))
 
 pub Hands-chain : {R W : Type 0} (remaining : R → Option (List ℕ)) (contents : W → Option (List ℕ))
-    (before mid after : Session R W) (first second : List Turn)
+    (before mid after : ServerSession R W) (first second : List Turn)
     → Hands remaining contents before first mid → Hands remaining contents mid second after
     → Hands remaining contents before (first ++ second) after
 Hands-chain remaining contents before mid after first second a b = (
@@ -36,7 +36,7 @@ Hands-chain remaining contents before mid after first second a b = (
 )
 
 pub Hands-none : {R W : Type 0} (remaining : R → Option (List ℕ)) (contents : W → Option (List ℕ))
-    (before after : Session R W) → after ≡ before → Hands remaining contents before [] after
+    (before after : ServerSession R W) → after ≡ before → Hands remaining contents before [] after
 Hands-none remaining contents before after e =
     rw e ((appends-nil (contents before.writer), consumes-nil (remaining before.reader)))
 
@@ -46,7 +46,8 @@ use_ok (Err x) e p = cc
 
 -- what a session was asked, and what it replied, is one turn
 pub one_turn : {R W A E : Type 0} (remaining : R → Option (List ℕ)) (contents : W → Option (List ℕ))
-    (before after : Session R W) (line reply : List ℕ) (r : Result A E) → false ≡ is_err r → is_request line ≡ true
+    (before after : ServerSession R W) (line reply : List ℕ) (r : Result A E) → false ≡ is_err r → is_request line ≡
+    true
     → OnOk r (Appends (contents before.writer) (contents after.writer) (ended line))
     → OnOk r (Consumes (remaining before.reader) (remaining after.reader) reply)
     → OnOk r ((lines : List (List ℕ)) × IsReply lines × (reply ≡ text_of lines))
@@ -77,7 +78,7 @@ idle_kind m (inr (inr p)) = subst IsIdle (sym p.1) tt
 
 -- the last step ends the connection
 pub ends : {S R W : Type 0} (heard told : S → Option (List ℕ)) (remaining : R → Option (List ℕ))
-    (contents : W → Option (List ℕ)) (old mid new : Socket S) (before between after : Session R W) (end : End)
+    (contents : W → Option (List ℕ)) (old mid new : Socket S) (before between after : ServerSession R W) (end : End)
     (turns : List Turn) → Talks heard told old turns mid → Hands remaining contents before turns between
     → Stepped heard told remaining contents mid new between after (Some end)
     → Relayed heard told remaining contents old before after end

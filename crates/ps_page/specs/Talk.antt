@@ -7,7 +7,7 @@ use Rattle.websocket.specs.Content.{text}
 use Rattle.tungstenite.specs.Socket.{Socket, Reads, Writes, content_of}
 use Rattle.tungstenite.specs.declared.message.Message.{Message}
 use Rattle.ps_page.specs.Lines.{AppendsFront, IsReply, ended, is_request, text_of}
-use Rattle.ps_page.specs.declared.session.Session.{Session}
+use Rattle.ps_page.specs.declared.session.ServerSession.{ServerSession}
 use Rattle.ps_page.specs.declared.relay.End.{End}
 use Rattle.ps_page.specs.declared.relay.End.TheVariants.{BrowserLeft, NoLine, ServerLost}
 
@@ -62,7 +62,8 @@ IsLast (t ∷ u ∷ ts) = ⊥
 
 module _ {R W : Type 0} where
   -- what a session was asked is the lines of the turns, each with a line feed, and what it replied is their replies
-  abbrev pub Hands : (R → Option (List ℕ)) → (W → Option (List ℕ)) → Session R W → List Turn → Session R W → Type 0
+  abbrev pub Hands : (R → Option (List ℕ)) → (W → Option (List ℕ)) → ServerSession R W → List Turn → ServerSession R W
+      → Type 0
   Hands remaining contents old turns new =
       Appends (contents old.writer) (contents new.writer) (flat_map asked turns)
       × Consumes (remaining old.reader) (remaining new.reader) (flat_map replied turns)
@@ -71,7 +72,7 @@ module _ {S R W : Type 0} where
   -- one turn was made; or the end came in a turn: the browser's reply may be missing, and where the session failed
   -- it was sent a front of the line
   abbrev pub Stepped : (S → Option (List ℕ)) → (S → Option (List ℕ)) → (R → Option (List ℕ)) → (W → Option (List ℕ))
-      → Socket S → Socket S → Session R W → Session R W → Option End → Type 0
+      → Socket S → Socket S → ServerSession R W → ServerSession R W → Option End → Type 0
   Stepped heard told remaining contents old new before after None =
       (t : Turn) × IsTurn t × Turns heard told old t new × Hands remaining contents before (t ∷ []) after
   Stepped heard told remaining contents old new before after (Some ServerLost) =
@@ -83,9 +84,9 @@ module _ {S R W : Type 0} where
 
   -- the turns of a whole connection, and perhaps one whose reply the browser didn't get
   abbrev pub Relayed : (S → Option (List ℕ)) → (S → Option (List ℕ)) → (R → Option (List ℕ)) → (W → Option (List ℕ))
-      → Socket S → Session R W → Session R W → End → Type 0
+      → Socket S → ServerSession R W → ServerSession R W → End → Type 0
   Relayed heard told remaining contents old before after ServerLost =
-      (turns : List Turn) × (new : Socket S) × (between : Session R W) × (line : List ℕ)
+      (turns : List Turn) × (new : Socket S) × (between : ServerSession R W) × (line : List ℕ)
       × Talks heard told old turns new
       × Hands remaining contents before turns between × (is_request line ≡ true)
       × AppendsFront (contents between.writer) (contents after.writer) (ended line)

@@ -1,6 +1,6 @@
 //! The sessions that browsers take turns in.
 
-use crate::session::Session;
+use crate::session::ServerSession;
 use std::alloc::Global;
 use std::io::BufReader;
 use std::net::{Ipv4Addr, Net, TcpStream};
@@ -8,7 +8,7 @@ use std::sync::{Mutex, Wait};
 use std::time::Duration;
 
 /// A session over a connection.
-pub type Connected = Session<BufReader<TcpStream>, TcpStream>;
+pub type Connected = ServerSession<BufReader<TcpStream>, TcpStream>;
 
 /// How long a reply may take.
 const REPLY_SECONDS: u64 = 30;
@@ -57,11 +57,10 @@ impl Pool {
         self.open = self.open.saturating_sub(1);
     }
 
-    /// No session waits any more, and one that was in use has ended.
+    /// No session waits any more.
     fn start_anew(&mut self) {
         self.open = self.open.saturating_sub(self.idle.len());
         self.idle.clear();
-        self.leave();
     }
 
     /// A session that waits for the next browser.
@@ -72,7 +71,7 @@ impl Pool {
     }
 }
 
-/// A session for a browser: one that waits, or a new one.
+/// A session for a browser: one that waits and is still there, or a new one.
 pub fn take_session<R: Net<Stream = TcpStream> + Wait>(
     rt: &R,
     alloc: Global,
@@ -81,16 +80,39 @@ pub fn take_session<R: Net<Stream = TcpStream> + Wait>(
 ) -> Result<Connected, Lack> {
     let taken = pool.lock(rt).take();
     match taken {
-        Ok(session) => Ok(session),
-        Err(false) => Err(Lack::Room),
-        Err(true) => match connect(rt, alloc, from) {
-            Some(session) => Ok(session),
-            None => {
-                pool.lock(rt).leave();
-                Err(Lack::Server)
+        Ok(mut session) => {
+            if is_there(alloc, &mut session) {
+                return Ok(session);
             }
-        },
+            drop(session);
+            pool.lock(rt).start_anew();
+            open_session(rt, alloc, from, pool)
+        }
+        Err(false) => Err(Lack::Room),
+        Err(true) => open_session(rt, alloc, from, pool),
     }
+}
+
+/// Opens a session that is counted already.
+fn open_session<R: Net<Stream = TcpStream> + Wait>(
+    rt: &R,
+    alloc: Global,
+    from: u16,
+    pool: &Mutex<Pool>,
+) -> Result<Connected, Lack> {
+    match connect(rt, alloc, from) {
+        Some(session) => Ok(session),
+        None => {
+            pool.lock(rt).leave();
+            Err(Lack::Server)
+        }
+    }
+}
+
+/// Whether a session that waited still answers: its server may have ended it meanwhile, since nothing was sent.
+fn is_there(alloc: Global, session: &mut Connected) -> bool {
+    let mut reply = Vec::new(alloc);
+    session.ask(b"get A1", &mut reply).is_ok()
 }
 
 /// Gives a session back that waits for a line.
@@ -102,7 +124,9 @@ pub fn give_session<R: Wait>(rt: &R, pool: &Mutex<Pool>, session: Connected) {
 /// there again is found at the next try.
 pub fn end_session<R: Wait>(rt: &R, pool: &Mutex<Pool>, session: Connected) {
     drop(session);
-    pool.lock(rt).start_anew();
+    let mut pool = pool.lock(rt);
+    pool.start_anew();
+    pool.leave();
 }
 
 /// Opens a session.
@@ -114,5 +138,5 @@ fn connect<R: Net<Stream = TcpStream>>(rt: &R, alloc: Global, from: u16) -> Opti
     let _ = stream.set_write_timeout(Some(patience));
     let writer = stream.try_clone().ok()?;
     let reader = BufReader::new(alloc, stream).ok()?;
-    Some(Session::new(reader, writer))
+    Some(ServerSession::new(reader, writer))
 }

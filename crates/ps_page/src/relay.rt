@@ -5,7 +5,7 @@ ghost use Rattle.std.specs.List.{flat_map};
 ghost use Rattle.tungstenite.specs.Socket.{Socket};
 ghost use Rattle.ps_page.specs.Talk.{Relayed, Stepped};
 
-use crate::session::{Session, is_request};
+use crate::session::{ServerSession, is_request};
 use std::alloc::Global;
 use std::io::{BufRead, Read, Write};
 use tungstenite::{Message, NoMask, WebSocket};
@@ -25,7 +25,7 @@ pub enum End {
 pub fn relay_lines<S: Read + Write + Drop, R: BufRead + Drop, W: Write + Drop>(
     alloc: Global,
     socket: &mut WebSocket<S, NoMask>,
-    session: &mut Session<R, W>,
+    session: &mut ServerSession<R, W>,
 ) -> End
     ensures { Relayed S.remaining S.contents R.remaining W.contents socket.old session.old session.new result }
 {
@@ -43,7 +43,7 @@ pub fn relay_lines<S: Read + Write + Drop, R: BufRead + Drop, W: Write + Drop>(
 fn turn<S: Read + Write + Drop, R: BufRead + Drop, W: Write + Drop>(
     alloc: Global,
     socket: &mut WebSocket<S, NoMask>,
-    session: &mut Session<R, W>,
+    session: &mut ServerSession<R, W>,
     reply: &mut Vec<u8>,
 ) -> Option<End>
     ensures { Stepped S.remaining S.contents R.remaining W.contents

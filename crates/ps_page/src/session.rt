@@ -18,7 +18,7 @@ pub struct SessionFault;
 
 /// A session: where its lines go, and where the replies come from.
 #[derive(Drop)]
-pub struct Session<R: BufRead + Drop, W: Write + Drop> {
+pub struct ServerSession<R: BufRead + Drop, W: Write + Drop> {
     reader: R,
     writer: W,
 }
@@ -99,12 +99,12 @@ fn put_all<W: Write>(writer: &mut W, bytes: &[u8]) -> Result<(), SessionFault>
     Ok(())
 }
 
-impl<R: BufRead + Drop, W: Write + Drop> Session<R, W> {
+impl<R: BufRead + Drop, W: Write + Drop> ServerSession<R, W> {
     /// A session over these two.
-    pub fn new(reader: R, writer: W) -> Session<R, W>
+    pub fn new(reader: R, writer: W) -> ServerSession<R, W>
         ensures { result ≡ record { reader = reader; writer = writer } }
     {
-        Session { reader, writer }
+        ServerSession { reader, writer }
     }
 
     /// Sends one line, and puts the reply to it, each of its lines with a line feed, into `reply`.

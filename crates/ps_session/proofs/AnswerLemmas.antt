@@ -1,7 +1,9 @@
 -- What a sheet answers by the calls of a board is what a sheet answers a line.
-use Rattle.std.proofs.Common.{◌≡◌, ◌≢◌, ◌⊎◌, ◌<◌, ◌++◌, ◌∷◌, [], ◌∙◌, inl, inr, refl, ap, arith}
-use Rattle.std.proofs.Common.{ℕ, List, length, max, Result, Ok, Err}
-use Rattle.std.specs.Prelude.{IfErr, IfOk, IsOkAnd, drop, take, unwrap_or}
+use Rattle.std.proofs.Common.{◌≡◌, ◌≢◌, ◌⊎◌, ◌<◌, ◌≤◌, ◌++◌, ◌∷◌, [], ◌∙◌, inl, inr, refl, sym, ap, subst, arith}
+use Rattle.std.proofs.Common.{ℕ, List, length, map, max, Result, Ok, Err}
+use Rattle.std.specs.Prelude.{◌↔◌, IfErr, IfOk, IsOkAnd, drop, take, unwrap_or}
+use Rattle.std.proofs.lemmas.Bool.{cases_lt}
+use Rattle.std.proofs.lemmas.List.{length-map}
 use Rattle.ps_grid.specs.Rectangle.{spanned}
 use Rattle.ps_grid.specs.declared.refusal.Refusal.{Refusal}
 use Rattle.ps_grid.specs.declared.refusal.Refusal.TheVariants as refusals
@@ -11,7 +13,8 @@ use Rattle.ps_sheet.specs.Sheet.{SheetView}
 use Rattle.ps_session.specs.Boards.{BoardAnswers, Obeyed}
 use Rattle.ps_session.specs.Commands.{Read, ReadsLine, with_part}
 use Rattle.ps_session.specs.Answers.{Answers, Edited, Obeys, TakesMemory}
-use Rattle.ps_session.specs.Replies.{done_text, entries_reply, entry_reply, refusal_text, rows_text, value_text}
+use Rattle.ps_session.specs.Replies.{done_text, entries_reply, entry_reply, refusal_text, replica_text, rows_text}
+use Rattle.ps_session.specs.Replies.{value_text}
 use Rattle.ps_session.specs.SheetBoard.{SheetCalls, SheetPulls}
 use Rattle.ps_session.specs.declared.command.Command.{Command}
 use Rattle.ps_session.specs.declared.command.Command.TheVariants as commands
@@ -23,11 +26,27 @@ memory_or_other refusals.Memory = inl refl
 memory_or_other _ = inr (λ is. cc)
 
 -- deltas of the history before its end
-pub sheet_pulls : {V : Type 0} (deltas : V → List Entries) (old : SheetView) (from most : ℕ) (r : Result V Refusal)
-    → from < length old.history → IfOk r (λ v. deltas v ≡ take most (drop from old.history))
-    → IfErr r (λ e. e ≡ refusals.Memory) → SheetPulls old from most (with_part deltas r) old
-sheet_pulls deltas old from most (Ok v) inside is memory = (omega (arith, inside), is, refl)
-sheet_pulls deltas old from most (Err e) inside is memory = (inr (memory, inside), refl)
+pub sheet_pulls : {V X : Type 0} (deltas : V → List Entries) (value : X → Entries) (xs : List X) (old : SheetView)
+    (from most : ℕ) (r : Result V Refusal)
+    → map value xs ≡ old.history → IfOk r (λ v. deltas v ≡ take most (drop from (map value xs)))
+    → (r ≡ Err refusals.Version) ↔ (length xs < from) → (r ≡ Err refusals.Memory → from < length xs)
+    → IfErr r (λ e. (e ≡ refusals.Version) ⊎ (e ≡ refusals.Memory))
+    → SheetPulls old from most (with_part deltas r) old
+sheet_pulls {V = V} deltas value xs old from most (Ok v) history is above memory refused =
+    let within : from ≤ length xs = elim (cases_lt (length xs) from) [
+      | inl lt ↦ let no : ◌≡◌ {A = Result V Refusal} (Ok v) (Err refusals.Version) = above.1 lt in absurd cc
+      | inr le ↦ le
+    ] in (
+      subst (λ n. from ≤ n) (sym (length-map xs value) ∙ ap length history) within,
+      is ∙ ap (λ h. take most (drop from h)) history,
+      refl,
+    )
+sheet_pulls deltas value xs old from most (Err e) history is above memory (inl version) = (
+  inl (version, subst (λ n. n < from) (sym (length-map xs value) ∙ ap length history) (above.0 (ap Err version))),
+  refl,
+)
+sheet_pulls deltas value xs old from most (Err e) history is above memory (inr lacks) =
+    (inr (lacks, subst (λ n. from < n) (sym (length-map xs value) ∙ ap length history) (memory (ap Err lacks))), refl)
 
 edited_of : (made : Result Entries Refusal) (history next : List Entries) (number : ℕ) (text : List ℕ)
     → IsOkAnd made (λ d. next ≡ history ++ d ∷ []) → number ≡ length next → text ≡ done_text number
@@ -125,6 +144,8 @@ module _ (old new : SheetView) (line text : List ℕ) where
       lacks (Ok (commands.Push delta)) reads tt (told ∙ ap refusal_text memory.0) memory.1
   obeyed (Ok (commands.Push delta)) reads (inr memory) =
       lacks (Ok (commands.Push delta)) reads tt memory.1 memory.0
+  obeyed (Ok (commands.Replica named)) reads (number, told, is) =
+      serves (commands.Replica named) reads (stays told.1, is ∙ ap replica_text told.0) (replica_stays told.1)
   obeyed (Err refusal) reads refused = elim (memory_or_other refusal) [
     | inl is ↦ lacks (Err refusal) reads is (refused.1 ∙ ap refusal_text is) refused.0
     | inr other ↦ inl (record {

@@ -15,14 +15,15 @@ use Rattle.ps_sheet.specs.declared.edit.Edit.{Edit}
 use Rattle.ps_sheet.specs.declared.edit.Edit.TheVariants as edits
 use Rattle.ps_sheet.specs.Edits.{assigned, delta_of_edit}
 use Rattle.ps_session.specs.Commands.{AsksOfCell, AsksOfRectangle, AtNumber, Read, ReadsChange, ReadsLine, ReadsPair}
-use Rattle.ps_session.specs.Commands.{ReadsPull, ReadsPush, ReadsSet, ReadsVerb, group_size, verb_of}
+use Rattle.ps_session.specs.Commands.{ReadsPull, ReadsPush, ReadsReplica, ReadsSet, ReadsVerb, group_size}
+use Rattle.ps_session.specs.Commands.{replica_number, verb_of}
 use Rattle.ps_session.specs.EditLines.{HasLine, IsEdit, named_count}
 use Rattle.ps_session.specs.Words.{after_word, first_word, words, whole_number}
 use Rattle.ps_session.specs.declared.command.Command.{Command}
 use Rattle.ps_session.specs.declared.command.Command.TheVariants as commands
 use Rattle.ps_session.specs.declared.verb.Verb.{Verb}
 use Rattle.ps_session.specs.declared.verb.Verb.TheVariants.{Add, Choose, Entries as AllEntries, Entry, Get, Pull, Push}
-use Rattle.ps_session.specs.declared.verb.Verb.TheVariants.{Rows, Set, Sub, Unchoose}
+use Rattle.ps_session.specs.declared.verb.Verb.TheVariants.{Replica, Rows, Set, Sub, Unchoose}
 use Rattle.ps_session.proofs.EditLineLemmas.{add_passes, batch_passes, choose_passes, sub_passes, unchoose_passes}
 use Rattle.ps_session.proofs.EntryLemmas.{content_read}
 
@@ -51,6 +52,7 @@ AsksInRange (Ok (commands.Entry c)) = Unit {0}
 AsksInRange (Ok (commands.Entries c d)) = Unit {0}
 AsksInRange (Ok (commands.Pull from most)) = Unit {0}
 AsksInRange (Ok (commands.Push d)) = HasLine d
+AsksInRange (Ok (commands.Replica named)) = Unit {0}
 AsksInRange (Err refusal) = Unit {0}
 
 number_in_grid : (c : ℕ) (refusal : Refusal) (found : Option ℕ) (p : ℕ × ℕ) (read : Read (ℕ × ℕ)) → read ≡ Ok p
@@ -119,6 +121,16 @@ push_in_range (word ∷ others) line read (Ok d, reads, is) =
     subst AsksInRange (sym is) (record { lawful = reads.line.lawful; fits = (decoded_fit line d reads.line).1 })
 push_in_range (word ∷ others) line read (Err e, reads, is) = subst AsksInRange (sym is) tt
 
+replica_in_range : (others : List (List ℕ)) (read : Read Command) → ReadsReplica others read → AsksInRange read
+replica_in_range [] read is = subst AsksInRange (sym is) tt
+replica_in_range (number ∷ []) read reads = at (replica_number (whole_number number)) reads
+  where
+    at : (n : Option ℕ) → MatchOption n (read ≡ Err refusals.Replica) (λ n. read ≡ Ok (commands.Replica (Some n)))
+        → AsksInRange read
+    at None is = subst AsksInRange (sym is) tt
+    at (Some n) is = subst AsksInRange (sym is) tt
+replica_in_range (number ∷ second ∷ more) read is = subst AsksInRange (sym is) tt
+
 verb_in_range : (verb : Option Verb) (others : List (List ℕ)) (rest : List ℕ) (read : Read Command)
     → ReadsVerb verb others rest read → AsksInRange read
 verb_in_range None others rest read is = subst AsksInRange (sym is) tt
@@ -140,6 +152,7 @@ verb_in_range (Some AllEntries) others rest read reads =
     rectangle_in_range (λ c d. commands.Entries c d) others read (λ c d. tt) reads
 verb_in_range (Some Push) others rest read reads = push_in_range others rest read reads
 verb_in_range (Some Pull) others rest read reads = pull_in_range others read reads
+verb_in_range (Some Replica) others rest read reads = replica_in_range others read reads
 
 pub line_in_range : (line : List ℕ) (read : Read Command) → ReadsLine line read → AsksInRange read
 line_in_range line read reads =

@@ -16,7 +16,7 @@ use Rattle.ps_session.specs.Inside.Holds.{Holds, as_one}
 use Rattle.ps_session.specs.declared.session.Line.{Line}
 use Rattle.ps_session.specs.declared.session.Line.TheVariants as lines
 use Rattle.ps_session.proofs.HoldsLemmas.{fits_kept}
-use Rattle.ps_session.proofs.OneLineMore.{Run-push, answered-push}
+use Rattle.ps_session.proofs.OneLineMore.{Run-push, counted-push, counted_from_none}
 
 -- one turn more, as the code takes it
 pub read-more : (read bytes : List ℕ) (start taken : ℕ)
@@ -48,10 +48,48 @@ long_filled : (rest : List ℕ) → kept rest ≡ None → 0 < length rest
 long_filled [] is = search (rules, is)
 long_filled (b ∷ bs) is = omega arith
 
-module _ {State : Type 0} (Handles : Answering State) (first : State) (written : Option (List ℕ)) (read : List ℕ)
+-- the rest is a line, and the session holds it
+pub end_held : (before after : Reading) (rest : List ℕ) (line : Line)
+    → line ≢ lines.None → Ends before after line → before.pending ≡ kept rest
+    → Holds line after rest × (0 < length rest)
+end_held before after rest lines.None some ends held = absurd (some refl)
+end_held before after rest lines.Full some ends held =
+    let is = sym held ∙ ends.0 in
+    (is, subst (λ l. 0 < length l) (sym (fits_kept rest after.line is).1) ends.2)
+end_held before after rest lines.TooLong some ends held =
+    let is = sym held ∙ ends.0 in (is, long_filled rest is)
+
+-- the rest was answered, if it is a line
+pub end_ran : {State : Type 0} (Handles : Answering State) (old new : State) (before after : Reading) (line : Line)
+    → line ≢ lines.None → Ends before after line
+    → ((raw : List ℕ) → Holds line after raw → (reply : List ℕ) × Handles old raw reply new)
+    → (rest : List ℕ) → before.pending ≡ kept rest
+    → (text : List ℕ) × Run Handles old (with_last [] rest) text new
+end_ran Handles old new before after line some ends replied rest is =
+    let held = end_held before after rest line some ends is in
+    let r = replied rest held.0 in (
+      r.0,
+      subst (λ ls. Run Handles old ls r.0 new) (sym (with_last-filled [] rest held.1))
+          (r.0, new, [], r.1, sym (append-nil r.0), (refl, refl)),
+    )
+
+-- .. and nothing where there is none
+pub none_ran : {State : Type 0} (Handles : Answering State) (board : State) (before after : Reading)
+    → Ends before after lines.None → (rest : List ℕ) → before.pending ≡ kept rest
+    → (text : List ℕ) × Run Handles board (with_last [] rest) text board
+none_ran Handles board before after ends rest is = (
+  [],
+  subst (λ r. Run Handles board (with_last [] r) [] board) (sym (nothing_kept rest (sym is ∙ ends.0))) (
+    refl,
+    refl,
+  ),
+)
+
+module _ {State : Type 0} (Handles : Answering State) (first : State) (written : Option (List ℕ)) (base : ℕ)
+    (read : List ℕ)
   where
     pub end_none : (board : State) (before after : Reading) (contents : Option (List ℕ)) (answered : ℕ)
-        → Ends before after lines.None → Stands Handles first written read board before.pending contents answered
+        → Ends before after lines.None → Stands Handles first written 0 read board before.pending contents answered
         → Transcribed Handles first written read board contents answered
     end_none board before after contents answered ends s =
         let all : with_last s.lines s.rest ≡ s.lines = ap (with_last s.lines) (nothing_kept s.rest (sym s.held
@@ -63,30 +101,18 @@ module _ {State : Type 0} (Handles : Answering State) (first : State) (written :
           split = s.split;
           run = subst (λ ls. Run Handles first ls s.text board) (sym all) s.run;
           sent = s.sent;
-          counted = s.counted ∙ ap answered_count (sym all);
+          counted = counted_from_none s.lines answered s.counted ∙ ap answered_count (sym all);
         }
-
-    -- the rest is a line, and the session holds it
-    pub end_held : (board : State) (before after : Reading) (contents : Option (List ℕ)) (answered : ℕ) (line : Line)
-        → line ≢ lines.None → Ends before after line
-        → (s : Stands Handles first written read board before.pending contents answered)
-        → Holds line after s.rest × (0 < length s.rest)
-    end_held board before after contents answered lines.None some ends s = absurd (some refl)
-    end_held board before after contents answered lines.Full some ends s =
-        let is = sym s.held ∙ ends.0 in
-        (is, subst (λ l. 0 < length l) (sym (fits_kept s.rest after.line is).1) ends.2)
-    end_held board before after contents answered lines.TooLong some ends s =
-        let is = sym s.held ∙ ends.0 in (is, long_filled s.rest is)
 
     pub end_line : (old new : State) (before after : Reading) (contents more : Option (List ℕ)) (answered counted : ℕ)
         (line : Line)
         → line ≢ lines.None → Ends before after line
         → ((raw : List ℕ) → Holds line after raw → (reply : List ℕ) × Handles old raw reply new
         × Appends contents more reply × (counted ≡ min (answered + as_one (has_reply raw)) (2 ^ 64 - 1)))
-        → Stands Handles first written read old before.pending contents answered
+        → Stands Handles first written 0 read old before.pending contents answered
         → Transcribed Handles first written read new more counted
     end_line old new before after contents more answered counted line some ends replied s =
-        let held = end_held old before after contents answered line some ends s in
+        let held = end_held before after s.rest line some ends s.held in
         let r = replied s.rest held.0 in
         let all : with_last s.lines s.rest ≡ s.lines ++ s.rest ∷ [] = with_last-filled s.lines s.rest held.1 in
         record {
@@ -97,7 +123,9 @@ module _ {State : Type 0} (Handles : Answering State) (first : State) (written :
           run = subst (λ ls. Run Handles first ls (s.text ++ r.0) new) (sym all) (Run-push Handles s.lines first old
               new s.text r.0 s.rest s.run r.1);
           sent = Appends-append written contents more s.text r.0 s.sent r.2;
-          counted = answered-push s.lines s.rest answered counted s.counted r.3 ∙ ap answered_count (sym all);
+          counted = counted_from_none (s.lines ++ s.rest ∷ []) counted
+              (counted-push 0 s.lines s.rest answered counted s.counted r.3)
+              ∙ ap answered_count (sym all);
         }
 
     pub end_cut : (old new : State) (before after : Reading) (contents more : Option (List ℕ)) (answered : ℕ) (line :
@@ -105,10 +133,10 @@ module _ {State : Type 0} (Handles : Answering State) (first : State) (written :
         → line ≢ lines.None → Ends before after line
         → ((raw : List ℕ) → Holds line after raw → (reply : List ℕ) × (count : ℕ) × Handles old raw reply new
         × (count < length reply) × Appends contents more (take count reply))
-        → Stands Handles first written read old before.pending contents answered
+        → Stands Handles first written 0 read old before.pending contents answered
         → Cut Handles ⊤ first written read new more
     end_cut old new before after contents more answered line some ends replied s =
-        let held = end_held old before after contents answered line some ends s in
+        let held = end_held before after s.rest line some ends s.held in
         let r = replied s.rest held.0 in
         record {
           lines = s.lines;
@@ -130,7 +158,7 @@ module _ {State : Type 0} (Handles : Answering State) (first : State) (written :
 
     -- the source failed: the complete lines were answered
     pub stands_answered : (board : State) (pending contents : Option (List ℕ)) (answered : ℕ)
-        → Stands Handles first written read board pending contents answered
+        → Stands Handles first written base read board pending contents answered
         → Answered Handles first written read board contents
     stands_answered board pending contents answered s =
         record { lines = s.lines; rest = s.rest; text = s.text; split = s.split; run = s.run; sent = s.sent }
@@ -138,8 +166,8 @@ module _ {State : Type 0} (Handles : Answering State) (first : State) (written :
     -- what was put was handed on
     pub stands_settled : (board : State) (pending contents after : Option (List ℕ)) (answered : ℕ)
         → Keeps contents after
-        → Stands Handles first written read board pending contents answered
-        → Stands Handles first written read board pending after answered
+        → Stands Handles first written base read board pending contents answered
+        → Stands Handles first written base read board pending after answered
     stands_settled board pending contents after answered same s = record {
       lines = s.lines;
       rest = s.rest;
@@ -200,11 +228,12 @@ module _ {State : Type 0} (Handles : Answering State) (first : State) (written :
 
     pub stands_more : (bytes : List ℕ) (start taken : ℕ) (board : State) (pending contents : Option (List ℕ)) (answered
         : ℕ)
-        → Stands Handles first written ((read ++ take start bytes) ++ take taken (take (length bytes - start) (drop
+        → Stands Handles first written base ((read ++ take start bytes) ++ take taken (take (length bytes - start) (drop
         start bytes))) board pending contents answered
-        → Stands Handles first written (read ++ take (start + taken) bytes) board pending contents answered
+        → Stands Handles first written base (read ++ take (start + taken) bytes) board pending contents answered
     stands_more bytes start taken board pending contents answered s =
-        subst (λ r. Stands Handles first written r board pending contents answered) (read-more read bytes start taken) s
+        subst (λ r. Stands Handles first written base r board pending contents answered)
+        (read-more read bytes start taken) s
 
     pub cut_rest : (bytes : List ℕ) (start : ℕ) (board : State) (contents : Option (List ℕ))
         → Cut Handles ⊥ first written ((read ++ take start bytes) ++ take (length bytes - start) (drop start bytes))
@@ -224,7 +253,7 @@ turn_within bytes start taken lt le =
 -- nothing is read yet
 pub stands_first : {State : Type 0} (Handles : Answering State) (board : State) (contents pending : Option (List ℕ))
     → pending ≡ Some []
-    → Stands Handles board contents [] board pending contents 0
+    → Stands Handles board contents 0 [] board pending contents 0
 stands_first Handles board contents pending is = record {
   lines = [];
   rest = [];

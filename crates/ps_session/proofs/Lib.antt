@@ -1,10 +1,13 @@
+mod CoveredLemmas
 mod FeedLemmas
+mod HeldLemmas
 mod OneLineMore
 mod SendLemmas
 mod HoldsLemmas
 mod OnePieceMore
 mod InputReadToEnd
 mod ReadLemmas
+mod PartLemmas
 mod IncomingLemmas
 mod ExchangeLemmas
 pub mod Runs

@@ -13,7 +13,7 @@ use Rattle.ps_session.specs.declared.session.TheConstants.{LINE_LIMIT}
 use Rattle.ps_session.specs.Feeding.{HasNoFeed, kept, kept_after}
 use Rattle.ps_session.specs.Transcript.{Answering, Run, stream_of, has_reply, answered_count}
 use Rattle.ps_session.specs.Transcript.{Cut}
-use Rattle.ps_session.specs.Inside.Stands.{Stands}
+use Rattle.ps_session.specs.Inside.Stands.{Stands, counted_from}
 
 -- a run with one more line
 pub Run-push : {State : Type 0} (Line : Answering State) (lines : List (List ℕ)) (old middle new : State) (text reply
@@ -67,21 +67,29 @@ stream-push lines line =
 min-more : (a b bound : ℕ) → min (min a bound + b) bound ≡ min (a + b) bound
 min-more a b bound = omega arith
 
-pub answered-push : (lines : List (List ℕ)) (line : List ℕ) (before after : ℕ) → before ≡ answered_count lines
-    → after ≡ min (before + cond (has_reply line) 1 0) (2 ^ 64 - 1) → after ≡ answered_count (lines ++ line ∷ [])
-answered-push lines line before after is next =
-    let grows : count_by has_reply (lines ++ line ∷ []) ≡ count_by has_reply lines + cond (has_reply line) 1 0 =
+pub counted-push : (base : ℕ) (lines : List (List ℕ)) (line : List ℕ) (before after : ℕ)
+    → before ≡ counted_from base lines
+    → after ≡ min (before + cond (has_reply line) 1 0) (2 ^ 64 - 1) → after ≡ counted_from base (lines ++ line ∷ [])
+counted-push base lines line before after is next =
+    let one : ℕ = cond (has_reply line) 1 0 in
+    let grows : count_by has_reply (lines ++ line ∷ []) ≡ count_by has_reply lines + one =
     fold-append (λ n l. n + cond (has_reply l) 1 0) 0 lines (line ∷ []) in
-    let sum : answered_count lines ≡ min (count_by has_reply lines) (2 ^ 64 - 1) = refl in
-    next ∙ ap (λ n. min (n + cond (has_reply line) 1 0) (2 ^ 64 - 1)) (is ∙ sum)
-    ∙ min-more (count_by has_reply lines) (cond (has_reply line) 1 0) (2 ^ 64 - 1)
-    ∙ ap (λ n. min n (2 ^ 64 - 1)) (sym grows)
+    next ∙ ap (λ n. min (n + one) (2 ^ 64 - 1)) is ∙ min-more (base + count_by has_reply lines) one (2 ^ 64 - 1)
+    ∙ ap (λ n. min n (2 ^ 64 - 1)) (plus-assoc base (count_by has_reply lines) one ∙ ap (λ n. base + n) (sym grows))
+  where
+    plus-assoc : (a b c : ℕ) → a + b + c ≡ a + (b + c)
+    plus-assoc a b c = omega arith
 
-module _ {State : Type 0} (Line : Answering State) (first : State) (written : Option (List ℕ)) where
+-- from none on it is the count of the lines
+pub counted_from_none : (lines : List (List ℕ)) (answered : ℕ) → answered ≡ counted_from 0 lines
+    → answered ≡ answered_count lines
+counted_from_none lines answered is = omega (arith, is)
+
+module _ {State : Type 0} (Line : Answering State) (first : State) (written : Option (List ℕ)) (base : ℕ) where
   -- a part of a line
   pub stands_part : (read : List ℕ) (last : State) (pending contents : Option (List ℕ)) (answered : ℕ) (part : List ℕ)
-      → Stands Line first written read last pending contents answered → HasNoFeed part
-      → Stands Line first written (read ++ part) last (kept_after pending part) contents answered
+      → Stands Line first written base read last pending contents answered → HasNoFeed part
+      → Stands Line first written base (read ++ part) last (kept_after pending part) contents answered
   stands_part read last pending contents answered part s free = record {
     lines = s.lines;
     rest = s.rest ++ part;
@@ -100,10 +108,10 @@ module _ {State : Type 0} (Line : Answering State) (first : State) (written : Op
   -- the rest of a line, its line feed, and its reply
   pub stands_line : (read : List ℕ) (last new : State) (pending contents after : Option (List ℕ)) (answered counted :
       ℕ) (part reply : List ℕ)
-      → (s : Stands Line first written read last pending contents answered) → HasNoFeed part
+      → (s : Stands Line first written base read last pending contents answered) → HasNoFeed part
       → Line last (s.rest ++ part) reply new → Appends contents after reply
       → counted ≡ min (answered + cond (has_reply (s.rest ++ part)) 1 0) (2 ^ 64 - 1)
-      → Stands Line first written (read ++ (part ++ 10 ∷ [])) new (Some []) after counted
+      → Stands Line first written base (read ++ (part ++ 10 ∷ [])) new (Some []) after counted
   stands_line read last new pending contents after answered counted part reply s free answers sent rises = record {
     lines = s.lines ++ (s.rest ++ part) ∷ [];
     rest = [];
@@ -118,13 +126,13 @@ module _ {State : Type 0} (Line : Answering State) (first : State) (written : Op
     run = Run-push Line s.lines first last new s.text reply (s.rest ++ part) s.run answers;
     held = refl;
     sent = Appends-append written contents after s.text reply s.sent sent;
-    counted = answered-push s.lines (s.rest ++ part) answered counted s.counted rises;
+    counted = counted-push base s.lines (s.rest ++ part) answered counted s.counted rises;
   }
 
   -- a reply that was cut, with more of the input after its line
   pub cut_line : (read : List ℕ) (last new : State) (pending contents after : Option (List ℕ)) (answered : ℕ) (part
       more reply : List ℕ) (count : ℕ)
-      → (s : Stands Line first written read last pending contents answered) → HasNoFeed part
+      → (s : Stands Line first written base read last pending contents answered) → HasNoFeed part
       → Line last (s.rest ++ part) reply new → count < length reply → Appends contents after (take count reply)
       → Cut Line ⊥ first written (read ++ (part ++ 10 ∷ more)) new after
   cut_line read last new pending contents after answered part more reply count s free answers short sent = record {

@@ -24,23 +24,24 @@ kept_whole before bytes rest wanted held ends = (
       ∙ ends.3,
 )
 
-module _ {State : Type 0} (Handles : Answering State) (first : State) (written : Option (List ℕ)) (read : List ℕ)
+module _ {State : Type 0} (Handles : Answering State) (first : State) (written : Option (List ℕ)) (base : ℕ)
+    (read : List ℕ)
   where
     -- no line ended
     pub part_stands : (board : State) (before after : Reading) (contents : Option (List ℕ)) (answered : ℕ) (bytes :
         List ℕ)
         → Feeds before after bytes lines.None
-        → Stands Handles first written read board before.pending contents answered
-        → Stands Handles first written (read ++ bytes) board after.pending contents answered
+        → Stands Handles first written base read board before.pending contents answered
+        → Stands Handles first written base (read ++ bytes) board after.pending contents answered
     part_stands board before after contents answered bytes fed s =
-        subst (λ p. Stands Handles first written (read ++ bytes) board p contents answered) (sym fed.1)
-        (stands_part Handles first written read board before.pending contents answered bytes s fed.0)
+        subst (λ p. Stands Handles first written base (read ++ bytes) board p contents answered) (sym fed.1)
+        (stands_part Handles first written base read board before.pending contents answered bytes s fed.0)
 
     -- a line ended: which bytes it has, and that the session holds it
     pub ended : (board : State) (before after : Reading) (contents : Option (List ℕ)) (answered : ℕ) (bytes : List ℕ)
         (line : Line)
         → line ≢ lines.None → Feeds before after bytes line
-        → (s : Stands Handles first written read board before.pending contents answered)
+        → (s : Stands Handles first written base read board before.pending contents answered)
         → (part : List ℕ) × (bytes ≡ part ++ 10 ∷ []) × HasNoFeed part × Holds line after (s.rest ++ part)
         × (after.pending ≡ Some [])
     ended board before after contents answered bytes lines.None some fed s = absurd (some refl)
@@ -57,14 +58,15 @@ module _ {State : Type 0} (Handles : Answering State) (first : State) (written :
         → line ≢ lines.None → Feeds before after bytes line
         → ((raw : List ℕ) → Holds line after raw → (reply : List ℕ) × Handles old raw reply new
         × Appends contents more reply × (counted ≡ min (answered + as_one (has_reply raw)) (2 ^ 64 - 1)))
-        → Stands Handles first written read old before.pending contents answered
-        → Stands Handles first written (read ++ bytes) new after.pending more counted
+        → Stands Handles first written base read old before.pending contents answered
+        → Stands Handles first written base (read ++ bytes) new after.pending more counted
     line_stands old new before after contents more answered counted bytes line some fed replied s =
         let e = ended old before after contents answered bytes line some fed s in
         let r = replied (s.rest ++ e.0) e.3 in
-        subst (λ b. Stands Handles first written (read ++ b) new after.pending more counted) (sym e.1)
-        (subst (λ p. Stands Handles first written (read ++ (e.0 ++ 10 ∷ [])) new p more counted) (sym e.4)
-        (stands_line Handles first written read old new before.pending contents more answered counted e.0 r.0 s e.2 r.1
+        subst (λ b. Stands Handles first written base (read ++ b) new after.pending more counted) (sym e.1)
+        (subst (λ p. Stands Handles first written base (read ++ (e.0 ++ 10 ∷ [])) new p more counted) (sym e.4)
+        (stands_line Handles first written base read old new before.pending contents more answered counted e.0 r.0 s
+        e.2 r.1
         r.2 r.3))
 
     -- .. or its reply was cut
@@ -73,7 +75,7 @@ module _ {State : Type 0} (Handles : Answering State) (first : State) (written :
         → line ≢ lines.None → Feeds before after (take taken piece) line
         → ((raw : List ℕ) → Holds line after raw → (reply : List ℕ) × (count : ℕ) × Handles old raw reply new
         × (count < length reply) × Appends contents more (take count reply))
-        → Stands Handles first written read old before.pending contents answered
+        → Stands Handles first written base read old before.pending contents answered
         → Cut Handles ⊥ first written (read ++ piece) new more
     line_cut old new before after contents more answered piece taken line some fed replied s =
         let e = ended old before after contents answered (take taken piece) line some fed s in
@@ -82,5 +84,6 @@ module _ {State : Type 0} (Handles : Answering State) (first : State) (written :
         sym (append_assoc e.0 (10 ∷ []) (drop taken piece)) ∙ ap (λ t. t ++ drop taken piece) (sym e.1)
         ∙ take-append-drop taken piece in
         subst (λ p. Cut Handles ⊥ first written (read ++ p) new more) whole
-        (cut_line Handles first written read old new before.pending contents more answered e.0 (drop taken piece) r.0
+        (cut_line Handles first written base read old new before.pending contents more answered e.0 (drop taken piece)
+        r.0
         r.1 s e.2 r.2 r.3 r.4)

@@ -13,13 +13,15 @@ use Rattle.ps_content.specs.declared.content.Content.TheVariants as contents
 use Rattle.ps_sheet.specs.declared.edit.Edit.{Edit}
 use Rattle.ps_session.specs.Commands.{group_size, AsksOfCell, AsksOfRectangle, AtCell, AtNumber, Assigns, NamesCell}
 use Rattle.ps_session.specs.Commands.{Read, ReadsChange, ReadsCorners, ReadsDelta, ReadsLine, ReadsOneCell, ReadsPair}
-use Rattle.ps_session.specs.Commands.{ReadsPull, ReadsPush, ReadsRectangle, ReadsSet, ReadsVerb, verb_of, with_part}
+use Rattle.ps_session.specs.Commands.{ReadsPull, ReadsPush, ReadsRectangle, ReadsReplica, ReadsSet, ReadsVerb}
+use Rattle.ps_session.specs.Commands.{replica_number, verb_of, with_part}
 use Rattle.ps_delta.specs.Deltas.{Entries}
 use Rattle.ps_session.specs.Words.{after_word, first_word, parts, whole_number, words}
 use Rattle.ps_session.specs.declared.command.Command.{Command}
+use Rattle.ps_session.specs.declared.command.Command.TheVariants as commands
 use Rattle.ps_session.specs.declared.verb.Verb.{Verb}
 use Rattle.ps_session.specs.declared.verb.Verb.TheVariants.{Add, Choose, Entries as AllEntries, Entry, Get, Pull, Push}
-use Rattle.ps_session.specs.declared.verb.Verb.TheVariants.{Rows, Set, Sub, Unchoose}
+use Rattle.ps_session.specs.declared.verb.Verb.TheVariants.{Replica, Rows, Set, Sub, Unchoose}
 
 -- memory was ample
 abbrev IsAmple : {X : Type 0} → Read X → Type 0
@@ -182,6 +184,16 @@ pull_once (from ∷ most ∷ []) a b x y = at_number_once (whole_number from) a 
     (λ n p q. at_number_once (group_size (whole_number most)) a b _ _ p q (λ m r s. r ∙ sym s))
 pull_once (from ∷ most ∷ third ∷ more) a b x y = x ∙ sym y
 
+replica_once : (others : List (List ℕ)) (a b : Read Command) → ReadsReplica others a → ReadsReplica others b → a ≡ b
+replica_once [] a b x y = x ∙ sym y
+replica_once (digits ∷ []) a b x y = at (replica_number (whole_number digits)) x y
+  where
+    at : (n : Option ℕ) → MatchOption n (a ≡ Err refusals.Replica) (λ n. a ≡ Ok (commands.Replica (Some n)))
+        → MatchOption n (b ≡ Err refusals.Replica) (λ n. b ≡ Ok (commands.Replica (Some n))) → a ≡ b
+    at None p q = p ∙ sym q
+    at (Some n) p q = p ∙ sym q
+replica_once (digits ∷ second ∷ more) a b x y = x ∙ sym y
+
 verb_once : (verb : Option Verb) (others : List (List ℕ)) (rest : List ℕ) (a b : Read Command)
     → ReadsVerb verb others rest a → ReadsVerb verb others rest b → IsAmple a → IsAmple b → a ≡ b
 verb_once None others rest a b x y ample_a ample_b = x ∙ sym y
@@ -197,6 +209,7 @@ verb_once (Some Entry) others rest a b x y ample_a ample_b = of_cell_once _ othe
 verb_once (Some AllEntries) others rest a b x y ample_a ample_b = of_rectangle_once _ others a b x y
 verb_once (Some Push) others rest a b x y ample_a ample_b = push_once others rest a b x y ample_a ample_b
 verb_once (Some Pull) others rest a b x y ample_a ample_b = pull_once others a b x y
+verb_once (Some Replica) others rest a b x y ample_a ample_b = replica_once others a b x y
 
 -- two readings of one line are the same, where neither lacked memory
 pub reads_once : (line : List ℕ) (a b : Read Command) → ReadsLine line a → ReadsLine line b

@@ -65,6 +65,7 @@ obeyed_once r history next after (Ok (commands.Pull from most)) text told inside
 obeyed_once r history next after (Ok (commands.Push d)) text told inside a b =
     let same : next ≡ after = taken_once d history next after a.0 b.0 in
     (a.1 ∙ ap (λ (h : List Entries). done_text (length h)) same ∙ sym b.1, same)
+obeyed_once r history next after (Ok (commands.Replica named)) text told inside a b = (a.1 ∙ sym b.1, a.0 ∙ sym b.0)
 obeyed_once r history next after (Err e) text told inside a b = (a.1 ∙ sym b.1, a.0 ∙ sym b.0)
 
 pushed_in_grid : (d : Entries) (history next : List Entries) → IsInGrid (joined_history history)
@@ -104,6 +105,8 @@ obeyed_in_grid r history next (Ok (commands.Pull from most)) text asks inside ob
     subst (λ (h : List Entries). IsInGrid (joined_history h)) (sym obeys.0) inside
 obeyed_in_grid r history next (Ok (commands.Push d)) text asks inside obeys =
     taken_in_grid d history next inside asks.lawful.in_grid obeys.0
+obeyed_in_grid r history next (Ok (commands.Replica named)) text asks inside obeys =
+    subst (λ (h : List Entries). IsInGrid (joined_history h)) (sym obeys.0) inside
 obeyed_in_grid r history next (Err e) text asks inside obeys =
     subst (λ (h : List Entries). IsInGrid (joined_history h)) (sym obeys.0) inside
 

@@ -1,5 +1,6 @@
--- No line changes the replica of a sheet, and none leaves a delta without a line.
-use Rattle.std.proofs.Common.{◌≡◌, ◌∙◌, ◌++◌, inl, inr, refl, sym, subst, ℕ, ◌≤◌, List, [], ◌∷◌, Result, Ok, Err}
+-- No line changes the replica of a sheet or takes a delta out of its history, and none leaves a delta without a line.
+use Rattle.std.proofs.Common.{◌≡◌, ◌∙◌, ◌++◌, inl, inr, refl, sym, ap, subst, ℕ, ◌≤◌, List, [], ◌∷◌, Result, Ok, Err}
+use Rattle.std.proofs.Common.{append-nil, append_assoc}
 use Rattle.std.specs.List.{All}
 use Rattle.std.proofs.lemmas.List.Elements.{All-push}
 use Rattle.ps_grid.specs.declared.parties.TheConstants.{REPLICAS}
@@ -13,6 +14,7 @@ use Rattle.ps_session.specs.declared.command.Command.TheVariants as commands
 use Rattle.ps_session.specs.Answers.{Answers, Edited, Obeys}
 use Rattle.ps_session.specs.Commands.{Read}
 use Rattle.ps_session.specs.EditLines.{HasLine}
+use Rattle.ps_session.specs.Keeping.{IsLater}
 use Rattle.ps_session.proofs.AskedInRange.{AsksInRange, is_edit, line_in_range}
 use Rattle.ps_session.proofs.EditLineLemmas.{edit_lines_fit, edits_are_lawful}
 
@@ -60,32 +62,76 @@ obeyed_lines r history next (Ok (commands.Pull from most)) text low high asks ob
     same_lines history next obeys.0 have
 obeyed_lines r history next (Ok (commands.Push d)) text low high asks obeys have =
     taken_lines d history next asks obeys.0 have
+obeyed_lines r history next (Ok (commands.Replica named)) text low high asks obeys have =
+    same_lines history next obeys.0 have
 obeyed_lines r history next (Err e) text low high asks obeys have = same_lines history next obeys.0 have
+
+-- ---- the history grows at its end
+
+-- more deltas after a history, or none
+abbrev Grows : List Entries → List Entries → Type 0
+Grows history next = (more : List Entries) × (next ≡ history ++ more)
+
+same_grows : (history next : List Entries) → next ≡ history → Grows history next
+same_grows history next is = ([], is ∙ sym (append-nil history))
+
+edited_grows : (made : Result Entries Refusal) (history next : List Entries) (text : List ℕ)
+    → Edited made history text next → Grows history next
+edited_grows (Ok d) history next text edited = (d ∷ [], edited.0)
+edited_grows (Err e) history next text edited = same_grows history next edited.0
+
+taken_grows : (d : Entries) (history next : List Entries) → Takes d history next → Grows history next
+taken_grows d history next (inl below) = same_grows history next below.1
+taken_grows d history next (inr fresh) = (d ∷ [], fresh.1)
+
+obeyed_grows : (r : ℕ) (history next : List Entries) (asked : Read Command) (text : List ℕ)
+    → Obeys r history asked text next → Grows history next
+obeyed_grows r history next (Ok (commands.Edit edit)) text obeys =
+    edited_grows (delta_of_edit r (joined_history history) edit) history next text obeys
+obeyed_grows r history next (Ok (commands.Get c)) text obeys = same_grows history next obeys.0
+obeyed_grows r history next (Ok (commands.Rows c d)) text obeys = same_grows history next obeys.0
+obeyed_grows r history next (Ok (commands.Entry c)) text obeys = same_grows history next obeys.0
+obeyed_grows r history next (Ok (commands.Entries c d)) text obeys = same_grows history next obeys.0
+obeyed_grows r history next (Ok (commands.Pull from most)) text obeys = same_grows history next obeys.0
+obeyed_grows r history next (Ok (commands.Push d)) text obeys = taken_grows d history next obeys.0
+obeyed_grows r history next (Ok (commands.Replica asked)) text obeys = same_grows history next obeys.0
+obeyed_grows r history next (Err e) text obeys = same_grows history next obeys.0
 
 -- ---- what stays
 
-pub record Keeps (old new : SheetView) : Type 0 where
-  pub replica : new.replica ≡ old.replica
-  pub lines : 1 ≤ old.replica → old.replica ≤ REPLICAS → HaveLines old.history → HaveLines new.history
+pub later_itself : (sheet : SheetView) → IsLater sheet sheet
+later_itself sheet = record {
+  replica = refl;
+  more = [];
+  history = sym (append-nil sheet.history);
+  lines = λ low high have. have;
+}
 
-pub keeps_itself : (sheet : SheetView) → Keeps sheet sheet
-keeps_itself sheet = record { replica = refl; lines = λ low high have. have }
-
-pub then_keeps : (old middle new : SheetView) → Keeps old middle → Keeps middle new → Keeps old new
-then_keeps old middle new a b = record {
+pub then_later : (old middle new : SheetView) → IsLater old middle → IsLater middle new → IsLater old new
+then_later old middle new a b = record {
   replica = b.replica ∙ a.replica;
+  more = a.more ++ b.more;
+  history = b.history ∙ ap (λ h. h ++ b.more) a.history ∙ append_assoc old.history a.more b.more;
   lines = λ low high have.
       b.lines (subst (λ r. 1 ≤ r) (sym a.replica) low) (subst (λ r. r ≤ REPLICAS) (sym a.replica) high)
       (a.lines low high have);
 }
 
-pub answered_keeps : (old new : SheetView) (line text : List ℕ) → Answers old line text new → Keeps old new
-answered_keeps old new line text (inl serves) = record {
-  replica = serves.replica;
-  lines = λ low high have. obeyed_lines old.replica old.history new.history serves.asked text low high
-      (line_in_range line serves.asked serves.reads) serves.obeys have;
-}
-answered_keeps old new line text (inr lacks) = record {
-  replica = lacks.replica;
-  lines = λ low high have. same_lines old.history new.history lacks.history have;
-}
+pub answered_later : (old new : SheetView) (line text : List ℕ) → Answers old line text new → IsLater old new
+answered_later old new line text (inl serves) =
+    let grows = obeyed_grows old.replica old.history new.history serves.asked text serves.obeys in
+    record {
+      replica = serves.replica;
+      more = grows.0;
+      history = grows.1;
+      lines = λ low high have. obeyed_lines old.replica old.history new.history serves.asked text low high
+          (line_in_range line serves.asked serves.reads) serves.obeys have;
+    }
+answered_later old new line text (inr lacks) =
+    let grows = same_grows old.history new.history lacks.history in
+    record {
+      replica = lacks.replica;
+      more = grows.0;
+      history = grows.1;
+      lines = λ low high have. same_lines old.history new.history lacks.history have;
+    }

@@ -1,13 +1,15 @@
 -- What the lines of a session do to what answers them, for any relation: where it is reflexive and transitive, and each
 -- answered line keeps it, it holds from what was there before the session to what is there after it, whatever the
--- session came to. A caller of `talk` hands `talked` the four clauses of what it returned.
-use Rattle.std.proofs.Common.{◌≡◌, inl, inr, refl, ℕ, Bool, true, false, List, [], ◌∷◌, Option, length, nat_le}
+-- session came to. A caller of `talk` hands `talked` the five clauses of what it returned.
+use Rattle.std.proofs.Common.{◌≡◌, ◌≢◌, ◌⊎◌, inl, inr, refl, ℕ, Bool, true, false, List, [], ◌∷◌, Option, length}
+use Rattle.std.proofs.Common.{nat_le}
 use Rattle.std.proofs.Common.{Result, Ok, Err}
 use Rattle.std.specs.Prelude.{IfOk, MatchBool}
 use Rattle.ps_session.specs.declared.session.TheConstants.{LINE_LIMIT}
 use Rattle.ps_session.specs.declared.transcript.RunFault.{RunFault}
 use Rattle.ps_session.specs.declared.transcript.RunFault.TheVariants as faults
 use Rattle.ps_session.specs.Feeding.{without_return}
+use Rattle.ps_session.specs.Keeping.{Halted}
 use Rattle.ps_session.specs.Transcript.{Answered, Answering, Cut, Lines, Replies, Run, Stopped, Transcribed}
 
 module _ {State : Type 0} (Q : State → State → Type 0) (same : (x : State) → Q x x)
@@ -30,7 +32,7 @@ module _ {State : Type 0} (Q : State → State → Type 0) (same : (x : State) �
   one_line old new line text handles =
       handled old new (without_return line) text _ (nat_le (length line) LINE_LIMIT) handles
 
-  all_lines : (old new : State) (lines : List (List ℕ)) (text : List ℕ) → Run (Lines Answers) old lines text new
+  pub all_lines : (old new : State) (lines : List (List ℕ)) (text : List ℕ) → Run (Lines Answers) old lines text new
       → Q old new
   all_lines old new [] text run = unchanged old new run.1
   all_lines old new (line ∷ lines) text run =
@@ -56,7 +58,11 @@ module _ {State : Type 0} (Q : State → State → Type 0) (same : (x : State) �
     stopped read ended (inr (inl all)) = all_answered read all
     stopped read ended (inr (inr end)) = transcribed read end.1 end.2
 
-    -- .. whatever a session came to
+    halted : (read : List ℕ) (ended : Type 0) → Halted (Lines Answers) ended first written read last contents
+        → Q first last
+    halted read ended t = all_lines first last _ _ t.run
+
+    -- .. whatever a session came to that has nothing kept
     pub talked : (Read : List ℕ → Type 0) (ended source sink : Type 0) (result : Result ℕ RunFault)
         → IfOk result (λ answered. (read : List ℕ) × Read read × ended
         × Transcribed (Lines Answers) first written read last contents answered)
@@ -64,9 +70,38 @@ module _ {State : Type 0} (Q : State → State → Type 0) (same : (x : State) �
         → (read : List ℕ) × Read read × Stopped (Lines Answers) ended first written read last contents)
         → (result ≡ Err faults.Source
         → (read : List ℕ) × Read read × Answered (Lines Answers) first written read last contents)
+        → result ≢ Err faults.Keep
         → (result ≡ Err faults.Memory → source × sink × (last ≡ first))
         → Q first last
-    talked Read ended source sink (Ok answered) all cut some none = transcribed all.0 answered all.3
-    talked Read ended source sink (Err faults.Sink) all cut some none = stopped (cut refl).0 ended (cut refl).2
-    talked Read ended source sink (Err faults.Source) all cut some none = all_answered (some refl).0 (some refl).2
-    talked Read ended source sink (Err faults.Memory) all cut some none = unchanged first last (none refl).2
+    talked Read ended source sink (Ok answered) all cut some kept none = transcribed all.0 answered all.3
+    talked Read ended source sink (Err faults.Sink) all cut some kept none = stopped (cut refl).0 ended (cut refl).2
+    talked Read ended source sink (Err faults.Source) all cut some kept none = all_answered (some refl).0 (some refl).2
+    talked Read ended source sink (Err faults.Keep) all cut some kept none = absurd (kept refl)
+    talked Read ended source sink (Err faults.Memory) all cut some kept none = unchanged first last (none refl).2
+
+    -- .. and one that has a keeper
+    pub talked_kept : (Read : List ℕ → Type 0) (ended can_fail source sink keeper : Type 0) (result : Result ℕ RunFault)
+        → IfOk result (λ answered. (read : List ℕ) × Read read × ended
+        × Transcribed (Lines Answers) first written read last contents answered)
+        → (result ≡ Err faults.Sink → (read : List ℕ) × Read read
+        × (Stopped (Lines Answers) ended first written read last contents
+        ⊎ Halted (Lines Answers) ended first written read last contents))
+        → (result ≡ Err faults.Source
+        → (read : List ℕ) × Read read × Answered (Lines Answers) first written read last contents)
+        → (result ≡ Err faults.Keep
+        → can_fail × (read : List ℕ) × Read read × Halted (Lines Answers) ended first written read last contents)
+        → (result ≡ Err faults.Memory → source × sink × (last ≡ first) × keeper)
+        → Q first last
+    talked_kept Read ended can_fail source sink keeper (Ok answered) all cut some kept none =
+        transcribed all.0 answered all.3
+    talked_kept Read ended can_fail source sink keeper (Err faults.Sink) all cut some kept none =
+        elim ((cut refl).2) [
+          | inl whole ↦ stopped (cut refl).0 ended whole
+          | inr part ↦ halted (cut refl).0 ended part
+        ]
+    talked_kept Read ended can_fail source sink keeper (Err faults.Source) all cut some kept none =
+        all_answered (some refl).0 (some refl).2
+    talked_kept Read ended can_fail source sink keeper (Err faults.Keep) all cut some kept none =
+        halted (kept refl).1 ended (kept refl).3
+    talked_kept Read ended can_fail source sink keeper (Err faults.Memory) all cut some kept none =
+        unchanged first last (none refl).2

@@ -5,6 +5,7 @@ use Rattle.std.proofs.Common.{Result, Ok, Err}
 use Rattle.std.specs.Prelude.{IfOk, MatchBool}
 use Rattle.ps_session.specs.declared.session.TheConstants.{LINE_LIMIT}
 use Rattle.ps_session.specs.Feeding.{without_return}
+use Rattle.ps_session.specs.Keeping.{Halted, IsCovered}
 use Rattle.ps_session.specs.Transcript.{Answered, Answering, Cut, Lines, Replies, Run, Stopped, Transcribed}
 
 module _ {State : Type 0} (Strong Weak : Answering State)
@@ -85,6 +86,32 @@ module _ {State : Type 0} (Strong Weak : Answering State)
     stopped read ended (inl cut) = inl (cut_short read ended cut)
     stopped read ended (inr (inl all)) = inr (inl (all_answered read all))
     stopped read ended (inr (inr end)) = inr (inr (end.0, end.1, transcribed read end.1 end.2))
+
+    pub halted : (read : List ℕ) (ended : Type 0) → Halted (Lines Strong) ended first written read last contents
+        → Halted (Lines Weak) ended first written read last contents
+    halted read ended t = record {
+      lines = t.lines;
+      text = t.text;
+      front = t.front;
+      run = all_lines first last _ _ t.run;
+      sent = t.sent;
+    }
+
+    pub covered : (covers : State → Type 0) (waiting read : List ℕ) (ended : Type 0)
+        → IsCovered (Lines Strong) covers ended first written read last contents waiting
+        → IsCovered (Lines Weak) covers ended first written read last contents waiting
+    covered covers waiting read ended t = record {
+      lines = t.lines;
+      others = t.others;
+      state = t.state;
+      text = t.text;
+      due = t.due;
+      front = t.front;
+      run = all_lines first t.state _ _ t.run;
+      since = all_lines t.state last _ _ t.since;
+      kept = t.kept;
+      handed = t.handed;
+    }
 
     -- .. of a whole input, where there is one
     pub all_transcribed : {E : Type 0} (Read : List ℕ → Type 0) (ended : Type 0) (result : Result ℕ E)

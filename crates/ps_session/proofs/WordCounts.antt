@@ -1,14 +1,14 @@
 -- Lines with a word too few or too many.
-use Rattle.std.proofs.Common.{◌≡◌, ℕ, List, [], ◌∷◌, Some, Err, refl}
+use Rattle.std.proofs.Common.{◌≡◌, ◌≢◌, ℕ, List, [], ◌∷◌, Some, Err, refl}
 use Rattle.ps_grid.specs.declared.refusal.Refusal.{Refusal}
 use Rattle.ps_grid.specs.declared.refusal.Refusal.TheVariants as refusals
 use Rattle.ps_session.specs.Commands.{verb_of, ReadsCorners, ReadsLine, ReadsOneCell, ReadsPair, ReadsPull}
-use Rattle.ps_session.specs.Commands.{Read, ReadsPush, ReadsRectangle, ReadsVerb, Pushes}
+use Rattle.ps_session.specs.Commands.{Read, ReadsPush, ReadsRectangle, ReadsReplica, ReadsVerb, Pushes}
 use Rattle.ps_session.specs.declared.command.Command.{Command}
 use Rattle.ps_session.specs.Words.{after_word, first_word, parts, words}
 use Rattle.ps_session.specs.declared.verb.Verb.{Verb}
 use Rattle.ps_session.specs.declared.verb.Verb.TheVariants.{Add, Choose, Entries as AllEntries, Entry, Get, Pull, Push}
-use Rattle.ps_session.specs.declared.verb.Verb.TheVariants.{Rows, Set, Sub, Unchoose}
+use Rattle.ps_session.specs.declared.verb.Verb.TheVariants.{Replica, Rows, Set, Sub, Unchoose}
 use Rattle.ps_session.proofs.WordLemmas.{parts_are_some}
 
 pub cell_more : (word rest : List ℕ) → ReadsOneCell (word ∷ words rest) (Err refusals.Command)
@@ -31,21 +31,26 @@ pull_more from most rest = rw (parts_are_some 32 rest).are refl
 pub push_reads : (line : List ℕ) (read : Read Command) → Pushes line read → ReadsPush (words line) line read
 push_reads line read reads = rw (parts_are_some 32 line).are reads
 
-pub verb_alone : (verb : Verb) (entry : List ℕ) → ReadsVerb (Some verb) [] entry (Err refusals.Command)
-verb_alone Get entry = (Err refusals.Command, refl, refl)
-verb_alone Set entry = refl
-verb_alone Add entry = (Err refusals.Command, refl, refl)
-verb_alone Sub entry = (Err refusals.Command, refl, refl)
-verb_alone Choose entry = (Err refusals.Command, refl, refl)
-verb_alone Unchoose entry = (Err refusals.Command, refl, refl)
-verb_alone Rows entry = (Err refusals.Command, refl, refl)
-verb_alone Entry entry = (Err refusals.Command, refl, refl)
-verb_alone AllEntries entry = (Err refusals.Command, refl, refl)
-verb_alone Push entry = refl
-verb_alone Pull entry = refl
+pub replica_more : (number rest : List ℕ) → ReadsReplica (number ∷ words rest) (Err refusals.Command)
+replica_more number rest = rw (parts_are_some 32 rest).are refl
+
+-- `replica` may stand alone, and no other verb
+pub verb_alone : (verb : Verb) (rest : List ℕ) → verb ≢ Replica → ReadsVerb (Some verb) [] rest (Err refusals.Command)
+verb_alone Get rest other = (Err refusals.Command, refl, refl)
+verb_alone Set rest other = refl
+verb_alone Add rest other = (Err refusals.Command, refl, refl)
+verb_alone Sub rest other = (Err refusals.Command, refl, refl)
+verb_alone Choose rest other = (Err refusals.Command, refl, refl)
+verb_alone Unchoose rest other = (Err refusals.Command, refl, refl)
+verb_alone Rows rest other = (Err refusals.Command, refl, refl)
+verb_alone Entry rest other = (Err refusals.Command, refl, refl)
+verb_alone AllEntries rest other = (Err refusals.Command, refl, refl)
+verb_alone Push rest other = refl
+verb_alone Pull rest other = refl
+verb_alone Replica rest other = absurd (other refl)
 
 -- a verb and no space
-pub line_alone : (line word : List ℕ) (verb : Verb) → word ≡ first_word line → Some verb ≡ verb_of word
-    → words line ≡ word ∷ [] → ReadsLine line (Err refusals.Command)
-line_alone line word verb first is alone =
-    rw (← first, ← is, alone) (verb_alone verb (after_word line))
+pub line_alone : (line word : List ℕ) (verb : Verb) (read : Read Command)
+    → ((rest : List ℕ) → ReadsVerb (Some verb) [] rest read) → word ≡ first_word line → Some verb ≡ verb_of word
+    → words line ≡ word ∷ [] → ReadsLine line read
+line_alone line word verb read reads first is alone = rw (← first, ← is, alone) (reads (after_word line))

@@ -13,11 +13,12 @@ use Rattle.ps_sheet.specs.Sheet.{SheetView, Takes}
 use Rattle.ps_csv.specs.Exports.{entry_text, exported, exported_entries, held_in}
 use Rattle.ps_session.specs.Handing.{HandsOut}
 use Rattle.ps_session.specs.Commands.{Read, ReadsLine}
-use Rattle.ps_session.specs.Replies.{done_text, entries_reply, entry_reply, refusal_text, rows_text, value_text}
+use Rattle.ps_session.specs.Replies.{done_text, entries_reply, entry_reply, refusal_text, replica_text, rows_text}
+use Rattle.ps_session.specs.Replies.{value_text}
 use Rattle.ps_session.specs.Transcript.{Answering, Lines}
 use Rattle.ps_session.specs.declared.command.Command.{Command}
 use Rattle.ps_session.specs.declared.command.Command.TheVariants.{Edit, Entries as AllEntries, Entry, Get, Pull, Push}
-use Rattle.ps_session.specs.declared.command.Command.TheVariants.{Rows}
+use Rattle.ps_session.specs.declared.command.Command.TheVariants.{Replica, Rows}
 
 -- what was made of an edit: its delta ends the history, and the reply is the new version; or it is refused
 abbrev pub Edited : Result Entries Refusal → List Entries → List ℕ → List Entries → Type 0
@@ -40,6 +41,7 @@ Obeys replica history (Ok (AllEntries first last)) text next = (next ≡ history
 Obeys replica history (Ok (Pull from most)) text next =
     (next ≡ history) × HandsOut history from (unwrap_or most 1) text
 Obeys replica history (Ok (Push delta)) text next = Takes delta history next × (text ≡ done_text (length next))
+Obeys replica history (Ok (Replica named)) text next = (next ≡ history) × (text ≡ replica_text replica)
 Obeys replica history (Err refusal) text next = (next ≡ history) × (text ≡ refusal_text refusal)
 
 -- a line does what it asks for
@@ -51,7 +53,7 @@ pub record Serves (old : SheetView) (line text : List ℕ) (new : SheetView) : T
   pub replica : new.replica ≡ old.replica
 
 -- what was asked for takes memory, at a replica with a history: an edit where its delta is made, a table, an entry, a
--- delta that is handed out or taken in; never a look at a cell, and no edit that is refused
+-- delta that is handed out or taken in; never a look at a cell or at the replica, and no edit that is refused
 abbrev pub TakesMemory : ℕ → List Entries → Read Command → Type 0
 TakesMemory replica history (Ok (Edit edit)) = IsOk (delta_of_edit replica (joined_history history) edit)
 TakesMemory replica history (Ok (Get cell)) = ⊥
@@ -60,6 +62,7 @@ TakesMemory replica history (Ok (Entry cell)) = ⊤
 TakesMemory replica history (Ok (AllEntries first last)) = ⊤
 TakesMemory replica history (Ok (Pull from most)) = from < length history
 TakesMemory replica history (Ok (Push delta)) = ⊤
+TakesMemory replica history (Ok (Replica named)) = ⊥
 TakesMemory replica history (Err refusal) = refusal ≡ refusals.Memory
 
 -- out of memory, a line does nothing: where memory was taken to read it, or by what it asks for

@@ -7,12 +7,12 @@ use Rattle.ps_delta.specs.Deltas.{Entries}
 use Rattle.ps_sheet.specs.declared.edit.Edit.{Edit as SheetEdit}
 use Rattle.ps_session.specs.Commands.{Read, ReadsLine}
 use Rattle.ps_session.specs.Handing.{HandsGroup}
-use Rattle.ps_session.specs.Replies.{done_text, end_text, entries_reply, entry_reply, refusal_text, rows_text}
-use Rattle.ps_session.specs.Replies.{value_text}
+use Rattle.ps_session.specs.Replies.{done_text, end_text, entries_reply, entry_reply, refusal_text, replica_text}
+use Rattle.ps_session.specs.Replies.{rows_text, value_text}
 use Rattle.ps_session.specs.Transcript.{Answering, Lines}
 use Rattle.ps_session.specs.declared.command.Command.{Command}
 use Rattle.ps_session.specs.declared.command.Command.TheVariants.{Edit, Entries as AllEntries, Entry, Get, Pull, Push}
-use Rattle.ps_session.specs.declared.command.Command.TheVariants.{Rows}
+use Rattle.ps_session.specs.declared.command.Command.TheVariants.{Replica, Rows}
 
 -- what the calls of a board answer, or why they refuse: the state before, what was asked for, the answer, the state
 -- after
@@ -31,6 +31,8 @@ pub record Calls (State : Type 0) : Type 1 where
   pub lists : State → Area → Read (List ℕ) → State → Type 0
   -- the deltas after a number, at most so many
   pub pulls : State → ℕ → ℕ → Read (List Entries) → State → Type 0
+  -- the own replica is asked for: its number, and never a refusal
+  pub replica : State → ℕ → State → Type 0
 
 -- what an answer is told as
 abbrev pub told : {X : Type 0} → (X → List ℕ) → Read X → List ℕ
@@ -64,6 +66,8 @@ Obeyed calls old (Ok (Pull from most)) reply new = (answer : Read (List Entries)
 Obeyed calls old (Ok (Push delta)) reply new =
     Tells (λ answer. calls.receives old delta answer new) done_text reply
     ⊎ ((new ≡ old) × (reply ≡ refusal_text refusals.Memory))
+Obeyed calls old (Ok (Replica named)) reply new =
+    (number : ℕ) × calls.replica old number new × (reply ≡ replica_text number)
 Obeyed calls old (Err refusal) reply new = (new ≡ old) × (reply ≡ refusal_text refusal)
 
 -- ANSWER: what a board with these calls answers a line that isn't empty, and the board afterwards

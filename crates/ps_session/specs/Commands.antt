@@ -5,6 +5,7 @@ use Rattle.std.specs.Prelude.{if◌then◌else◌, true, ⊤}
 use Rattle.ps_grid.specs.Place.{cell_name}
 use Rattle.ps_grid.specs.declared.refusal.Refusal.{Refusal}
 use Rattle.ps_grid.specs.declared.refusal.Refusal.TheVariants as refusals
+use Rattle.ps_grid.specs.declared.parties.TheConstants.{REPLICAS}
 use Rattle.ps_grid.specs.declared.size.TheConstants.{CELLS}
 use Rattle.ps_content.specs.Entry.{Reads, kind_of, takes_memory}
 use Rattle.ps_content.specs.declared.content.Content.{Content}
@@ -18,7 +19,7 @@ use Rattle.ps_session.specs.declared.command.TheConstants.{LARGEST_GROUP}
 use Rattle.ps_session.specs.declared.command.Command.TheVariants as commands
 use Rattle.ps_session.specs.declared.verb.Verb.{Verb}
 use Rattle.ps_session.specs.declared.verb.Verb.TheVariants.{Add, Choose, Entries as AllEntries, Entry, Get, Pull, Push}
-use Rattle.ps_session.specs.declared.verb.Verb.TheVariants.{Rows, Set, Sub, Unchoose}
+use Rattle.ps_session.specs.declared.verb.Verb.TheVariants.{Replica, Rows, Set, Sub, Unchoose}
 
 -- the verb that a word is
 unfoldable pub verb_of : List ℕ → Option Verb
@@ -34,6 +35,7 @@ verb_of word =
     else if bytes_eq word (codes "entries") then Some AllEntries
     else if bytes_eq word (codes "push") then Some Push
     else if bytes_eq word (codes "pull") then Some Pull
+    else if bytes_eq word (codes "replica") then Some Replica
     else None
 
 -- what a line or a part of it is read as, or why it is refused
@@ -133,6 +135,18 @@ ReadsPull (from ∷ most ∷ []) read =
     AtNumber (group_size (whole_number most)) read (λ m. read ≡ Ok (commands.Pull n (Some m))))
 ReadsPull _ read = read ≡ Err refusals.Command
 
+-- the number, where it is that of a replica
+abbrev pub replica_number : Option ℕ → Option ℕ
+replica_number None = None
+replica_number (Some n) = if nat_le 1 n && nat_le n REPLICAS then Some n else None
+
+-- `replica`: no other word, or the number of a replica
+abbrev pub ReadsReplica : List (List ℕ) → Read Command → Type 0
+ReadsReplica [] read = read ≡ Ok (commands.Replica None)
+ReadsReplica (number ∷ []) read = MatchOption (replica_number (whole_number number)) (read ≡ Err refusals.Replica)
+    (λ n. read ≡ Ok (commands.Replica (Some n)))
+ReadsReplica _ read = read ≡ Err refusals.Command
+
 -- a verb, the words after it, and all that stands there
 abbrev pub ReadsVerb : Option Verb → List (List ℕ) → List ℕ → Read Command → Type 0
 ReadsVerb None others rest read = read ≡ Err refusals.Command
@@ -148,6 +162,7 @@ ReadsVerb (Some Entry) others rest read = AsksOfCell (λ c. commands.Entry c) ot
 ReadsVerb (Some AllEntries) others rest read = AsksOfRectangle (λ c d. commands.Entries c d) others read
 ReadsVerb (Some Push) others rest read = ReadsPush others rest read
 ReadsVerb (Some Pull) others rest read = ReadsPull others read
+ReadsVerb (Some Replica) others rest read = ReadsReplica others read
 
 -- WHAT A LINE ASKS FOR
 abbrev pub ReadsLine : List ℕ → Read Command → Type 0

@@ -12,3 +12,5 @@ pub mod SheetBoard
 pub mod Answers
 pub mod Laws
 pub mod EditLines
+pub mod Keeping
+pub mod Held

@@ -3,7 +3,8 @@ use Rattle.std.specs.Prelude.{ℕ, List, [], ◌∷◌, ◌++◌, codes, decimal
 use Rattle.ps_grid.specs.Refusals.{number_of, name_of}
 use Rattle.ps_grid.specs.declared.refusal.Refusal.{Refusal}
 use Rattle.ps_session.specs.declared.reply.Reply.{Reply}
-use Rattle.ps_session.specs.declared.reply.Reply.TheVariants.{Delta, Done, End, Entries, Entry, Refused, Rows, Shown}
+use Rattle.ps_session.specs.declared.reply.Reply.TheVariants.{Delta, Done, End, Entries, Entry, Received, Refused}
+use Rattle.ps_session.specs.declared.reply.Reply.TheVariants.{Replica, Rows, Shown}
 use Rattle.ps_value.specs.declared.value.Value.{Value}
 use Rattle.ps_value.specs.Shown.{shown_text}
 
@@ -32,15 +33,21 @@ handed_text last line = codes "delta " ++ decimal last ++ (codes " " ++ line) ++
 abbrev pub end_text : ℕ → List ℕ
 end_text version = codes "end " ++ decimal version ++ 10 ∷ []
 
+-- the own replica
+abbrev pub replica_text : ℕ → List ℕ
+replica_text number = codes "replica " ++ decimal number ++ 10 ∷ []
+
 abbrev pub refusal_text : Refusal → List ℕ
 refusal_text refusal = codes "err " ++ decimal (number_of refusal) ++ (codes " " ++ name_of refusal) ++ 10 ∷ []
 
 abbrev pub reply_text : Reply → List ℕ
 reply_text (Done version) = done_text version
+reply_text (Received version delta) = done_text version
 reply_text (Shown value) = value_text value
 reply_text (Rows count table) = rows_text count table.items
 reply_text (Entry entry) = entry_reply entry.items
 reply_text (Entries count table) = entries_reply count table.items
 reply_text (Delta last line) = handed_text last line.items
 reply_text (End version) = end_text version
+reply_text (Replica number) = replica_text number
 reply_text (Refused refusal) = refusal_text refusal

@@ -63,6 +63,10 @@ SheetPulls old from most (Err refusal) new =
     ⊎ ((refusal ≡ refusals.Memory) × (from < length old.history)))
     × (new ≡ old)
 
+-- the replica that the sheet was opened with
+abbrev pub SheetReplica : SheetView → ℕ → SheetView → Type 0
+SheetReplica old number new = (number ≡ old.replica) × (new ≡ old)
+
 abbrev pub SheetCalls : Calls SheetView
 SheetCalls = record {
   edits = SheetEdits;
@@ -72,4 +76,5 @@ SheetCalls = record {
   holds = SheetHolds;
   lists = SheetLists;
   pulls = SheetPulls;
+  replica = SheetReplica;
 }

@@ -5,6 +5,7 @@ ghost use Rattle.std.specs.Thread.{IsSync};
 ghost use Rattle.ps_session.specs.Boards.{Calls};
 ghost use Rattle.ps_session.specs.Commands.{with_part};
 
+use crate::taken::Taken;
 use ps_delta::Delta;
 use ps_grid::{Cell, Rect, Refusal};
 use ps_sheet::Edit;
@@ -34,7 +35,7 @@ pub trait Board<M> {
         requires shared { IsSync R.row }
         ensures edited { calls.edits self.old edit result self.new };
 
-    /// Takes in a delta made elsewhere: the number that is told as `ok`.
+    /// Takes in a delta made elsewhere: the number that is told as `ok`, and whether the delta is new.
     ///
     /// Cost: that of the change, and of what it makes others show.
     fn apply_delta<R: Threads + Sync>(
@@ -43,9 +44,10 @@ pub trait Board<M> {
         alloc: Global,
         delta: Arc<Delta>,
         meter: &mut M,
-    ) -> Result<u64, Refusal>
+    ) -> Result<Taken, Refusal>
         requires shared { IsSync R.row }
-        ensures received { calls.receives self.old (arc_value delta) result self.new };
+        ensures received { calls.receives self.old (arc_value delta) (with_part (λ taken. taken.number) result)
+            self.new };
 
     /// What a cell shows.
     ///
@@ -78,4 +80,10 @@ pub trait Board<M> {
         ensures pulled { calls.pulls self.old from most (with_part (λ deltas. map arc_value deltas.items) result)
             self.new }
         ensures numbered { IfOk result (λ deltas. from + length deltas.items < 2 ^ 64) };
+
+    /// The own replica, 1 to 32.
+    ///
+    /// Cost: constant, and no memory.
+    fn replica(&mut self) -> u8
+        ensures told { calls.replica self.old result self.new };
 }

@@ -1,16 +1,16 @@
 //! What a line asks for.
-ghost use Rattle.std.specs.Prelude.{◌≡◌, ◌∷◌, Err, Ok, Some};
+ghost use Rattle.std.specs.Prelude.{◌≡◌, ◌≢◌, ◌∷◌, [], ℕ, Err, List, Ok, Some};
 ghost use Rattle.std.specs.Option.{ok_or};
 ghost use Rattle.ps_session.specs.Words.{after_word, parts, whole_number, words};
 ghost use Rattle.ps_session.specs.Commands.{AtCell, ReadsCorners, ReadsLine, ReadsOneCell, ReadsPair, ReadsPull};
-ghost use Rattle.ps_session.specs.Commands.{ReadsRectangle, ReadsSet, ReadsVerb, Pushes, TakesMemoryToRead};
-ghost use Rattle.ps_session.specs.Commands.{group_size};
+ghost use Rattle.ps_session.specs.Commands.{ReadsRectangle, ReadsReplica, ReadsSet, ReadsVerb, Pushes};
+ghost use Rattle.ps_session.specs.Commands.{TakesMemoryToRead, group_size, replica_number};
 
 use crate::verb::Verb;
 use crate::words::{read_whole, split_part, split_word};
 use ps_content::read_entry;
 use ps_delta::Delta;
-use ps_grid::{Cell, Refusal};
+use ps_grid::{Cell, REPLICAS, Refusal};
 use ps_sheet::Edit;
 use ps_wire::decode;
 use std::alloc::Global;
@@ -37,6 +37,8 @@ pub enum Command {
     },
     /// To take in a delta made elsewhere.
     Push(Delta),
+    /// To tell the own replica, whichever is named beside it.
+    Replica(Option<u8>),
 }
 
 /// The most deltas that are handed out as one.
@@ -52,13 +54,14 @@ impl Command {
     /// - `rows <cell>:<cell>`, to show a rectangle;
     /// - `entry <cell>` and `entries <cell>:<cell>`, to tell what a cell holds, and what a rectangle does;
     /// - `pull <from>` and `pull <from> <most>`, to hand out deltas;
-    /// - `push <line>`, to take in the delta that all after the space is a line of.
+    /// - `push <line>`, to take in the delta that all after the space is a line of;
+    /// - `replica` and `replica <number>`, to tell the own replica.
     ///
     /// Exactly one space stands between two words; an entry may hold more. Of several refusals the first is told:
     /// another first word, a word too few or too many (`Command`), no cell (`Cell`), no digits or a number of more
     /// than 64 bits (`Amount` or `OptionRange`), and then those of the entry. Whether the number is in range, and the
-    /// cell has a counter or a set, isn't asked here. Only an entry that is a formula or a text, and the line of a
-    /// delta, take memory to be read.
+    /// cell has a counter or a set, isn't asked here. A replica that isn't 1 to [`REPLICAS`] is refused (`Replica`).
+    /// Only an entry that is a formula or a text, and the line of a delta, take memory to be read.
     ///
     /// Cost: O(n) in the n bytes of the line.
     pub fn read(alloc: Global, line: &[u8]) -> Result<Command, Refusal>
@@ -71,8 +74,19 @@ impl Command {
         };
         match rest {
             Some(rest) => read_rest(alloc, verb, rest),
-            None => Err(Refusal::Command),
+            None => read_alone(verb),
         }
+    }
+}
+
+/// What a verb asks for without a space after it.
+fn read_alone(verb: Verb) -> Result<Command, Refusal>
+    ensures read { (rest : List ℕ) → ReadsVerb (Some verb) [] rest result }
+    ensures ample { result ≢ Err Refusal.Memory }
+{
+    match verb {
+        Verb::Replica => Ok(Command::Replica(None)),
+        _ => Err(Refusal::Command),
     }
 }
 
@@ -110,6 +124,7 @@ fn read_rest(alloc: Global, verb: Verb, rest: &[u8]) -> Result<Command, Refusal>
         }
         Verb::Push => read_push(alloc, rest),
         Verb::Pull => read_pull(rest),
+        Verb::Replica => read_replica(rest),
     }
 }
 
@@ -241,5 +256,25 @@ fn read_most(word: &[u8]) -> Result<u8, Refusal>
     match read_whole(word) {
         Some(number) if 1 <= number && number <= LARGEST_GROUP => Ok(number as u8),
         _ => Err(Refusal::Version),
+    }
+}
+
+/// `replica`: the number of one, and no more words.
+fn read_replica(rest: &[u8]) -> Result<Command, Refusal>
+    ensures { ReadsReplica (words rest.now) result }
+{
+    match split_word(rest) {
+        (number, None) => Ok(Command::Replica(Some(read_number(number)?))),
+        (_, Some(_)) => Err(Refusal::Command),
+    }
+}
+
+/// The number of a replica, 1 to [`REPLICAS`].
+fn read_number(word: &[u8]) -> Result<u8, Refusal>
+    ensures { result ≡ ok_or (replica_number (whole_number word.now)) Refusal.Replica }
+{
+    match read_whole(word) {
+        Some(number) if 1 <= number && number <= u64::from(REPLICAS) => Ok(number as u8),
+        _ => Err(Refusal::Replica),
     }
 }

@@ -13,6 +13,9 @@ use ps_device::{Sink, Source};
 use ps_grid::Refusal;
 use std::alloc::Global;
 
+/// The first word of a line that hands on a delta, with its space.
+pub const PUSH: &[u8] = b"push ";
+
 /// What ends an exchange between replicas early.
 #[derive(Debug, Drop)]
 pub enum SyncFault {
@@ -107,7 +110,7 @@ fn push<S: Source + Drop, K: Sink + Drop>(
     ensures put { PutsSome to.old.asked to.new.asked (push_text delta.now) }
     ensures failed { result ≡ Err (Refused Refusal.Device) → to.old.failures < to.new.failures }
 {
-    let request: [&[u8]; 3] = [b"push ", delta, b"\n"];
+    let request: [&[u8]; 3] = [PUSH, delta, b"\n"];
     match to.ask(request.as_slice()) {
         Ok(()) => {}
         Err(fault) => return Err(fault_of(fault)),

@@ -7,7 +7,7 @@ ghost use Rattle.ps_session.specs.Feeding.{without_return};
 ghost use Rattle.ps_session.specs.Peers.{PutsSome};
 ghost use Rattle.ps_session.specs.declared.exchange.SyncFault.TheVariants.{Refused};
 
-use crate::exchange::{Due, SyncFault, ask_after, due_reply, fault_of};
+use crate::exchange::{Due, PUSH, SyncFault, ask_after, due_reply, fault_of};
 use crate::peer::{Peer, PeerFault};
 use crate::reply::send_pieces;
 use ps_device::{Failed, Sink, Source, hand_on};
@@ -33,7 +33,7 @@ fn write_push<O: Sink>(delta: &[u8], out: &mut O) -> Result<(), Failed>
     ensures calm { OnOk result (O.failures out.new ≡ O.failures out.old) }
     ensures failed { OnErr result (O.failures out.old < O.failures out.new) }
 {
-    let pieces: [&[u8]; 3] = [b"push ", delta, b"\n"];
+    let pieces: [&[u8]; 3] = [PUSH, delta, b"\n"];
     send_pieces(pieces.as_slice(), out)?;
     hand_on(out)?;
     Ok(())

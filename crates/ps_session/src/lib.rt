@@ -4,6 +4,8 @@
 //! is what a line asks for. A [`Board`] is what answers commands, by a call for each. [`talk`] is the whole way from a
 //! source of bytes to a sink: it reads the source to its end, obeys each line and writes its reply, in order. A sheet
 //! is a board, and [`run`] is the talk of a sheet. A [`Watcher`] may look on, by [`talk_watched`] and [`run_watched`].
+//! A [`Keeper`] has all kept that a session has seen before its replies are handed on, by [`talk_kept`] and
+//! [`run_kept`], whose replies a [`HeldOutput`] holds back until then.
 //!
 //! It is not a connection: it opens no device, and knows one peer. What a sheet does with an edit or a delta, it leaves
 //! to the sheet.
@@ -11,7 +13,9 @@
 //! The contract to use is that of [`run`]: at the end of the input, all that was read and all that was written are a
 //! transcript (`specs/Transcript.antt`) of the sheet before and after, which knows nothing of pieces. Where the source
 //! failed, the complete lines were answered and their replies handed on; where the sink failed, the reply to one line
-//! was cut. A line is answered as out of memory only where it takes some.
+//! was cut. A line is answered as out of memory only where it takes some. Where there is a keeper it is that of
+//! [`run_kept`]: whatever it comes to, the keeper covers a sheet on the way, and what was handed on is a beginning of
+//! the replies up to that one (`IsCovered` in `specs/Keeping.antt`).
 //!
 //! The line `set A1 5` is answered `ok 1`, `get A1` then `val 5`, and `pull 0` the line of the delta that another sheet
 //! may be pushed, `delta 1 [["A1",[1,1,"5"],[],[]]]`.
@@ -21,18 +25,23 @@
 
 mod board;
 mod command;
+mod delivery;
 mod exchange;
 mod follower;
+mod held_output;
 mod incoming;
+mod keeper;
 mod laws;
 mod obey;
 mod peer;
 mod pull;
+mod reading;
 mod replies;
 mod reply;
 mod session;
 mod sheet_board;
 mod sheet_session;
+mod taken;
 mod transcript;
 mod verb;
 mod watcher;
@@ -40,13 +49,17 @@ mod words;
 
 pub use board::Board;
 pub use command::{Command, LARGEST_GROUP};
-pub use exchange::{SyncFault, sync};
+pub use exchange::{PUSH, SyncFault, sync};
 pub use follower::{Following, follow};
+pub use held_output::HeldOutput;
+pub use keeper::{Keeper, Unkept};
 pub use laws::{bytes_divide_one_way, edit_lines_fit, pulls_hand_out, transcript_is_decided};
 pub use peer::{Peer, PeerFault};
 pub use pull::greatest_group;
 pub use reply::{Reply, send};
 pub use session::{Fed, LINE_LIMIT, Line, Session};
-pub use sheet_session::{run, run_watched};
-pub use transcript::{RunFault, talk, talk_watched};
-pub use watcher::{Unwatched, Watcher};
+pub use sheet_board::deltas_after;
+pub use sheet_session::{run, run_kept, run_watched};
+pub use taken::Taken;
+pub use transcript::{RunFault, talk, talk_kept, talk_watched};
+pub use watcher::{Seen, Unwatched, Watcher};

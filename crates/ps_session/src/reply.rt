@@ -4,16 +4,21 @@ ghost use Rattle.ps_device.specs.Device.{Sends};
 ghost use Rattle.ps_value.specs.Shown.{shown_text};
 ghost use Rattle.ps_session.specs.Replies.{entry_reply, reply_text};
 
+use crate::watcher::Seen;
 use itoa::Buffer;
+use ps_delta::Delta;
 use ps_device::{Failed, Sink, put_all};
 use ps_grid::Refusal;
 use ps_value::{Value, write_shown};
+use std::sync::Arc;
 
 /// The reply to a line.
 #[derive(Drop)]
 pub enum Reply {
     /// `ok` and the version.
     Done(u64),
+    /// .. where a delta that was pushed is new, with the delta, which isn't told.
+    Received(u64, Arc<Delta>),
     /// `val` and what the cell shows.
     Shown(Value),
     /// `rows` and how many lines a table has, and then the lines, each with its line feed.
@@ -26,16 +31,19 @@ pub enum Reply {
     Delta(u64, Vec<u8>),
     /// `end` and the version.
     End(u64),
+    /// `replica` and the own replica.
+    Replica(u8),
     /// `err`, the refusal's number and its name.
     Refused(Refusal),
 }
 
 impl Reply {
-    /// Why the line was refused, if it was.
-    pub(crate) fn refusal(&self) -> Option<Refusal> {
+    /// What became of the line, for who looks on.
+    pub(crate) fn outcome(&self) -> Seen<'_> {
         match self {
-            Reply::Refused(refusal) => Some(*refusal),
-            _ => None,
+            Reply::Refused(refusal) => Seen::Refused(*refusal),
+            Reply::Received(_, delta) => Seen::Received(delta),
+            _ => Seen::Answered,
         }
     }
 }
@@ -88,12 +96,14 @@ pub fn send<K: Sink>(reply: &Reply, sink: &mut K) -> Result<(), Failed>
 {
     match reply {
         Reply::Done(version) => send_number(b"ok ", *version, sink),
+        Reply::Received(version, _) => send_number(b"ok ", *version, sink),
         Reply::Shown(value) => send_shown(*value, sink),
         Reply::Rows(count, table) => send_table(b"rows ", *count, table, sink),
         Reply::Entry(entry) => send_entry(entry, sink),
         Reply::Entries(count, table) => send_table(b"entries ", *count, table, sink),
         Reply::Delta(last, line) => send_words(b"delta ", *last, line, sink),
         Reply::End(version) => send_number(b"end ", *version, sink),
+        Reply::Replica(number) => send_number(b"replica ", u64::from(*number), sink),
         Reply::Refused(refusal) => send_words(
             b"err ",
             u64::from(refusal.number()),

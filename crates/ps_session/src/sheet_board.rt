@@ -1,8 +1,9 @@
 //! A sheet answers commands.
-ghost use Rattle.std.specs.Prelude.{◌≡◌, IfErr, IfOk, map};
+ghost use Rattle.std.specs.Prelude.{◌≡◌, ◌⊎◌, ◌↔◌, ◌<◌, Err, IfErr, IfOk, drop, length, map, take};
 ghost use Rattle.std.specs.Arc.{arc_value};
 
 use crate::board::Board;
+use crate::taken::Taken;
 use ps_csv::{entries_text, entry_of, exported_text};
 use ps_delta::Delta;
 use ps_eval::Meter;
@@ -38,9 +39,13 @@ impl<L: Ledger> Board<Meter<L>> for Sheet {
         alloc: Global,
         delta: Arc<Delta>,
         meter: &mut Meter<L>,
-    ) -> Result<u64, Refusal> {
+    ) -> Result<Taken, Refusal> {
+        let before = self.version();
         match self.receive(rt, alloc, delta, meter) {
-            Ok(report) => Ok(report.version),
+            Ok(report) => Ok(Taken {
+                number: report.version,
+                is_new: before < report.version,
+            }),
             Err(refusal) => Err(refusal),
         }
     }
@@ -64,16 +69,40 @@ impl<L: Ledger> Board<Meter<L>> for Sheet {
     }
 
     fn pull(&mut self, alloc: Global, from: u64, most: usize) -> Result<Vec<Arc<Delta>>, Refusal> {
-        let version = self.version();
-        if from > version {
-            return Err(Refusal::Version);
-        }
-        if from == version {
-            return Ok(Vec::new(alloc));
-        }
-        let later = &self.history()[from as usize..];
-        copy_deltas(alloc, &later[..most.min(later.len())])
+        deltas_after(alloc, self.history(), from, most)
     }
+
+    fn replica(&mut self) -> u8 {
+        Sheet::replica(self)
+    }
+}
+
+/// The deltas of a history after the number `from`, in order, at most so many.
+///
+/// Refused as `Version` where the history is shorter than the number, and as `Memory` where there is none for deltas
+/// that there are.
+///
+/// Cost: the deltas that are handed out, each of which is held once more.
+pub fn deltas_after(
+    alloc: Global,
+    history: &[Arc<Delta>],
+    from: u64,
+    most: usize,
+) -> Result<Vec<Arc<Delta>>, Refusal>
+    ensures deltas { IfOk result (λ ds. map arc_value ds.items
+        ≡ take most (drop from (map arc_value history.now))) }
+    ensures above { (result ≡ Err Refusal.Version) ↔ (length history.now < from) }
+    ensures memory { result ≡ Err Refusal.Memory → from < length history.now }
+    ensures refused { IfErr result (λ e. (e ≡ Refusal.Version) ⊎ (e ≡ Refusal.Memory)) }
+{
+    if from > history.len() as u64 {
+        return Err(Refusal::Version);
+    }
+    if from == history.len() as u64 {
+        return Ok(Vec::new(alloc));
+    }
+    let later = &history[from as usize..];
+    copy_deltas(alloc, &later[..most.min(later.len())])
 }
 
 /// The same deltas, held once more each.

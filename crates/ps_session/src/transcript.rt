@@ -1,43 +1,50 @@
 //! A session from bytes to bytes.
-ghost use Rattle.std.specs.Prelude.{◌≡◌, ◌≢◌, [], ◌<◌, ◌≤◌, ◌++◌, ◌+◌, ◌-◌, ◌^◌, ℕ, min, List, Option, Result, Ok};
+ghost use Rattle.std.specs.Prelude.{◌≡◌, ◌≢◌, ◌⊎◌, [], ◌<◌, ◌≤◌, ◌++◌, ◌+◌, ◌-◌, ◌^◌, ℕ, min, List, Option, Result, Ok};
 ghost use Rattle.std.specs.Prelude.{Err, IfOk, OnOk, OnErr, ⊤, length, take, MatchResult};
-ghost use Rattle.std.specs.Io.KnownBytes.{Consumes, IsAtEnd, Keeps};
-ghost use Rattle.ps_session.specs.Transcript.{Answered, Cut, Replies, Stopped, Transcribed};
-ghost use Rattle.ps_session.specs.Transcript.{has_reply, is_filled};
+ghost use Rattle.std.specs.Io.KnownBytes.{Consumes, IsAtEnd};
+ghost use Rattle.ps_device.specs.Device.{HoldsBack, Sends};
+ghost use Rattle.ps_session.specs.Transcript.{Answered, Cut, Replies, Run, Stopped, Transcribed};
+ghost use Rattle.ps_session.specs.Transcript.{has_reply, is_filled, with_last};
 ghost use Rattle.ps_session.specs.Boards.{BoardAnswers, BoardLines};
 ghost use Rattle.ps_session.specs.Replies.{refusal_text, reply_text};
-ghost use Rattle.ps_device.specs.Device.{Sends};
 ghost use Rattle.ps_session.specs.Inside.Stands.{CutsShort, GoesOn, Stands};
-ghost use Rattle.ps_session.specs.Feeding.{without_return};
+ghost use Rattle.ps_session.specs.Feeding.{kept, without_return};
+ghost use Rattle.ps_session.specs.Held.{held_contents, held_failures, held_waiting};
 ghost use Rattle.ps_session.specs.Inside.Holds.{Holds, Replied, as_one};
+ghost use Rattle.ps_session.specs.Keeping.{Halted, IsCovered, StaysFit};
 ghost use Rattle.ps_grid.specs.declared.refusal.Refusal.TheVariants as refusals;
 
 use crate::board::Board;
+use crate::delivery::{AtOnce, Delivery, HeldBack};
+use crate::held_output::HeldOutput;
+use crate::keeper::{Keeper, Unkept};
 use crate::obey::answer;
-use crate::reply::{Reply, send};
+use crate::reading::converse;
+use crate::reply::Reply;
 use crate::session::{Line, Session};
-use crate::watcher::{Unwatched, Watcher};
-use ps_device::{Failed, PIECE_BYTES, Sink, Source, hand_on};
+use crate::watcher::{Seen, Unwatched, Watcher};
+use ps_device::{Failed, PIECE_BYTES, Sink, Source};
 use ps_grid::Refusal;
 use std::alloc::Global;
+use std::sync::ledger::Ledger;
 use std::thread::Threads;
 
 /// A session under way, without its board and its devices: the line that is being read, and how many lines had a reply.
 #[derive(Drop)]
-struct Conversation<'a, R> {
+pub(crate) struct Conversation<'a, R> {
     /// What a board starts threads by.
-    rt: &'a R,
+    pub(crate) rt: &'a R,
     /// What memory is taken from.
-    alloc: Global,
+    pub(crate) alloc: Global,
     /// The line that is being read.
-    session: Session,
+    pub(crate) session: Session,
     /// How many lines had a reply; 2^64 - 1 stands for more.
-    answered: u64,
+    pub(crate) answered: u64,
 }
 
 impl<R: Threads + Sync> Conversation<'_, R> {
     /// Answers the line that has ended, which isn't too long; an empty one has no reply.
-    fn answer<B: Board<M>, M, W: Watcher, K: Sink>(
+    fn answer<B: Board<M>, M, W: Watcher, K, D: Delivery<K>>(
         &mut self,
         board: &mut B,
         meter: &mut M,
@@ -47,20 +54,22 @@ impl<R: Threads + Sync> Conversation<'_, R> {
         ensures replied { Replied
             (λ old reply new. Replies (BoardAnswers B.calls) old (without_return self.old.session.line) reply new)
             board.old board.new (as_one (is_filled (without_return self.old.session.line)))
-            (K.contents sink.old) (K.contents sink.new) self.old.answered self.new.answered result }
-        ensures calm { OnOk result (K.failures sink.new ≡ K.failures sink.old) }
-        ensures failed { OnErr result (K.failures sink.old < K.failures sink.new) }
+            (D.contents sink.old) (D.contents sink.new) self.old.answered self.new.answered result }
+        ensures calm { OnOk result (D.failures sink.new ≡ D.failures sink.old) }
+        ensures failed { OnErr result (D.failures sink.old < D.failures sink.new) }
+        ensures held { D.holds_back → HoldsBack (D.contents sink.old) (D.contents sink.new)
+            (D.waiting sink.old) (D.waiting sink.new) }
         ensures session { self.new.session ≡ self.old.session }
     {
         let count = self.answered;
         let line = self.session.line();
         if line.is_empty() {
-            watcher.saw(line, None);
+            watcher.saw(line, Seen::Answered);
             return Ok(());
         }
         let reply = answer(self.rt, self.alloc, line, board, meter);
-        watcher.saw(line, reply.refusal());
-        match send(&reply, sink) {
+        watcher.saw(line, reply.outcome());
+        match D::put_reply(&reply, sink) {
             Ok(()) => {}
             Err(failed) => return Err(failed),
         }
@@ -69,22 +78,28 @@ impl<R: Threads + Sync> Conversation<'_, R> {
     }
 
     /// Refuses a line that is too long.
-    fn refuse<W: Watcher, K: Sink>(&mut self, watcher: &mut W, sink: &mut K) -> Result<(), Failed>
-        ensures sent { Sends (K.contents sink.old) (K.contents sink.new) result (refusal_text refusals.Line) }
+    fn refuse<W: Watcher, K, D: Delivery<K>>(
+        &mut self,
+        watcher: &mut W,
+        sink: &mut K,
+    ) -> Result<(), Failed>
+        ensures sent { Sends (D.contents sink.old) (D.contents sink.new) result (refusal_text refusals.Line) }
         ensures counted { OnOk result (self.new.answered ≡ min (self.old.answered + 1) (2 ^ 64 - 1)) }
-        ensures calm { OnOk result (K.failures sink.new ≡ K.failures sink.old) }
-        ensures failed { OnErr result (K.failures sink.old < K.failures sink.new) }
+        ensures calm { OnOk result (D.failures sink.new ≡ D.failures sink.old) }
+        ensures failed { OnErr result (D.failures sink.old < D.failures sink.new) }
+        ensures held { D.holds_back → HoldsBack (D.contents sink.old) (D.contents sink.new)
+            (D.waiting sink.old) (D.waiting sink.new) }
         ensures session { self.new.session ≡ self.old.session }
     {
         let count = self.answered;
-        watcher.saw(b"", Some(Refusal::Line));
-        send(&Reply::Refused(Refusal::Line), sink)?;
+        watcher.saw(b"", Seen::Refused(Refusal::Line));
+        D::put_reply(&Reply::Refused(Refusal::Line), sink)?;
         self.answered = count.saturating_add(1);
         Ok(())
     }
 
     /// Answers a line that has ended.
-    fn close<B: Board<M>, M, W: Watcher, K: Sink>(
+    fn close<B: Board<M>, M, W: Watcher, K, D: Delivery<K>>(
         &mut self,
         line: Line,
         board: &mut B,
@@ -94,21 +109,23 @@ impl<R: Threads + Sync> Conversation<'_, R> {
     ) -> Result<(), Failed>
         ensures replied { (raw : List ℕ) → Holds line self.old.session raw
             → Replied (λ old reply new. BoardLines B.calls old raw reply new) board.old board.new
-            (as_one (has_reply raw)) (K.contents sink.old) (K.contents sink.new)
+            (as_one (has_reply raw)) (D.contents sink.old) (D.contents sink.new)
             self.old.answered self.new.answered result }
-        ensures calm { OnOk result (K.failures sink.new ≡ K.failures sink.old) }
-        ensures failed { OnErr result (K.failures sink.old < K.failures sink.new) }
+        ensures calm { OnOk result (D.failures sink.new ≡ D.failures sink.old) }
+        ensures failed { OnErr result (D.failures sink.old < D.failures sink.new) }
+        ensures held { D.holds_back → HoldsBack (D.contents sink.old) (D.contents sink.new)
+            (D.waiting sink.old) (D.waiting sink.new) }
         ensures session { self.new.session ≡ self.old.session }
     {
         match line {
             Line::None => Ok(()),
-            Line::Full => self.answer(board, meter, watcher, sink),
-            Line::TooLong => self.refuse(watcher, sink),
+            Line::Full => self.answer::<B, M, W, K, D>(board, meter, watcher, sink),
+            Line::TooLong => self.refuse::<W, K, D>(watcher, sink),
         }
     }
 
     /// Takes in a piece up to its first line feed, and answers the line that it ends.
-    fn turn<B: Board<M>, M, W: Watcher, K: Sink>(
+    fn turn<B: Board<M>, M, W: Watcher, K, D: Delivery<K>>(
         &mut self,
         piece: &[u8],
         board: &mut B,
@@ -119,49 +136,60 @@ impl<R: Threads + Sync> Conversation<'_, R> {
         requires some { 0 < length piece.now }
         ensures within { IfOk result (λ taken. (0 < taken) × (taken ≤ length piece.now)) }
         ensures stands { IfOk result (λ taken. GoesOn (BoardLines B.calls) (take taken piece.now)
-            board.old self.old.session.pending (K.contents sink.old) self.old.answered
-            board.new self.new.session.pending (K.contents sink.new) self.new.answered) }
+            board.old self.old.session.pending (D.contents sink.old) self.old.answered
+            board.new self.new.session.pending (D.contents sink.new) self.new.answered) }
         ensures cut { OnErr result (CutsShort (BoardLines B.calls) piece.now
-            board.old self.old.session.pending (K.contents sink.old) self.old.answered
-            board.new (K.contents sink.new)) }
-        ensures calm { OnOk result (K.failures sink.new ≡ K.failures sink.old) }
-        ensures failed { OnErr result (K.failures sink.old < K.failures sink.new) }
+            board.old self.old.session.pending (D.contents sink.old) self.old.answered
+            board.new (D.contents sink.new)) }
+        ensures calm { OnOk result (D.failures sink.new ≡ D.failures sink.old) }
+        ensures failed { OnErr result (D.failures sink.old < D.failures sink.new) }
+        ensures held { D.holds_back → HoldsBack (D.contents sink.old) (D.contents sink.new)
+            (D.waiting sink.old) (D.waiting sink.new) }
     {
         let fed = self.session.feed(piece);
         match fed.line {
             Line::None => {}
-            line => self.close(line, board, meter, watcher, sink)?,
+            line => self.close::<B, M, W, K, D>(line, board, meter, watcher, sink)?,
         }
         Ok(fed.taken)
     }
 
-    /// Takes in a whole piece, and answers each line that it ends.
-    fn serve<B: Board<M>, M, W: Watcher, K: Sink>(
+    /// Takes in a piece, and answers each line that it ends: to its end, or until `PIECE_BYTES` bytes of replies are
+    /// held back.
+    pub(crate) fn serve<B: Board<M>, M, W: Watcher, K, D: Delivery<K>>(
         &mut self,
         piece: &[u8],
         board: &mut B,
         meter: &mut M,
         watcher: &mut W,
         sink: &mut K,
-    ) -> Result<(), Failed>
-        ensures stands { OnOk result (GoesOn (BoardLines B.calls) piece.now
-            board.old self.old.session.pending (K.contents sink.old) self.old.answered
-            board.new self.new.session.pending (K.contents sink.new) self.new.answered) }
+    ) -> Result<usize, Failed>
+        requires some { 0 < length piece.now }
+        ensures within { IfOk result (λ taken. (0 < taken) × (taken ≤ length piece.now)) }
+        ensures part { IfOk result (λ taken. taken < length piece.now → D.holds_back) }
+        ensures stands { IfOk result (λ taken. GoesOn (BoardLines B.calls) (take taken piece.now)
+            board.old self.old.session.pending (D.contents sink.old) self.old.answered
+            board.new self.new.session.pending (D.contents sink.new) self.new.answered) }
         ensures cut { OnErr result (CutsShort (BoardLines B.calls) piece.now
-            board.old self.old.session.pending (K.contents sink.old) self.old.answered
-            board.new (K.contents sink.new)) }
-        ensures calm { OnOk result (K.failures sink.new ≡ K.failures sink.old) }
-        ensures failed { OnErr result (K.failures sink.old < K.failures sink.new) }
+            board.old self.old.session.pending (D.contents sink.old) self.old.answered
+            board.new (D.contents sink.new)) }
+        ensures calm { OnOk result (D.failures sink.new ≡ D.failures sink.old) }
+        ensures failed { OnErr result (D.failures sink.old < D.failures sink.new) }
+        ensures held { D.holds_back → HoldsBack (D.contents sink.old) (D.contents sink.new)
+            (D.waiting sink.old) (D.waiting sink.new) }
     {
         let mut start = 0;
         'turns: while start < piece.len() {
-            start += self.turn(&piece[start..], board, meter, watcher, sink)?;
+            start += self.turn::<B, M, W, K, D>(&piece[start..], board, meter, watcher, sink)?;
+            if D::waits(sink) >= PIECE_BYTES {
+                return Ok(start);
+            }
         }
-        Ok(())
+        Ok(start)
     }
 
     /// At the end of the input: answers what remains, if it is a line.
-    fn finish<B: Board<M>, M, W: Watcher, K: Sink>(
+    pub(crate) fn finish<B: Board<M>, M, W: Watcher, K, D: Delivery<K>>(
         &mut self,
         board: &mut B,
         meter: &mut M,
@@ -169,19 +197,23 @@ impl<R: Threads + Sync> Conversation<'_, R> {
         sink: &mut K,
     ) -> Result<(), Failed>
         ensures transcribed { OnOk result ((first : B) (written : Option (List ℕ)) (read : List ℕ)
-            → Stands (BoardLines B.calls) first written read
-            board.old self.old.session.pending (K.contents sink.old) self.old.answered
-            → Transcribed (BoardLines B.calls) first written read board.new (K.contents sink.new) self.new.answered) }
+            → Stands (BoardLines B.calls) first written 0 read
+            board.old self.old.session.pending (D.contents sink.old) self.old.answered
+            → Transcribed (BoardLines B.calls) first written read board.new (D.contents sink.new) self.new.answered) }
         ensures cut { OnErr result ((first : B) (written : Option (List ℕ)) (read : List ℕ)
-            → Stands (BoardLines B.calls) first written read
-            board.old self.old.session.pending (K.contents sink.old) self.old.answered
-            → Cut (BoardLines B.calls) ⊤ first written read board.new (K.contents sink.new)) }
-        ensures calm { OnOk result (K.failures sink.new ≡ K.failures sink.old) }
-        ensures failed { OnErr result (K.failures sink.old < K.failures sink.new) }
+            → Stands (BoardLines B.calls) first written 0 read
+            board.old self.old.session.pending (D.contents sink.old) self.old.answered
+            → Cut (BoardLines B.calls) ⊤ first written read board.new (D.contents sink.new)) }
+        ensures ran { (rest : List ℕ) → self.old.session.pending ≡ kept rest
+            → (text : List ℕ) × Run (BoardLines B.calls) board.old (with_last [] rest) text board.new }
+        ensures calm { OnOk result (D.failures sink.new ≡ D.failures sink.old) }
+        ensures failed { OnErr result (D.failures sink.old < D.failures sink.new) }
+        ensures held { D.holds_back → HoldsBack (D.contents sink.old) (D.contents sink.new)
+            (D.waiting sink.old) (D.waiting sink.new) }
     {
         match self.session.end() {
             Line::None => {}
-            line => self.close(line, board, meter, watcher, sink)?,
+            line => self.close::<B, M, W, K, D>(line, board, meter, watcher, sink)?,
         }
         Ok(())
     }
@@ -196,61 +228,8 @@ pub enum RunFault {
     Source,
     /// The sink failed.
     Sink,
-}
-
-/// Reads the source to its end, and answers each line that ends there.
-fn read_on<R: Threads + Sync, S: Source, B: Board<M>, M, W: Watcher, K: Sink>(
-    conversation: &mut Conversation<R>,
-    source: &mut S,
-    board: &mut B,
-    meter: &mut M,
-    watcher: &mut W,
-    sink: &mut K,
-) -> Result<(), RunFault>
-    ensures read { OnOk result ((read : List ℕ)
-        × Consumes (S.remaining source.old) (S.remaining source.new) read × IsAtEnd (S.remaining source.new)
-        × ((first : B) (written : Option (List ℕ))
-        → Stands (BoardLines B.calls) first written []
-        board.old conversation.old.session.pending (K.contents sink.old) conversation.old.answered
-        → Stands (BoardLines B.calls) first written read
-        board.new conversation.new.session.pending (K.contents sink.new) conversation.new.answered)) }
-    ensures sink { result ≡ Err RunFault.Sink
-        → (read : List ℕ) × Consumes (S.remaining source.old) (S.remaining source.new) read
-        × ((first : B) (written : Option (List ℕ))
-        → Stands (BoardLines B.calls) first written []
-        board.old conversation.old.session.pending (K.contents sink.old) conversation.old.answered
-        → Stopped (BoardLines B.calls) ⊥ first written read board.new (K.contents sink.new)) }
-    ensures source { result ≡ Err RunFault.Source
-        → (read : List ℕ) × Consumes (S.remaining source.old) (S.remaining source.new) read
-        × ((first : B) (written : Option (List ℕ))
-        → Stands (BoardLines B.calls) first written []
-        board.old conversation.old.session.pending (K.contents sink.old) conversation.old.answered
-        → Answered (BoardLines B.calls) first written read board.new (K.contents sink.new)) }
-    ensures source_settled { result ≡ Err RunFault.Source → K.waiting sink.new ≡ [] }
-    ensures memory { result ≢ Err RunFault.Memory }
-    ensures calm { OnOk result ((S.failures source.new ≡ S.failures source.old)
-        × (K.failures sink.new ≡ K.failures sink.old)) }
-    ensures sink_failed { result ≡ Err RunFault.Sink → K.failures sink.old < K.failures sink.new }
-    ensures source_failed { result ≡ Err RunFault.Source → S.failures source.old < S.failures source.new }
-{
-    let mut piece = [0u8; PIECE_BYTES];
-    'pieces: loop {
-        match hand_on(sink) {
-            Ok(()) => {}
-            Err(_) => return Err(RunFault::Sink),
-        }
-        let count = match source.take(&mut piece) {
-            Ok(count) => count,
-            Err(_) => return Err(RunFault::Source),
-        };
-        if count == 0 {
-            return Ok(());
-        }
-        match conversation.serve(&piece[..count], board, meter, watcher, sink) {
-            Ok(()) => {}
-            Err(_) => return Err(RunFault::Sink),
-        }
-    }
+    /// What the session has seen couldn't be kept; nothing more is handed on.
+    Keep,
 }
 
 /// Answers each line of a source on a sink as [`talk`] does, while a watcher sees each line that ended, after it was
@@ -278,6 +257,7 @@ pub fn talk_watched<R: Threads + Sync, S: Source, B: Board<M>, M, K: Sink, W: Wa
     ensures source { result ≡ Err RunFault.Source
         → (read : List ℕ) × Consumes (S.remaining source.old) (S.remaining source.new) read
         × Answered (BoardLines B.calls) board.old (K.contents sink.old) read board.new (K.contents sink.new) }
+    ensures keep { result ≢ Err RunFault.Keep }
     ensures settled { OnOk result (K.waiting sink.new ≡ []) }
     ensures source_settled { result ≡ Err RunFault.Source → K.waiting sink.new ≡ [] }
     ensures memory { result ≡ Err RunFault.Memory
@@ -287,25 +267,16 @@ pub fn talk_watched<R: Threads + Sync, S: Source, B: Board<M>, M, K: Sink, W: Wa
     ensures sink_failed { result ≡ Err RunFault.Sink → K.failures sink.old < K.failures sink.new }
     ensures source_failed { result ≡ Err RunFault.Source → S.failures source.old < S.failures source.new }
 {
-    let session = match Session::new(alloc) {
-        Ok(session) => session,
-        Err(_) => return Err(RunFault::Memory),
-    };
-    let mut conversation = Conversation {
+    converse::<R, S, B, M, W, K, AtOnce, Unkept>(
         rt,
         alloc,
-        session,
-        answered: 0,
-    };
-    read_on(&mut conversation, source, board, meter, watcher, sink)?;
-    match conversation.finish(board, meter, watcher, sink) {
-        Ok(()) => {}
-        Err(_) => return Err(RunFault::Sink),
-    }
-    match hand_on(sink) {
-        Ok(()) => Ok(conversation.answered),
-        Err(_) => Err(RunFault::Sink),
-    }
+        source,
+        sink,
+        board,
+        meter,
+        watcher,
+        &mut Unkept,
+    )
 }
 
 /// Answers each line of a source on a sink, to the end of the input, and returns how many lines had a reply; 2^64 - 1
@@ -336,6 +307,7 @@ pub fn talk<R: Threads + Sync, S: Source, B: Board<M>, M, K: Sink>(
     ensures source { result ≡ Err RunFault.Source
         → (read : List ℕ) × Consumes (S.remaining source.old) (S.remaining source.new) read
         × Answered (BoardLines B.calls) board.old (K.contents sink.old) read board.new (K.contents sink.new) }
+    ensures keep { result ≢ Err RunFault.Keep }
     ensures settled { OnOk result (K.waiting sink.new ≡ []) }
     ensures source_settled { result ≡ Err RunFault.Source → K.waiting sink.new ≡ [] }
     ensures memory { result ≡ Err RunFault.Memory
@@ -346,4 +318,72 @@ pub fn talk<R: Threads + Sync, S: Source, B: Board<M>, M, K: Sink>(
     ensures source_failed { result ≡ Err RunFault.Source → S.failures source.old < S.failures source.new }
 {
     talk_watched(rt, alloc, source, sink, board, meter, &mut Unwatched)
+}
+
+/// Answers each line of a source on an output as [`talk_watched`] does, and has all that the session has seen kept
+/// before any reply is handed on.
+///
+/// Replies are held back, and released before each read, where there are `PIECE_BYTES` bytes of them, and at the end:
+/// then the keeper is settled, and what waits is handed on. Where that fails, nothing more is handed on. So at any end
+/// the keeper covers a state of the board that is the one after all that was shown or acknowledged.
+///
+/// Cost: that of [`talk_watched`], the room for the replies that wait, and as many settles as there are releases.
+pub fn talk_kept<
+    R: Threads + Sync,
+    S: Source,
+    B: Board<M>,
+    M,
+    K: Sink + Drop,
+    L: Ledger,
+    W: Watcher,
+    Q: Keeper<B>,
+>(
+    rt: &R,
+    alloc: Global,
+    source: &mut S,
+    sink: &mut HeldOutput<K, L>,
+    board: &mut B,
+    meter: &mut M,
+    watcher: &mut W,
+    keeper: &mut Q,
+) -> Result<u64, RunFault>
+    requires fits { Q.fits keeper.old board.old }
+    requires stays { StaysFit (BoardAnswers B.calls) Q.fits }
+    ensures transcribed { IfOk result (λ answered. (read : List ℕ)
+        × Consumes (S.remaining source.old) (S.remaining source.new) read
+        × IsAtEnd (S.remaining source.new)
+        × Transcribed (BoardLines B.calls) board.old (held_contents K.contents sink.old) read
+        board.new (held_contents K.contents sink.new) answered) }
+    ensures sink { result ≡ Err RunFault.Sink
+        → (read : List ℕ) × Consumes (S.remaining source.old) (S.remaining source.new) read
+        × (Stopped (BoardLines B.calls) (IsAtEnd (S.remaining source.new)) board.old
+        (held_contents K.contents sink.old) read board.new (held_contents K.contents sink.new)
+        ⊎ Halted (BoardLines B.calls) (IsAtEnd (S.remaining source.new)) board.old
+        (held_contents K.contents sink.old) read board.new (held_contents K.contents sink.new)) }
+    ensures source { result ≡ Err RunFault.Source
+        → (read : List ℕ) × Consumes (S.remaining source.old) (S.remaining source.new) read
+        × Answered (BoardLines B.calls) board.old (held_contents K.contents sink.old) read
+        board.new (held_contents K.contents sink.new) }
+    ensures keep { result ≡ Err RunFault.Keep → Q.can_fail
+        × (read : List ℕ) × Consumes (S.remaining source.old) (S.remaining source.new) read
+        × Halted (BoardLines B.calls) (IsAtEnd (S.remaining source.new)) board.old
+        (held_contents K.contents sink.old) read board.new (held_contents K.contents sink.new) }
+    ensures covered { (read : List ℕ) × Consumes (S.remaining source.old) (S.remaining source.new) read
+        × IsCovered (BoardLines B.calls) (Q.covers keeper.new) (IsAtEnd (S.remaining source.new))
+        board.old (held_contents K.contents sink.old) read
+        board.new (held_contents K.contents sink.new) (held_waiting K.waiting sink.new) }
+    ensures kept { OnOk result (Q.covers keeper.new board.new × Q.fits keeper.new board.new) }
+    ensures source_kept { result ≡ Err RunFault.Source → Q.covers keeper.new board.new }
+    ensures settled { OnOk result (held_waiting K.waiting sink.new ≡ []) }
+    ensures source_settled { result ≡ Err RunFault.Source → held_waiting K.waiting sink.new ≡ [] }
+    ensures memory { result ≡ Err RunFault.Memory → (source.new ≡ source.old) × (sink.new ≡ sink.old)
+        × (board.new ≡ board.old) × (keeper.new ≡ keeper.old) }
+    ensures calm { OnOk result ((S.failures source.new ≡ S.failures source.old)
+        × (held_failures sink.new ≡ held_failures sink.old)) }
+    ensures sink_failed { result ≡ Err RunFault.Sink → held_failures sink.old < held_failures sink.new }
+    ensures source_failed { result ≡ Err RunFault.Source → S.failures source.old < S.failures source.new }
+{
+    converse::<R, S, B, M, W, HeldOutput<K, L>, HeldBack, Q>(
+        rt, alloc, source, sink, board, meter, watcher, keeper,
+    )
 }

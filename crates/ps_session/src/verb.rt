@@ -16,6 +16,7 @@ pub(crate) enum Verb {
     Entries,
     Push,
     Pull,
+    Replica,
 }
 
 impl Verb {
@@ -46,6 +47,8 @@ impl Verb {
             Some(Verb::Push)
         } else if word == b"pull".as_slice() {
             Some(Verb::Pull)
+        } else if word == b"replica".as_slice() {
+            Some(Verb::Replica)
         } else {
             None
         }

@@ -1,14 +1,26 @@
 //! Who looks on at a session.
 
+use ps_delta::Delta;
 use ps_grid::Refusal;
+
+/// What became of a line.
+#[derive(Clone, Copy)]
+pub enum Seen<'a> {
+    /// It was answered, or it is empty.
+    Answered,
+    /// It was refused.
+    Refused(Refusal),
+    /// It was answered, and it pushed this delta, which changed something.
+    Received(&'a Delta),
+}
 
 /// Who looks on at the lines of a session. It changes nothing that the session does, so its call promises nothing.
 pub trait Watcher {
-    /// Sees a line that ended, without its line feed and a carriage return before it, and why it was refused, if it
-    /// was. An empty line is one, too. Of one that is too long nothing is left to see.
+    /// Sees a line that ended, without its line feed and a carriage return before it, and what became of it. An empty
+    /// line is one, too. Of one that is too long nothing is left to see.
     ///
     /// Cost: the watcher's own.
-    fn saw(&mut self, line: &[u8], refusal: Option<Refusal>);
+    fn saw(&mut self, line: &[u8], seen: Seen<'_>);
 }
 
 /// A watcher that looks away.
@@ -16,5 +28,5 @@ pub trait Watcher {
 pub struct Unwatched;
 
 impl Watcher for Unwatched {
-    fn saw(&mut self, _line: &[u8], _refusal: Option<Refusal>) {}
+    fn saw(&mut self, _line: &[u8], _seen: Seen<'_>) {}
 }

@@ -4,11 +4,11 @@
 //! the settled value of each cell: `#CYCLE!` exactly where a chain of references from the cell holds a cell twice, and
 //! else the value of what the cell holds.
 //!
-//! It is the only crate that makes deltas of edits and that decides which formulas are evaluated. It knows no bytes, no
-//! lines and no other sheet, and it sends nothing. The formulas of a level, none of which refers to another one, are
-//! divided among workers: one for each 4,096 of them, and as many as the sheet was opened with at most. What it shows,
-//! refuses and reports is the same for every number of them. A call that changes a sheet is lent the handle that starts
-//! threads, and all that it started have ended when it returns.
+//! It is the only crate that makes deltas of edits; which formulas a change has evaluated is worked out below it, in
+//! `ps_cells`. It knows no bytes, no lines and no other sheet, and it sends nothing. The formulas of a level, none of
+//! which refers to another one, are divided among workers: one for each 4,096 of them, and as many as the sheet was
+//! opened with at most. What it shows, refuses and reports is the same for every number of them. A call that changes a
+//! sheet is lent the handle that starts threads, and all that it started have ended when it returns.
 //!
 //! The contract to use is that of [`Sheet::edit`] and [`Sheet::receive`]. An edit appends exactly the delta that
 //! `delta_of_edit` gives over the joined history, or returns the first refusal that holds. A received delta is

@@ -1,5 +1,5 @@
 -- The states that cells in order stand for, and the cells that a state has.
-use Rattle.std.proofs.Common.{◌≡◌, ◌≢◌, ℕ, ◌+◌, ◌<◌, ◌≤◌, List, [], ◌∷◌, ◌++◌, length, take, drop, refl, sym, ap, ◌∙◌}
+use Rattle.std.proofs.Common.{◌≡◌, ◌≢◌, ℕ, ◌+◌, ◌<◌, ◌≤◌, List, [], ◌∷◌, ◌++◌, length, refl, sym, ap, ◌∙◌}
 use Rattle.std.proofs.Common.{arith, subst, ⊎_elim, All}
 use Rattle.std.proofs.Math.Path.{fun_ext}
 use Rattle.std.proofs.lemmas.Bool.{cases_eq, cases_lt}
@@ -78,7 +78,8 @@ under_weaker : (m n : ℕ) (es : Entries) → m ≤ n → Under m (cells_of es) 
 under_weaker m n [] h u = tt
 under_weaker m n (e ∷ es) h u = (omega (arith, h, u.0), under_weaker m n es h u.1)
 
-under_push : (n : ℕ) (es : Entries) (x : CellState) → Under n (cells_of es) → Under (n + 1) (cells_of (es ++ (n, x) ∷ []))
+under_push : (n : ℕ) (es : Entries) (x : CellState) → Under n (cells_of es)
+    → Under (n + 1) (cells_of (es ++ (n, x) ∷ []))
 under_push n [] x u = (omega arith, tt)
 under_push n (e ∷ es) x u = (omega (arith, u.0), under_push n es x u.1)
 

@@ -1,16 +1,18 @@
 -- What one line says, and that a line too long to be held says nothing.
-use Rattle.std.proofs.Common.{◌≡◌, ◌≢◌, ℕ, ◌+◌, ◌-◌, ◌<◌, ◌≤◌, Bool, true, false, List, [], ◌∷◌, length, take, drop, refl}
-use Rattle.std.proofs.Common.{sym, ap, ◌∙◌, arith, rules, subst, nat_le, Option, Some, None, length-drop}
+use Rattle.std.proofs.Common.{◌≡◌, ℕ, ◌+◌, ◌-◌, ◌<◌, ◌≤◌, Bool, true, false, List, [], ◌∷◌, length, take, drop}
+use Rattle.std.proofs.Common.{ap, refl, arith, rules, nat_le, Some, None, length-append, length-drop}
+use Rattle.std.proofs.lemmas.Fmt.{length-decimal-le}
+use Rattle.std.specs.Prelude.{codes, decimal}
+use Rattle.ps_grid.specs.declared.parties.TheConstants.{REPLICAS}
 use Rattle.std.proofs.lemmas.List.{length-take-le}
 use Rattle.std.proofs.lemmas.Bool.Decides.{nat_tests}
 use Rattle.std.specs.Prelude.{if◌then◌else◌, nat_eq}
 use Rattle.std.specs.List.{ends_with, starts_with}
 use Rattle.ps_delta.specs.Deltas.{Entries}
 use Rattle.ps_wire.specs.Line.{IsLine}
-use Rattle.ps_wire.specs.declared.TheConstants.{DELTA_LINE_LIMIT}
 use Rattle.ps_session.specs.declared.session.TheConstants.{LINE_LIMIT}
 use Rattle.ps_session.specs.Feeding.{kept, without_return}
-use Rattle.ps_squash.specs.Squashed.{Says, after_push, push_word}
+use Rattle.ps_squash.specs.Squashed.{Says, TellsNone, after_push, push_word, replica_line}
 
 pub says_nothing : (line : List ℕ) → length line ≡ 0 → Says line []
 says_nothing [] none = refl
@@ -62,3 +64,14 @@ too_long raw is =
     let less = without_return-length raw in
     says_none (without_return raw) (omega (arith, all, less))
     (λ d line. omega (arith, all, less, after_push-length (without_return raw), line.fits))
+
+replica_line-short : (n : ℕ) → n ≤ REPLICAS → length (replica_line n) ≤ 11
+replica_line-short n high =
+    let digits = length-decimal-le 3 n (omega arith) (omega (arith, high)) (omega (arith, high)) in
+    omega (arith, length-append (codes "replica ") (decimal n), digits)
+
+pub too_long_tells : (raw : List ℕ) → kept raw ≡ None → TellsNone (without_return raw)
+too_long_tells raw is n low high same =
+    let all = over_limit raw is in
+    let less = without_return-length raw in
+    omega (arith, all, less, ap length same, replica_line-short n high)

@@ -1,5 +1,5 @@
 -- What reads, one after another, take from a source.
-use Rattle.std.proofs.Common.{◌≡◌, ◌++◌, List, [], Option, Some, None, refl, sym, ap, ◌∙◌, append_assoc, ℕ}
+use Rattle.std.proofs.Common.{◌++◌, List, [], Option, Some, None, refl, sym, ap, ◌∙◌, append_assoc, ℕ}
 use Rattle.std.specs.Io.KnownBytes.{Consumes}
 
 pub none_read : (old : Option (List ℕ)) → Consumes old old []

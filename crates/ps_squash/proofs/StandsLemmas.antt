@@ -1,6 +1,7 @@
 -- Lines that are taken in: one line more, a part of a line, the end.
 use Rattle.std.proofs.Common.{◌≡◌, ◌≢◌, ℕ, ◌+◌, ◌-◌, ◌^◌, ◌<◌, ◌≤◌, Bool, true, false, List, [], ◌∷◌, ◌++◌, length, min}
 use Rattle.std.proofs.Common.{take, drop, refl, sym, ap, ◌∙◌, arith, rules, subst, Option, Some, None, nat_le, flat_map}
+use Rattle.std.proofs.Common.{inl, inr}
 use Rattle.std.proofs.Common.{append_assoc, append-nil, length-append, length-drop}
 use Rattle.std.proofs.Math.Seq.{take-add}
 use Rattle.std.specs.Prelude.{if◌then◌else◌, ⊤}
@@ -17,8 +18,8 @@ use Rattle.ps_session.specs.declared.session.Line.{Line}
 use Rattle.ps_session.specs.declared.session.Line.TheVariants as lines
 use Rattle.ps_session.specs.Feeding.{Ends, EndsLine, Feeds, HasNoFeed, Reading, kept, kept_after, without_return}
 use Rattle.ps_session.specs.Transcript.{IsAfterLine, stream_of, with_last}
-use Rattle.ps_squash.specs.Squashed.{FirstFault, Say, SayTogether, Says}
-use Rattle.ps_squash.specs.Inside.{Holds, Stands}
+use Rattle.ps_squash.specs.Squashed.{FirstFault, FirstSays, Say, SayAll, SayTogether, Says, TellsNone}
+use Rattle.ps_squash.specs.Inside.{Holds, NextSays, Stands}
 use Rattle.ps_squash.proofs.LineLemmas.{held_line}
 
 -- one line more
@@ -37,6 +38,31 @@ say_push (l ∷ ls) ds here line say says = (
   say.2,
   say_push ls say.1 here line say.3 says,
   ap (λ x. x ++ here) say.4 ∙ append_assoc say.0 say.1 here,
+)
+
+-- whether there are lines before, by their count
+none_before : (n count most : ℕ) → count ≡ min n most → n ≡ 0 → count ≡ 0
+none_before n count most is none = omega (arith, is, none)
+
+some_before : (n count most : ℕ) → count ≡ min n most → 0 < n → 0 < most → count ≡ 0 → ⊥
+some_before n count most is some much none = omega (arith, is, some, much, none)
+
+-- .. where the first may tell a replica
+say_next : (ls : List (List ℕ)) (told new : Option ℕ) (ds here : List Entries) (line : List ℕ) (count : ℕ)
+    → SayAll ls told ds → count ≡ min (length ls) (2 ^ 64 - 1)
+    → NextSays count told (without_return line) new here → SayAll (ls ++ line ∷ []) new (ds ++ here)
+say_next [] told new ds here line count said is (inl next) =
+    (here, [], next.1, refl, ap (λ x. x ++ here) said.1 ∙ sym (append-nil here))
+say_next [] told new ds here line count said is (inr next) =
+    absurd (omega (arith, none_before 0 count (2 ^ 64 - 1) is refl, next.0))
+say_next (l ∷ ls) told new ds here line count said is (inl next) =
+    absurd (some_before (length (l ∷ ls)) count (2 ^ 64 - 1) is (omega arith) (omega arith) next.0)
+say_next (l ∷ ls) told new ds here line count said is (inr next) = (
+  said.0,
+  said.1 ++ here,
+  subst (λ t. FirstSays (without_return l) t said.0) (sym next.1) said.2,
+  say_push ls said.1 here line said.3 next.2,
+  ap (λ x. x ++ here) said.4 ∙ append_assoc said.0 said.1 here,
 )
 
 -- what is kept of a line doesn't hang on where it was cut
@@ -85,19 +111,21 @@ joined_more old new ds here is next =
     next ∙ ap (λ s. joined_state s (joined_history here)) is ∙ sym (joined_history-append ds here)
 
 -- a line ended: it was joined, and is now among the lines
-abbrev Joined : Line → Reading → State → State → Type 0
-Joined line after old new = (raw : List ℕ) → Holds line after raw
-    → (here : List Entries) × Says (without_return raw) here × (new ≡ joined_state old (joined_history here))
+abbrev Joined : Line → Reading → Option ℕ → State → ℕ → Option ℕ → State → Type 0
+Joined line after told old count tells new = (raw : List ℕ) → Holds line after raw
+    → (here : List Entries) × NextSays count told (without_return raw) tells here
+    × (new ≡ joined_state old (joined_history here))
 
--- .. or it says nothing that a delta is
+-- .. or it says nothing that a delta is, nor tells a replica as the first one
 abbrev Faulty : Line → Reading → ℕ → ℕ → Type 0
 Faulty line after count number = (raw : List ℕ) → Holds line after raw
-    → ((here : List Entries) → ¬ Says (without_return raw) here) × (number ≡ min (count + 1) (2 ^ 64 - 1))
+    → ((here : List Entries) → ¬ Says (without_return raw) here) × (count ≡ 0 → TellsNone (without_return raw))
+    × (number ≡ min (count + 1) (2 ^ 64 - 1))
 
-module _ (read : List ℕ) (before after : Reading) (old : State) (count : ℕ) where
+module _ (read : List ℕ) (before after : Reading) (told : Option ℕ) (old : State) (count : ℕ) where
   -- no line ended
   pub part_stands : (bytes : List ℕ) → Feeds before after bytes lines.None
-      → Stands read before.pending old count → Stands (read ++ bytes) after.pending old count
+      → Stands read before.pending told old count → Stands (read ++ bytes) after.pending told old count
   part_stands bytes fed s = record {
     lines = s.lines;
     rest = s.rest ++ bytes;
@@ -125,7 +153,7 @@ module _ (read : List ℕ) (before after : Reading) (old : State) (count : ℕ) 
   )
 
   ended : (bytes : List ℕ) (line : Line) → line ≢ lines.None → Feeds before after bytes line
-      → (s : Stands read before.pending old count)
+      → (s : Stands read before.pending told old count)
       → (part : List ℕ) × (bytes ≡ part ++ 10 ∷ []) × HasNoFeed part × Holds line after (s.rest ++ part)
       × (after.pending ≡ Some [])
   ended bytes lines.None some fed s = absurd (some refl)
@@ -135,10 +163,11 @@ module _ (read : List ℕ) (before after : Reading) (old : State) (count : ℕ) 
   ended bytes lines.TooLong some fed s =
       let whole = kept_whole bytes s.rest None s.held fed.0 in (whole.0, whole.1, whole.2, whole.3, fed.1)
 
-  pub line_stands : (new : State) (counted : ℕ) (bytes : List ℕ) (line : Line) → line ≢ lines.None
-      → Feeds before after bytes line → Joined line after old new → counted ≡ min (count + 1) (2 ^ 64 - 1)
-      → Stands read before.pending old count → Stands (read ++ bytes) after.pending new counted
-  line_stands new counted bytes line some fed joined rises s =
+  pub line_stands : (tells : Option ℕ) (new : State) (counted : ℕ) (bytes : List ℕ) (line : Line) → line ≢ lines.None
+      → Feeds before after bytes line → Joined line after told old count tells new
+      → counted ≡ min (count + 1) (2 ^ 64 - 1)
+      → Stands read before.pending told old count → Stands (read ++ bytes) after.pending tells new counted
+  line_stands tells new counted bytes line some fed joined rises s =
       let e = ended bytes line some fed s in
       let j = joined (s.rest ++ e.0) e.3 in record {
         lines = s.lines ++ (s.rest ++ e.0) ∷ [];
@@ -153,14 +182,14 @@ module _ (read : List ℕ) (before after : Reading) (old : State) (count : ℕ) 
         };
         held = e.4;
         deltas = s.deltas ++ j.0;
-        said = say_push s.lines s.deltas j.0 (s.rest ++ e.0) s.said j.1;
+        said = say_next s.lines told tells s.deltas j.0 (s.rest ++ e.0) count s.said s.counted j.1;
         joined = joined_more old new s.deltas j.0 s.joined j.2;
         counted = one_more s.lines (s.rest ++ e.0) count counted s.counted rises;
       }
 
   pub line_fails : (number : ℕ) (piece : List ℕ) (taken : ℕ) (line : Line) → line ≢ lines.None
       → Feeds before after (take taken piece) line → Faulty line after count number
-      → Stands read before.pending old count → FirstFault ⊥ (read ++ piece) number
+      → Stands read before.pending told old count → FirstFault ⊥ (read ++ piece) number
   line_fails number piece taken line some fed faulty s =
       let e = ended (take taken piece) line some fed s in
       let f = faulty (s.rest ++ e.0) e.3 in
@@ -177,21 +206,24 @@ module _ (read : List ℕ) (before after : Reading) (old : State) (count : ℕ) 
         each = s.split.each;
         one = All-append (λ b. b ≢ 10) s.rest e.0 s.split.partial e.2;
         ends = refl;
+        told = told;
         deltas = s.deltas;
         said = s.said;
         faulty = f.0;
-        counted = number_of s.lines count number s.counted f.1;
+        untold = λ none. f.1 (none_before (length s.lines) count (2 ^ 64 - 1) s.counted (ap length none));
+        counted = number_of s.lines count number s.counted f.2;
       }
 
   -- the end, where nothing remains
-  pub none_remains : Ends before after lines.None → Stands read before.pending old count → SayTogether read old
+  pub none_remains : Ends before after lines.None → Stands read before.pending told old count
+      → SayTogether read told old
   none_remains ends s =
       let none : s.rest ≡ [] = held_line s.rest [] (sym s.held ∙ ends.0) in record {
         lines = s.lines;
         rest = s.rest;
         split = s.split;
         deltas = s.deltas;
-        said = subst (λ r. Say (with_last s.lines r) s.deltas) (sym none) s.said;
+        said = subst (λ r. SayAll (with_last s.lines r) told s.deltas) (sym none) s.said;
         joined = s.joined;
       }
 
@@ -204,7 +236,7 @@ module _ (read : List ℕ) (before after : Reading) (old : State) (count : ℕ) 
   long_filled (b ∷ bs) is = omega arith
 
   last_held : (line : Line) → line ≢ lines.None → Ends before after line
-      → (s : Stands read before.pending old count) → Holds line after s.rest × (0 < length s.rest)
+      → (s : Stands read before.pending told old count) → Holds line after s.rest × (0 < length s.rest)
   last_held lines.None some ends s = absurd (some refl)
   last_held lines.Full some ends s =
       let is = sym s.held ∙ ends.0 in
@@ -212,22 +244,23 @@ module _ (read : List ℕ) (before after : Reading) (old : State) (count : ℕ) 
   last_held lines.TooLong some ends s =
       let is = sym s.held ∙ ends.0 in (is, long_filled s.rest is)
 
-  pub last_joins : (new : State) (line : Line) → line ≢ lines.None → Ends before after line
-      → Joined line after old new → Stands read before.pending old count → SayTogether read new
-  last_joins new line some ends joined s =
+  pub last_joins : (tells : Option ℕ) (new : State) (line : Line) → line ≢ lines.None → Ends before after line
+      → Joined line after told old count tells new → Stands read before.pending told old count
+      → SayTogether read tells new
+  last_joins tells new line some ends joined s =
       let held = last_held line some ends s in
       let j = joined s.rest held.0 in record {
         lines = s.lines;
         rest = s.rest;
         split = s.split;
         deltas = s.deltas ++ j.0;
-        said = subst (λ ls. Say ls (s.deltas ++ j.0)) (sym (last_filled s.lines s.rest held.1))
-            (say_push s.lines s.deltas j.0 s.rest s.said j.1);
+        said = subst (λ ls. SayAll ls tells (s.deltas ++ j.0)) (sym (last_filled s.lines s.rest held.1))
+            (say_next s.lines told tells s.deltas j.0 s.rest count s.said s.counted j.1);
         joined = joined_more old new s.deltas j.0 s.joined j.2;
       }
 
   pub last_fails : (number : ℕ) (line : Line) → line ≢ lines.None → Ends before after line
-      → Faulty line after count number → Stands read before.pending old count → FirstFault ⊤ read number
+      → Faulty line after count number → Stands read before.pending told old count → FirstFault ⊤ read number
   last_fails number line some ends faulty s =
       let held = last_held line some ends s in
       let f = faulty s.rest held.0 in record {
@@ -238,10 +271,12 @@ module _ (read : List ℕ) (before after : Reading) (old : State) (count : ℕ) 
         each = s.split.each;
         one = s.split.partial;
         ends = tt;
+        told = told;
         deltas = s.deltas;
         said = s.said;
         faulty = f.0;
-        counted = number_of s.lines count number s.counted f.1;
+        untold = λ none. f.1 (none_before (length s.lines) count (2 ^ 64 - 1) s.counted (ap length none));
+        counted = number_of s.lines count number s.counted f.2;
       }
 
 -- a fault, with what is known of the end of the input
@@ -255,9 +290,11 @@ fault_ended P Q read number known f = record {
   each = f.each;
   one = f.one;
   ends = go f.after f.ends;
+  told = f.told;
   deltas = f.deltas;
   said = f.said;
   faulty = f.faulty;
+  untold = f.untold;
   counted = f.counted;
 }
   where
@@ -267,7 +304,7 @@ fault_ended P Q read number known f = record {
 
 -- nothing is read yet
 pub none_stand : (pending : Option (List ℕ)) (state : State) → pending ≡ Some [] → state ≡ empty_state
-    → Stands [] pending state 0
+    → Stands [] pending None state 0
 none_stand pending state is empty = record {
   lines = [];
   rest = [];
@@ -278,18 +315,19 @@ none_stand pending state is empty = record {
   };
   held = is;
   deltas = [];
-  said = refl;
+  said = (refl, refl);
   joined = empty ∙ sym joined_history-nil;
   counted = refl;
 }
 
 -- one turn more, as the code takes it, and all that is left
-pub stands_more : (read bytes : List ℕ) (start taken : ℕ) (pending : Option (List ℕ)) (state : State) (count : ℕ)
-    → Stands ((read ++ take start bytes) ++ take taken (take (length bytes - start) (drop start bytes))) pending state
-    count
-    → Stands (read ++ take (start + taken) bytes) pending state count
-stands_more read bytes start taken pending state count s =
-    subst (λ r. Stands r pending state count)
+pub stands_more : (read bytes : List ℕ) (start taken : ℕ) (pending : Option (List ℕ)) (told : Option ℕ) (state : State)
+    (count : ℕ)
+    → Stands ((read ++ take start bytes) ++ take taken (take (length bytes - start) (drop start bytes))) pending told
+    state count
+    → Stands (read ++ take (start + taken) bytes) pending told state count
+stands_more read bytes start taken pending told state count s =
+    subst (λ r. Stands r pending told state count)
     (ap (λ r. (read ++ take start bytes) ++ take taken r) (rest-range bytes start)
     ∙ append_assoc read (take start bytes) (take taken (drop start bytes))
     ∙ ap (λ t. read ++ t) (sym (take-add start taken bytes))) s

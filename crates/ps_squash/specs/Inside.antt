@@ -1,6 +1,6 @@
 -- What the private functions say of lines on their way; no contract of a public one cites this.
-use Rattle.std.specs.Prelude.{◌≡◌, ◌≢◌, ◌+◌, ◌-◌, ◌^◌, ◌<◌, ℕ, List, [], ◌∷◌, ◌++◌, length, min, Option, Some, None}
-use Rattle.std.specs.Prelude.{Contains, ⊤}
+use Rattle.std.specs.Prelude.{◌≡◌, ◌≢◌, ◌⊎◌, ◌+◌, ◌-◌, ◌^◌, ◌<◌, ℕ, List, [], ◌∷◌, ◌++◌, length, min}
+use Rattle.std.specs.Prelude.{Contains, Option, Some, None, ⊤}
 use Rattle.std.specs.List.{All}
 use Rattle.ps_delta.specs.declared.cell_state.CellState.{CellState}
 use Rattle.ps_delta.specs.State.{State, empty_cell}
@@ -14,7 +14,8 @@ use Rattle.ps_session.specs.Transcript.{Splits}
 use Rattle.ps_session.specs.declared.session.Line.{Line}
 use Rattle.ps_session.specs.declared.session.Line.TheVariants as lines
 use Rattle.ps_wire.specs.Line.{IsLine, delta_text}
-use Rattle.ps_squash.specs.Squashed.{AreFull, Divide, FirstFault, Say, cells_in, push_lines}
+use Rattle.ps_squash.specs.Squashed.{AreFull, Divide, FirstFault, FirstSays, SayAll, Says, cells_in, push_lines}
+use Rattle.ps_squash.specs.Squashed.{told_line}
 use Rattle.ps_squash.specs.declared.fault.SquashFault.{SquashFault}
 use Rattle.ps_squash.specs.declared.fault.SquashFault.TheVariants as faults
 
@@ -24,26 +25,33 @@ Holds lines.None session raw = ⊥
 Holds lines.Full session raw = kept raw ≡ Some session.line
 Holds lines.TooLong session raw = kept raw ≡ None
 
+-- what a line says that comes after so many: only the first may tell whose the lines are
+abbrev pub NextSays : ℕ → Option ℕ → List ℕ → Option ℕ → List Entries → Type 0
+NextSays count before line after deltas =
+    ((count ≡ 0) × FirstSays line after deltas) ⊎ ((0 < count) × (after ≡ before) × Says line deltas)
+
 -- the complete lines read were joined, and what remains is held
-pub record Stands (read : List ℕ) (pending : Option (List ℕ)) (state : State) (count : ℕ) : Type 0 where
+pub record Stands (read : List ℕ) (pending : Option (List ℕ)) (told : Option ℕ) (state : State) (count : ℕ)
+    : Type 0 where
   pub lines : List (List ℕ)
   pub rest : List ℕ
   pub split : Splits read lines rest
   pub held : pending ≡ kept rest
   pub deltas : List Entries
-  pub said : Say lines deltas
+  pub said : SayAll lines told deltas
   pub joined : state ≡ joined_history deltas
   pub counted : count ≡ min (length lines) (2 ^ 64 - 1)
 
 -- whatever came before, these bytes were taken in
-abbrev pub GoesOn : List ℕ → Option (List ℕ) → State → ℕ → Option (List ℕ) → State → ℕ → Type 0
-GoesOn bytes held before count pending state number =
-    (read : List ℕ) → Stands read held before count → Stands (read ++ bytes) pending state number
+abbrev pub GoesOn : List ℕ → Option (List ℕ) → Option ℕ → State → ℕ → Option (List ℕ) → Option ℕ → State → ℕ
+    → Type 0
+GoesOn bytes held first before count pending told state number =
+    (read : List ℕ) → Stands read held first before count → Stands (read ++ bytes) pending told state number
 
 -- .. or one of the lines that ended among them is the first that says no delta
-abbrev pub Fails : Type 0 → List ℕ → Option (List ℕ) → State → ℕ → ℕ → Type 0
-Fails ended bytes held before count number =
-    (read : List ℕ) → Stands read held before count → FirstFault ended (read ++ bytes) number
+abbrev pub Fails : Type 0 → List ℕ → Option (List ℕ) → Option ℕ → State → ℕ → ℕ → Type 0
+Fails ended bytes held told before count number =
+    (read : List ℕ) → Stands read held told before count → FirstFault ended (read ++ bytes) number
 
 -- what the cells before n hold
 pub record AreFirst (s : State) (n : ℕ) (entries : Entries) : Type 0 where
@@ -74,18 +82,18 @@ abbrev pub IsOfIntake : SquashFault → Type 0
 IsOfIntake faults.Source = ⊤
 IsOfIntake fault = IsOfLines fault
 
--- the text pushes just the state, by deltas that divide cells
-pub record IsText (state : State) (text : List ℕ) : Type 0 where
+-- the text tells the replica, and pushes just the state, by deltas that divide cells
+pub record IsText (told : Option ℕ) (state : State) (text : List ℕ) : Type 0 where
   pub fewer : List Entries
   pub cells : Entries
   pub divide : Divide fewer cells
-  pub spelled : text ≡ push_lines fewer
+  pub spelled : text ≡ told_line told ++ push_lines fewer
   pub same : joined_history fewer ≡ state
 
--- the text pushes the first of the cells, by full lines, and the rest is left
-pub record AreWritten (cells left : Entries) (text : List ℕ) : Type 0 where
+-- after what was there before, the text pushes the first of the cells, by full lines, and the rest is left
+pub record AreWritten (cells left : Entries) (before text : List ℕ) : Type 0 where
   pub deltas : List Entries
-  pub spelled : text ≡ push_lines deltas
+  pub spelled : text ≡ before ++ push_lines deltas
   pub whole : cells_in deltas ++ left ≡ cells
   pub lawful : All IsDelta deltas
   pub each : All (λ d. IsLine (delta_text d) d) deltas

@@ -1,7 +1,8 @@
 -- What delta lines say together, and the lines that say the same in fewer.
-use Rattle.std.specs.Prelude.{◌≡◌, ◌≢◌, ◌+◌, ◌-◌, ◌^◌, ℕ, List, [], ◌∷◌, ◌++◌, length, drop, min, flat_map, codes, ⊤}
-use Rattle.std.specs.Prelude.{if◌then◌else◌, nat_eq}
+use Rattle.std.specs.Prelude.{◌≡◌, ◌≢◌, ◌+◌, ◌-◌, ◌^◌, ◌≤◌, ℕ, List, [], ◌∷◌, ◌++◌, Option, Some, None, ⊤}
+use Rattle.std.specs.Prelude.{codes, decimal, drop, flat_map, if◌then◌else◌, length, min, nat_eq}
 use Rattle.std.specs.List.{All, starts_with}
+use Rattle.ps_grid.specs.declared.parties.TheConstants.{REPLICAS}
 use Rattle.ps_delta.specs.State.{State}
 use Rattle.ps_delta.specs.Deltas.{Entries, IsDelta, joined_history}
 use Rattle.ps_wire.specs.Fits.{FitsLine}
@@ -30,17 +31,41 @@ Say [] deltas = deltas ≡ []
 Say (line ∷ lines) deltas = (first : List Entries) × (others : List Entries)
     × Says (without_return line) first × Say lines others × (deltas ≡ first ++ others)
 
--- what all lines of the bytes say, joined
-pub record SayTogether (bytes : List ℕ) (state : State) : Type 0 where
+-- the first line of a kept file: the number of the replica whose lines those after it are
+abbrev pub replica_line : ℕ → List ℕ
+replica_line n = codes "replica " ++ decimal n
+
+-- the line tells this replica
+abbrev pub Tells : List ℕ → ℕ → Type 0
+Tells line n = (1 ≤ n) × (n ≤ REPLICAS) × (line ≡ replica_line n)
+
+-- .. or none
+abbrev pub TellsNone : List ℕ → Type 0
+TellsNone line = (n : ℕ) → 1 ≤ n → n ≤ REPLICAS → line ≢ replica_line n
+
+-- what a first line says: it tells a replica, and pushes nothing; or it tells none, and is a line like the others
+abbrev pub FirstSays : List ℕ → Option ℕ → List Entries → Type 0
+FirstSays line (Some n) deltas = Tells line n × (deltas ≡ [])
+FirstSays line None deltas = TellsNone line × Says line deltas
+
+-- what all lines say, the first of which may tell whose they are
+abbrev pub SayAll : List (List ℕ) → Option ℕ → List Entries → Type 0
+SayAll [] told deltas = (told ≡ None) × (deltas ≡ [])
+SayAll (line ∷ lines) told deltas = (first : List Entries) × (others : List Entries)
+    × FirstSays (without_return line) told first × Say lines others × (deltas ≡ first ++ others)
+
+-- whose the lines of the bytes are, where the first one tells it, and what they all say, joined
+pub record SayTogether (bytes : List ℕ) (told : Option ℕ) (state : State) : Type 0 where
   pub lines : List (List ℕ)
   pub rest : List ℕ
   pub split : Splits bytes lines rest
   pub deltas : List Entries
-  pub said : Say (with_last lines rest) deltas
+  pub said : SayAll (with_last lines rest) told deltas
   pub joined : state ≡ joined_history deltas
 
--- the line that begins after these lines says nothing that a delta is, and each before it does; it has this number,
--- from 1 on, and 2^64 - 1 stands for more. `ended` is known where nothing comes after it
+-- the line that begins after these lines says nothing that a delta is, nor tells a replica as the first one, and each
+-- before it does; it has this number, from 1 on, and 2^64 - 1 stands for more. `ended` is known where nothing comes
+-- after it
 pub record FirstFault (ended : Type 0) (bytes : List ℕ) (number : ℕ) : Type 0 where
   pub lines : List (List ℕ)
   pub line : List ℕ
@@ -49,12 +74,19 @@ pub record FirstFault (ended : Type 0) (bytes : List ℕ) (number : ℕ) : Type 
   pub each : All HasNoFeed lines
   pub one : HasNoFeed line
   pub ends : IsAfterLine ended after
+  pub told : Option ℕ
   pub deltas : List Entries
-  pub said : Say lines deltas
+  pub said : SayAll lines told deltas
   pub faulty : (others : List Entries) → ¬ Says (without_return line) others
+  pub untold : lines ≡ [] → TellsNone (without_return line)
   pub counted : number ≡ min (length lines + 1) (2 ^ 64 - 1)
 
 -- ---- lines out
+
+-- the line that tells a replica, where there is one
+abbrev pub told_line : Option ℕ → List ℕ
+told_line None = []
+told_line (Some n) = replica_line n ++ 10 ∷ []
 
 -- the line that pushes a delta
 abbrev pub push_line : Entries → List ℕ
@@ -86,19 +118,22 @@ pub record Divide (deltas : List Entries) (cells : Entries) : Type 0 where
   pub each : All (λ d. IsLine (delta_text d) d) deltas
   pub full : AreFull deltas []
 
--- SQUASHED: the text pushes as few deltas as the cells of the joined lines need, and they say the same together
+-- SQUASHED: the text tells whose the lines are, where their first one does, and then pushes as few deltas as the cells
+-- of the joined lines need, which say the same together
 pub record IsSquashed (bytes text : List ℕ) : Type 0 where
+  pub told : Option ℕ
   pub state : State
-  pub given : SayTogether bytes state
+  pub given : SayTogether bytes told state
   pub fewer : List Entries
   pub cells : Entries
   pub divide : Divide fewer cells
-  pub spelled : text ≡ push_lines fewer
+  pub spelled : text ≡ told_line told ++ push_lines fewer
   pub same : joined_history fewer ≡ state
 
 -- the joined state of the lines has a cell that no line has room for
 pub record HasWideCell (bytes : List ℕ) : Type 0 where
+  pub told : Option ℕ
   pub state : State
-  pub given : SayTogether bytes state
+  pub given : SayTogether bytes told state
   pub cell : ℕ
   pub wide : ¬ FitsLine ((cell, state cell) ∷ [])

@@ -1,17 +1,18 @@
 //! The lines of a source, joined as they come.
 ghost use Rattle.std.specs.Prelude.{◌≡◌, ◌⊎◌, ◌+◌, ◌-◌, ◌^◌, ◌<◌, ◌≤◌, ℕ, List, [], Err, IfOk, IfErr, OnOk, ⊤};
-ghost use Rattle.std.specs.Prelude.{length, min, take};
+ghost use Rattle.std.specs.Prelude.{None, Option, length, min, take};
 ghost use Rattle.std.specs.Io.KnownBytes.{Consumes, IsAtEnd};
 ghost use Rattle.ps_grid.specs.declared.refusal.Refusal.TheVariants as refusals;
 ghost use Rattle.ps_delta.specs.Deltas.{Entries, joined_history};
 ghost use Rattle.ps_delta.specs.State.{joined_state, state_at};
 ghost use Rattle.ps_session.specs.Feeding.{without_return};
-ghost use Rattle.ps_squash.specs.Squashed.{FirstFault, SayTogether, Says, after_push};
-ghost use Rattle.ps_squash.specs.Inside.{Fails, GoesOn, Holds, IsOfIntake, IsOfLines, Stands};
+ghost use Rattle.ps_squash.specs.Squashed.{FirstFault, FirstSays, SayTogether, Says, TellsNone, after_push};
+ghost use Rattle.ps_squash.specs.Inside.{Fails, GoesOn, Holds, IsOfIntake, IsOfLines, NextSays, Stands};
 ghost use Rattle.ps_squash.specs.declared.fault.SquashFault.TheVariants.{Line as FaultyLine};
 
 use crate::fault::SquashFault;
 use crate::lines::PUSH;
+use crate::told::told_replica;
 use ps_delta::Grid;
 use ps_device::{PIECE_BYTES, Source};
 use ps_grid::Refusal;
@@ -26,6 +27,8 @@ struct Intake {
     alloc: Global,
     /// The line that is being read.
     session: Session,
+    /// Whose the lines are, where the first one told it.
+    told: Option<u8>,
     /// The join of what the lines say.
     state: Grid,
     /// How many lines have ended; 2^64 - 1 stands for more.
@@ -58,15 +61,60 @@ fn join_line(alloc: Global, line: &[u8], state: &mut Grid) -> Result<(), Refusal
     Ok(())
 }
 
+/// Joins what the first line says into the state, or answers with the replica that it tells. Refused as any other line.
+fn join_first(alloc: Global, line: &[u8], state: &mut Grid) -> Result<Option<u8>, Refusal>
+    ensures joined { IfOk result (λ told. (deltas : List Entries) × FirstSays line.now told deltas
+        × (state_at state.new ≡ joined_state (state_at state.old) (joined_history deltas))) }
+    ensures faulty { result ≡ Err refusals.Delta → (deltas : List Entries) → ¬ Says line.now deltas }
+    ensures untold { result ≡ Err refusals.Delta → TellsNone line.now }
+    ensures refused { IfErr result (λ e. (e ≡ refusals.Delta) ⊎ (e ≡ refusals.Memory)) }
+{
+    match told_replica(alloc, line) {
+        Ok(Some(replica)) => Ok(Some(replica)),
+        Ok(None) => match join_line(alloc, line, state) {
+            Ok(()) => Ok(None),
+            Err(refusal) => Err(refusal),
+        },
+        Err(_) => Err(Refusal::Memory),
+    }
+}
+
 impl Intake {
+    /// Joins what the line that is held says, which may tell a replica where it is the first.
+    fn join(&mut self) -> Result<(), Refusal>
+        ensures joined { OnOk result ((deltas : List Entries)
+            × NextSays self.old.ended self.old.told (without_return self.old.session.line) self.new.told deltas
+            × (state_at self.new.state ≡ joined_state (state_at self.old.state) (joined_history deltas))) }
+        ensures faulty { result ≡ Err refusals.Delta
+            → (deltas : List Entries) → ¬ Says (without_return self.old.session.line) deltas }
+        ensures untold { result ≡ Err refusals.Delta
+            → self.old.ended ≡ 0 → TellsNone (without_return self.old.session.line) }
+        ensures refused { IfErr result (λ e. (e ≡ refusals.Delta) ⊎ (e ≡ refusals.Memory)) }
+        ensures session { self.new.session ≡ self.old.session }
+        ensures ended { self.new.ended ≡ self.old.ended }
+    {
+        if self.ended != 0 {
+            return join_line(self.alloc, self.session.line(), &mut self.state);
+        }
+        match join_first(self.alloc, self.session.line(), &mut self.state) {
+            Ok(told) => {
+                self.told = told;
+                Ok(())
+            }
+            Err(refusal) => Err(refusal),
+        }
+    }
+
     /// Takes in the line that has ended.
     fn close(&mut self, line: Line) -> Result<(), SquashFault>
         ensures joined { OnOk result ((raw : List ℕ) → Holds line self.old.session raw
-            → (deltas : List Entries) × Says (without_return raw) deltas
+            → (deltas : List Entries)
+            × NextSays self.old.ended self.old.told (without_return raw) self.new.told deltas
             × (state_at self.new.state ≡ joined_state (state_at self.old.state) (joined_history deltas))) }
         ensures faulty { IfErr result (λ f. (number : ℕ) → f ≡ FaultyLine number
             → (raw : List ℕ) → Holds line self.old.session raw
             → ((deltas : List Entries) → ¬ Says (without_return raw) deltas)
+            × (self.old.ended ≡ 0 → TellsNone (without_return raw))
             × (number ≡ min (self.old.ended + 1) (2 ^ 64 - 1))) }
         ensures counted { OnOk result (self.new.ended ≡ min (self.old.ended + 1) (2 ^ 64 - 1)) }
         ensures session { self.new.session ≡ self.old.session }
@@ -75,7 +123,7 @@ impl Intake {
         let number = self.ended.saturating_add(1);
         match line {
             Line::None => {}
-            Line::Full => match join_line(self.alloc, self.session.line(), &mut self.state) {
+            Line::Full => match self.join() {
                 Ok(()) => {}
                 Err(Refusal::Delta) => return Err(SquashFault::Line(number)),
                 Err(_) => return Err(SquashFault::Memory),
@@ -91,10 +139,10 @@ impl Intake {
         requires some { 0 < length piece.now }
         ensures within { IfOk result (λ taken. (0 < taken) × (taken ≤ length piece.now)) }
         ensures stands { IfOk result (λ taken. GoesOn (take taken piece.now)
-            self.old.session.pending (state_at self.old.state) self.old.ended
-            self.new.session.pending (state_at self.new.state) self.new.ended) }
-        ensures faulty { IfErr result (λ f. (number : ℕ) → f ≡ FaultyLine number
-            → Fails ⊥ piece.now self.old.session.pending (state_at self.old.state) self.old.ended number) }
+            self.old.session.pending self.old.told (state_at self.old.state) self.old.ended
+            self.new.session.pending self.new.told (state_at self.new.state) self.new.ended) }
+        ensures faulty { IfErr result (λ f. (number : ℕ) → f ≡ FaultyLine number → Fails ⊥ piece.now
+            self.old.session.pending self.old.told (state_at self.old.state) self.old.ended number) }
         ensures refused { IfErr result IsOfLines }
     {
         let fed = self.session.feed(piece);
@@ -110,10 +158,10 @@ impl Intake {
     /// Takes in a whole piece, and each line that it ends.
     fn take_in(&mut self, piece: &[u8]) -> Result<(), SquashFault>
         ensures stands { OnOk result (GoesOn piece.now
-            self.old.session.pending (state_at self.old.state) self.old.ended
-            self.new.session.pending (state_at self.new.state) self.new.ended) }
-        ensures faulty { IfErr result (λ f. (number : ℕ) → f ≡ FaultyLine number
-            → Fails ⊥ piece.now self.old.session.pending (state_at self.old.state) self.old.ended number) }
+            self.old.session.pending self.old.told (state_at self.old.state) self.old.ended
+            self.new.session.pending self.new.told (state_at self.new.state) self.new.ended) }
+        ensures faulty { IfErr result (λ f. (number : ℕ) → f ≡ FaultyLine number → Fails ⊥ piece.now
+            self.old.session.pending self.old.told (state_at self.old.state) self.old.ended number) }
         ensures refused { IfErr result IsOfLines }
     {
         let mut start = 0;
@@ -129,11 +177,11 @@ impl Intake {
     /// At the end of the input: takes in what remains, if it is a line.
     fn finish(&mut self) -> Result<(), SquashFault>
         ensures together { OnOk result ((read : List ℕ)
-            → Stands read self.old.session.pending (state_at self.old.state) self.old.ended
-            → SayTogether read (state_at self.new.state)) }
+            → Stands read self.old.session.pending self.old.told (state_at self.old.state) self.old.ended
+            → SayTogether read self.new.told (state_at self.new.state)) }
         ensures faulty { IfErr result (λ f. (number : ℕ) → f ≡ FaultyLine number
             → (read : List ℕ)
-            → Stands read self.old.session.pending (state_at self.old.state) self.old.ended
+            → Stands read self.old.session.pending self.old.told (state_at self.old.state) self.old.ended
             → FirstFault ⊤ read number) }
         ensures refused { IfErr result IsOfLines }
     {
@@ -151,11 +199,11 @@ impl Intake {
 fn read_on<S: Source>(intake: &mut Intake, source: &mut S) -> Result<(), SquashFault>
     ensures read { OnOk result ((read : List ℕ)
         × Consumes (S.remaining source.old) (S.remaining source.new) read × IsAtEnd (S.remaining source.new)
-        × (Stands [] intake.old.session.pending (state_at intake.old.state) intake.old.ended
-        → Stands read intake.new.session.pending (state_at intake.new.state) intake.new.ended)) }
+        × (Stands [] intake.old.session.pending intake.old.told (state_at intake.old.state) intake.old.ended
+        → Stands read intake.new.session.pending intake.new.told (state_at intake.new.state) intake.new.ended)) }
     ensures faulty { IfErr result (λ f. (number : ℕ) → f ≡ FaultyLine number
         → (read : List ℕ) × Consumes (S.remaining source.old) (S.remaining source.new) read
-        × (Stands [] intake.old.session.pending (state_at intake.old.state) intake.old.ended
+        × (Stands [] intake.old.session.pending intake.old.told (state_at intake.old.state) intake.old.ended
         → FirstFault ⊥ read number)) }
     ensures calm { OnOk result (S.failures source.new ≡ S.failures source.old) }
     ensures failed { result ≡ Err SquashFault.Source → S.failures source.old < S.failures source.new }
@@ -177,16 +225,20 @@ fn read_on<S: Source>(intake: &mut Intake, source: &mut S) -> Result<(), SquashF
     }
 }
 
-/// What all lines of a source say together: its bytes are read to their end.
+/// What all lines of a source say together, and the replica that the first one tells, if it does: its bytes are read to
+/// their end.
 ///
-/// Refused as `Line` at the first line that isn't empty and no delta's, as `Source` where the source fails, and as
-/// `Memory`.
+/// Refused as `Line` at the first line that isn't empty and no delta's, nor tells a replica as the first one, as
+/// `Source` where the source fails, and as `Memory`.
 ///
 /// Cost: that of the lines, of joining their deltas, and the room of one line.
-pub(crate) fn taken_in<S: Source>(alloc: Global, source: &mut S) -> Result<Grid, SquashFault>
-    ensures together { IfOk result (λ state. (read : List ℕ)
+pub(crate) fn taken_in<S: Source>(
+    alloc: Global,
+    source: &mut S,
+) -> Result<(Option<u8>, Grid), SquashFault>
+    ensures together { IfOk result (λ taken. (read : List ℕ)
         × Consumes (S.remaining source.old) (S.remaining source.new) read × IsAtEnd (S.remaining source.new)
-        × SayTogether read (state_at state)) }
+        × SayTogether read taken.0 (state_at taken.1)) }
     ensures faulty { IfErr result (λ f. (number : ℕ) → f ≡ FaultyLine number
         → (read : List ℕ) × Consumes (S.remaining source.old) (S.remaining source.new) read
         × FirstFault (IsAtEnd (S.remaining source.new)) read number) }
@@ -200,14 +252,15 @@ pub(crate) fn taken_in<S: Source>(alloc: Global, source: &mut S) -> Result<Grid,
         Err(fault) => return Err(fault),
     }
     match intake.finish() {
-        Ok(()) => Ok(intake.state),
+        Ok(()) => Ok((intake.told, intake.state)),
         Err(fault) => Err(fault),
     }
 }
 
 /// No line is taken in yet.
 fn begin(alloc: Global) -> Result<Intake, SquashFault>
-    ensures stands { IfOk result (λ intake. Stands [] intake.session.pending (state_at intake.state) intake.ended) }
+    ensures stands { IfOk result (λ intake.
+        Stands [] intake.session.pending intake.told (state_at intake.state) intake.ended) }
     ensures memory { IfErr result (λ f. f ≡ SquashFault.Memory) }
 {
     let session = match Session::new(alloc) {
@@ -221,6 +274,7 @@ fn begin(alloc: Global) -> Result<Intake, SquashFault>
     Ok(Intake {
         alloc,
         session,
+        told: None,
         state,
         ended: 0,
     })

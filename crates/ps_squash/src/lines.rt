@@ -19,20 +19,24 @@ use std::alloc::Global;
 /// What stands before a delta in a line that pushes it.
 pub(crate) const PUSH: &[u8] = b"push ";
 
-/// The lines that push the cells, as few as there is room for: each has as many cells as it can, in order.
+/// Appends the lines that push the cells, as few as there is room for: each has as many cells as it can, in order.
 ///
 /// Refused as `TooLong` where one cell alone has no line, and when out of memory.
 ///
 /// Cost: twice that of the text, and as much memory.
-pub(crate) fn lines_of(alloc: Global, entries: &[(Cell, CellState)]) -> Result<Vec<u8>, Refusal>
+pub(crate) fn put_lines(
+    alloc: Global,
+    entries: &[(Cell, CellState)],
+    text: &mut Vec<u8>,
+) -> Result<(), Refusal>
     requires entries { AreEntries entries.now }
-    ensures lines { IfOk result (λ text. (deltas : List Entries) × Divide deltas entries.now
-        × (text.items ≡ push_lines deltas)) }
+    ensures lines { OnOk result ((deltas : List Entries) × Divide deltas entries.now
+        × (text.new.items ≡ text.old.items ++ push_lines deltas)) }
     ensures wide { IfErr result (λ e. e ≡ refusals.TooLong → HasWide entries.now) }
     ensures refused { IfErr result (λ e. (e ≡ refusals.TooLong) ⊎ (e ≡ refusals.Memory)) }
 {
     match sizes_of(alloc, entries) {
-        Ok(sizes) => divided(alloc, entries, &sizes),
+        Ok(sizes) => divide(alloc, entries, &sizes, text),
         Err(refusal) => Err(refusal),
     }
 }
@@ -94,30 +98,30 @@ fn delta_of(alloc: Global, entries: &[(Cell, CellState)]) -> Result<Delta, Refus
     Ok(Delta::new(cells).unwrap())
 }
 
-/// The lines that push the cells, whose texts are so long: each has as many cells as it can.
-fn divided(
+/// Appends the lines that push the cells, whose texts are so long: each has as many cells as it can.
+fn divide(
     alloc: Global,
     entries: &[(Cell, CellState)],
     sizes: &[usize],
-) -> Result<Vec<u8>, Refusal>
+    text: &mut Vec<u8>,
+) -> Result<(), Refusal>
     requires entries { AreEntries entries.now }
     requires sizes { sizes.now ≡ each cell_size entries.now }
     requires fit { All (λ n. n + 2 ≤ DELTA_LINE_LIMIT) sizes.now }
-    ensures lines { IfOk result (λ text. (deltas : List Entries) × Divide deltas entries.now
-        × (text.items ≡ push_lines deltas)) }
+    ensures lines { OnOk result ((deltas : List Entries) × Divide deltas entries.now
+        × (text.new.items ≡ text.old.items ++ push_lines deltas)) }
     ensures memory { IfErr result (λ e. e ≡ refusals.Memory) }
 {
-    let mut text = Vec::new(alloc);
     let mut left = entries;
     let mut left_sizes = sizes;
     'lines: while !left.is_empty() {
         let count = count_with_room(left_sizes);
         let (line, rest) = left.split_at(count);
-        put_line(alloc, line, &mut text)?;
+        put_line(alloc, line, text)?;
         left = rest;
         left_sizes = left_sizes.split_at(count).1;
     }
-    Ok(text)
+    Ok(())
 }
 
 /// Of how many cells, from the first on, one line has room for the texts.

@@ -11,19 +11,20 @@ ghost use Rattle.ps_squash.specs.declared.fault.SquashFault.TheVariants.{Line as
 use crate::cells::entries_of;
 use crate::fault::SquashFault;
 use crate::intake::taken_in;
-use crate::lines::lines_of;
+use crate::lines::put_lines;
+use crate::told::begun;
 use ps_delta::Grid;
 use ps_device::{Sink, Source, hand_on, put_all};
 use ps_grid::Refusal;
 use std::alloc::Global;
 
 /// Reads the lines of a source to its end, each a delta's line with or without the word `push` before it, and writes
-/// the lines that push the cells of their join: as many cells in each as it has room for. At the end all that was
-/// written is handed on.
+/// the lines that push the cells of their join: as many cells in each as it has room for. Where the first line is that
+/// of a kept file, as `replica 1`, it is written before them. At the end all that was written is handed on.
 ///
 /// Nothing is written before all lines are read. Refused as `Line` at the first line that isn't empty and no delta's,
-/// as `TooLong` where a cell alone has no line, which takes lines that break the rules of sequences, and as `Memory`,
-/// each with nothing written; as `Source` and `Sink` where one of the two fails.
+/// nor tells a replica as the first one; as `TooLong` where a cell alone has no line, which takes lines that break the
+/// rules of sequences, and as `Memory`, each with nothing written; as `Source` and `Sink` where one of the two fails.
 ///
 /// Cost: that of the lines and of joining their deltas, the cells of the grid, and twice the text that is written;
 /// memory for the joined state, one line, and the text.
@@ -65,7 +66,7 @@ pub fn squash<S: Source, K: Sink>(
     }
 }
 
-/// The lines that say the same as those of the source.
+/// The lines that say the same as those of the source, and whose they are.
 fn squashed<S: Source>(alloc: Global, source: &mut S) -> Result<Vec<u8>, SquashFault>
     ensures squashed { IfOk result (λ text. (read : List ℕ)
         × Consumes (S.remaining source.old) (S.remaining source.new) read × IsAtEnd (S.remaining source.new)
@@ -80,23 +81,27 @@ fn squashed<S: Source>(alloc: Global, source: &mut S) -> Result<Vec<u8>, SquashF
     ensures failed { result ≡ Err SquashFault.Source → S.failures source.old < S.failures source.new }
     ensures sink { result ≢ Err SquashFault.Sink }
 {
-    let state = match taken_in(alloc, source) {
-        Ok(state) => state,
+    let (told, state) = match taken_in(alloc, source) {
+        Ok(taken) => taken,
         Err(fault) => return Err(fault),
     };
-    match text_of(alloc, &state) {
+    match text_of(alloc, told, &state) {
         Ok(text) => Ok(text),
         Err(Refusal::TooLong) => Err(SquashFault::TooLong),
         Err(_) => Err(SquashFault::Memory),
     }
 }
 
-/// The lines that push what the cells of a state hold.
-fn text_of(alloc: Global, state: &Grid) -> Result<Vec<u8>, Refusal>
-    ensures same { IfOk result (λ text. IsText (state_at state.now) text.items) }
+/// The line of the replica, where there is one, and those that push what the cells of a state hold.
+fn text_of(alloc: Global, told: Option<u8>, state: &Grid) -> Result<Vec<u8>, Refusal>
+    ensures same { IfOk result (λ text. IsText told (state_at state.now) text.items) }
     ensures wide { IfErr result (λ e. e ≡ refusals.TooLong
         → (c : ℕ) × ¬ FitsLine ((c, state_at state.now c) ∷ [])) }
 {
     let entries = entries_of(alloc, state)?;
-    lines_of(alloc, &entries)
+    let mut text = begun(alloc, told)?;
+    match put_lines(alloc, &entries, &mut text) {
+        Ok(()) => Ok(text),
+        Err(refusal) => Err(refusal),
+    }
 }

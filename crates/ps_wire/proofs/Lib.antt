@@ -8,6 +8,7 @@ pub mod LawLemmas
 pub mod LengthLemmas
 pub mod LexLemmas
 pub mod LineLemmas
+pub mod NoFeedLemmas
 pub mod NoFloatLemmas
 pub mod OneDeltaLemmas
 pub mod PartLemmas

@@ -1,5 +1,6 @@
 -- The lines of deltas.
-use Rattle.std.specs.Prelude.{◌≡◌, ◌≤◌, ℕ, List, length, Some, IsUtf8}
+use Rattle.std.specs.Prelude.{◌≡◌, ◌≢◌, ◌≤◌, ℕ, List, length, Some, IsUtf8}
+use Rattle.std.specs.List.{All}
 use Rattle.serde_json.specs.Read.{read}
 use Rattle.serde_json.specs.Written.{compact_text}
 use Rattle.ps_delta.specs.Deltas.{Entries}
@@ -16,3 +17,11 @@ pub record IsLine (bytes : List ℕ) (delta : Entries) : Type 0 where
   pub utf8 : IsUtf8 bytes
   pub read : read bytes ≡ Some (delta_value delta)
   pub lawful : IsLawful delta
+
+-- no byte is a line feed
+abbrev pub IsOneLine : List ℕ → Type 0
+IsOneLine text = All (λ b. b ≢ 10) text
+
+-- LAW: the compact text of a delta, whatever it holds, is one line
+abbrev pub TextsAreOneLine : Type 0
+TextsAreOneLine = (delta : Entries) → IsOneLine (delta_text delta)

@@ -1,6 +1,7 @@
 //! What holds of the values and the texts of deltas, as functions that do nothing: each is its contract.
 
 ghost use Rattle.ps_wire.specs.Fits.{BatchesFit, DecodedFit, EditsFit};
+ghost use Rattle.ps_wire.specs.Line.{TextsAreOneLine};
 ghost use Rattle.ps_wire.specs.Value.{OneDelta, OneValue};
 
 /// No two values stand for one delta, and no two deltas for one value.
@@ -26,4 +27,11 @@ pub fn edited_lines_fit()
 /// Cost: none.
 pub fn decoded_lines_fit()
     ensures { DecodedFit }
+{}
+
+/// The compact text of a delta has no line feed, so that one ends its line.
+///
+/// Cost: none.
+pub fn delta_texts_are_one_line()
+    ensures { TextsAreOneLine }
 {}

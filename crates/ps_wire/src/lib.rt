@@ -6,12 +6,12 @@
 //! It is not the session: it knows no commands and no replies, and it carries nothing out. It is no store: a delta that
 //! was read is handed on, and nothing is kept.
 //!
-//! The contract to use: [`decode`] returns the one delta that the bytes are a line of (`IsLine`), and refuses bytes
-//! as no delta only where they are a line of none; [`encode`] appends the delta's compact text, which is a line of
-//! it, and refuses it only where it is too long. Which deltas never are, [`decoded_lines_fit`] and
-//! [`edited_lines_fit`] say. [`fits_line`] returns whether a delta's text fits a line, without writing it;
-//! [`outgrows_line`] returns whether a delta holds so much that no join with it has a line; [`may_share_line`] how many
-//! deltas may have a line together, as far as it can tell without joining them.
+//! The contract to use: [`decode`] returns the one delta that the bytes are a line of (`IsLine`), and refuses bytes as
+//! no delta only where they are a line of none; [`encode`] appends the delta's compact text, which is a line of it and
+//! has no line feed ([`delta_texts_are_one_line`]), and refuses it only where it is too long. Which deltas never are,
+//! [`decoded_lines_fit`] and [`edited_lines_fit`] say. [`fits_line`] returns whether a delta's text fits a line,
+//! without writing it; [`outgrows_line`] returns whether a delta holds so much that no join with it has a line;
+//! [`may_share_line`] how many deltas may have a line together, as far as it can tell without joining them.
 //!
 //! Say `A1` holds 5, assigned at the time 1 by the replica 2. The delta that says so has the line
 //! `[["A1",[1,2,"5"],[],[]]]`, and so has every other spelling of that value, as one with blanks between the tokens.
@@ -30,7 +30,9 @@ mod sharing;
 mod states;
 mod values;
 
-pub use laws::{decoded_lines_fit, edited_lines_fit, values_and_deltas_agree};
+pub use laws::{
+    decoded_lines_fit, delta_texts_are_one_line, edited_lines_fit, values_and_deltas_agree,
+};
 pub use length::{fits_line, outgrows_line};
 pub use line::{decode, encode};
 pub use sharing::may_share_line;

@@ -1,7 +1,9 @@
 -- The command line of the program, as `clap` sees it, and what its matches give.
 use Rattle.std.specs.Prelude.{◌≡◌, ⊤, ℕ, Bool, true, false, List, [], ◌∷◌, Option, Some, None, codes, pos}
+use Rattle.std.specs.Borrow.{Bor}
+use Rattle.std.specs.Prelude.{option_map}
 use Rattle.std.specs.Str.Parse.{digits_value, without_leading_plus}
-use Rattle.clap.specs.Words.{App, Row, Rule, Text, new_app, new_rule, one_of, with_rule}
+use Rattle.clap.specs.Words.{App, Row, Rule, Text, first_of, new_app, new_rule, one_of, with_rule}
 use Rattle.clap.specs.Words.{with_subcommand}
 use Rattle.clap.specs.Simple.{on_top}
 use Rattle.clap.specs.declared.builder.action.ArgAction.TheVariants.{Set, SetTrue}
@@ -32,6 +34,10 @@ number_option id most = record (ranged_option id 1 most) { defaults = codes "1" 
 abbrev pub needed_option : Text → ℕ → Rule
 needed_option id most = record (ranged_option id 1 most) { required = true }
 
+-- an option with a text
+abbrev pub text_option : Text → Rule
+text_option id = record (new_rule id) { long = Some id; action = Some Set }
+
 -- an option without a value
 abbrev pub flag_option : Text → Rule
 flag_option id = record (new_rule id) { long = Some id; action = Some SetTrue }
@@ -42,32 +48,38 @@ with_sheet_options app =
     with_rule (with_rule app (number_option (codes "workers") WORKERS)) (number_option (codes "replica") REPLICAS)
 
 abbrev pub run_app : App
-run_app = with_rule (with_rule (with_sheet_options (new_app (codes "run"))) (flag_option (codes "explain")))
-    (flag_option (codes "strict"))
+run_app = with_rule (with_rule (with_rule (with_sheet_options (new_app (codes "run"))) (flag_option (codes "explain")))
+    (flag_option (codes "strict"))) (text_option (codes "keep"))
 
 abbrev pub table_app : App
 table_app = with_rule (with_rule (with_rule (new_app (codes "table")) (number_option (codes "workers") WORKERS))
     (flag_option (codes "entries"))) (flag_option (codes "explain"))
 
 abbrev pub serve_app : App
-serve_app = with_sheet_options (with_rule (with_rule (with_rule (with_rule (with_rule (new_app (codes "serve"))
+serve_app = with_sheet_options (with_rule (with_rule (with_rule (with_rule (with_rule (with_rule (with_rule
+    (new_app (codes "serve"))
     (needed_option (codes "port") LAST_PORT))
     (ranged_option (codes "sessions") 1 MOST_SESSIONS))
     (usual_option (codes "seats") 1 SEATS (codes "16")))
     (usual_option (codes "wait") 0 LONGEST_WAIT (codes "5")))
     (ranged_option (codes "idle") 1 LONGEST_IDLE))
+    (flag_option (codes "explain")))
+    (text_option (codes "keep")))
 
 abbrev pub sync_app : App
-sync_app = with_rule (with_rule (new_app (codes "sync")) (needed_option (codes "from") LAST_PORT))
-    (needed_option (codes "to") LAST_PORT)
+sync_app = with_rule (with_rule (with_rule (new_app (codes "sync")) (needed_option (codes "from") LAST_PORT))
+    (needed_option (codes "to") LAST_PORT)) (flag_option (codes "explain"))
 
 abbrev pub follow_app : App
-follow_app = with_rule (with_rule (with_rule (new_app (codes "follow")) (needed_option (codes "from") LAST_PORT))
-    (flag_option (codes "until-now"))) (usual_option (codes "every") 1 LONGEST_PAUSE (codes "50"))
+follow_app = with_rule (with_rule (with_rule (with_rule (new_app (codes "follow"))
+    (needed_option (codes "from") LAST_PORT))
+    (flag_option (codes "until-now"))) (usual_option (codes "every") 1 LONGEST_PAUSE (codes "50")))
+    (flag_option (codes "explain"))
 
 abbrev pub page_app : App
-page_app = with_rule (with_rule (with_rule (new_app (codes "page")) (needed_option (codes "from") LAST_PORT))
-    (needed_option (codes "port") LAST_PORT)) (usual_option (codes "browsers") 1 SEATS (codes "8"))
+page_app = with_rule (with_rule (with_rule (with_rule (new_app (codes "page")) (needed_option (codes "from") LAST_PORT))
+    (needed_option (codes "port") LAST_PORT)) (usual_option (codes "browsers") 1 SEATS (codes "8")))
+    (flag_option (codes "explain"))
 
 abbrev pub squash_app : App
 squash_app = new_app (codes "squash")
@@ -91,6 +103,10 @@ abbrev pub GivesCount : List Row → Text → Option ℕ → Type 0
 GivesCount rows id None = one_of id rows ≡ None
 GivesCount rows id (Some n) = GivesNumber rows id n
 
+-- .. this text, as it was given, or none
+abbrev pub GivesText : List Row → Text → Option (Bor Text) → Type 0
+GivesText rows id given = option_map (λ s. s.now) given ≡ first_of id rows
+
 -- .. the flag is set, or isn't
 abbrev pub GivesFlag : List Row → Text → Bool → Type 0
 GivesFlag rows id b = (one_of id rows ≡ Some (codes "true") → b ≡ true)
@@ -106,22 +122,25 @@ name_of (Follow o) = codes "follow"
 name_of (Page o) = codes "page"
 name_of Squash = codes "squash"
 
--- among a command's matches its options have these numbers, and its flags are set so
+-- among a command's matches its options have these numbers and texts, and its flags are set so
 abbrev pub GivesNumbers : List Row → Options → Type 0
 GivesNumbers rows (Run o) = GivesNumber rows (codes "workers") o.sheet.workers
     × GivesNumber rows (codes "replica") o.sheet.replica
     × GivesFlag rows (codes "explain") o.explain × GivesFlag rows (codes "strict") o.strict
+    × GivesText rows (codes "keep") o.keep
 GivesNumbers rows (Table o) = GivesNumber rows (codes "workers") o.workers
     × GivesFlag rows (codes "entries") o.entries × GivesFlag rows (codes "explain") o.explain
 GivesNumbers rows (Serve o) = GivesNumber rows (codes "port") o.port × GivesCount rows (codes "sessions") o.sessions
     × GivesNumber rows (codes "seats") o.seats × GivesNumber rows (codes "wait") o.wait
-    × GivesCount rows (codes "idle") o.idle
+    × GivesCount rows (codes "idle") o.idle × GivesFlag rows (codes "explain") o.explain
+    × GivesText rows (codes "keep") o.keep
     × GivesNumber rows (codes "workers") o.workers × GivesNumber rows (codes "replica") o.replica
 GivesNumbers rows (Sync o) = GivesNumber rows (codes "from") o.from × GivesNumber rows (codes "to") o.to
+    × GivesFlag rows (codes "explain") o.explain
 GivesNumbers rows (Follow o) = GivesNumber rows (codes "from") o.from × GivesFlag rows (codes "until-now") o.until_now
-    × GivesNumber rows (codes "every") o.every
+    × GivesNumber rows (codes "every") o.every × GivesFlag rows (codes "explain") o.explain
 GivesNumbers rows (Page o) = GivesNumber rows (codes "from") o.from × GivesNumber rows (codes "port") o.port
-    × GivesNumber rows (codes "browsers") o.browsers
+    × GivesNumber rows (codes "browsers") o.browsers × GivesFlag rows (codes "explain") o.explain
 GivesNumbers rows Squash = ⊤
 
 -- the matches are those of the command with its numbers

@@ -2,8 +2,8 @@
 ghost use Rattle.std.specs.Prelude.{◌≡◌, false, IfOk};
 ghost use Rattle.clap.specs.Words.{app_of, new_app, rule_of, with_rule};
 ghost use Rattle.clap.specs.declared.builder.command.Command.TheViews.{out-Command as fields_of};
-ghost use Rattle.ps_words.specs.Words.{flag_option, needed_option, number_option, ranged_option, usual_option};
-ghost use Rattle.ps_words.specs.Words.{with_sheet_options};
+ghost use Rattle.ps_words.specs.Words.{flag_option, needed_option, number_option, ranged_option, text_option};
+ghost use Rattle.ps_words.specs.Words.{usual_option, with_sheet_options};
 
 use crate::help::{REPLICA_HELP, WORKERS_HELP};
 use clap::builder::ValueParser;
@@ -61,6 +61,17 @@ pub(crate) fn needed_option<'a>(alloc: Global, id: &'a str, most: u32, help: &'a
     ensures local { result.global ≡ false }
 {
     ranged_option(alloc, id, 1, most, help).required(true)
+}
+
+/// An option with a text, which may be left out.
+pub(crate) fn text_option<'a>(alloc: Global, id: &'a str, help: &'a str) -> Arg<'a>
+    ensures rule { rule_of result ≡ text_option id.now }
+    ensures local { result.global ≡ false }
+{
+    Arg::new(alloc, id)
+        .long(id)
+        .action(ArgAction::Set)
+        .help(help)
 }
 
 /// An option without a value.

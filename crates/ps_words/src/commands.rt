@@ -14,14 +14,14 @@ ghost use Rattle.ps_words.specs.Words.{
 };
 
 use crate::arguments::{
-    LAST_PORT, flag_option, needed_option, new_command, number_option, ranged_option, usual_option,
-    with_option, with_sheet_options,
+    LAST_PORT, flag_option, needed_option, new_command, number_option, ranged_option, text_option,
+    usual_option, with_option, with_sheet_options,
 };
 use crate::help::{
     BROWSERS_HELP, ENTRIES_HELP, EVERY_HELP, EXPLAIN_HELP, FOLLOW_HELP, FOLLOWED_HELP, FROM_HELP,
-    IDLE_HELP, PAGE_HELP, PORT_HELP, RUN_HELP, SEATS_HELP, SERVE_HELP, SERVER_HELP, SESSIONS_HELP,
-    SHEET_HELP, SQUASH_HELP, STRICT_HELP, SYNC_HELP, TABLE_HELP, TO_HELP, UNTIL_NOW_HELP,
-    WAIT_HELP, WORKERS_HELP,
+    IDLE_HELP, KEEP_HELP, PAGE_HELP, PORT_EXPLAIN_HELP, PORT_HELP, RUN_HELP, SEATS_HELP,
+    SERVE_HELP, SERVER_HELP, SESSIONS_HELP, SHEET_HELP, SQUASH_HELP, STRICT_HELP, SYNC_HELP,
+    TABLE_HELP, TO_HELP, UNTIL_NOW_HELP, WAIT_HELP, WORKERS_HELP,
 };
 use crate::options::{LONGEST_IDLE, LONGEST_PAUSE, LONGEST_WAIT, MOST_SESSIONS};
 use clap::Command;
@@ -41,7 +41,9 @@ fn run_command<'a>(alloc: Global) -> Result<Command<'a>, AllocError>
     let explain = flag_option(alloc, "explain", EXPLAIN_HELP);
     let command = with_option(command, explain)?;
     let strict = flag_option(alloc, "strict", STRICT_HELP);
-    with_option(command, strict)
+    let command = with_option(command, strict)?;
+    let keep = text_option(alloc, "keep", KEEP_HELP);
+    with_option(command, keep)
 }
 
 /// The command `table`.
@@ -73,7 +75,11 @@ fn serve_command<'a>(alloc: Global) -> Result<Command<'a>, AllocError>
     let wait = usual_option(alloc, "wait", 0, u32::from(LONGEST_WAIT), "5", WAIT_HELP);
     let command = with_option(command, wait)?;
     let idle = ranged_option(alloc, "idle", 1, LONGEST_IDLE, IDLE_HELP);
-    with_sheet_options(alloc, with_option(command, idle)?)
+    let command = with_option(command, idle)?;
+    let explain = flag_option(alloc, "explain", PORT_EXPLAIN_HELP);
+    let command = with_option(command, explain)?;
+    let keep = text_option(alloc, "keep", KEEP_HELP);
+    with_sheet_options(alloc, with_option(command, keep)?)
 }
 
 /// The command `sync`.
@@ -85,7 +91,9 @@ fn sync_command<'a>(alloc: Global) -> Result<Command<'a>, AllocError>
     let from = needed_option(alloc, "from", LAST_PORT, FROM_HELP);
     let command = with_option(new_command(alloc, "sync", about, SYNC_HELP), from)?;
     let to = needed_option(alloc, "to", LAST_PORT, TO_HELP);
-    with_option(command, to)
+    let command = with_option(command, to)?;
+    let explain = flag_option(alloc, "explain", PORT_EXPLAIN_HELP);
+    with_option(command, explain)
 }
 
 /// The command `follow`.
@@ -106,7 +114,9 @@ fn follow_command<'a>(alloc: Global) -> Result<Command<'a>, AllocError>
         "50",
         EVERY_HELP,
     );
-    with_option(command, every)
+    let command = with_option(command, every)?;
+    let explain = flag_option(alloc, "explain", PORT_EXPLAIN_HELP);
+    with_option(command, explain)
 }
 
 /// The command `page`.
@@ -120,7 +130,9 @@ fn page_command<'a>(alloc: Global) -> Result<Command<'a>, AllocError>
     let port = needed_option(alloc, "port", LAST_PORT, PORT_HELP);
     let command = with_option(command, port)?;
     let browsers = usual_option(alloc, "browsers", 1, SEATS as u32, "8", BROWSERS_HELP);
-    with_option(command, browsers)
+    let command = with_option(command, browsers)?;
+    let explain = flag_option(alloc, "explain", PORT_EXPLAIN_HELP);
+    with_option(command, explain)
 }
 
 /// The command `squash`.

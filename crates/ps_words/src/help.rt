@@ -24,6 +24,10 @@ pub const WAIT_HELP: &str = "how many seconds a connection may wait for a seat, 
 pub const IDLE_HELP: &str =
     "after how many seconds a session ends whose peer sends nothing, 1 to 86400; without it, never";
 
+/// What `--keep` means.
+pub const KEEP_HELP: &str =
+    "the file that the sheet is kept in: it is read at the start, and grows with each change";
+
 /// What `--from` of `sync` means.
 pub const FROM_HELP: &str = "the port of the replica whose deltas are pulled, 1 to 65535";
 
@@ -49,14 +53,29 @@ pub const BROWSERS_HELP: &str = "how many browsers may have a session at a time,
 pub const EXPLAIN_HELP: &str =
     "tells on standard error what is refused or looks like a number, with a hint";
 
+/// What `--explain` of a command with a port means.
+pub const PORT_EXPLAIN_HELP: &str = "tells on standard error why a port can't be had";
+
 /// What `--strict` means.
 pub const STRICT_HELP: &str = "ends with status 3 where a line was refused";
 
 /// What `--entries` means.
-pub const ENTRIES_HELP: &str = "writes what was typed, in place of what the cells show";
+pub const ENTRIES_HELP: &str = "writes the entries of the cells, in place of what they show";
 
-/// What stands below the commands of `sheet --help`: the refusals.
+/// What stands below the commands of `sheet --help`: an example of each, and the refusals.
 pub const SHEET_HELP: &str = "\
+Examples:
+
+  printf 'set A1 5\\nget A1\\n' | sheet run
+  printf '2,=[.A1]*3\\n' | sheet table
+  sheet serve --port 7001
+  sheet sync --from 7001 --to 7002
+  sheet follow --from 7001 --until-now > plan.lines
+  sheet page --from 7001 --port 8080
+  sheet squash < plan.lines > small
+  sheet help serve
+  sheet --version
+
 What is refused changes nothing, and is told by `err`, a number and a name:
 
    1 cell        name a cell, A1 to CZ1024, its letters in capitals
@@ -81,7 +100,8 @@ What is refused changes nothing, and is told by `err`, a number and a name:
   20 device      see to the input, the output, the port or the connection
   21 seat        come again once a session has ended
 
-`run --explain` and `table --explain` tell each refusal's line or cell, with a hint.";
+`run --explain` and `table --explain` tell each refusal's line or cell, with a hint,
+and the other commands with `--explain` why a port can't be had.";
 
 /// What stands below the options of `sheet run --help`.
 pub const RUN_HELP: &str = "\
@@ -96,37 +116,50 @@ Each line of standard input is a command, and has a reply on standard output:
   choose D1 7           .. with option 7 in it       ok 7
   unchoose D1 7         .. and taken out again       ok 8
   rows A1:B1            a table of what cells show   rows 1, then 5,10
-  entry B1              what was typed into it       entry =[.A1]*2
-  entries A1:B1         a table of what was typed    entries 1, then 5,=[.A1]*2
+  entry B1              what a cell holds            entry =[.A1]*2
+  entries A1:B1         a table of what cells hold   entries 1, then 5,=[.A1]*2
   pull 0 16             what was done, as one line   delta 8 [[\"A1\", ..
   push [[\"A1\", ..       .. taken in elsewhere        ok 1
+  replica               whose sheet it is            replica 1
 
 `ok` comes with the version, the number of changes so far; `err` with the number
 and the name of what was refused (`sheet --help` lists them), and the session goes
 on: the status is 0 in the end, or 3 with `--strict`. The line that a `pull` gives
 can be kept, and be pushed at another replica, in any order and again. Cells are
 A1 to CZ1024. A formula is written =SUM([.A1:.A3])*2, and anything that is no
-number and no formula is a text.
+number and no formula is a text. What a cell holds is told by its canonical text:
+007 as 7, and a text with an apostrophe before it.
 
-Example:
+Examples:
 
-  printf 'set A1 5\\nset B1 =[.A1]*2\\nget B1\\n' | sheet run";
+  printf 'set A1 5\\nset B1 =[.A1]*2\\nget B1\\n' | sheet run
+  sheet run --replica 2 --workers 4 < my.lines
+  sheet run --explain --strict < my.lines
+  sheet run --keep plan.lines < my.lines
+
+With `--keep` the sheet begins with what the file has, and each change is on the disk
+before its `ok` is written. The file is text, a line `replica` and lines to push, so
+`sheet run < plan.lines` shows the sheet, too. Standard error tells what was opened:
+`opened plan.lines, 306 changes`.";
 
 /// What stands below the options of `sheet table --help`.
 pub const TABLE_HELP: &str = "\
 Standard input is a table of CSV: its first record goes to row 1, its first field
 to column A. A field is an entry, as in `set`: a number, a formula, a text. What
-comes out is the table of what the cells show, or with `--entries` of what was
-typed, which can be taken in again.
+comes out is the table of what the cells show, or with `--entries` of the canonical
+texts of what they hold, which can be taken in again.
 
-Example:
+Examples:
 
   printf '2,=[.A1]*3\\n\"x,y\",@tally\\n' | sheet table
 
 writes
 
   2,6
-  \"x,y\",0";
+  \"x,y\",0
+
+  sheet table --entries --workers 4 < plan.csv > again.csv
+  sheet table --explain < plan.csv > shown.csv";
 
 /// What stands below the options of `sheet serve --help`.
 pub const SERVE_HELP: &str = "\
@@ -137,10 +170,11 @@ seat goes to the next connection. One that finds no free seat waits for one; aft
 the time to wait it is answered `err 21 seat` and closed.
 
 With `--sessions` it writes `closed` and the number of changes once so many sessions
-have ended, and ends. The sheet ends with it: `pull` or `sync` carries it elsewhere
-before.
+have ended, and ends. The sheet ends with it, but for what `--keep` keeps in a file:
+each change is on the disk there before its `ok` is written, and the next server with
+that file begins with all of them.
 
-Example:
+Examples:
 
   sheet serve --port 7001 --sessions 2 --replica 1
 
@@ -150,7 +184,11 @@ writes
 
 and once two connections have come, each of them with a `set`, and have ended
 
-  closed 2";
+  closed 2
+
+  sheet serve --port 7001 --seats 4 --wait 30 --idle 1800
+  sheet serve --port 7001 --workers 4 --explain
+  sheet serve --port 7001 --keep plan.lines";
 
 /// What stands below the options of `sheet sync --help`.
 pub const SYNC_HELP: &str = "\
@@ -160,13 +198,15 @@ second; what the second has already changes nothing. At the end comes `synced`
 and the number of lines. Nothing goes the other way: for that call it again with
 the ports exchanged.
 
-Example:
+Examples:
 
   sheet sync --from 7001 --to 7002
 
 writes
 
-  synced 1";
+  synced 1
+
+  sheet sync --from 7002 --to 7001 --explain";
 
 /// What stands below the options of `sheet follow --help`.
 pub const FOLLOW_HELP: &str = "\
@@ -181,9 +221,11 @@ Examples:
 
   sheet follow --from 7001 --until-now > all.lines
   sheet follow --from 7001 | nc 127.0.0.1 7002 > replies
+  sheet follow --from 7001 --every 1000 --explain
 
 The first keeps a replica as a file, the second hands each change of one replica
-to another as it comes. A line is such as
+to another as it comes, and the third asks for more but once a second. A line is
+such as
 
   push [[\"A1\",[1,1,\"5\"],[],[]]]";
 
@@ -194,7 +236,7 @@ browser, and runs until it is stopped. The page shows the sheet of the `serve` o
 other port, and changes it. Each browser is a session of that server; a session is
 opened when the first browser wants it, and kept for the next.
 
-Example:
+Examples:
 
   sheet serve --port 7001 &
   sheet page --from 7001 --port 8080
@@ -202,7 +244,9 @@ Example:
 writes
 
   listening 7001
-  page http://127.0.0.1:8080/";
+  page http://127.0.0.1:8080/
+
+  sheet page --from 7001 --port 8080 --browsers 4 --explain";
 
 /// What stands below the options of `sheet squash --help`.
 pub const SQUASH_HELP: &str = "\
@@ -210,12 +254,14 @@ Each line of standard input is the line of a delta, with or without `push ` befo
 it. What they say together is written as lines that push it: cell after cell, as
 many in a line as it has room for. A sheet that takes in the one or the other
 shows the same. Nothing is written where a line is none of a delta: standard error
-has `err 14 delta` and the line's number. Keep the lines in a file and squash it
-while no sheet writes to it:
+has `err 14 delta` and the line's number. A first line `replica 1`, as that of a kept
+file, stays. Squash a file while no sheet writes to it.
+
+Examples:
 
   sheet squash < plan.lines > small && mv small plan.lines
 
-Example, from
+From
 
   push [[\"A1\",[1,1,\"5\"],[],[]]]
   push [[\"A1\",[2,1,\"6\"],[],[]]]

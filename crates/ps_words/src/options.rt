@@ -2,7 +2,8 @@
 ghost use Rattle.std.specs.Option.{ForSome};
 ghost use Rattle.std.specs.Prelude.{◌≤◌};
 ghost use Rattle.ps_grid.specs.declared.parties.TheConstants.{REPLICAS, SEATS, WORKERS};
-ghost use Rattle.ps_words.specs.declared.options.TheConstants.{LONGEST_IDLE, LONGEST_PAUSE, LONGEST_WAIT, MOST_SESSIONS};
+ghost use Rattle.ps_words.specs.declared.options.TheConstants.{LONGEST_IDLE, LONGEST_PAUSE};
+ghost use Rattle.ps_words.specs.declared.options.TheConstants.{LONGEST_WAIT, MOST_SESSIONS};
 
 /// The most sessions that `serve` can be asked for.
 pub const MOST_SESSIONS: u32 = 1_000_000;
@@ -29,9 +30,11 @@ pub struct RunOptions {
 
 /// What `sheet run` is asked for.
 #[derive(Clone, Copy, PartialEq, Eq)]
-pub struct LineOptions {
+pub struct LineOptions<'a> {
     /// What its sheet is opened with.
     pub sheet: RunOptions,
+    /// The path of the file that the sheet is kept in, where it is to be kept.
+    pub keep: Option<&'a str>,
     /// Whether standard error is told of lines, with hints.
     pub explain: bool,
     /// Whether a refused line is a fault in the end.
@@ -52,9 +55,11 @@ pub struct TableOptions {
 
 /// What `sheet serve` is asked for.
 #[derive(Clone, Copy, PartialEq, Eq)]
-pub struct ServeOptions {
+pub struct ServeOptions<'a> {
     /// The port to listen on, 1 or more.
     pub port: u16,
+    /// The path of the file that the sheet is kept in, where it is to be kept.
+    pub keep: Option<&'a str>,
     /// How many sessions to serve, 1 to `MOST_SESSIONS`; none where it serves until it is stopped.
     pub sessions: Option<u32>,
     /// How many sessions to serve at a time, 1 to `SEATS`.
@@ -63,6 +68,8 @@ pub struct ServeOptions {
     pub wait: u8,
     /// After how many seconds a session ends whose peer sends nothing, 1 to `LONGEST_IDLE`; never where there is none.
     pub idle: Option<u32>,
+    /// Whether standard error is told why a port can't be had.
+    pub explain: bool,
     /// How many workers may evaluate a level, 1 to `WORKERS`.
     pub workers: u8,
     /// The replica's number, 1 to `REPLICAS`.
@@ -83,6 +90,8 @@ pub struct SyncOptions {
     pub from: u16,
     /// The port of the replica to which they are pushed, 1 or more.
     pub to: u16,
+    /// Whether standard error is told why a port can't be had.
+    pub explain: bool,
     ghost from_in_range: { 1 ≤ from },
     ghost to_in_range: { 1 ≤ to },
 }
@@ -96,6 +105,8 @@ pub struct FollowOptions {
     pub until_now: bool,
     /// For how many milliseconds it waits before it asks for more, 1 to `LONGEST_PAUSE`.
     pub every: u16,
+    /// Whether standard error is told why a port can't be had.
+    pub explain: bool,
     ghost from_in_range: { 1 ≤ from },
     ghost every_in_range: { (1 ≤ every) × (every ≤ LONGEST_PAUSE) },
 }
@@ -109,20 +120,22 @@ pub struct PageOptions {
     pub port: u16,
     /// How many browsers may have a session at a time, 1 to `SEATS`.
     pub browsers: u8,
+    /// Whether standard error is told why a port can't be had.
+    pub explain: bool,
     ghost from_in_range: { 1 ≤ from },
     ghost port_in_range: { 1 ≤ port },
     ghost browsers_in_range: { (1 ≤ browsers) × (browsers ≤ SEATS) },
 }
 
-/// A command with its numbers.
+/// A command with what it is asked for.
 #[derive(Clone, Copy)]
-pub enum Options {
+pub enum Options<'a> {
     /// Answers standard input line by line.
-    Run(LineOptions),
+    Run(LineOptions<'a>),
     /// Reads a table and writes its settled values.
     Table(TableOptions),
     /// Answers the lines of several sessions over TCP.
-    Serve(ServeOptions),
+    Serve(ServeOptions<'a>),
     /// Hands all that one replica has to another.
     Sync(SyncOptions),
     /// Writes what a replica has and gets as lines to push.

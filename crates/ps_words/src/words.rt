@@ -1,8 +1,8 @@
 //! Reading the program's words.
 ghost use Rattle.std.specs.Prelude.{◌≡◌, ◌≤◌, IfOk, IfSome, codes, map, string_bytes};
 ghost use Rattle.clap.specs.Words.{found_of, rows_of, subcommand_of};
-ghost use Rattle.ps_words.specs.Words.{GivesCount, GivesFlag, GivesNumber, GivesNumbers, GivesOptions, name_of};
-ghost use Rattle.ps_words.specs.Words.{sheet_app};
+ghost use Rattle.ps_words.specs.Words.{GivesCount, GivesFlag, GivesNumber, GivesNumbers, GivesOptions, GivesText};
+ghost use Rattle.ps_words.specs.Words.{name_of, sheet_app};
 
 use crate::commands::sheet_command;
 use crate::options::{
@@ -60,6 +60,13 @@ fn pause_of(matches: &ArgMatches<'_>, id: &str, most: u16) -> Option<u16>
     }
 }
 
+/// The text of an option, if it is given.
+fn text_of<'a>(matches: &ArgMatches<'a>, id: &str) -> Option<&'a str>
+    ensures { GivesText (rows_of (found_of matches.now)) id.now result }
+{
+    matches.get_str(id)
+}
+
 /// Whether a flag is set.
 fn flag_of(matches: &ArgMatches<'_>, id: &str) -> bool
     ensures { GivesFlag (rows_of (found_of matches.now)) id.now result }
@@ -78,8 +85,8 @@ fn port_of(matches: &ArgMatches<'_>, id: &str) -> Option<u16>
     }
 }
 
-/// The numbers of `run`, and its flags.
-fn run_options(matches: &ArgMatches<'_>) -> Option<Options>
+/// The numbers of `run`, its file and its flags.
+fn run_options<'a>(matches: &ArgMatches<'a>) -> Option<Options<'a>>
     ensures { IfSome result (λ options. (name_of options ≡ codes "run")
         × GivesNumbers (rows_of (found_of matches.now)) options) }
 {
@@ -87,13 +94,14 @@ fn run_options(matches: &ArgMatches<'_>) -> Option<Options>
     let replica = number_of(matches, "replica", REPLICAS)?;
     Some(Options::Run(LineOptions {
         sheet: RunOptions { workers, replica },
+        keep: text_of(matches, "keep"),
         explain: flag_of(matches, "explain"),
         strict: flag_of(matches, "strict"),
     }))
 }
 
 /// The number of `table`, and its flags.
-fn table_options(matches: &ArgMatches<'_>) -> Option<Options>
+fn table_options<'a>(matches: &ArgMatches<'a>) -> Option<Options<'a>>
     ensures { IfSome result (λ options. (name_of options ≡ codes "table")
         × GivesNumbers (rows_of (found_of matches.now)) options) }
 {
@@ -105,71 +113,80 @@ fn table_options(matches: &ArgMatches<'_>) -> Option<Options>
     }))
 }
 
-/// The numbers of `serve`.
-fn serve_options(matches: &ArgMatches<'_>) -> Option<Options>
+/// The numbers of `serve`, its file and its flag.
+fn serve_options<'a>(matches: &ArgMatches<'a>) -> Option<Options<'a>>
     ensures { IfSome result (λ options. (name_of options ≡ codes "serve")
         × GivesNumbers (rows_of (found_of matches.now)) options) }
 {
     let port = port_of(matches, "port")?;
+    let keep = text_of(matches, "keep");
     let sessions = count_of(matches, "sessions", MOST_SESSIONS)?;
     let seats = number_of(matches, "seats", SEATS as u8)?;
     let wait = number_to(matches, "wait", LONGEST_WAIT)?;
     let idle = count_of(matches, "idle", LONGEST_IDLE)?;
+    let explain = flag_of(matches, "explain");
     let workers = number_of(matches, "workers", WORKERS as u8)?;
     let replica = number_of(matches, "replica", REPLICAS)?;
     Some(Options::Serve(ServeOptions {
         port,
+        keep,
         sessions,
         seats,
         wait,
         idle,
+        explain,
         workers,
         replica,
     }))
 }
 
-/// The numbers of `sync`.
-fn sync_options(matches: &ArgMatches<'_>) -> Option<Options>
+/// The ports of `sync`, and its flag.
+fn sync_options<'a>(matches: &ArgMatches<'a>) -> Option<Options<'a>>
     ensures { IfSome result (λ options. (name_of options ≡ codes "sync")
         × GivesNumbers (rows_of (found_of matches.now)) options) }
 {
     let from = port_of(matches, "from")?;
     let to = port_of(matches, "to")?;
-    Some(Options::Sync(SyncOptions { from, to }))
+    let explain = flag_of(matches, "explain");
+    Some(Options::Sync(SyncOptions { from, to, explain }))
 }
 
-/// The port, the flag and the pause of `follow`.
-fn follow_options(matches: &ArgMatches<'_>) -> Option<Options>
+/// The port and the pause of `follow`, and its flags.
+fn follow_options<'a>(matches: &ArgMatches<'a>) -> Option<Options<'a>>
     ensures { IfSome result (λ options. (name_of options ≡ codes "follow")
         × GivesNumbers (rows_of (found_of matches.now)) options) }
 {
     let from = port_of(matches, "from")?;
     let until_now = flag_of(matches, "until-now");
     let every = pause_of(matches, "every", LONGEST_PAUSE)?;
+    let explain = flag_of(matches, "explain");
     Some(Options::Follow(FollowOptions {
         from,
         until_now,
         every,
+        explain,
     }))
 }
 
-/// The numbers of `page`.
-fn page_options(matches: &ArgMatches<'_>) -> Option<Options>
+/// The numbers of `page`, and its flag.
+fn page_options<'a>(matches: &ArgMatches<'a>) -> Option<Options<'a>>
     ensures { IfSome result (λ options. (name_of options ≡ codes "page")
         × GivesNumbers (rows_of (found_of matches.now)) options) }
 {
     let from = port_of(matches, "from")?;
     let port = port_of(matches, "port")?;
     let browsers = number_of(matches, "browsers", SEATS as u8)?;
+    let explain = flag_of(matches, "explain");
     Some(Options::Page(PageOptions {
         from,
         port,
         browsers,
+        explain,
     }))
 }
 
 /// The options of a command by its name.
-fn options_of(name: &str, matches: &ArgMatches<'_>) -> Option<Options>
+fn options_of<'a>(name: &str, matches: &ArgMatches<'a>) -> Option<Options<'a>>
     ensures { IfSome result (λ options. (name_of options ≡ name.now)
         × GivesNumbers (rows_of (found_of matches.now)) options) }
 {
@@ -185,11 +202,12 @@ fn options_of(name: &str, matches: &ArgMatches<'_>) -> Option<Options>
     }
 }
 
-/// Reads the program's words, the first of which is its own name: the command and the numbers are those of `clap`'s
-/// matches. Where the words are none, or ask for help or the version, the error has the text, and the exit status.
+/// Reads the program's words, the first of which is its own name: the command, the numbers and the texts are those of
+/// `clap`'s matches. Where the words are none, or ask for help or the version, the error has the text, and the exit
+/// status.
 ///
 /// Cost: O(n) in the n bytes of the words.
-pub fn read_words<'a>(alloc: Global, words: &'a [String]) -> Result<Options, Error>
+pub fn read_words<'a>(alloc: Global, words: &'a [String]) -> Result<Options<'a>, Error>
     ensures { IfOk result (GivesOptions (subcommand_of sheet_app (map string_bytes words.now))) }
 {
     let matches = sheet_command(alloc)?.try_get_matches_from(words)?;

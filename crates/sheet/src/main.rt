@@ -4,7 +4,8 @@
 //! table of CSV and writes the table of its settled values. `sheet serve` answers the lines of several connections,
 //! side by side and on one sheet, and `sheet sync` hands what one replica has to another, both of which listen on
 //! this machine. `sheet follow` writes what such a replica has and gets, as lines to push, `sheet page` shows it in a
-//! browser, and `sheet squash` makes few delta lines of many. It keeps nothing from one start to the next.
+//! browser, and `sheet squash` makes few delta lines of many. It keeps nothing from one start to the next but in the
+//! file that `--keep` of `run` or `serve` names.
 //!
 //! It ties the commands of `ps_commands`, whose contracts say what each does, to the words, to standard input, output
 //! and error, and to the exit status: 0 where all went well, 1 where a device failed, 2 for a command line that is
@@ -22,19 +23,23 @@ ghost use Rattle.ps_grid.specs.Blanks.{IsBlankOf};
 use clap::Error;
 use clap::error::ErrorKind;
 use ps_commands::{
-    KeptReader, Onlooker, ProgramFault, answer_lines, explain_table, follow_on, open_page, serve,
-    squash_on, status_of, sync_on, table_on,
+    KeptOnlooker, KeptReader, NumberElsewhere, Onlooker, Opened, ProgramFault, Warner, answer_kept,
+    answer_lines, explain_table, follow_on, keep_sheet, open_file, open_page, port_fault, serve,
+    serve_kept, squash_on, status_of, sync_on, table_on,
 };
-use ps_device::{ConsoleOutput, Reading, Writing};
+use ps_device::{ConsoleOutput, Reading, Sink, Writing};
 use ps_eval::Meter;
 use ps_grid::Refusal;
-use ps_words::{LineOptions, Options, TableOptions, read_words};
+use ps_session::HeldOutput;
+use ps_words::{LineOptions, Options, ServeOptions, TableOptions, read_words};
 use std::cell::RefCell;
+use std::fs::File;
 use std::io;
 use std::io::IsTerminal;
 use std::marker::Brand;
 use std::net::{Net, TcpListener, TcpStream};
 use std::process::ExitCode;
+use std::rt::Files;
 use std::sync::Wait;
 use std::sync::ledger::{Blank, Ledger};
 use std::thread::Threads;
@@ -44,18 +49,19 @@ use std::time::Clock;
 fn main(rt: HostRuntime) -> ExitCode {
     match start(&rt, &rt) {
         Ok(code) => code,
-        Err(fault) => {
-            let _ = eprintln!(rt; "{fault}");
-            ExitCode::from(status_of(&fault))
-        }
+        Err(fault) => report(&rt, &fault, false),
     }
 }
 
 /// Reads the words and runs their command.
-fn start<R: Net<Listener = TcpListener, Stream = TcpStream> + Threads + Wait + Clock + Sync>(
-    rt: &HostRuntime,
-    threads: &R,
-) -> Result<ExitCode, ProgramFault> {
+fn start<
+    R: Files<File = File>
+        + Net<Listener = TcpListener, Stream = TcpStream>
+        + Threads
+        + Wait
+        + Clock
+        + Sync,
+>(rt: &HostRuntime, threads: &R) -> Result<ExitCode, ProgramFault> {
     let given = match std::env::args(rt) {
         Ok(given) => given,
         Err(error) => return unread_words(rt, &error),
@@ -92,21 +98,50 @@ fn tell(rt: &HostRuntime, error: &Error) -> Result<ExitCode, ProgramFault> {
     Ok(ExitCode::SUCCESS)
 }
 
-/// Runs a command on standard input and output.
-fn run_command<R: Net<Listener = TcpListener, Stream = TcpStream> + Threads + Wait + Clock + Sync>(
-    rt: &HostRuntime,
-    threads: &R,
-    options: Options,
-) -> Result<ExitCode, ProgramFault> {
-    on_standard::<R, Brand, Brand, Brand>(
+/// Runs a command on standard input and output, and reports what ends it early.
+fn run_command<
+    R: Files<File = File>
+        + Net<Listener = TcpListener, Stream = TcpStream>
+        + Threads
+        + Wait
+        + Clock
+        + Sync,
+>(rt: &HostRuntime, threads: &R, options: Options<'_>) -> Result<ExitCode, ProgramFault> {
+    let done = on_standard::<R, Brand, Brand, Brand, Brand>(
         rt,
         threads,
         Blank::new(1),
         Blank::new(1),
         Blank::new(1),
+        Blank::new(1),
         options,
-    )?;
-    Ok(ExitCode::SUCCESS)
+    );
+    match done {
+        Ok(()) => Ok(ExitCode::SUCCESS),
+        Err(fault) => Ok(report(rt, &fault, wants_words(options))),
+    }
+}
+
+/// Whether it is asked for that a port that can't be had is told in words.
+fn wants_words(options: Options<'_>) -> bool {
+    match options {
+        Options::Serve(options) => options.explain,
+        Options::Sync(options) => options.explain,
+        Options::Follow(options) => options.explain,
+        Options::Page(options) => options.explain,
+        Options::Run(_) | Options::Table(_) | Options::Squash => false,
+    }
+}
+
+/// Reports what ended the program early, and of a port, where it is to be told in words, why it can't be had.
+fn report(rt: &HostRuntime, fault: &ProgramFault, asked: bool) -> ExitCode {
+    let _ = eprintln!(rt; "{fault}");
+    if let Some(port) = port_fault(fault) {
+        if is_explained(rt, asked) {
+            let _ = eprintln!(rt; "{port}");
+        }
+    }
+    ExitCode::from(status_of(fault))
 }
 
 /// Runs a command on standard input and output, whose failures and whose work these blanks count.
@@ -114,34 +149,44 @@ fn run_command<R: Net<Listener = TcpListener, Stream = TcpStream> + Threads + Wa
 /// The replies of `run` wait in memory and are written before the next read, so a batch of lines costs one write a
 /// piece of the input, and a peer that waits for a reply has it. A table waits nowhere.
 fn on_standard<
-    R: Net<Listener = TcpListener, Stream = TcpStream> + Threads + Wait + Clock + Sync,
+    R: Files<File = File>
+        + Net<Listener = TcpListener, Stream = TcpStream>
+        + Threads
+        + Wait
+        + Clock
+        + Sync,
     I: Ledger,
     O: Ledger,
+    H: Ledger,
     M: Ledger,
 >(
     rt: &HostRuntime,
     threads: &R,
     input: Blank,
     output: Blank,
+    held: Blank,
     count: Blank,
-    options: Options,
+    options: Options<'_>,
 ) -> Result<(), ProgramFault>
     requires input { IsBlankOf input I.name I.parts }
     requires output { IsBlankOf output O.name O.parts }
+    requires held { IsBlankOf held H.name H.parts }
     requires count { IsBlankOf count M.name M.parts }
 {
     let mut meter = Meter::<M>::new(count);
     match options {
-        Options::Run(options) => {
-            run_lines::<R, I, O, M>(rt, threads, input, output, &mut meter, options)
-        }
+        Options::Run(options) => match options.keep {
+            Some(path) => run_kept::<R, I, O, H, M>(
+                rt, threads, input, output, held, &mut meter, options, path,
+            ),
+            None => run_lines::<R, I, O, M>(rt, threads, input, output, &mut meter, options),
+        },
         Options::Table(options) => {
             put_table::<R, I, O, M>(rt, threads, input, output, &mut meter, options)
         }
         Options::Serve(options) => {
             let mut sink = ConsoleOutput::<_, O>::new(rt.alloc(), rt.stdout(), output)?;
-            serve(threads, rt.alloc(), options, &mut sink)?;
-            Ok(())
+            serve_sessions(rt, threads, &mut sink, &mut meter, options)
         }
         Options::Sync(options) => {
             let mut sink = ConsoleOutput::<_, O>::new(rt.alloc(), rt.stdout(), output)?;
@@ -175,7 +220,7 @@ fn run_lines<R: Threads + Sync, I: Ledger, O: Ledger, M: Ledger>(
     input: Blank,
     output: Blank,
     meter: &mut Meter<M>,
-    options: LineOptions,
+    options: LineOptions<'_>,
 ) -> Result<(), ProgramFault>
     requires input { IsBlankOf input I.name I.parts }
     requires output { IsBlankOf output O.name O.parts }
@@ -194,6 +239,82 @@ fn run_lines<R: Threads + Sync, I: Ledger, O: Ledger, M: Ledger>(
         &mut onlooker,
     )?;
     onlooker.end(options.strict)
+}
+
+/// Answers the lines of standard input on standard output by the sheet that a file keeps, with what was opened, hints
+/// and a warning on standard error.
+fn run_kept<R: Files<File = File> + Threads + Sync, I: Ledger, O: Ledger, H: Ledger, M: Ledger>(
+    rt: &HostRuntime,
+    threads: &R,
+    input: Blank,
+    output: Blank,
+    held: Blank,
+    meter: &mut Meter<M>,
+    options: LineOptions<'_>,
+    path: &str,
+) -> Result<(), ProgramFault>
+    requires input { IsBlankOf input I.name I.parts }
+    requires output { IsBlankOf output O.name O.parts }
+    requires held { IsBlankOf held H.name H.parts }
+{
+    let found = open_file(threads, rt.alloc(), path)?;
+    let kept = keep_sheet(threads, rt.alloc(), found, path, options.sheet, meter);
+    let (sheet, mut keeper) = match kept {
+        Ok(kept) => kept,
+        Err(fault) => return Err(fault),
+    };
+    let changes = sheet.version();
+    let _ = eprintln!(rt; "{}", Opened { path, changes });
+    let mut source = Reading::<_, I>::new(rt.reader(), input);
+    let writing = Writing::<_, O>::new(rt.stdout(), output);
+    let mut sink = HeldOutput::<_, H>::new(rt.alloc(), writing, held);
+    let told = is_explained(rt, options.explain).then_some(rt.stderr());
+    let replica = options.sheet.replica;
+    let warner = Warner::new(
+        rt.alloc(),
+        Some((NumberElsewhere { replica, path }, rt.stderr())),
+    );
+    let mut onlooker = KeptOnlooker::new(Onlooker::new(rt.alloc(), told), replica, warner);
+    answer_kept(
+        threads,
+        rt.alloc(),
+        &mut source,
+        &mut sink,
+        sheet,
+        &mut keeper,
+        meter,
+        &mut onlooker,
+    )?;
+    onlooker.end(options.strict)
+}
+
+/// Serves sessions over TCP on an empty sheet, or on the one that a file keeps, and tells on standard error what was
+/// opened, and a warning.
+fn serve_sessions<
+    R: Files<File = File>
+        + Net<Listener = TcpListener, Stream = TcpStream>
+        + Threads
+        + Wait
+        + Clock
+        + Sync,
+    K: Sink,
+    M: Ledger,
+>(
+    rt: &HostRuntime,
+    threads: &R,
+    out: &mut K,
+    meter: &mut Meter<M>,
+    options: ServeOptions<'_>,
+) -> Result<(), ProgramFault> {
+    match options.keep {
+        Some(path) => {
+            serve_kept(threads, rt.alloc(), options, path, out, rt.stderr(), meter)?;
+        }
+        None => {
+            serve(threads, rt.alloc(), options, out)?;
+        }
+    }
+    Ok(())
 }
 
 /// Takes in the table of standard input, and writes that of its sheet on standard output; then hints on standard error.

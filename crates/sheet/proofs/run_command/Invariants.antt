@@ -8,3 +8,6 @@ ghosts-on_standard-O-Ledger g a = record { name = a.output.name; parts = a.outpu
 
 abbrev pub ghosts-on_standard-M-Ledger : goal.ghosts-on_standard-M-Ledger
 ghosts-on_standard-M-Ledger g a = record { name = a.count.name; parts = a.count.parts }
+
+abbrev pub ghosts-on_standard-H-Ledger : goal.ghosts-on_standard-H-Ledger
+ghosts-on_standard-H-Ledger g a = record { name = a.held.name; parts = a.held.parts }

@@ -31,7 +31,7 @@ returns-clause-attended g c =
     let told = c.talk-ended.ensures in
     let on : GoesOn c.new-seat.result c.talk-ended.new.board =
     talked GoesOn goes_itself goes_trans (BoardAnswers (SeatCalls _ _)) (answers_go_on _ _)
-    _ _ _ _ _ _ _ _ c.talk-ended.result told.transcribed told.sink told.source told.memory in
+    _ _ _ _ _ _ _ _ c.talk-ended.result told.transcribed told.sink told.source told.keep told.memory in
     let answered : Ran (SeatLines _ _) c.new-seat.result c.talk-ended.new.board =
     ran (SeatLines _ _) _ _ _ _ _ _ _ _ c.talk-ended.result
     (all_transcribed (BoardAnswers (SeatCalls _ _)) (SeatAnswers _ _) (seat_answers _ _) _ _ _ _ _ _ _ told.transcribed)
@@ -42,5 +42,5 @@ returns-clause-attended g c =
       some.1,
       all_answered (BoardAnswers (SeatCalls _ _)) (SeatAnswers _ _) (seat_answers _ _)
           _ _ _ _ some.0 some.2,
-    )) told.memory in
+    )) told.keep told.memory in
     attended _ _ c.new-seat.ensures c.leave.ensures on answered

@@ -1,4 +1,4 @@
-use Rattle.std.proofs.Common.{rules, ◌≡◌, List, Option, ℕ, length, take, subst, sym}
+use Rattle.std.proofs.Common.{rules, List, Option, ℕ, length, take, subst, sym}
 use Rattle.std.specs.Io.KnownBytes.{Appends}
 use Rattle.std.proofs.Math.Seq.{take-length}
 use Rattle.ps_device.proofs.DeviceLemmas.{Appends-keeps}

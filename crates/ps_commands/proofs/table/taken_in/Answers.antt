@@ -1,6 +1,6 @@
 use Rattle.std.proofs.Common.{rules, ◌≡◌, ◌∙◌, ℕ, Bool, true, false, List, Option}
 use Rattle.std.proofs.Common.{sym, ap}
-use Rattle.std.proofs.Common.{Result, Ok, Err, Some, None, IfSome, IfNone, []}
+use Rattle.std.proofs.Common.{Some, None, IfSome, IfNone, []}
 use Rattle.csv.specs.declared.error.Error.{Error}
 use Rattle.ps_grid.specs.declared.refusal.Refusal.{Refusal}
 use Rattle.ps_grid.specs.declared.refusal.Refusal.TheVariants.{Device}
@@ -9,17 +9,13 @@ use Rattle.ps_csv.specs.Faults.{TableReaderFails}
 use Rattle.ps_commands.specs.Commands.{IsCauseOf}
 use Rattle.ps_commands.specs.Status.{program_fault}
 use Rattle.ps_commands.specs.declared.fault.ProgramFault.{ProgramFault}
-use Rattle.ps_commands.specs.declared.fault.ProgramFault.TheVariants.{DeltaRefused, LinesRefused, PeerRefused}
-use Rattle.ps_commands.specs.declared.fault.ProgramFault.TheVariants.{ReaderFailed, Refused}
+use Rattle.ps_commands.specs.declared.fault.ProgramFault.TheVariants.{Refused}
 use Rattle.ps_commands.proofs.Causes.{fault_in, refusal_of}
 use Rattle.ps_commands.proofs.table.taken_in.Goals as goal
 
 abbrev is_refused : ProgramFault → Bool
 is_refused (Refused e) = true
-is_refused (ReaderFailed error) = false
-is_refused (PeerRefused reply) = false
-is_refused (LinesRefused count) = false
-is_refused (DeltaRefused number) = false
+is_refused _ = false
 
 -- an import ends the program with a device's fault only where a device failed
 device_of : (own : Option Error) (e : Refusal) → program_fault own e ≡ Refused Device → e ≡ Device

@@ -22,6 +22,6 @@ returns g c =
     let whole : IsSync (S.row (inside.the_type L W g.L.DeskName g.L.Named g.L.Ledger)) =
     declared_sync (inside.the_type L W g.L.DeskName g.L.Named g.L.Ledger) (
       as_row_sync (Mutex.the_field R) (lock_sync R h),
-      (search sendable, tt),
+      (search sendable, (search sendable, tt)),
     ) in
     record { shared = λ d b o κ x. (whole.shared x.0 b o κ, tt) }

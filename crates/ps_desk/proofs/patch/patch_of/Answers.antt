@@ -2,7 +2,7 @@ use Rattle.std.proofs.Common.{◌≡◌, ◌∙◌, map, subst, sym, List, ℕ}
 use Rattle.std.specs.Arc.{arc_value}
 use Rattle.ps_sheet.specs.Staging.{StagedView, StagingView}
 use Rattle.ps_face.specs.Legal.{Follows}
-use Rattle.ps_desk.specs.Patches.{note_of, shown_of}
+use Rattle.ps_desk.specs.Patches.{shown_of}
 use Rattle.ps_desk.proofs.Noted.{at_staged, staged_follows, worked_out}
 use Rattle.ps_desk.proofs.patch.patch_of.Goals as goal
 

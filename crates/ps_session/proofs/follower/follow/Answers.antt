@@ -9,7 +9,8 @@ returns-in-Err-write_push-clause-halted g c =
     halted_cut c.args.from.now c.pulls.from c.ask_after.new.from (g.O.Sink.contents c.args.out.now)
     (g.O.Sink.contents c.pulls.out) (g.O.Sink.contents c.write_push.new.out)
     c.pulls.version c.pulls.invariant.followed _ (push_text c.in-Ok-Group.delta.now) c.in-Ok-Group.last
-    (subst (λ n. n < g.O.Sink.failures c.write_push.new.out) c.pulls.invariant.second c.in-Err-write_push.ensures.failed)
+    (subst (λ n. n < g.O.Sink.failures c.write_push.new.out) c.pulls.invariant.second
+    c.in-Err-write_push.ensures.failed)
     c.in-Ok.ensures.replied (inl (c.in-Ok-Group.delta.now, due, refl)) c.in-Err-write_push.ensures.put
 
 pub pulls-preserved-in-Ok-Group : goal.pulls-preserved-in-Ok-Group

@@ -3,15 +3,16 @@ use Rattle.ps_grid.specs.declared.parties.TheConstants.{REPLICAS}
 use Rattle.ps_sheet.specs.Sheet.{SheetView}
 use Rattle.ps_session.specs.Answers.{Answers}
 use Rattle.ps_session.specs.Boards.{BoardAnswers}
+use Rattle.ps_session.specs.Keeping.{IsLater}
 use Rattle.ps_session.specs.SheetBoard.{SheetCalls}
 use Rattle.ps_session.proofs.AnswerLemmas.{sheet_answers}
-use Rattle.ps_session.proofs.ReplicaAndLinesStay.{Keeps, answered_keeps, keeps_itself, then_keeps}
+use Rattle.ps_session.proofs.ReplicaAndLinesStay.{answered_later, later_itself, then_later}
 use Rattle.ps_session.proofs.Runs.{talked}
 use Rattle.ps_session.proofs.Weaker.{all_answered, all_transcribed, stopped}
 use Rattle.ps_session.proofs.sheet_session.run_watched.Goals as goal
 
-keeps : (old new : SheetView) (line text : List ℕ) → BoardAnswers SheetCalls old line text new → Keeps old new
-keeps old new line text a = answered_keeps old new line text (sheet_answers old new line text a)
+later : (old new : SheetView) (line text : List ℕ) → BoardAnswers SheetCalls old line text new → IsLater old new
+later old new line text a = answered_later old new line text (sheet_answers old new line text a)
 
 pub returns-clause-transcribed : goal.returns-clause-transcribed
 returns-clause-transcribed g c =
@@ -31,17 +32,19 @@ returns-clause-source g c = λ is.
 pub returns-clause-replica : goal.returns-clause-replica
 returns-clause-replica g c =
     let told = c.talk_watched-answered.ensures in
-    let kept : Keeps c.args.sheet.now c.talk_watched-answered.new.board =
-    talked Keeps keeps_itself then_keeps (BoardAnswers SheetCalls) keeps _ _ _ _ _ _ _ _ c.talk_watched-answered.result
-    told.transcribed told.sink told.source told.memory in
+    let kept : IsLater c.args.sheet.now c.talk_watched-answered.new.board =
+    talked IsLater later_itself then_later (BoardAnswers SheetCalls) later _ _ _ _ _ _ _ _
+    c.talk_watched-answered.result
+    told.transcribed told.sink told.source told.keep told.memory in
     kept.replica
 
 pub returns-clause-lines : goal.returns-clause-lines
 returns-clause-lines g c =
     let told = c.talk_watched-answered.ensures in
-    let kept : Keeps c.args.sheet.now c.talk_watched-answered.new.board =
-    talked Keeps keeps_itself then_keeps (BoardAnswers SheetCalls) keeps _ _ _ _ _ _ _ _ c.talk_watched-answered.result
-    told.transcribed told.sink told.source told.memory in
+    let kept : IsLater c.args.sheet.now c.talk_watched-answered.new.board =
+    talked IsLater later_itself then_later (BoardAnswers SheetCalls) later _ _ _ _ _ _ _ _
+    c.talk_watched-answered.result
+    told.transcribed told.sink told.source told.keep told.memory in
     let sheet = c.version.ensures.sheet in
     kept.lines (subst (λ r. 1 ≤ r) kept.replica sheet.replica.0)
     (subst (λ r. r ≤ REPLICAS) kept.replica sheet.replica.1)

@@ -1,7 +1,6 @@
-use Rattle.std.proofs.Common.{◌≡◌, ◌∙◌, ◌++◌, ◌∷◌, [], List, ℕ, ap, arith, rules, subst, sym}
+use Rattle.std.proofs.Common.{◌≡◌, ◌∙◌, ap, arith, rules, sym}
 use Rattle.std.proofs.lemmas.Grind.{common_steps}
 use Rattle.ps_delta.specs.State.{state_at}
-use Rattle.ps_squash.specs.Inside.{AreFirst}
 use Rattle.ps_squash.proofs.CellLemmas.{first_more, first_same}
 use Rattle.ps_squash.proofs.cells.add_cell.Goals as goal
 
@@ -17,4 +16,5 @@ returns-clause-more c =
     let is = c.in_ok-twin.ensures.equal ∙ c.at-state.ensures.value ∙ ap (state_at c.args.grid.now) place in
     rw (c.in_ok-push.ensures.items, place)
     (first_more (state_at c.args.grid.now) c.args.index _ c.requires.before _ is
-    (λ empty. absurd (search (rules, c.is_empty.ensures.1 (sym c.in_ok-twin.ensures.equal ∙ empty), c.if-is_empty.false))))
+    (λ empty. absurd
+    (search (rules, c.is_empty.ensures.1 (sym c.in_ok-twin.ensures.equal ∙ empty), c.if-is_empty.false))))

@@ -1,11 +1,11 @@
-use Rattle.std.proofs.Common.{◌≡◌, ◌∙◌, ◌<◌, ℕ, [], ◌∷◌, ap, arith, length, subst, sym}
+use Rattle.std.proofs.Common.{◌≡◌, ◌∙◌, ◌<◌, [], ◌∷◌, ap, arith, length, subst, sym}
 use Rattle.std.proofs.lemmas.Grind.{common_steps}
 use Rattle.ps_delta.specs.State.{joined_state, state_at}
 use Rattle.ps_delta.proofs.HistoryLemmas.{joined_history-nil, joined_history-one}
 use Rattle.ps_delta.proofs.StateLemmas.{joined_state-empty_right}
 use Rattle.ps_wire.specs.Line.{IsLine}
 use Rattle.ps_squash.specs.Squashed.{after_push}
-use Rattle.ps_squash.proofs.LineLemmas.{says_none, says_nothing, says_one}
+use Rattle.ps_squash.proofs.LineLemmas.{says_nothing, says_one}
 use Rattle.ps_squash.proofs.intake.join_line.Goals as goal
 
 pub returns-then-is_empty-clause-joined : goal.returns-then-is_empty-clause-joined

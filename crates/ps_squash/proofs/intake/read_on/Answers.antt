@@ -1,4 +1,4 @@
-use Rattle.std.proofs.Common.{◌∙◌, ◌++◌, arith, take}
+use Rattle.std.proofs.Common.{◌++◌, arith, take}
 use Rattle.ps_squash.proofs.ReadLemmas.{more_read}
 use Rattle.ps_squash.proofs.intake.read_on.Goals as goal
 

@@ -1,6 +1,4 @@
-use Rattle.std.proofs.Common.{[]}
 use Rattle.std.specs.Prelude.{⊤}
-use Rattle.std.specs.Io.KnownBytes.{IsAtEnd}
 use Rattle.ps_squash.proofs.StandsLemmas.{fault_ended}
 use Rattle.ps_squash.proofs.intake.taken_in.Goals as goal
 

@@ -1,4 +1,4 @@
-use Rattle.std.proofs.Common.{◌≡◌, ◌+◌, ◌∙◌, [], ◌∷◌, ap, arith, length}
+use Rattle.std.proofs.Common.{◌≡◌, ◌+◌, ◌∙◌, ap, arith, length}
 use Rattle.std.proofs.lemmas.Grind.{common_steps}
 use Rattle.ps_wire.specs.Line.{delta_text}
 use Rattle.ps_squash.specs.Inside.{cell_size}

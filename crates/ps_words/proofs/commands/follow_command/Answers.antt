@@ -10,8 +10,11 @@ returns-clause-app c =
     let with_flag = c.in_ok-command-2.ensures.app
     ∙ ap₂ with_rule with_from c.flag_option-until_now.ensures.rule in
     let every_is = rw c.from.ensures at c.usual_option-every.ensures.rule in
-    IfOk-weaker c.with_option-3.result _ _ (λ command is. is ∙ ap₂ with_rule with_flag every_is)
-    c.with_option-3.ensures.app
+    let with_every = c.in_ok-command-3.ensures.app ∙ ap₂ with_rule with_flag every_is in
+    IfOk-weaker c.with_option-4.result _ _
+    (λ command is. is ∙ ap₂ with_rule with_every c.flag_option-explain.ensures.rule)
+    c.with_option-4.ensures.app
 
 pub returns-clause-local : goal.returns-clause-local
-returns-clause-local c = c.with_option-3.ensures.local (c.in_ok-command-2.ensures.local (c.in_ok-command.ensures.local c.new_command.ensures.local))
+returns-clause-local c = c.with_option-4.ensures.local (c.in_ok-command-3.ensures.local
+    (c.in_ok-command-2.ensures.local (c.in_ok-command.ensures.local c.new_command.ensures.local)))

@@ -9,8 +9,12 @@ returns-clause-app c =
     ∙ ap₂ with_rule c.new_command.ensures.app c.needed_option-from.ensures.rule in
     let with_port = c.in_ok-command-2.ensures.app
     ∙ ap₂ with_rule with_from c.needed_option-port.ensures.rule in
-    IfOk-weaker c.with_option-3.result _ _ (λ command is. is ∙ ap₂ with_rule with_port c.usual_option-browsers.ensures.rule)
-    c.with_option-3.ensures.app
+    let with_browsers = c.in_ok-command-3.ensures.app
+    ∙ ap₂ with_rule with_port c.usual_option-browsers.ensures.rule in
+    IfOk-weaker c.with_option-4.result _ _
+    (λ command is. is ∙ ap₂ with_rule with_browsers c.flag_option-explain.ensures.rule)
+    c.with_option-4.ensures.app
 
 pub returns-clause-local : goal.returns-clause-local
-returns-clause-local c = c.with_option-3.ensures.local (c.in_ok-command-2.ensures.local (c.in_ok-command.ensures.local c.new_command.ensures.local))
+returns-clause-local c = c.with_option-4.ensures.local (c.in_ok-command-3.ensures.local
+    (c.in_ok-command-2.ensures.local (c.in_ok-command.ensures.local c.new_command.ensures.local)))

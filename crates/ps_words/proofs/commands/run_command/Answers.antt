@@ -8,9 +8,11 @@ pub returns-clause-app : goal.returns-clause-app
 returns-clause-app c =
     let opened = c.in_ok-command.ensures.app ∙ ap with_sheet_options c.new_command.ensures.app in
     let explained = c.in_ok-command-2.ensures.app ∙ ap₂ with_rule opened c.flag_option-explain.ensures.rule in
-    IfOk-weaker c.with_option-2.result _ _ (λ command is. is ∙ ap₂ with_rule explained c.flag_option-strict.ensures.rule)
-    c.with_option-2.ensures.app
+    let strict = c.in_ok-command-3.ensures.app ∙ ap₂ with_rule explained c.flag_option-strict.ensures.rule in
+    IfOk-weaker c.with_option-3.result _ _
+    (λ command is. is ∙ ap₂ with_rule strict c.text_option-keep.ensures.rule)
+    c.with_option-3.ensures.app
 
 pub returns-clause-local : goal.returns-clause-local
-returns-clause-local c = c.with_option-2.ensures.local (c.in_ok-command-2.ensures.local
-    (c.in_ok-command.ensures.local c.new_command.ensures.local))
+returns-clause-local c = c.with_option-3.ensures.local (c.in_ok-command-3.ensures.local
+    (c.in_ok-command-2.ensures.local (c.in_ok-command.ensures.local c.new_command.ensures.local)))

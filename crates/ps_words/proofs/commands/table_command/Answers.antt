@@ -9,8 +9,10 @@ returns-clause-app c =
     ∙ ap₂ with_rule c.new_command.ensures.app c.number_option-workers.ensures.rule in
     let with_entries = c.in_ok-command-2.ensures.app
     ∙ ap₂ with_rule with_workers c.flag_option-entries.ensures.rule in
-    IfOk-weaker c.with_option-3.result _ _ (λ command is. is ∙ ap₂ with_rule with_entries c.flag_option-explain.ensures.rule)
+    IfOk-weaker c.with_option-3.result _ _
+    (λ command is. is ∙ ap₂ with_rule with_entries c.flag_option-explain.ensures.rule)
     c.with_option-3.ensures.app
 
 pub returns-clause-local : goal.returns-clause-local
-returns-clause-local c = c.with_option-3.ensures.local (c.in_ok-command-2.ensures.local (c.in_ok-command.ensures.local c.new_command.ensures.local))
+returns-clause-local c = c.with_option-3.ensures.local
+    (c.in_ok-command-2.ensures.local (c.in_ok-command.ensures.local c.new_command.ensures.local))

@@ -1,4 +1,4 @@
-use Rattle.std.proofs.Common.{◌≡◌, ℕ, List, sym, subst}
+use Rattle.std.proofs.Common.{ℕ, List, sym, subst}
 use Rattle.ps_delta.specs.Deltas.{Entries, joined_history}
 use Rattle.ps_sheet.specs.Prepared.{IsDeltaOf}
 use Rattle.ps_sheet.specs.Staging.{IsWorkedOut, StagedView, StagingView, prepared_of}

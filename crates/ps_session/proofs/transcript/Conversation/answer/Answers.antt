@@ -11,8 +11,9 @@ returns-in-Err-clause-replied g c =
     let board = c.args.board.now in
     let some : 0 < length c.line-line.result.now = grind (arith, common_steps, c.if-is_empty.ensures) in
     replied_line (BoardAnswers g.B.Board.calls) board c.answer-reply.new.board
-    (without_return c.args.self.now.session.line) (reply_text c.answer-reply.result) (g.K.Sink.contents c.args.sink.now)
-    (g.K.Sink.contents c.send.new.sink) c.args.self.now.answered 0 (Err c.in-Err.failed)
+    (without_return c.args.self.now.session.line) (reply_text c.answer-reply.result)
+    (g.D.Delivery.contents c.args.sink.now)
+    (g.D.Delivery.contents c.put_reply.new.sink) c.args.self.now.answered 0 (Err c.in-Err.failed)
     (subst (λ l. 0 < length l) c.line-line.ensures some)
     (subst (λ l. BoardAnswers g.B.Board.calls board l (reply_text c.answer-reply.result) c.answer-reply.new.board)
     c.line-line.ensures c.answer-reply.ensures.answered) c.in-Err.ensures.sent tt
@@ -22,8 +23,10 @@ returns-clause-replied g c =
     let board = c.args.board.now in
     let some : 0 < length c.line-line.result.now = grind (arith, common_steps, c.if-is_empty.ensures) in
     replied_line {E = ℕ} (BoardAnswers g.B.Board.calls) board c.answer-reply.new.board
-    (without_return c.args.self.now.session.line) (reply_text c.answer-reply.result) (g.K.Sink.contents c.args.sink.now)
-    (g.K.Sink.contents c.send.new.sink) c.args.self.now.answered c.saturating_add-self.result (Ok c.in-Ok.field-0)
+    (without_return c.args.self.now.session.line) (reply_text c.answer-reply.result)
+    (g.D.Delivery.contents c.args.sink.now)
+    (g.D.Delivery.contents c.put_reply.new.sink) c.args.self.now.answered c.saturating_add-self.result
+    (Ok c.in-Ok.field-0)
     (subst (λ l. 0 < length l) c.line-line.ensures some)
     (subst (λ l. BoardAnswers g.B.Board.calls board l (reply_text c.answer-reply.result) c.answer-reply.new.board)
     c.line-line.ensures c.answer-reply.ensures.answered) c.in-Ok.ensures.sent c.saturating_add-self.ensures

@@ -1,11 +1,11 @@
 use Rattle.std.proofs.Common.{◌≡◌, rules, subst, None}
 use Rattle.ps_session.specs.Feeding.{kept}
 use Rattle.ps_squash.specs.Inside.{Holds}
-use Rattle.ps_squash.proofs.LineLemmas.{too_long}
+use Rattle.ps_squash.proofs.LineLemmas.{too_long, too_long_tells}
 use Rattle.ps_squash.proofs.intake.Intake.close.Goals as goal
 
 pub returns-in-TooLong-clause-faulty : goal.returns-in-TooLong-clause-faulty
 returns-in-TooLong-clause-faulty c = λ number is raw holds.
     let long : kept raw ≡ None =
     subst (λ l. Holds l c.args.self.now.session raw) c.in-TooLong.is holds in
-    (too_long raw long, search (rules, is, c.saturating_add-number.ensures))
+    (too_long raw long, λ none. too_long_tells raw long, search (rules, is, c.saturating_add-number.ensures))

@@ -4,7 +4,7 @@ use Rattle.ps_squash.proofs.intake.Intake.take_in.Goals as goal
 pub turns-preserved : goal.turns-preserved
 turns-preserved c = record {
   within = turn_within c.args.piece.now c.turns.start c.in-Ok.taken c.turns-test.true c.in-Ok.ensures.within.1;
-  stands = λ read s. stands_more read c.args.piece.now c.turns.start c.in-Ok.taken _ _ _
+  stands = λ read s. stands_more read c.args.piece.now c.turns.start c.in-Ok.taken _ _ _ _
       (c.in-Ok.ensures.stands _ (c.turns.invariant.stands read s));
 }
 

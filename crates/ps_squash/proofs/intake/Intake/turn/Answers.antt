@@ -4,12 +4,14 @@ use Rattle.ps_squash.proofs.intake.Intake.turn.Goals as goal
 
 pub returns-in-Err-clause-faulty : goal.returns-in-Err-clause-faulty
 returns-in-Err-clause-faulty c = λ number is read s.
-    line_fails read c.args.self.now.session c.feed-fed.new.self (state_at c.args.self.now.state) c.args.self.now.ended
-    number c.args.piece.now c.feed-fed.result.taken c.feed-fed.result.line c.in_default.not-None c.feed-fed.ensures.fed
+    line_fails read c.args.self.now.session c.feed-fed.new.self c.args.self.now.told
+    (state_at c.args.self.now.state) c.args.self.now.ended number c.args.piece.now c.feed-fed.result.taken
+    c.feed-fed.result.line c.in_default.not-None c.feed-fed.ensures.fed
     (c.in-Err.ensures.faulty number is) s
 
 pub returns-in-Ok-clause-stands : goal.returns-in-Ok-clause-stands
 returns-in-Ok-clause-stands c = λ read s. rw (c.in-Ok.ensures.session)
-    (line_stands read c.args.self.now.session c.feed-fed.new.self (state_at c.args.self.now.state) c.args.self.now.ended
-    _ _ _ c.feed-fed.result.line c.in_default.not-None c.feed-fed.ensures.fed c.in-Ok.ensures.joined
+    (line_stands read c.args.self.now.session c.feed-fed.new.self c.args.self.now.told
+    (state_at c.args.self.now.state) c.args.self.now.ended _ _ _ _ c.feed-fed.result.line c.in_default.not-None
+    c.feed-fed.ensures.fed c.in-Ok.ensures.joined
     c.in-Ok.ensures.counted s)

@@ -1,0 +1,435 @@
+//! A sheet that is kept: which bytes its file has, and what a start reads after a crash anywhere. The expected lines
+//! are worked by hand from the rules of edits and of delta lines.
+ghost use Rattle.std.specs.Prelude.{◌≡◌, IfOk, OnOk, false};
+ghost use mathlib.Core.List.{IsPrefix};
+ghost use Rattle.ps_grid.specs.Blanks.{IsBlankOf};
+ghost use Rattle.ps_kept.specs.Kept.{IsNoted};
+
+use ps_content::read_entry;
+use ps_eval::Meter;
+use ps_grid::{Cell, Refusal};
+use ps_keep::{MemoryDevice, MemoryFile, first_line};
+use ps_kept::{KeepFault, SheetKeeper, longer_histories_fit, open_kept};
+use ps_session::Keeper;
+use ps_sheet::{Change, Edit, Sheet};
+use ps_value::Value;
+use ps_wire::decode;
+use std::alloc::Global;
+use std::marker::Brand;
+use std::sync::Arc;
+use std::sync::ledger::{Blank, Ledger};
+use std::test::Fail;
+use std::thread::Threads;
+
+/// What is done at replica 1.
+#[derive(Clone, Copy)]
+enum Step {
+    /// A cell is given what an entry stands for.
+    Set(&'static [u8], &'static [u8]),
+    /// A counter is raised.
+    Add(&'static [u8], u64),
+    /// A counter is lowered.
+    Sub(&'static [u8], u64),
+    /// An option is put in.
+    Choose(&'static [u8], u64),
+    /// An option is taken out.
+    Unchoose(&'static [u8], u64),
+    /// A delta of another replica comes.
+    Push(&'static [u8]),
+}
+
+/// What is done, step by step.
+const SCRIPT: [Step; 9] = [
+    Step::Set(b"A1", b"5"),
+    Step::Set(b"B1", b"=[.A1]*2"),
+    Step::Set(b"C1", b"@tally"),
+    Step::Add(b"C1", 7),
+    Step::Sub(b"C1", 2),
+    Step::Set(b"D1", b"@choice"),
+    Step::Choose(b"D1", 3),
+    Step::Unchoose(b"D1", 3),
+    Step::Push(b"[[\"A1\",[2,2,\"6\"],[],[]]]"),
+];
+
+/// The file that keeps it.
+const FILE: &str = "replica 1
+push [[\"A1\",[1,1,\"5\"],[],[]]]
+push [[\"B1\",[1,1,\"=[.A1]*2\"],[],[]]]
+push [[\"C1\",[1,1,\"@tally\"],[],[]]]
+push [[\"C1\",null,[[1,7,0]],[]]]
+push [[\"C1\",null,[[1,0,2]],[]]]
+push [[\"D1\",[1,1,\"@choice\"],[],[]]]
+push [[\"D1\",null,[],[[3,1,1,0]]]]
+push [[\"D1\",null,[],[[3,1,1,1]]]]
+push [[\"A1\",[2,2,\"6\"],[],[]]]
+";
+
+/// What A1, B1 and C1 show after so many of its changes; 0 for nothing.
+const SHOWN: [[i64; 3]; 10] = [
+    [0, 0, 0],
+    [5, 0, 0],
+    [5, 10, 0],
+    [5, 10, 0],
+    [5, 10, 7],
+    [5, 10, 5],
+    [5, 10, 5],
+    [5, 10, 5],
+    [5, 10, 5],
+    [6, 12, 5],
+];
+
+/// A sheet with its keeper, or why there is none.
+type Opened = Result<(Sheet, SheetKeeper<MemoryDevice>), (KeepFault, Option<MemoryFile>)>;
+
+fn opened_with<L: Ledger, R: Threads + Sync>(
+    rt: &R,
+    blank: Blank,
+    alloc: Global,
+    file: MemoryFile,
+) -> Opened
+    requires { IsBlankOf blank L.name L.parts }
+    ensures fits { IfOk result (λ r. IsNoted r.0.replica r.0.history r.1 × (r.1.has_failed ≡ false)) }
+{
+    let mut meter = Meter::<L>::new(blank);
+    open_kept(rt, alloc, file, 1, 1, &mut meter)
+}
+
+/// The sheet of replica 1 that is read of a file of these bytes, whose calls go well so often.
+fn opened<R: Threads + Sync>(rt: &R, alloc: Global, bytes: &[u8], calls: u64) -> Opened
+    ensures fits { IfOk result (λ r. IsNoted r.0.replica r.0.history r.1 × (r.1.has_failed ≡ false)) }
+{
+    match bytes.to_vec(alloc) {
+        Ok(bytes) => opened_with::<Brand, R>(rt, Blank::new(1), alloc, MemoryFile { bytes, calls }),
+        Err(_) => Err((KeepFault::Memory, None)),
+    }
+}
+
+fn cell(name: &[u8]) -> Result<Cell, Refusal> {
+    Cell::read(name).ok_or(Refusal::Cell)
+}
+
+/// The change that a step makes.
+fn change_of(alloc: Global, step: Step) -> Result<Change, Refusal> {
+    Ok(match step {
+        Step::Set(name, entry) => Change::Edit(Edit::Set(cell(name)?, read_entry(alloc, entry)?)),
+        Step::Add(name, amount) => Change::Edit(Edit::Add(cell(name)?, amount)),
+        Step::Sub(name, amount) => Change::Edit(Edit::Sub(cell(name)?, amount)),
+        Step::Choose(name, option) => Change::Edit(Edit::Choose(cell(name)?, option)),
+        Step::Unchoose(name, option) => Change::Edit(Edit::Unchoose(cell(name)?, option)),
+        Step::Push(line) => Change::Delta(Arc::new(alloc, decode(alloc, line)?)?),
+    })
+}
+
+/// Makes the change of a step.
+fn obey<L: Ledger, R: Threads + Sync>(
+    rt: &R,
+    alloc: Global,
+    sheet: &mut Sheet,
+    step: Step,
+    meter: &mut Meter<L>,
+) -> Result<(), Refusal>
+    ensures replica { sheet.new.replica ≡ sheet.old.replica }
+    ensures longer { IsPrefix sheet.old.history sheet.new.history }
+{
+    match change_of(alloc, step) {
+        Ok(Change::Edit(edit)) => match sheet.edit(rt, alloc, edit, meter) {
+            Ok(_) => Ok(()),
+            Err(refusal) => Err(refusal),
+        },
+        Ok(Change::Delta(delta)) => match sheet.receive(rt, alloc, delta, meter) {
+            Ok(_) => Ok(()),
+            Err(refusal) => Err(refusal),
+        },
+        Err(refusal) => Err(refusal),
+    }
+}
+
+/// Makes the change of a step, and has the sheet kept.
+fn keep_line<L: Ledger, R: Threads + Sync>(
+    rt: &R,
+    alloc: Global,
+    sheet: &mut Sheet,
+    keeper: &mut SheetKeeper<MemoryDevice>,
+    step: Step,
+    meter: &mut Meter<L>,
+) -> Result<(), Refusal>
+    requires fits { IsNoted sheet.old.replica sheet.old.history keeper.old × (keeper.old.has_failed ≡ false) }
+    ensures fits { OnOk result (IsNoted sheet.new.replica sheet.new.history keeper.new
+        × (keeper.new.has_failed ≡ false)) }
+{
+    match obey(rt, alloc, sheet, step, meter) {
+        Ok(()) => {}
+        Err(refusal) => return Err(refusal),
+    }
+    longer_histories_fit();
+    match keeper.settle(alloc, sheet) {
+        Ok(()) => Ok(()),
+        Err(_) => Err(Refusal::Device),
+    }
+}
+
+/// A device after the script, and how many lines of it were kept.
+#[derive(Drop)]
+struct Ran {
+    device: MemoryDevice,
+    kept: usize,
+}
+
+/// Carries the script out, up to the first line that can't be kept.
+fn run_script<L: Ledger, R: Threads + Sync>(
+    rt: &R,
+    alloc: Global,
+    mut sheet: Sheet,
+    mut keeper: SheetKeeper<MemoryDevice>,
+    meter: &mut Meter<L>,
+) -> Ran
+    requires fits { IsNoted sheet.replica sheet.history keeper × (keeper.has_failed ≡ false) }
+{
+    let mut kept = 0;
+    'lines: while kept < SCRIPT.len() {
+        match keep_line(rt, alloc, &mut sheet, &mut keeper, SCRIPT[kept], meter) {
+            Ok(()) => kept += 1,
+            Err(_) => break,
+        }
+    }
+    Ran {
+        device: keeper.into_journal().into_device(),
+        kept,
+    }
+}
+
+fn kept_with<L: Ledger, R: Threads + Sync>(
+    rt: &R,
+    blank: Blank,
+    alloc: Global,
+    calls: u64,
+) -> Option<Ran>
+    requires { IsBlankOf blank L.name L.parts }
+{
+    let mut meter = Meter::<L>::new(blank);
+    let file = MemoryFile {
+        bytes: Vec::new(alloc),
+        calls,
+    };
+    match open_kept(rt, alloc, file, 1, 1, &mut meter) {
+        Ok((sheet, keeper)) => Some(run_script(rt, alloc, sheet, keeper, &mut meter)),
+        Err(_) => None,
+    }
+}
+
+/// The script, kept in an empty file whose calls go well so often; none where the start is refused.
+fn kept_up_to<R: Threads + Sync>(rt: &R, alloc: Global, calls: u64) -> Option<Ran> {
+    kept_with::<Brand, R>(rt, Blank::new(1), alloc, calls)
+}
+
+/// What a start read, and its file.
+#[derive(Drop)]
+struct Start {
+    changes: u64,
+    /// what A1, B1 and C1 show
+    shown: [i64; 3],
+    device: MemoryDevice,
+}
+
+/// What a cell shows, as a number.
+fn number_in(sheet: &Sheet, name: &[u8]) -> i64 {
+    let Some(cell) = Cell::read(name) else {
+        return 0;
+    };
+    match sheet.shown(cell) {
+        Value::Num(number) => number,
+        _ => 0,
+    }
+}
+
+/// What a start reads of a file of these bytes; none where it is refused.
+fn started<R: Threads + Sync>(rt: &R, alloc: Global, bytes: &[u8]) -> Option<Start> {
+    match opened(rt, alloc, bytes, 9) {
+        Ok((sheet, keeper)) => Some(Start {
+            changes: sheet.version(),
+            shown: [
+                number_in(&sheet, b"A1"),
+                number_in(&sheet, b"B1"),
+                number_in(&sheet, b"C1"),
+            ],
+            device: keeper.into_journal().into_device(),
+        }),
+        Err(_) => None,
+    }
+}
+
+/// Why a start is refused, and the file that comes back; none where it isn't, or none comes back.
+fn refusal_of<R: Threads + Sync>(
+    rt: &R,
+    alloc: Global,
+    bytes: &[u8],
+) -> Option<(KeepFault, MemoryFile)> {
+    match opened(rt, alloc, bytes, 9) {
+        Err((fault, Some(file))) => Some((fault, file)),
+        _ => None,
+    }
+}
+
+/// How many whole lines there are, and how many bytes they have.
+fn whole_of(bytes: &[u8]) -> (usize, usize) {
+    let mut lines = 0usize;
+    let mut end = 0usize;
+    let mut left = bytes;
+    while let Some((line, rest)) = first_line(left) {
+        lines = lines.saturating_add(1);
+        end = end.saturating_add(line.len() + 1);
+        left = rest;
+    }
+    (lines, end)
+}
+
+/// Whether a start is what a beginning of the file tells, at least so many changes, and leaves its whole lines, or the
+/// first one.
+fn is_start_of(start: &Start, bytes: &[u8], least: usize) -> bool {
+    let (lines, end) = whole_of(bytes);
+    let changes = lines.saturating_sub(1);
+    if changes >= SHOWN.len() || end > FILE.len() {
+        return false;
+    }
+    let left = if lines == 0 { 10 } else { end };
+    least <= changes
+        && start.changes == changes as u64
+        && start.shown == SHOWN[changes]
+        && start.device.bytes.as_slice() == &FILE.as_bytes()[..left]
+        && start.device.synced == left
+}
+
+/// A start reads what a beginning of the file tells.
+fn reads<R: Threads + Sync>(rt: &R, alloc: Global, bytes: &[u8], least: usize) -> bool {
+    match started(rt, alloc, bytes) {
+        Some(start) => is_start_of(&start, bytes, least),
+        None => false,
+    }
+}
+
+/// Whether a start reads all that was kept, whatever a crash leaves of what was written.
+fn survives<R: Threads + Sync>(rt: &R, alloc: Global, ran: &Ran) -> bool {
+    let bytes = ran.device.bytes.as_slice();
+    if !FILE.as_bytes().starts_with(bytes) {
+        return false;
+    }
+    for count in 0..=bytes.len() {
+        if ran.device.synced <= count && !reads(rt, alloc, &bytes[..count], ran.kept) {
+            return false;
+        }
+    }
+    true
+}
+
+/// Each form of an edit, and a delta of another replica: the file has their lines, and all of them are on the disk.
+#[test]
+fn each_change_is_a_line(rt: HostRuntime) -> Result<(), Fail> {
+    match kept_up_to(&rt, rt.alloc(), 99) {
+        Some(ran) => {
+            assert!(rt; ran.kept == SCRIPT.len() && ran.device.synced == FILE.len());
+            assert!(rt; ran.device.bytes.as_slice() == FILE.as_bytes());
+        }
+        None => assert!(rt; false),
+    }
+    Ok(())
+}
+
+/// A file that is cut at whatever byte: a start reads its whole lines.
+#[test]
+fn a_file_cut_at_each_byte(rt: HostRuntime) -> Result<(), Fail> {
+    for count in 0..=FILE.len() {
+        assert!(rt; reads(&rt, rt.alloc(), &FILE.as_bytes()[..count], 0));
+    }
+    Ok(())
+}
+
+/// Each call of the device fails in turn, and after it a crash comes that leaves any number of the bytes. The first
+/// three calls are the cut, the first line and its sync.
+#[test]
+fn a_crash_at_each_call_and_byte(rt: HostRuntime) -> Result<(), Fail> {
+    for calls in 0..22u64 {
+        match kept_up_to(&rt, rt.alloc(), calls) {
+            Some(ran) => {
+                assert!(rt; ran.kept as u64 == calls.saturating_sub(3) / 2 && 3 <= calls);
+                assert!(rt; survives(&rt, rt.alloc(), &ran));
+            }
+            None => assert!(rt; calls < 3),
+        }
+    }
+    Ok(())
+}
+
+/// What no start goes on with is named, and the file comes back as it was.
+#[test]
+fn what_is_refused(rt: HostRuntime) -> Result<(), Fail> {
+    for (text, fault) in [
+        ("hello", KeepFault::Line(1)),
+        ("hello\n", KeepFault::Line(1)),
+        ("\n", KeepFault::Line(1)),
+        ("push [[\"A1\",[1,1,\"5\"],[],[]]]\n", KeepFault::Line(1)),
+        ("replica 3\n", KeepFault::Replica(3)),
+        (
+            "replica 32\npush [[\"A1\",[1,1,\"5\"],[],[]]]\n",
+            KeepFault::Replica(32),
+        ),
+        ("replica 33\n", KeepFault::Line(1)),
+        ("replica 01\n", KeepFault::Line(1)),
+        ("replica 3", KeepFault::Line(1)),
+        ("replica 1\n\n", KeepFault::Line(2)),
+        ("replica 1\nreplica 1\n", KeepFault::Line(2)),
+        ("replica 1\npush []\n", KeepFault::Line(2)),
+        (
+            "replica 1\npush [[\"A1\",[1,1,\"5\"],[],[]]]\npush [[\"A1\",[1,1,\"5\"],[],[]]]\n",
+            KeepFault::Line(3),
+        ),
+        (
+            "replica 1\npush [[\"A1\",[1,1,\"5\"],[],[]]]\nget A1\npush [[\"A1\",[2,1,\"6\"],[],[]]]\n",
+            KeepFault::Line(3),
+        ),
+    ] {
+        match refusal_of(&rt, rt.alloc(), text.as_bytes()) {
+            Some((found, file)) => {
+                assert!(rt; found == fault && file.bytes.as_slice() == text.as_bytes());
+            }
+            None => assert!(rt; false),
+        }
+    }
+    Ok(())
+}
+
+/// Lines in another spelling are read, and stay as they are.
+#[test]
+fn other_spellings(rt: HostRuntime) -> Result<(), Fail> {
+    let text = b"replica 1\npush [ [\"A\\u0031\", [1, 1, \"5\"], [], []] ]\r\n";
+    match started(&rt, rt.alloc(), text) {
+        Some(start) => {
+            assert!(rt; start.changes == 1 && start.shown == [5, 0, 0]);
+            assert!(rt; start.device.bytes.as_slice() == text.as_slice());
+        }
+        None => assert!(rt; false),
+    }
+    Ok(())
+}
+
+/// Whichever single request for memory is refused, the start is refused so, with the file as it was, or it isn't; and
+/// the next one reads the file.
+#[test]
+fn refused_open_kept(rt: HostRuntime) -> Result<(), Fail> {
+    let alloc = rt.alloc();
+    for _ in 0..2 {
+        match opened(&rt, alloc, FILE.as_bytes(), 9) {
+            Ok((sheet, _)) => {
+                assert!(rt; sheet.version() as usize == SCRIPT.len());
+                return Ok(());
+            }
+            Err((KeepFault::Memory, Some(file))) => {
+                assert!(rt; file.bytes.as_slice() == FILE.as_bytes());
+            }
+            // no memory for the file itself
+            Err((KeepFault::Memory, None)) => {}
+            Err(_) => assert!(rt; false),
+        }
+    }
+    assert!(rt; false);
+    Ok(())
+}

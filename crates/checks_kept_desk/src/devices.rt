@@ -1,0 +1,131 @@
+//! Devices of memory that others look at while a journal has them.
+
+ghost use Rattle.std.specs.Prelude.{◌≡◌};
+
+use ps_device::Failed;
+use ps_keep::{Device, Found, MemoryDevice, MemoryFile};
+use std::alloc::Global;
+use std::sync::{Barrier, Mutex, Wait};
+
+/// What a device has, and how often it was synced.
+#[derive(Drop)]
+pub(crate) struct Log {
+    pub(crate) bytes: Vec<u8>,
+    pub(crate) synced: usize,
+    pub(crate) syncs: u64,
+}
+
+impl Log {
+    /// Nothing yet.
+    pub(crate) fn new(alloc: Global) -> Mutex<Log> {
+        Mutex::new(Log {
+            bytes: Vec::new(alloc),
+            synced: 0,
+            syncs: 0,
+        })
+    }
+}
+
+/// A file of memory, and who looks at it.
+#[derive(Drop)]
+pub(crate) struct WatchedFile<'a, T: Wait> {
+    file: MemoryFile,
+    rt: &'a T,
+    log: &'a Mutex<Log>,
+    /// where the first sync meets somebody else, twice
+    meeting: Option<&'a Barrier>,
+}
+
+impl<'a, T: Wait> WatchedFile<'a, T> {
+    /// A file of these bytes, whose calls go well.
+    pub(crate) fn new(
+        rt: &'a T,
+        bytes: Vec<u8>,
+        log: &'a Mutex<Log>,
+        meeting: Option<&'a Barrier>,
+    ) -> WatchedFile<'a, T>
+        ensures { result.file.bytes.items ≡ bytes.items }
+    {
+        let file = MemoryFile {
+            bytes,
+            calls: u64::MAX,
+        };
+        WatchedFile {
+            file,
+            rt,
+            log,
+            meeting,
+        }
+    }
+}
+
+impl<'a, T: Wait> Found for WatchedFile<'a, T> {
+    type Device = Watched<'a, T>;
+
+    ghost bytes = { λ f. f.file.bytes.items };
+
+    fn bytes(&self) -> &[u8] {
+        self.file.bytes()
+    }
+
+    fn keep(self, count: usize) -> Result<Watched<'a, T>, Failed> {
+        let WatchedFile {
+            file,
+            rt,
+            log,
+            meeting,
+        } = self;
+        let inner = file.keep(count)?;
+        Ok(Watched {
+            inner,
+            rt,
+            log,
+            meeting,
+        })
+    }
+}
+
+/// A device of memory, and who looks at it.
+#[derive(Drop)]
+pub(crate) struct Watched<'a, T: Wait> {
+    inner: MemoryDevice,
+    rt: &'a T,
+    log: &'a Mutex<Log>,
+    meeting: Option<&'a Barrier>,
+}
+
+impl<T: Wait> Watched<'_, T> {
+    /// Tells what the device has.
+    fn tell(&self, syncs: u64) {
+        let mut guard = self.log.lock(self.rt);
+        let log = &mut *guard;
+        log.bytes.clear();
+        let _ = log.bytes.extend_from_slice(&self.inner.bytes);
+        log.synced = self.inner.synced;
+        log.syncs = log.syncs.saturating_add(syncs);
+    }
+}
+
+impl<T: Wait> Device for Watched<'_, T> {
+    ghost written = { λ d. d.inner.bytes.items };
+
+    ghost synced = { λ d. d.inner.synced };
+
+    ghost has_failed = { λ d. d.inner.is_broken };
+
+    fn append(&mut self, bytes: &[u8]) -> Result<(), Failed> {
+        let appended = self.inner.append(bytes);
+        self.tell(0);
+        appended
+    }
+
+    fn sync(&mut self) -> Result<(), Failed> {
+        if let Some(meeting) = self.meeting.take() {
+            meeting.wait(self.rt);
+            meeting.wait(self.rt);
+        }
+        let synced = self.inner.sync();
+        self.tell(1);
+        synced
+    }
+}

@@ -1,0 +1,16 @@
+//! Tests of desks that are kept, by public calls alone.
+//!
+//! `failing` has several sessions in threads of their own over a device that fails at each call in turn, `shared` one
+//! sync for all that wait, and an edit during a sync.
+//!
+//! A crate with tests is proved a second time with them, so these stand apart from what they test.
+#![tactic(auto)]
+
+#[cfg(test)]
+mod desks;
+#[cfg(test)]
+mod devices;
+#[cfg(test)]
+mod failing;
+#[cfg(test)]
+mod shared;

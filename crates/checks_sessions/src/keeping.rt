@@ -1,0 +1,316 @@
+//! Sessions that have all kept before their replies are handed on, with a keeper and a sink that fail. The expected
+//! replies are worked by hand.
+ghost use Rattle.std.specs.Prelude.{◌≤◌, ⊤, length};
+ghost use Rattle.ps_grid.specs.Blanks.{IsBlankOf};
+
+use ps_device::{Failed, MemorySource, Reading, Source, Writing};
+use ps_eval::Meter;
+use ps_grid::Refusal;
+use ps_session::{HeldOutput, Keeper, RunFault, Unwatched, run_kept};
+use ps_sheet::Sheet;
+use std::alloc::Global;
+use std::io;
+use std::io::{ErrorKind, Read, Write};
+use std::marker::Brand;
+use std::sync::ledger::{Blank, Ledger};
+use std::test::Fail;
+use std::thread::Threads;
+
+/// A keeper that counts how often it is settled, and the changes that were there then; one of its settles fails.
+#[derive(Drop)]
+struct Counting {
+    settles: u64,
+    fails_at: u64,
+    kept: u64,
+}
+
+impl Keeper<Sheet> for Counting {
+    ghost covers = { λ keeper sheet. length sheet.history ≤ keeper.kept };
+
+    ghost fits = { λ keeper sheet. ⊤ };
+
+    ghost can_fail = { ⊤ };
+
+    fn settle(&mut self, _alloc: Global, board: &Sheet) -> Result<(), Failed> {
+        self.settles = self.settles.saturating_add(1);
+        if self.settles == self.fails_at {
+            return Err(Failed);
+        }
+        self.kept = self.kept.max(board.version());
+        Ok(())
+    }
+}
+
+/// A writer that keeps what it is given, and fails after so many writes.
+#[derive(Drop)]
+struct Recorder {
+    bytes: Vec<u8>,
+    writes: u64,
+}
+
+impl Write for Recorder {
+    fn write(&mut self, buf: &[u8]) -> io::Result<usize> {
+        if self.writes == 0 || self.bytes.extend_from_slice(buf).is_err() {
+            return Err(io::Error::from(ErrorKind::BrokenPipe));
+        }
+        self.writes -= 1;
+        Ok(buf.len())
+    }
+
+    fn flush(&mut self) -> io::Result<()> {
+        Ok(())
+    }
+}
+
+/// A reader that gives a line at a time.
+#[derive(Drop)]
+struct ByLines<'a>(&'a [u8]);
+
+impl Read for ByLines<'_> {
+    fn read(&mut self, buf: &mut [u8]) -> io::Result<usize> {
+        let line = match self.0.iter().position(|b| *b == b'\n') {
+            Some(place) => place + 1,
+            None => self.0.len(),
+        };
+        let count = line.min(buf.len());
+        let (front, rest) = self.0.split_at(count);
+        let target = &mut buf[..count];
+        target.copy_from_slice(front);
+        self.0 = rest;
+        Ok(count)
+    }
+}
+
+/// Which settle fails, and how many writes don't.
+#[derive(Clone, Copy)]
+struct Plan {
+    fails_at: u64,
+    writes: u64,
+}
+
+/// What a session came to: what was handed on, how often its keeper was settled, how many changes that covers.
+#[derive(Drop)]
+struct Outcome {
+    ended: Result<u64, RunFault>,
+    handed: Vec<u8>,
+    settles: u64,
+    kept: u64,
+}
+
+/// What counts the failures of the devices, and the evaluations.
+#[derive(Drop)]
+struct Blanks {
+    writes: Blank,
+    holds: Blank,
+    evaluations: Blank,
+}
+
+/// A session of a new sheet of replica 1.
+fn kept_run<R: Threads + Sync, S: Source, K: Ledger, N: Ledger, L: Ledger>(
+    rt: &R,
+    alloc: Global,
+    source: &mut S,
+    plan: Plan,
+    blanks: Blanks,
+) -> Result<Outcome, Refusal>
+    requires writes { IsBlankOf blanks.writes K.name K.parts }
+    requires holds { IsBlankOf blanks.holds N.name N.parts }
+    requires evaluations { IsBlankOf blanks.evaluations L.name L.parts }
+{
+    let mut sheet = Sheet::open(alloc, 1, 1)?;
+    let recorder = Recorder {
+        bytes: Vec::new(alloc),
+        writes: plan.writes,
+    };
+    let Blanks {
+        writes,
+        holds,
+        evaluations,
+    } = blanks;
+    let writing = Writing::<Recorder, K>::new(recorder, writes);
+    let mut sink = HeldOutput::<Writing<Recorder, K>, N>::new(alloc, writing, holds);
+    let mut meter = Meter::<L>::new(evaluations);
+    let mut keeper = Counting {
+        settles: 0,
+        fails_at: plan.fails_at,
+        kept: 0,
+    };
+    let ended = run_kept(
+        rt,
+        alloc,
+        source,
+        &mut sink,
+        &mut sheet,
+        &mut meter,
+        &mut Unwatched,
+        &mut keeper,
+    );
+    Ok(Outcome {
+        ended,
+        handed: sink.into_sink().into_writer().bytes,
+        settles: keeper.settles,
+        kept: keeper.kept,
+    })
+}
+
+/// .. whose lines come one at a time.
+fn by_lines<R: Threads + Sync, J: Ledger>(
+    rt: &R,
+    alloc: Global,
+    text: &[u8],
+    plan: Plan,
+    input: Blank,
+) -> Result<Outcome, Refusal>
+    requires { IsBlankOf input J.name J.parts }
+{
+    let mut source = Reading::<ByLines, J>::new(ByLines(text), input);
+    kept_run::<R, Reading<ByLines, J>, Brand, Brand, Brand>(
+        rt,
+        alloc,
+        &mut source,
+        plan,
+        Blanks {
+            writes: Blank::new(1),
+            holds: Blank::new(1),
+            evaluations: Blank::new(1),
+        },
+    )
+}
+
+/// .. whose lines come in one piece.
+fn in_one_piece<R: Threads + Sync>(
+    rt: &R,
+    alloc: Global,
+    text: &[u8],
+    plan: Plan,
+) -> Result<Outcome, Refusal> {
+    let mut source = MemorySource::new(text);
+    kept_run::<R, MemorySource, Brand, Brand, Brand>(
+        rt,
+        alloc,
+        &mut source,
+        plan,
+        Blanks {
+            writes: Blank::new(1),
+            holds: Blank::new(1),
+            evaluations: Blank::new(1),
+        },
+    )
+}
+
+/// Four lines.
+const TEXT: &[u8] = b"set A1 5\nset B1 =[.A1]*2\nget B1\npull 0\n";
+
+/// What is replied to the first lines of these, from none to all.
+const REPLIES: [&[u8]; 5] = [
+    b"",
+    b"ok 1\n",
+    b"ok 1\nok 2\n",
+    b"ok 1\nok 2\nval 10\n",
+    b"ok 1\nok 2\nval 10\ndelta 1 [[\"A1\",[1,1,\"5\"],[],[]]]\n",
+];
+
+/// How many changes there are after them.
+const CHANGES: [u64; 5] = [0, 1, 2, 2, 2];
+
+/// Whichever settle fails, the replies to the lines before it are out, and no more; and it isn't tried again. There is
+/// one settle before the first read, one after each line, and one at the end.
+#[test]
+fn a_failed_settle_ends_it(rt: HostRuntime) -> Result<(), Fail> {
+    let alloc = rt.alloc();
+    for settles in 1..7u64 {
+        let plan = Plan {
+            fails_at: settles,
+            writes: u64::MAX,
+        };
+        let found = by_lines::<_, Brand>(&rt, alloc, TEXT, plan, Blank::new(1));
+        let found = found.ok().ok_or("memory")?;
+        let answered = settles.saturating_sub(2) as usize;
+        assert!(rt; found.ended == Err(RunFault::Keep) && found.settles == settles);
+        assert!(rt;
+            found.handed.as_slice() == REPLIES[answered] && found.kept == CHANGES[answered]
+        );
+    }
+    Ok(())
+}
+
+/// Where none fails, all is answered, and kept.
+#[test]
+fn all_is_kept(rt: HostRuntime) -> Result<(), Fail> {
+    let alloc = rt.alloc();
+    let plan = Plan {
+        fails_at: 0,
+        writes: u64::MAX,
+    };
+    let found = by_lines::<_, Brand>(&rt, alloc, TEXT, plan, Blank::new(1));
+    let found = found.ok().ok_or("memory")?;
+    assert!(rt; found.ended == Ok(4) && found.settles == 6);
+    assert!(rt; found.handed.as_slice() == REPLIES[4] && found.kept == CHANGES[4]);
+    let found = in_one_piece(&rt, alloc, TEXT, plan).ok().ok_or("memory")?;
+    assert!(rt; found.ended == Ok(4) && found.settles == 3);
+    assert!(rt; found.handed.as_slice() == REPLIES[4] && found.kept == CHANGES[4]);
+    Ok(())
+}
+
+/// Whichever write fails, what its replies show is kept.
+#[test]
+fn a_failed_write_comes_after_its_settle(rt: HostRuntime) -> Result<(), Fail> {
+    let alloc = rt.alloc();
+    for writes in 0..4usize {
+        let plan = Plan {
+            fails_at: 0,
+            writes: writes as u64,
+        };
+        let found = by_lines::<_, Brand>(&rt, alloc, TEXT, plan, Blank::new(1));
+        let found = found.ok().ok_or("memory")?;
+        assert!(rt; found.ended == Err(RunFault::Sink) && found.settles == writes as u64 + 2);
+        assert!(rt;
+            found.handed.as_slice() == REPLIES[writes] && found.kept == CHANGES[writes + 1]
+        );
+    }
+    Ok(())
+}
+
+/// The reply with the table of a whole sheet that has nothing but this digit in its first cell: 1,024 records of 104
+/// fields.
+fn put_table(text: &mut Vec<u8>, digit: u8) -> Result<(), Fail> {
+    text.extend_from_slice(b"rows 1024\n")?;
+    text.push(digit)?;
+    for _ in 0..1024 {
+        for _ in 1..104 {
+            text.push(b',')?;
+        }
+        text.push(b'\n')?;
+    }
+    Ok(())
+}
+
+/// Amid a piece there is a settle wherever 65,536 bytes of replies wait, as after each table of a whole sheet; then
+/// there is one at the end of the piece, and one at that of the input.
+#[test]
+fn many_replies_are_settled_amid_a_piece(rt: HostRuntime) -> Result<(), Fail> {
+    let alloc = rt.alloc();
+    let text = b"set A1 5\nrows A1:CZ1024\nset A1 6\nrows A1:CZ1024\nget A1\n";
+    let mut replies = Vec::new(alloc);
+    replies.extend_from_slice(b"ok 1\n")?;
+    put_table(&mut replies, b'5')?;
+    let first = replies.len();
+    replies.extend_from_slice(b"ok 2\n")?;
+    put_table(&mut replies, b'6')?;
+    let second = replies.len();
+    replies.extend_from_slice(b"val 6\n")?;
+    let handed = [0, 0, first, second, replies.len()];
+    let kept = [0, 0, 1, 2, 2];
+    for before in 0..5usize {
+        let plan = Plan {
+            fails_at: before as u64 + 1,
+            writes: u64::MAX,
+        };
+        let found = in_one_piece(&rt, alloc, text, plan).ok().ok_or("memory")?;
+        assert!(rt; found.ended == Err(RunFault::Keep) && found.settles == plan.fails_at);
+        assert!(rt; found.handed.len() == handed[before]);
+        assert!(rt; replies.as_slice().starts_with(found.handed.as_slice()));
+        assert!(rt; found.kept == kept[before]);
+    }
+    Ok(())
+}

@@ -1,0 +1,33 @@
+use Rattle.std.proofs.Common.{◌≡◌, ◌∙◌, ap, arith, sym, length, vec_len}
+use Rattle.ps_desk.specs.Opening.{new_passes}
+use Rattle.ps_commands.specs.Sessions.{AreBack}
+use Rattle.ps_commands.proofs.Backs.{new_passes-length}
+use Rattle.ps_commands.proofs.kept_server.serve_parts.Goals as goal
+
+pub close-sheet-requires : goal.close-sheet-requires
+close-sheet-requires g c =
+    let given : vec_len c.in-Ok.opened.1 ≡ c.args.parts.seats =
+    c.in-Ok.opened.1.ok.0 ∙ ap length c.in-Ok.ensures.passes ∙ new_passes-length c.args.parts.seats in
+    record { passes = c.in-Ok-served.ensures.len ∙ given ∙ sym c.in-Ok.ensures.seats }
+
+pub returns-in-Ok-settled-clause-served : goal.returns-in-Ok-settled-clause-served
+returns-in-Ok-settled-clause-served g c =
+    let closed = c.close-sheet.ensures in
+    let given : vec_len c.in-Ok.opened.1 ≡ c.args.parts.seats =
+    c.in-Ok.opened.1.ok.0 ∙ ap length c.in-Ok.ensures.passes ∙ new_passes-length c.args.parts.seats in
+    let back = c.in-Ok-served.served.1 in
+    let count : length back.items ≡ c.args.parts.seats =
+    sym back.ok.0 ∙ c.in-Ok-served.ensures.len ∙ given in
+    let came : AreBack g.L.DeskName.replica g.L.Named.opening c.in-Ok-served.served.0
+    (new_passes c.args.parts.seats) back.items =
+    rw c.in-Ok.ensures.passes at c.in-Ok-served.ensures.back in
+    record {
+      is_sheet = closed.sheet;
+      replica = rw c.requires.named.replica closed.replica;
+      passes = back.items;
+      few = omega (arith, count);
+      back = rw c.requires.named.replica (rw c.requires.named.history (rw count came));
+      begins = rw c.requires.named.history closed.begins;
+      grown = rw c.requires.named.history closed.grown;
+      closed = rw c.requires.named.history closed.one;
+    }

@@ -1,0 +1,30 @@
+-- Why the file that a sheet is kept in isn't taken.
+use Rattle.std.specs.Prelude.{◌≡◌, ◌⊎◌, ℕ, List, ⊤}
+use Rattle.ps_grid.specs.declared.refusal.Refusal.TheVariants.{Device, Memory}
+use Rattle.ps_kept.specs.Starts.{IsFaultOf}
+use Rattle.ps_kept.specs.declared.fault.KeepFault.TheVariants as keeps
+use Rattle.ps_commands.specs.declared.fault.ProgramFault.{ProgramFault}
+use Rattle.ps_commands.specs.declared.fault.ProgramFault.TheVariants.{KeptFailed, Refused}
+use Rattle.ps_commands.specs.declared.kept.KeptFault.{KeptFault}
+use Rattle.ps_commands.specs.declared.kept.KeptTrouble.{KeptTrouble}
+use Rattle.ps_commands.specs.declared.kept.KeptTrouble.TheVariants as troubles
+
+-- the fault tells of this trouble, or that there was no memory to tell of it
+abbrev pub TellsTrouble : KeptTrouble → ProgramFault → Type 0
+TellsTrouble trouble fault =
+    (fault ≡ Refused Memory) ⊎ ((kept : KeptFault) × (kept.trouble ≡ trouble) × (fault ≡ KeptFailed kept))
+
+-- what there is about the bytes of a file that a start of this replica is refused for: the first line that may not
+-- stand there, or the replica whose sheet it is
+abbrev pub IsTroubleOf : ℕ → List ℕ → KeptTrouble → Type 0
+IsTroubleOf replica bytes (troubles.Line number) = IsFaultOf replica bytes (keeps.Line number)
+IsTroubleOf replica bytes (troubles.Replica other) = IsFaultOf replica bytes (keeps.Replica other)
+IsTroubleOf replica bytes troubles.Busy = ⊥
+
+-- why a start of this replica is refused, with these bytes in its file: for these bytes, out of memory, or since the
+-- device failed
+abbrev pub IsFileRefusal : ℕ → List ℕ → ProgramFault → Type 0
+IsFileRefusal replica bytes (Refused Memory) = ⊤
+IsFileRefusal replica bytes (Refused Device) = ⊤
+IsFileRefusal replica bytes (KeptFailed kept) = IsTroubleOf replica bytes kept.trouble
+IsFileRefusal replica bytes _ = ⊥

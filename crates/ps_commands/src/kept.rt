@@ -1,0 +1,167 @@
+//! The file that a sheet is kept in, and why it isn't taken.
+ghost use Rattle.std.specs.Prelude.{◌≡◌, IfErr, IfOk, false};
+ghost use Rattle.ps_sheet.specs.Sheet.{IsSheet};
+ghost use Rattle.ps_keep.specs.Journals.{IsJournal};
+ghost use Rattle.ps_kept.specs.Kept.{IsKept, IsNoted, Tells};
+ghost use Rattle.ps_kept.specs.Starts.{Reads};
+ghost use Rattle.ps_commands.specs.Kept.{IsFileRefusal, TellsTrouble};
+ghost use Rattle.ps_commands.specs.Status.{kept_status};
+
+use crate::fault::ProgramFault;
+use ps_eval::Meter;
+use ps_grid::Refusal;
+use ps_keep::{FileFault, Found, FoundFile};
+use ps_kept::{KeepFault, SheetKeeper, open_kept};
+use ps_sheet::Sheet;
+use ps_words::RunOptions;
+use std::alloc::Global;
+use std::fmt;
+use std::fs::File;
+use std::rt::Files;
+use std::sync::ledger::Ledger;
+use std::thread::Threads;
+
+/// Why a file isn't taken to keep a sheet in.
+#[derive(Clone, Copy, Debug, PartialEq, Eq)]
+pub enum KeptTrouble {
+    /// The line of this number, 1 or more, is none that may stand there.
+    Line(u64),
+    /// It is the sheet of this replica.
+    Replica(u8),
+    /// Another program keeps it.
+    Busy,
+}
+
+/// A file that isn't taken to keep a sheet in, and why. Its text is two lines, without the last line feed: the refusal,
+/// and what is told of the file.
+#[derive(Debug, Drop)]
+pub struct KeptFault {
+    /// The path of the file, as it was given.
+    pub path: String,
+    /// Why it isn't taken.
+    pub trouble: KeptTrouble,
+}
+
+impl KeptFault {
+    /// The exit status: 1 where another program keeps the file, else 3.
+    ///
+    /// Cost: constant.
+    pub fn status(&self) -> u8
+        ensures { result ≡ kept_status self.now.trouble }
+    {
+        match self.trouble {
+            KeptTrouble::Busy => 1,
+            KeptTrouble::Line(_) | KeptTrouble::Replica(_) => 3,
+        }
+    }
+}
+
+impl fmt::Display for KeptFault {
+    fn fmt<W: fmt::Write>(&self, f: &mut fmt::Formatter<W>) -> fmt::Result {
+        let path = self.path.as_str();
+        match self.trouble {
+            KeptTrouble::Line(number) => {
+                write_refusal(Refusal::Delta, f)?;
+                write!(f, "line {number} of {path}")
+            }
+            KeptTrouble::Replica(number) => {
+                write_refusal(Refusal::Replica, f)?;
+                write!(f, "{path} is of replica {number}")
+            }
+            KeptTrouble::Busy => {
+                write_refusal(Refusal::Device, f)?;
+                write!(f, "{path} is kept by another program")
+            }
+        }
+    }
+}
+
+/// Writes the line of a refusal.
+fn write_refusal<W: fmt::Write>(refusal: Refusal, f: &mut fmt::Formatter<W>) -> fmt::Result {
+    writeln!(f, "err {} {}", refusal.number(), refusal.name())
+}
+
+/// The fault of a file that isn't taken; out of memory another one.
+fn kept_fault(alloc: Global, path: &str, trouble: KeptTrouble) -> ProgramFault
+    ensures { TellsTrouble trouble result }
+{
+    match path.to_string(alloc) {
+        Ok(path) => ProgramFault::KeptFailed(KeptFault { path, trouble }),
+        Err(_) => ProgramFault::Refused(Refusal::Memory),
+    }
+}
+
+/// Opens the file of this path, or makes it, and reads it. A file that another program keeps is a fault of its own.
+/// Refused as `Device` where it is no regular file or can't be opened for reading and writing, and as `Memory`.
+///
+/// Cost: linear in the file, and its memory.
+pub fn open_file<R: Files<File = File>>(
+    rt: &R,
+    alloc: Global,
+    path: &str,
+) -> Result<FoundFile, ProgramFault> {
+    match FoundFile::open(rt, alloc, path) {
+        Ok(found) => Ok(found),
+        Err(FileFault::Memory) => Err(ProgramFault::Refused(Refusal::Memory)),
+        Err(FileFault::Device) => Err(ProgramFault::Refused(Refusal::Device)),
+        Err(FileFault::Busy) => Err(kept_fault(alloc, path, KeptTrouble::Busy)),
+    }
+}
+
+/// Reads the sheet of the replica that was asked for of the file that it is kept in, and keeps it there from then on,
+/// as [`open_kept`] does. The path is that of the file, for the fault that tells of it.
+///
+/// A line that may not stand there, and a file of another replica, are faults of their own; then the file is as it was.
+/// Refused as `Memory`, and as `Device` where the device fails.
+///
+/// Cost: that of [`open_kept`].
+pub fn keep_sheet<R: Threads + Sync, F: Found + Drop, L: Ledger>(
+    rt: &R,
+    alloc: Global,
+    found: F,
+    path: &str,
+    options: RunOptions,
+    meter: &mut Meter<L>,
+) -> Result<(Sheet, SheetKeeper<F::Device>), ProgramFault>
+    ensures read { IfOk result (λ r. Reads options.replica (F.bytes found) r.0.history) }
+    ensures replica { IfOk result (λ r. r.0.replica ≡ options.replica) }
+    ensures workers { IfOk result (λ r. r.0.workers ≡ options.workers) }
+    ensures sheet { IfOk result (λ r. IsSheet r.0) }
+    ensures settled { IfOk result (λ r. r.1.kept ≡ r.1.lines) }
+    ensures open { IfOk result (λ r. r.1.has_failed ≡ false) }
+    ensures told { IfOk result (λ r. Tells options.replica r.1.lines r.0.history) }
+    ensures journal { IfOk result (λ r. IsJournal r.1) }
+    ensures noted { IfOk result (λ r. IsNoted options.replica r.0.history r.1) }
+    ensures kept { IfOk result (λ r. IsKept options.replica r.0.history r.1) }
+    ensures refused { IfErr result (IsFileRefusal options.replica (F.bytes found)) }
+{
+    let workers = usize::from(options.workers);
+    let fault = match open_kept(rt, alloc, found, options.replica, workers, meter) {
+        Ok(kept) => return Ok(kept),
+        Err((fault, back)) => {
+            drop(back);
+            fault
+        }
+    };
+    match fault {
+        KeepFault::Memory => Err(ProgramFault::Refused(Refusal::Memory)),
+        KeepFault::Device => Err(ProgramFault::Refused(Refusal::Device)),
+        KeepFault::Line(number) => Err(kept_fault(alloc, path, KeptTrouble::Line(number))),
+        KeepFault::Replica(number) => Err(kept_fault(alloc, path, KeptTrouble::Replica(number))),
+    }
+}
+
+/// What was opened: a line for standard error, without its line feed.
+#[derive(Clone, Copy, Debug)]
+pub struct Opened<'a> {
+    /// The path of the file, as it was given.
+    pub path: &'a str,
+    /// How many changes it has.
+    pub changes: u64,
+}
+
+impl fmt::Display for Opened<'_> {
+    fn fmt<W: fmt::Write>(&self, f: &mut fmt::Formatter<W>) -> fmt::Result {
+        write!(f, "opened {}, {} changes", self.path, self.changes)
+    }
+}

@@ -1,0 +1,102 @@
+//! The ports of this machine, and why one can't be had.
+ghost use Rattle.std.specs.Prelude.{◌≡◌, IfErr};
+ghost use Rattle.ps_commands.specs.Status.{HasNoPort, port_fault_of};
+
+use crate::fault::ProgramFault;
+use std::fmt;
+use std::io::ErrorKind;
+use std::net::{Ipv4Addr, Net, TcpListener, TcpStream};
+
+/// Why a port can't be had.
+#[derive(Clone, Copy, Debug, PartialEq, Eq)]
+pub enum PortTrouble {
+    /// Another program listens on it.
+    Taken,
+    /// Whoever started the program may not listen on it.
+    Forbidden,
+    /// It can't be listened on, for a reason of the system's own.
+    Unheard,
+    /// Nobody listens on it.
+    Silent,
+    /// It can't be connected to, for a reason of the system's own.
+    Unreached,
+}
+
+/// A port of this machine that can't be had, and why. Its text is one line, without its line feed.
+#[derive(Clone, Copy, Debug, PartialEq, Eq)]
+pub struct PortFault {
+    /// The port.
+    pub port: u16,
+    /// Why it can't be had.
+    pub trouble: PortTrouble,
+}
+
+impl fmt::Display for PortFault {
+    fn fmt<W: fmt::Write>(&self, f: &mut fmt::Formatter<W>) -> fmt::Result {
+        let port = self.port;
+        match self.trouble {
+            PortTrouble::Taken => write!(f, "port {port}: another program listens on it"),
+            PortTrouble::Forbidden => write!(
+                f,
+                "port {port}: listening on it isn't allowed; all may listen on ports from 1024 on"
+            ),
+            PortTrouble::Unheard => write!(f, "port {port} can't be listened on"),
+            PortTrouble::Silent => write!(
+                f,
+                "port {port}: nobody listens on it; sheet serve --port {port} would"
+            ),
+            PortTrouble::Unreached => write!(f, "port {port} can't be connected to"),
+        }
+    }
+}
+
+/// The port that a fault tells of, if it tells of one.
+///
+/// Cost: constant.
+pub fn port_fault(fault: &ProgramFault) -> Option<PortFault>
+    ensures { result ≡ port_fault_of fault.now }
+{
+    match fault {
+        ProgramFault::PortFailed(port) => Some(*port),
+        _ => None,
+    }
+}
+
+/// Listens on a port of this machine.
+pub(crate) fn listen<R: Net<Listener = TcpListener, Stream = TcpStream>>(
+    rt: &R,
+    port: u16,
+) -> Result<TcpListener, ProgramFault>
+    ensures { IfErr result (HasNoPort port) }
+{
+    let trouble = match TcpListener::bind(rt, (Ipv4Addr::LOCALHOST, port)) {
+        Ok(listener) => return Ok(listener),
+        Err(error) => match error.kind() {
+            ErrorKind::AddrInUse => PortTrouble::Taken,
+            ErrorKind::PermissionDenied => PortTrouble::Forbidden,
+            _ => PortTrouble::Unheard,
+        },
+    };
+    Err(ProgramFault::PortFailed(PortFault { port, trouble }))
+}
+
+/// Connects to a port of this machine. A request isn't kept back until the one before is acknowledged.
+pub(crate) fn connect<R: Net<Stream = TcpStream>>(
+    rt: &R,
+    port: u16,
+) -> Result<TcpStream, ProgramFault>
+    ensures { IfErr result (HasNoPort port) }
+{
+    let trouble = match TcpStream::connect(rt, (Ipv4Addr::LOCALHOST, port)) {
+        Ok(stream) => {
+            // (without it a request may only come later)
+            let _ = stream.set_nodelay(true);
+            return Ok(stream);
+        }
+        Err(error) => match error.kind() {
+            ErrorKind::ConnectionRefused => PortTrouble::Silent,
+            _ => PortTrouble::Unreached,
+        },
+    };
+    Err(ProgramFault::PortFailed(PortFault { port, trouble }))
+}

@@ -1,0 +1,86 @@
+//! How far somebody has come in the list of a desk.
+
+ghost use Rattle.std.specs.Prelude.{◌≡◌, ◌<◌, ◌≤◌, length, MatchBool};
+ghost use mathlib.Core.List.{IsPrefix};
+ghost use Rattle.ps_face.specs.Legal.{IsLegal};
+
+use crate::name::DeskName;
+use ps_face::Front;
+use std::marker::{Model, PhantomData};
+use std::sync::Wait;
+
+/// A beginning of the published list of a desk, as a token: how far somebody has come who isn't at one of its seats. It
+/// shows no values. A contract sees it as that list.
+#[derive(Drop)]
+pub struct Place<L: DeskName> {
+    pub(crate) front: Front,
+    marker: PhantomData<L>,
+}
+
+impl<L: DeskName> Model for Place<L> {
+    ghost use Rattle.std.specs.Prelude.{◌≡◌, List};
+    ghost use Rattle.std.specs.Coded.{codes};
+    ghost use Rattle.ps_face.specs.declared.patch.Note.{Note};
+    ghost use Rattle.ps_face.specs.contracts.patch.Note as note;
+    ghost use Rattle.ps_face.specs.Legal.{IsLegal};
+
+    ghost Value = { List Note };
+
+    ghost coded = { Prim.hlevel (codes, note.the_row.coded) };
+
+    ghost view = { λ p. p.front.list };
+
+    ghost invariant = { λ p. (p.front.book ≡ L.book) × IsLegal L.opening p.front.list };
+}
+
+impl<L: DeskName> Place<L> {
+    /// Where a beginning of the list ends.
+    pub(crate) fn new(front: Front) -> Place<L>
+        requires book { front.book ≡ L.book }
+        requires legal { IsLegal L.opening front.list }
+        ensures { result ≡ front.list }
+    {
+        Place {
+            front,
+            marker: PhantomData,
+        }
+    }
+
+    /// The same place once more.
+    ///
+    /// Cost: constant, no memory.
+    pub fn again(&self) -> Place<L>
+        ensures { result ≡ self.now }
+    {
+        Place {
+            front: self.front.again(),
+            marker: PhantomData,
+        }
+    }
+
+    /// Whether the other place is as far, or further. Then its list begins with this one.
+    ///
+    /// Cost: constant.
+    pub fn begins(&self, other: &Place<L>) -> bool
+        ensures begins { MatchBool result
+            (IsPrefix self.now other.now × (length self.now ≤ length other.now))
+            (length other.now < length self.now) }
+        ensures legal { IsLegal L.opening self.now }
+    {
+        self.front.begins(&other.front)
+    }
+
+    /// Comes to the end of the list. No run meets a place that is beyond it, for which it would wait for ever.
+    pub(crate) fn catch_up<V: Wait>(&mut self, wait: &V, front: &Front)
+        requires book { front.now.book ≡ L.book }
+        requires legal { IsLegal L.opening front.now.list }
+        ensures later { IsPrefix self.old front.now.list }
+        ensures all { self.new ≡ front.now.list }
+    {
+        if !self.front.begins(front) {
+            for _ in wait.forever() {}
+            unreachable!()
+        }
+        self.front = front.again();
+    }
+}

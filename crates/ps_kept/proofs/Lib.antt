@@ -1,0 +1,6 @@
+pub mod KeeperLemmas
+pub mod LawLemmas
+pub mod NoteLemmas
+pub mod PushLemmas
+pub mod StartLemmas
+pub mod ToldLemmas

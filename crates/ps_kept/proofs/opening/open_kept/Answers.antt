@@ -1,0 +1,21 @@
+use Rattle.std.proofs.Common.{subst}
+use Rattle.std.specs.Arc.{arc_value}
+use Rattle.ps_kept.specs.Starts.{Reads}
+use Rattle.ps_kept.proofs.StartLemmas.{due_of, have_lines, noted_then}
+use Rattle.ps_kept.proofs.opening.open_kept.Goals as goal
+
+pub keep_on-requires : goal.keep_on-requires
+keep_on-requires g c = record {
+  due = due_of arc_value c.args.replica c.bytes.result.now _ c.in-Ok.sheet.history c.history.result.now
+      c.in-Ok.ensures.read c.bytes.ensures c.history.ensures.history;
+}
+
+pub returns-in-Ok-keep_on-clause-noted : goal.returns-in-Ok-keep_on-clause-noted
+returns-in-Ok-keep_on-clause-noted g c =
+    noted_then c.args.replica (g.F.Found.bytes c.args.found) c.in-Ok.sheet.history c.in-Ok-keep_on.keeper
+    (subst (λ b. Reads c.args.replica b c.in-Ok.sheet.history) c.bytes.ensures c.in-Ok.ensures.read)
+    c.in-Ok-keep_on.ensures.journal c.in-Ok-keep_on.ensures.lines
+
+pub returns-in-Ok-keep_on-clause-have_lines : goal.returns-in-Ok-keep_on-clause-have_lines
+returns-in-Ok-keep_on-clause-have_lines g c =
+    have_lines c.args.replica c.bytes.result.now c.in-Ok.sheet.history c.in-Ok.ensures.read

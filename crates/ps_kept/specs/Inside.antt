@@ -1,0 +1,52 @@
+-- What the private functions say of lines on their way; no contract of a public one cites this.
+use Rattle.std.specs.Prelude.{◌≡◌, ◌+◌, ◌-◌, ◌≤◌, ℕ, List, [], ◌∷◌, ◌++◌, drop, length, ⊤}
+use Rattle.ps_delta.specs.Deltas.{Entries}
+use Rattle.ps_sheet.specs.Sheet.{IsFresh}
+use Rattle.ps_keep.specs.Lines.{whole_lines}
+use Rattle.ps_kept.specs.Kept.{PushAll}
+use Rattle.ps_kept.specs.Starts.{Follows}
+use Rattle.ps_kept.specs.declared.fault.KeepFault.{KeepFault}
+use Rattle.ps_kept.specs.declared.fault.KeepFault.TheVariants as faults
+
+-- the lines before `left`, of those after the first line, push this history; the last of them has this number
+pub record ReadSoFar (bytes left : List ℕ) (number : ℕ) (history : List Entries) : Type 0 where
+  pub done : List (List ℕ)
+  pub is : whole_lines bytes ≡ done ++ whole_lines left
+  pub told : PushAll done history
+  pub counts : number ≡ length done + 1
+  pub within : number + length left ≤ length bytes + 1
+
+-- of the lines after the first, this one pushes no delta that may follow
+pub record IsFaultyPush (lines : List (List ℕ)) (number : ℕ) : Type 0 where
+  pub before : List (List ℕ)
+  pub line : List ℕ
+  pub after : List (List ℕ)
+  pub is : lines ≡ before ++ line ∷ after
+  pub counts : number ≡ length before + 1 + 1
+  pub history : List Entries
+  pub told : PushAll before history
+  pub fresh : IsFresh history
+  pub faulty : (delta : Entries) → ¬ Follows history line delta
+
+-- why the lines after the first aren't read
+abbrev pub IsPushFault : List (List ℕ) → KeepFault → Type 0
+IsPushFault lines faults.Memory = ⊤
+IsPushFault lines faults.Device = ⊥
+IsPushFault lines (faults.Line number) = IsFaultyPush lines number
+IsPushFault lines (faults.Replica other) = ⊥
+
+-- so many changes stand in these lines, after the first one
+abbrev pub IsDue : ℕ → List (List ℕ) → Type 0
+IsDue changes [] = changes ≡ 0
+IsDue changes (first ∷ others) = changes ≡ length others
+
+-- why a file with these lines isn't kept: the device failed, or there was no memory for a first line
+abbrev pub IsKeepFault : List (List ℕ) → KeepFault → Type 0
+IsKeepFault lines faults.Memory = lines ≡ []
+IsKeepFault lines faults.Device = ⊤
+IsKeepFault lines (faults.Line number) = ⊥
+IsKeepFault lines (faults.Replica other) = ⊥
+
+-- what a history has after as many as there are lines after the first
+abbrev pub later : List (List ℕ) → List Entries → List Entries
+later lines history = drop (length lines - 1) history

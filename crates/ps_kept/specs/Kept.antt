@@ -1,0 +1,62 @@
+-- The lines of a kept sheet: whose it is, and the changes of its history, one after another.
+use Rattle.std.specs.Prelude.{◌≡◌, ℕ, List, [], ◌∷◌, ◌++◌, codes, decimal, map, ⊤}
+use mathlib.Core.List.{IsPrefix}
+use Rattle.ps_delta.specs.Deltas.{Entries}
+use Rattle.ps_wire.specs.Line.{IsLine, delta_text}
+use Rattle.ps_keep.specs.Journals.{IsJournal, JournalView}
+
+-- the first line: the number of the replica whose sheet is kept
+abbrev pub replica_line : ℕ → List ℕ
+replica_line n = codes "replica " ++ decimal n
+
+-- the word of a line that is to be pushed, with its space
+abbrev pub push_word : List ℕ
+push_word = codes "push "
+
+-- the line that is written for a delta
+abbrev pub push_line : Entries → List ℕ
+push_line delta = push_word ++ delta_text delta
+
+-- the line pushes the delta, in whatever spelling
+abbrev pub Pushes : List ℕ → Entries → Type 0
+Pushes line delta = (text : List ℕ) × (line ≡ push_word ++ text) × IsLine text delta
+
+-- the lines push the deltas, one each, in order
+abbrev pub PushAll : List (List ℕ) → List Entries → Type 0
+PushAll [] [] = ⊤
+PushAll [] (d ∷ ds) = ⊥
+PushAll (line ∷ lines) [] = ⊥
+PushAll (line ∷ lines) (d ∷ ds) = Pushes line d × PushAll lines ds
+
+-- TOLD: the lines tell a replica, and its history
+abbrev pub Tells : ℕ → List (List ℕ) → List Entries → Type 0
+Tells replica [] history = ⊥
+Tells replica (first ∷ others) history = (first ≡ replica_line replica) × PushAll others history
+
+-- some first ones of the lines tell all of the history
+abbrev pub HasAll : ℕ → List (List ℕ) → List Entries → Type 0
+HasAll replica lines history =
+    (front : List (List ℕ)) × IsPrefix front lines × Tells replica front history
+
+-- KEPT: the journal has all of the history on the disk
+pub record IsKept (replica : ℕ) (history : List Entries) (j : JournalView) : Type 0 where
+  pub journal : IsJournal j
+  pub all : HasAll replica j.kept history
+
+-- NOTED: what the journal has noted is a beginning of the history
+pub record IsNoted (replica : ℕ) (history : List Entries) (j : JournalView) : Type 0 where
+  pub journal : IsJournal j
+  pub noted : List Entries
+  pub told : Tells replica j.lines noted
+  pub begins : IsPrefix noted history
+
+-- the lines of these deltas were noted, and nothing else was done
+pub record Notes (old : JournalView) (deltas : List Entries) (new : JournalView) : Type 0 where
+  pub lines : new ≡ record old { lines = old.lines ++ map push_line deltas }
+  pub each : PushAll (map push_line deltas) deltas
+  pub journal : IsJournal old → IsJournal new
+
+-- the lines of a file once it is kept: where there was none the first is written
+abbrev pub started : ℕ → List (List ℕ) → List (List ℕ)
+started replica [] = replica_line replica ∷ []
+started replica (first ∷ others) = first ∷ others

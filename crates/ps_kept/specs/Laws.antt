@@ -1,0 +1,57 @@
+-- What holds of kept sheets, whatever they hold and wherever a crash comes.
+use Rattle.std.specs.Prelude.{◌≡◌, ◌+◌, ◌<◌, ◌≤◌, ℕ, List, length}
+use mathlib.Core.List.{IsPrefix}
+use Rattle.ps_grid.specs.declared.parties.TheConstants.{REPLICAS}
+use Rattle.ps_delta.specs.Deltas.{Entries}
+use Rattle.ps_sheet.specs.Sheet.{IsFresh}
+use Rattle.ps_keep.specs.Crash.{IsLeft, IsTorn}
+use Rattle.ps_keep.specs.Journals.{JournalView}
+use Rattle.ps_keep.specs.Lines.{text, whole_lines}
+use Rattle.ps_kept.specs.Kept.{IsKept, IsNoted, started}
+use Rattle.ps_kept.specs.Starts.{IsFaultOf, IsFaulty, Outlives, Reads}
+use Rattle.ps_kept.specs.declared.fault.KeepFault.{KeepFault}
+use Rattle.ps_kept.specs.declared.fault.KeepFault.TheVariants as faults
+
+-- LAW: what is noted is a beginning of a longer history, too
+abbrev pub StaysNoted : Type 0
+StaysNoted =
+    (replica : ℕ) (history more : List Entries) (j : JournalView) → IsNoted replica history j
+    → IsPrefix history more → IsNoted replica more j
+
+-- LAW: whatever a crash leaves of a file in which a history is kept and a longer one is noted, the next start reads all
+-- that was kept, and nothing but a beginning of what was noted
+abbrev pub CrashesKeepSheets : Type 0
+CrashesKeepSheets =
+    (replica : ℕ) (kept history : List Entries) (j : JournalView) → IsKept replica kept j
+    → IsNoted replica history j → IsFresh history → Outlives replica kept history j.written j.synced
+
+-- LAW: one history is read in a file
+abbrev pub OneHistory : Type 0
+OneHistory =
+    (replica : ℕ) (bytes : List ℕ) (h k : List Entries) → Reads replica bytes h → Reads replica bytes k → h ≡ k
+
+-- LAW: a file in which a history is read is refused for nothing but want of memory
+abbrev pub ReadFilesOpen : Type 0
+ReadFilesOpen =
+    (replica : ℕ) (bytes : List ℕ) (history : List Entries) (fault : KeepFault) → 1 ≤ replica → replica ≤ REPLICAS
+    → Reads replica bytes history → IsFaultOf replica bytes fault → fault ≡ faults.Memory
+
+-- LAW: a start that reads a history leaves a file in which the next one reads the same
+abbrev pub ReadAgain : Type 0
+ReadAgain =
+    (replica : ℕ) (bytes : List ℕ) (history : List Entries) → replica ≤ REPLICAS → Reads replica bytes history
+    → Reads replica (text (started replica (whole_lines bytes))) history
+
+-- LAW: .. and so does one that crashes while it cuts the file
+abbrev pub StartsMayCrash : Type 0
+StartsMayCrash =
+    (replica : ℕ) (bytes left : List ℕ) (history : List Entries) → Reads replica bytes history
+    → IsLeft bytes (length (text (whole_lines bytes))) left → Reads replica left history
+
+-- LAW: where a crash has torn the end of a file, and the next start refuses a line of what it left, that line stands
+-- after all that were kept
+abbrev pub FaultsComeAfter : Type 0
+FaultsComeAfter =
+    (replica : ℕ) (kept : List Entries) (j : JournalView) (left : List ℕ) (number : ℕ) → IsKept replica kept j
+    → IsFresh kept → IsTorn j.written j.synced left → IsFaulty replica (whole_lines left) number
+    → length kept + 1 < number

@@ -1,0 +1,4 @@
+pub mod Inside
+pub mod Kept
+pub mod Laws
+pub mod Starts

@@ -1,0 +1,115 @@
+//! Who keeps a sheet.
+ghost use Rattle.std.specs.Prelude.{◌≡◌, ◌+◌, ◌≤◌, ℕ, List, OnOk, OnErr, false, length, map, take, ⊤};
+ghost use Rattle.std.specs.Arc.{arc_value};
+ghost use Rattle.ps_delta.specs.Deltas.{Entries};
+ghost use Rattle.ps_sheet.specs.Sheet.{IsFresh, SheetView};
+ghost use Rattle.ps_kept.specs.Inside.{later};
+ghost use Rattle.ps_kept.specs.Kept.{IsKept, IsNoted, Notes};
+ghost use Rattle.ps_kept.specs.Starts.{Outlives};
+
+use crate::noting::note_deltas;
+use ps_delta::Delta;
+use ps_device::Failed;
+use ps_keep::{Device, Journal};
+use ps_session::Keeper;
+use ps_sheet::Sheet;
+use std::alloc::Global;
+use std::marker::Model;
+use std::sync::Arc;
+
+/// Keeps the sheet of one replica in a journal: the replica's number, and after it each change of the history, one line
+/// each. A contract sees it as its journal, a `JournalView`.
+#[derive(Drop)]
+pub struct SheetKeeper<D: Device + Drop> {
+    journal: Journal<D>,
+    /// how many changes of the history are noted
+    noted: usize,
+}
+
+impl<D: Device + Drop> Model for SheetKeeper<D> {
+    ghost use Rattle.std.specs.Prelude.{◌≡◌, ◌+◌, length};
+    ghost use Rattle.ps_keep.specs.Journals.{JournalView};
+
+    ghost Value = { JournalView };
+
+    ghost view = { λ k. k.journal };
+
+    // the first line is the replica's
+    ghost invariant = { λ k. length k.journal.lines ≡ k.noted + 1 };
+}
+
+impl<D: Device + Drop> SheetKeeper<D> {
+    /// A keeper that goes on with this journal, in which so many changes are noted.
+    pub(crate) fn new(journal: Journal<D>, noted: usize) -> SheetKeeper<D>
+        requires { length journal.lines ≡ noted + 1 }
+        ensures { result ≡ journal }
+    {
+        SheetKeeper { journal, noted }
+    }
+
+    /// Notes what a history has after what is noted.
+    fn note_later(&mut self, alloc: Global, history: &[Arc<Delta>]) -> Result<(), Failed>
+        requires within { length self.old.lines ≤ length history.now + 1 }
+        ensures all { OnOk result (Notes self.old (later self.old.lines (map arc_value history.now)) self.new) }
+        ensures part { OnErr result ((n : ℕ)
+            × Notes self.old (take n (later self.old.lines (map arc_value history.now))) self.new) }
+    {
+        let later = &history[self.noted..];
+        match note_deltas(alloc, &mut self.journal, later) {
+            Ok(()) => {
+                self.noted += later.len();
+                Ok(())
+            }
+            Err((count, _)) => {
+                self.noted += count;
+                Err(Failed)
+            }
+        }
+    }
+
+    /// The journal.
+    ///
+    /// Cost: constant.
+    pub fn into_journal(self) -> Journal<D>
+        ensures { result ≡ self }
+    {
+        let SheetKeeper { journal, .. } = self;
+        journal
+    }
+}
+
+impl<D: Device + Drop> Keeper<Sheet> for SheetKeeper<D> {
+    ghost use Rattle.std.specs.Prelude.{◌≡◌, false, ⊤};
+    ghost use Rattle.ps_kept.specs.Kept.{IsKept, IsNoted};
+
+    // whatever a crash leaves of the file, a start reads all of the history
+    ghost covers = { λ k sheet. IsKept sheet.replica sheet.history k };
+
+    ghost fits = { λ k sheet. IsNoted sheet.replica sheet.history k × (k.has_failed ≡ false) };
+
+    ghost can_fail = { ⊤ };
+
+    /// Notes the changes of the history that weren't yet, and has all of them on the disk.
+    ///
+    /// Fails where the device does, out of memory, and where a change has no line. Whatever it comes to, and whenever
+    /// in it a crash comes, a start reads all that was kept, and a beginning of the history.
+    ///
+    /// Cost: linear in the lines that are noted; one append and one sync, or none where nothing was noted.
+    fn settle(&mut self, alloc: Global, board: &Sheet) -> Result<(), Failed>
+        requires fits { IsNoted board.now.replica board.now.history self.old × (self.old.has_failed ≡ false) }
+        ensures covered { OnOk result (IsKept board.now.replica board.now.history self.new) }
+        ensures fits { OnOk result (IsNoted board.now.replica board.now.history self.new
+            × (self.new.has_failed ≡ false)) }
+        ensures stays { (state : SheetView) → IsKept state.replica state.history self.old
+            → IsKept state.replica state.history self.new }
+        ensures failed { OnErr result ⊤ }
+        ensures any_moment { (kept : List Entries) → IsKept board.now.replica kept self.old
+            → IsFresh board.now.history
+            → Outlives board.now.replica kept board.now.history self.new.written self.old.synced }
+    {
+        match self.note_later(alloc, board.history()) {
+            Ok(()) => self.journal.settle(),
+            Err(failed) => Err(failed),
+        }
+    }
+}

@@ -1,0 +1,116 @@
+//! The start: a sheet is read of its file, and kept there from then on.
+ghost use Rattle.std.specs.Prelude.{◌≡◌, ◌≢◌, ◌⊎◌, ◌+◌, ◌≤◌, [], IfOk, IfErr, false, length};
+ghost use Rattle.ps_grid.specs.declared.parties.TheConstants.{REPLICAS, WORKERS};
+ghost use Rattle.std.specs.List.{All};
+ghost use Rattle.ps_sheet.specs.Sheet.{IsSheet};
+ghost use Rattle.ps_session.specs.EditLines.{HasLine};
+ghost use Rattle.ps_keep.specs.Journals.{IsJournal};
+ghost use Rattle.ps_keep.specs.Lines.{whole_lines};
+ghost use Rattle.ps_kept.specs.Kept.{IsKept, IsNoted, started};
+ghost use Rattle.ps_kept.specs.Starts.{IsRefusal, Reads};
+ghost use Rattle.ps_kept.specs.Inside.{IsDue, IsKeepFault};
+
+use crate::fault::KeepFault;
+use crate::keeper::SheetKeeper;
+use crate::reading::{read_sheet, replica_text};
+use ps_eval::Meter;
+use ps_keep::{Device, Found, Journal, first_line, open};
+use ps_sheet::Sheet;
+use std::alloc::Global;
+use std::sync::ledger::Ledger;
+use std::thread::Threads;
+
+/// Writes the first line into a journal that has none, and has it on the disk.
+fn begin<D: Device + Drop>(
+    alloc: Global,
+    mut journal: Journal<D>,
+    replica: u8,
+) -> Result<Journal<D>, KeepFault>
+    requires empty { journal.lines ≡ [] }
+    requires journal { IsJournal journal }
+    ensures lines { IfOk result (λ j. j.lines ≡ started replica []) }
+    ensures kept { IfOk result (λ j. j.kept ≡ started replica []) }
+    ensures open { IfOk result (λ j. j.has_failed ≡ false) }
+    ensures journal { IfOk result IsJournal }
+    ensures fault { IfErr result (IsKeepFault []) }
+{
+    let first = replica_text(alloc, replica)?;
+    journal.note(first.as_slice())?;
+    match journal.settle() {
+        Ok(()) => Ok(journal),
+        Err(_) => Err(KeepFault::Device),
+    }
+}
+
+/// Keeps a sheet of so many changes in the file that it was read of.
+fn keep_on<F: Found + Drop>(
+    alloc: Global,
+    found: F,
+    replica: u8,
+    changes: usize,
+) -> Result<SheetKeeper<F::Device>, KeepFault>
+    requires due { IsDue changes (whole_lines (F.bytes found)) }
+    ensures lines { IfOk result (λ k. k.lines ≡ started replica (whole_lines (F.bytes found))) }
+    ensures kept { IfOk result (λ k. k.kept ≡ started replica (whole_lines (F.bytes found))) }
+    ensures open { IfOk result (λ k. k.has_failed ≡ false) }
+    ensures journal { IfOk result IsJournal }
+    ensures fault { IfErr result (IsKeepFault (whole_lines (F.bytes found))) }
+{
+    let is_begun = first_line(found.bytes()).is_some();
+    let journal = match open(alloc, found) {
+        Ok(journal) => journal,
+        Err(_) => return Err(KeepFault::Device),
+    };
+    if is_begun {
+        return Ok(SheetKeeper::new(journal, changes));
+    }
+    match begin(alloc, journal, replica) {
+        Ok(journal) => Ok(SheetKeeper::new(journal, 0)),
+        Err(fault) => Err(fault),
+    }
+}
+
+/// Reads the sheet of a replica, 1 to 32, of the file that it is kept in, and keeps it there from then on. The formulas
+/// of a wide level are divided among these workers, 1 to `WORKERS`.
+///
+/// The first line has to be `replica ` and the number, and each other one has to push a delta that isn't below those
+/// before it. A piece after the last line feed, which a crash in mid-write has left, is cut off. Into a file without a
+/// whole line, whose bytes are a beginning of the first one or none, that one is written.
+///
+/// Each change has a line, so that no pull is refused as too long.
+///
+/// Refused with the first line that is none of these, or with the replica whose sheet it is; then the file is as it
+/// was, to the byte. Refused when out of memory, and where the device fails.
+///
+/// Cost: linear in the file, and what its changes make the sheet show.
+pub fn open_kept<R: Threads + Sync, F: Found + Drop, L: Ledger>(
+    rt: &R,
+    alloc: Global,
+    found: F,
+    replica: u8,
+    workers: usize,
+    meter: &mut Meter<L>,
+) -> Result<(Sheet, SheetKeeper<F::Device>), (KeepFault, Option<F>)>
+    requires replica { (1 ≤ replica) × (replica ≤ REPLICAS) }
+    requires workers { (1 ≤ workers) × (workers ≤ WORKERS) }
+    ensures read { IfOk result (λ r. Reads replica (F.bytes found) r.0.history) }
+    ensures replica { IfOk result (λ r. r.0.replica ≡ replica) }
+    ensures workers { IfOk result (λ r. r.0.workers ≡ workers) }
+    ensures sheet { IfOk result (λ r. IsSheet r.0) }
+    ensures have_lines { IfOk result (λ r. All HasLine r.0.history) }
+    ensures lines { IfOk result (λ r. r.1.lines ≡ started replica (whole_lines (F.bytes found))) }
+    ensures settled { IfOk result (λ r. r.1.kept ≡ started replica (whole_lines (F.bytes found))) }
+    ensures open { IfOk result (λ r. r.1.has_failed ≡ false) }
+    ensures noted { IfOk result (λ r. IsNoted replica r.0.history r.1) }
+    ensures kept { IfOk result (λ r. IsKept replica r.0.history r.1) }
+    ensures refused { IfErr result (λ e. IsRefusal F.bytes replica (F.bytes found) e.0 e.1) }
+{
+    let sheet = match read_sheet(rt, alloc, found.bytes(), replica, workers, meter) {
+        Ok(sheet) => sheet,
+        Err(fault) => return Err((fault, Some(found))),
+    };
+    match keep_on(alloc, found, replica, sheet.history().len()) {
+        Ok(keeper) => Ok((sheet, keeper)),
+        Err(fault) => Err((fault, None)),
+    }
+}

@@ -1,0 +1,162 @@
+//! The lines of a kept file, read at the start.
+ghost use Rattle.std.specs.Prelude.{◌≡◌, ◌≢◌, ◌⊎◌, ◌+◌, ◌≤◌, ◌++◌, ◌∷◌, [], ℕ, List, Err, IfOk, IfErr, OnOk, OnErr};
+ghost use Rattle.std.specs.Prelude.{None, Some, true, false, length, MatchOption};
+ghost use Rattle.ps_grid.specs.declared.parties.TheConstants.{REPLICAS, WORKERS};
+ghost use Rattle.ps_delta.specs.Deltas.{Entries};
+ghost use Rattle.ps_sheet.specs.Sheet.{IsSheet};
+ghost use Rattle.ps_keep.specs.Lines.{whole_lines};
+ghost use Rattle.ps_kept.specs.Kept.{PushAll, replica_line};
+ghost use Rattle.ps_kept.specs.Starts.{Follows, IsFaultOf, IsUnbegun, Reads};
+ghost use Rattle.ps_kept.specs.Inside.{IsPushFault};
+
+use crate::fault::KeepFault;
+use itoa::Buffer;
+use ps_eval::Meter;
+use ps_grid::{REPLICAS, Refusal};
+use ps_keep::first_line;
+use ps_sheet::Sheet;
+use ps_wire::decode;
+use std::alloc::{AllocError, Global};
+use std::sync::Arc;
+use std::sync::ledger::Ledger;
+use std::thread::Threads;
+
+/// What stands before a delta in a line that pushes it.
+pub(crate) const PUSH: &[u8] = b"push ";
+
+/// The first line of the file of a replica.
+pub(crate) fn replica_text(alloc: Global, replica: u8) -> Result<Vec<u8>, AllocError>
+    ensures { IfOk result (λ line. line.items ≡ replica_line replica) }
+{
+    let mut line = Vec::new(alloc);
+    line.extend_from_slice(b"replica ")?;
+    let mut digits = Buffer::new();
+    line.extend_from_slice(digits.format(replica).as_bytes())?;
+    Ok(line)
+}
+
+/// The replica that a first line tells, where it tells one.
+fn told_replica(alloc: Global, line: &[u8]) -> Result<Option<u8>, AllocError>
+    ensures told { IfOk result (λ found. MatchOption found
+        ((n : ℕ) → 1 ≤ n → n ≤ REPLICAS → line.now ≢ replica_line n) (λ n. line.now ≡ replica_line n)) }
+{
+    let mut replica = 1;
+    'replicas: while replica <= REPLICAS {
+        if replica_text(alloc, replica)?.as_slice() == line {
+            return Ok(Some(replica));
+        }
+        replica += 1;
+    }
+    Ok(None)
+}
+
+/// The bytes after the first line, which has to tell this replica.
+fn after_first(alloc: Global, bytes: &[u8], replica: u8) -> Result<&[u8], KeepFault>
+    requires replica { (1 ≤ replica) × (replica ≤ REPLICAS) }
+    ensures read { IfOk result (λ rest. ((rest.now ≡ []) × IsUnbegun replica bytes.now)
+        ⊎ (whole_lines bytes.now ≡ replica_line replica ∷ whole_lines rest.now)) }
+    ensures fault { IfErr result (λ fault. IsFaultOf replica bytes.now fault) }
+{
+    let own = replica_text(alloc, replica)?;
+    match first_line(bytes) {
+        Some((line, rest)) => {
+            if line == own.as_slice() {
+                return Ok(rest);
+            }
+            match told_replica(alloc, line)? {
+                Some(other) => Err(KeepFault::Replica(other)),
+                None => Err(KeepFault::Line(1)),
+            }
+        }
+        None if own.starts_with(bytes) => Ok(b""),
+        None => Err(KeepFault::Line(1)),
+    }
+}
+
+/// Takes in what a line pushes; false where it pushes no delta, or one that is below the sheet, and then the sheet is
+/// as before.
+fn take_in<R: Threads + Sync, L: Ledger>(
+    rt: &R,
+    alloc: Global,
+    line: &[u8],
+    sheet: &mut Sheet,
+    meter: &mut Meter<L>,
+) -> Result<bool, Refusal>
+    ensures taken { IfOk result (λ is. is ≡ true
+        → (d : Entries) × Follows sheet.old.history line.now d × (sheet.new.history ≡ sheet.old.history ++ d ∷ [])) }
+    ensures refused { IfOk result (λ is. is ≡ false → (d : Entries) → ¬ Follows sheet.old.history line.now d) }
+    ensures memory { IfErr result (λ e. e ≡ Refusal.Memory) }
+    ensures replica { sheet.new.replica ≡ sheet.old.replica }
+    ensures workers { sheet.new.workers ≡ sheet.old.workers }
+    ensures sheet { IsSheet sheet.old → IsSheet sheet.new }
+{
+    if !line.starts_with(PUSH) {
+        return Ok(false);
+    }
+    let delta = match decode(alloc, &line[PUSH.len()..]) {
+        Ok(delta) => delta,
+        Err(Refusal::Delta) => return Ok(false),
+        Err(_) => return Err(Refusal::Memory),
+    };
+    let before = sheet.version();
+    let report = sheet.receive(rt, alloc, Arc::new(alloc, delta)?, meter)?;
+    Ok(before < report.version)
+}
+
+/// Takes in what the lines push, those after the first, into a sheet that has nothing yet.
+fn read_pushes<R: Threads + Sync, L: Ledger>(
+    rt: &R,
+    alloc: Global,
+    bytes: &[u8],
+    sheet: &mut Sheet,
+    meter: &mut Meter<L>,
+) -> Result<(), KeepFault>
+    requires empty { sheet.old.history ≡ [] }
+    requires sheet { IsSheet sheet.old }
+    ensures told { OnOk result (PushAll (whole_lines bytes.now) sheet.new.history) }
+    ensures fault { IfErr result (IsPushFault (whole_lines bytes.now)) }
+    ensures replica { sheet.new.replica ≡ sheet.old.replica }
+    ensures workers { sheet.new.workers ≡ sheet.old.workers }
+    ensures sheet { IsSheet sheet.new }
+{
+    let mut left = bytes;
+    let mut number = 1u64;
+    'lines: while let Some((line, rest)) = first_line(left) {
+        match take_in(rt, alloc, line, sheet, meter) {
+            Ok(true) => {}
+            Ok(false) => return Err(KeepFault::Line(number + 1)),
+            Err(_) => return Err(KeepFault::Memory),
+        }
+        left = rest;
+        number += 1;
+    }
+    Ok(())
+}
+
+/// The sheet that the lines of a kept file tell.
+pub(crate) fn read_sheet<R: Threads + Sync, L: Ledger>(
+    rt: &R,
+    alloc: Global,
+    bytes: &[u8],
+    replica: u8,
+    workers: usize,
+    meter: &mut Meter<L>,
+) -> Result<Sheet, KeepFault>
+    requires replica { (1 ≤ replica) × (replica ≤ REPLICAS) }
+    requires workers { (1 ≤ workers) × (workers ≤ WORKERS) }
+    ensures read { IfOk result (λ sheet. Reads replica bytes.now sheet.history) }
+    ensures replica { IfOk result (λ sheet. sheet.replica ≡ replica) }
+    ensures workers { IfOk result (λ sheet. sheet.workers ≡ workers) }
+    ensures sheet { IfOk result IsSheet }
+    ensures fault { IfErr result (IsFaultOf replica bytes.now) }
+{
+    let others = after_first(alloc, bytes, replica)?;
+    let mut sheet = match Sheet::open(alloc, replica, workers) {
+        Ok(sheet) => sheet,
+        Err(_) => return Err(KeepFault::Memory),
+    };
+    match read_pushes(rt, alloc, others, &mut sheet, meter) {
+        Ok(()) => Ok(sheet),
+        Err(fault) => Err(fault),
+    }
+}

@@ -1,0 +1,2 @@
+mod NewPasses
+mod RecordLemmas

@@ -1,0 +1,34 @@
+-- What is kept of a desk's list.
+use Rattle.std.specs.Prelude.{◌≤◌, ℕ, List, All, length, take}
+use mathlib.Core.List.{IsPrefix}
+use Rattle.ps_delta.specs.Deltas.{Entries}
+use Rattle.ps_face.specs.declared.patch.Note.{Note}
+use Rattle.ps_face.specs.Legal.{history_of}
+use Rattle.ps_keep.specs.Journals.{IsJournal, JournalView}
+use Rattle.ps_kept.specs.Kept.{Tells}
+
+pub record RecordView : Type 0 where
+  pub journal : JournalView
+  -- the beginning of the published list that is kept, and the one that was seen
+  pub kept : List Note
+  pub seen : List Note
+  -- how many deltas of the history are noted
+  pub noted : ℕ
+
+-- RECORD: the kept lines tell the replica r, and the history that the kept list stands for, after the opening history
+-- h; and the noted ones a beginning of the history that the seen list stands for
+pub record IsRecord (r : ℕ) (h : List Entries) (v : RecordView) : Type 0 where
+  pub told : Tells r v.journal.kept (history_of h v.kept)
+  pub noted : Tells r v.journal.lines (take v.noted (history_of h v.seen))
+  pub within : v.noted ≤ length (history_of h v.seen)
+  pub later : IsPrefix v.kept v.seen
+  pub journal : IsJournal v.journal
+
+-- ENDS KEPT: the kept lines tell the replica, and a beginning of this history, which begins with what each of the lists
+-- stands for, after the opening history h
+pub record EndsKept (r : ℕ) (h history : List Entries) (lists : List (List Note)) (lines : List (List ℕ)) : Type 0
+  where
+    pub part : List Entries
+    pub told : Tells r lines part
+    pub begins : IsPrefix part history
+    pub all : All (λ list. IsPrefix (history_of h list) part) lists

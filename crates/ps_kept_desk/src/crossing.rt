@@ -1,0 +1,37 @@
+//! That the keeper of a desk may be shared by threads.
+//!
+//! The search for this finds no proof over the whole keeper at once, so its parts are taken one after another.
+ghost use denote.Param.Send.{IsSend, IsSync};
+ghost use Rattle.ps_kept_desk.specs.contracts.keeper.DeskKeeper as keeper;
+ghost use Rattle.ps_kept_desk.specs.contracts.record.Record as record_row;
+
+use crate::record::Kept;
+use ps_desk::{DeskName, Place};
+use ps_keep::{Device, Journal};
+
+/// What the bound says of a type.
+fn goes<T: Send>()
+    ensures { IsSend T.row }
+{}
+
+/// What lies under the lock of a keeper may go to another thread.
+fn record_crosses<L: DeskName + Send, D: Device + Drop + Send>()
+    ensures { IsSend (record_row.the_row L.row D.row (record { replica = L.replica })
+        (record { book = L.book; opening = L.opening }) L.Ledger
+        (record { written = D.written; synced = D.synced; has_failed = D.has_failed })) }
+{
+    goes::<Journal<D>>();
+    goes::<Kept<L>>();
+    goes::<Place<L>>();
+}
+
+/// A keeper may be shared by threads. Who shares one between threads calls this first.
+///
+/// Cost: none.
+pub fn keeper_crosses<L: DeskName + Send, D: Device + Drop + Send>()
+    ensures { IsSync (keeper.the_row L.row D.row (record { replica = L.replica })
+        (record { book = L.book; opening = L.opening }) L.Ledger
+        (record { written = D.written; synced = D.synced; has_failed = D.has_failed })) }
+{
+    record_crosses::<L, D>();
+}

@@ -1,0 +1,300 @@
+//! What is kept of a desk's list.
+
+ghost use Rattle.std.specs.Prelude.{◌≡◌, ◌+◌, ◌<◌, ◌≤◌, ◌^◌, [], true, false, All, drop, length, map, vec_len};
+ghost use Rattle.std.specs.Prelude.{MatchBool, OnOk, OnErr};
+ghost use Rattle.std.specs.Arc.{arc_value};
+ghost use mathlib.Core.List.{IsPrefix};
+ghost use Rattle.ps_face.specs.Legal.{history_of};
+ghost use Rattle.ps_keep.specs.Journals.{IsJournal};
+ghost use Rattle.ps_kept.specs.Kept.{Tells};
+ghost use Rattle.ps_sheet.specs.Sheet.{IsSheet};
+ghost use Rattle.ps_desk.specs.Closing.{HistoryBegins, IsClosed, appended_of};
+ghost use Rattle.ps_kept_desk.specs.Records.{EndsKept, IsRecord};
+
+use ps_delta::Delta;
+use ps_desk::{Desk, DeskName, Pass, Place};
+use ps_device::Failed;
+use ps_keep::{Device, Journal};
+use ps_kept::note_deltas;
+use ps_sheet::Sheet;
+use std::alloc::Global;
+use std::marker::Model;
+use std::sync::{Arc, Wait};
+
+/// A beginning of a desk's list that is kept, as a token. Nothing makes one but a record, of what it keeps. A contract
+/// sees it as that list.
+#[derive(Drop)]
+pub struct Kept<L: DeskName> {
+    place: Place<L>,
+}
+
+impl<L: DeskName> Model for Kept<L> {
+    ghost use Rattle.std.specs.Prelude.{List};
+    ghost use Rattle.std.specs.Coded.{codes};
+    ghost use Rattle.ps_face.specs.declared.patch.Note.{Note};
+    ghost use Rattle.ps_face.specs.contracts.patch.Note as note;
+
+    ghost Value = { List Note };
+
+    ghost coded = { Prim.hlevel (codes, note.the_row.coded) };
+
+    ghost view = { λ k. k.place };
+}
+
+impl<L: DeskName> Kept<L> {
+    /// The same once more.
+    ///
+    /// Cost: constant, no memory.
+    pub fn again(&self) -> Kept<L>
+        ensures { result ≡ self.now }
+    {
+        Kept {
+            place: self.place.again(),
+        }
+    }
+
+    /// Whether what comes up to this place is kept.
+    ///
+    /// Cost: constant.
+    pub fn has(&self, place: &Place<L>) -> bool
+        ensures { MatchBool result
+            (IsPrefix place.now self.now × (length place.now ≤ length self.now))
+            (length self.now < length place.now) }
+    {
+        place.begins(&self.place)
+    }
+
+    /// Whether what this one has is kept by the other one too.
+    ///
+    /// Cost: constant.
+    pub fn begins(&self, other: &Kept<L>) -> bool
+        ensures { MatchBool result
+            (IsPrefix self.now other.now × (length self.now ≤ length other.now))
+            (length other.now < length self.now) }
+    {
+        self.place.begins(&other.place)
+    }
+}
+
+/// What is left of a desk that was kept.
+#[derive(Drop)]
+pub struct Ended<D: Device + Drop> {
+    /// The sheet.
+    pub sheet: Sheet,
+    /// The journal.
+    pub journal: Journal<D>,
+    /// What the last settle came to.
+    pub settled: Result<(), Failed>,
+}
+
+/// A journal of the history of a desk. A contract sees it as its `RecordView`.
+#[derive(Drop)]
+pub(crate) struct Record<L: DeskName, D: Device + Drop> {
+    journal: Journal<D>,
+    /// what is kept
+    kept: Kept<L>,
+    /// up to where the list was seen
+    seen: Place<L>,
+    /// how many deltas of the history are noted
+    noted: u64,
+    /// the device failed, and isn't used any more
+    is_stopped: bool,
+}
+
+impl<L: DeskName, D: Device + Drop> Model for Record<L, D> {
+    ghost use Rattle.std.specs.Prelude.{◌≡◌};
+    ghost use Rattle.std.specs.Coded.{codes};
+    ghost use Rattle.ps_face.specs.contracts.patch.Note as note;
+    ghost use Rattle.ps_kept_desk.specs.Records.{IsRecord, RecordView};
+
+    ghost Value = { RecordView };
+
+    ghost coded = { Prim.hlevel (codes, note.the_row.coded) };
+
+    ghost view = { λ r. record {
+      journal = r.journal;
+      kept = r.kept;
+      seen = r.seen;
+      noted = r.noted;
+    } };
+
+    ghost invariant = { λ r. (r.journal.has_failed ≡ r.is_stopped)
+        × IsRecord L.replica L.opening (record {
+          journal = r.journal;
+          kept = r.kept;
+          seen = r.seen;
+          noted = r.noted;
+        }) };
+}
+
+impl<L: DeskName, D: Device + Drop> Record<L, D> {
+    /// A record that keeps the opening history.
+    pub(crate) fn new(journal: Journal<D>, place: Place<L>, noted: u64) -> Record<L, D>
+        requires told { Tells L.replica journal.lines L.opening }
+        requires kept { journal.kept ≡ journal.lines }
+        requires open { journal.has_failed ≡ false }
+        requires journal { IsJournal journal }
+        requires place { place ≡ [] }
+        requires noted { noted ≡ length L.opening }
+        ensures { result ≡ record { journal = journal; kept = []; seen = []; noted = noted } }
+    {
+        Record {
+            journal,
+            kept: Kept {
+                place: place.again(),
+            },
+            seen: place,
+            noted,
+            is_stopped: false,
+        }
+    }
+
+    /// What is kept.
+    pub(crate) fn kept(&self) -> Kept<L>
+        ensures kept { result ≡ self.now.kept }
+        ensures record { IsRecord L.replica L.opening self.now }
+    {
+        self.kept.again()
+    }
+
+    /// Whether what comes up to this place is kept.
+    pub(crate) fn has(&self, place: &Place<L>) -> bool
+        ensures { MatchBool result
+            (IsPrefix place.now self.now.kept × (length place.now ≤ length self.now.kept))
+            (length self.now.kept < length place.now) }
+    {
+        self.kept.has(place)
+    }
+
+    /// Keeps all that is published. Where the device fails it keeps what it kept, and never more.
+    pub(crate) fn advance<W: Wait + Drop, V: Wait>(
+        &mut self,
+        wait: &V,
+        alloc: Global,
+        desk: &Desk<L, W>,
+    ) -> Result<(), Failed>
+        ensures later { IsPrefix self.old.kept self.new.kept }
+        ensures all { OnOk result (self.new.kept ≡ self.new.seen) }
+        ensures not_yet { OnErr result (self.new.kept ≡ self.old.kept) }
+        ensures stopped { self.old.journal.has_failed ≡ true → self.new ≡ self.old }
+    {
+        if self.is_stopped {
+            return Err(Failed);
+        }
+        match desk.later(wait, alloc, &mut self.seen, self.noted) {
+            Ok(deltas) => self.add(alloc, &deltas),
+            Err(_) => Err(Failed),
+        }
+    }
+
+    /// Notes the deltas that aren't noted yet, and settles.
+    fn add(&mut self, alloc: Global, deltas: &[Arc<Delta>]) -> Result<(), Failed>
+        requires rest { map arc_value deltas.now ≡ drop self.old.noted (history_of L.opening self.old.seen) }
+        requires bound { length (history_of L.opening self.old.seen) < 2 ^ 64 }
+        requires open { self.old.journal.has_failed ≡ false }
+        ensures seen { self.new.seen ≡ self.old.seen }
+        ensures all { OnOk result (self.new.kept ≡ self.old.seen) }
+        ensures not_yet { OnErr result (self.new.kept ≡ self.old.kept) }
+    {
+        self.note(alloc, deltas)?;
+        self.settle()
+    }
+
+    /// Notes the deltas that aren't noted yet, or a beginning of them.
+    fn note(&mut self, alloc: Global, deltas: &[Arc<Delta>]) -> Result<(), Failed>
+        requires rest { map arc_value deltas.now ≡ drop self.old.noted (history_of L.opening self.old.seen) }
+        requires bound { length (history_of L.opening self.old.seen) < 2 ^ 64 }
+        ensures same { (self.new.seen ≡ self.old.seen) × (self.new.kept ≡ self.old.kept) }
+        ensures calm { self.new.journal.has_failed ≡ self.old.journal.has_failed }
+        ensures all { OnOk result (self.new.noted ≡ length (history_of L.opening self.old.seen)) }
+    {
+        match note_deltas(alloc, &mut self.journal, deltas) {
+            Ok(()) => {
+                self.noted += deltas.len() as u64;
+                Ok(())
+            }
+            Err((count, _)) => {
+                self.noted += count as u64;
+                Err(Failed)
+            }
+        }
+    }
+
+    /// Has all on the disk that was seen, once it is noted.
+    fn settle(&mut self) -> Result<(), Failed>
+        requires all { self.old.noted ≡ length (history_of L.opening self.old.seen) }
+        requires open { self.old.journal.has_failed ≡ false }
+        ensures seen { self.new.seen ≡ self.old.seen }
+        ensures all { OnOk result (self.new.kept ≡ self.old.seen) }
+        ensures not_yet { OnErr result (self.new.kept ≡ self.old.kept) }
+    {
+        match self.journal.settle() {
+            Ok(()) => {
+                self.kept = Kept {
+                    place: self.seen.again(),
+                };
+                Ok(())
+            }
+            Err(_) => {
+                self.is_stopped = true;
+                Err(Failed)
+            }
+        }
+    }
+
+    /// Ends the desk, keeps the rest of its history, and gives sheet and journal back.
+    pub(crate) fn close<W: Wait + Drop, V: Wait>(
+        mut self,
+        wait: &V,
+        alloc: Global,
+        desk: Desk<L, W>,
+        passes: Vec<Pass<L>>,
+        told: &[Kept<L>],
+    ) -> Ended<D>
+        requires passes { vec_len passes ≡ desk }
+        ensures replica { result.sheet.replica ≡ L.replica }
+        ensures begins { HistoryBegins L.opening result.sheet.history passes.items }
+        ensures grown { length result.sheet.history ≡ length L.opening + appended_of passes.items }
+        ensures one { IsClosed L.opening result.sheet.history passes.items }
+        ensures sheet { IsSheet result.sheet }
+        ensures told { EndsKept L.replica L.opening result.sheet.history told.now result.journal.kept }
+        ensures all { OnOk result.settled (Tells L.replica result.journal.kept result.sheet.history) }
+        ensures journal { IsJournal result.journal }
+    {
+        let sheet = desk.close_at(wait, passes, &mut self.seen);
+        let settled = self.finish(alloc, sheet.history());
+        self.audit(wait, told);
+        let Record { journal, .. } = self;
+        Ended {
+            sheet,
+            journal,
+            settled,
+        }
+    }
+
+    /// Keeps all of the history that is closed.
+    fn finish(&mut self, alloc: Global, history: &[Arc<Delta>]) -> Result<(), Failed>
+        requires history { map arc_value history.now ≡ history_of L.opening self.old.seen }
+        ensures seen { self.new.seen ≡ self.old.seen }
+        ensures all { OnOk result (self.new.kept ≡ self.old.seen) }
+        ensures not_yet { OnErr result (self.new.kept ≡ self.old.kept) }
+    {
+        if self.is_stopped {
+            return Err(Failed);
+        }
+        let noted = self.noted as usize;
+        self.add(alloc, &history[noted..])
+    }
+
+    /// Finds all kept that was told as kept. No run meets more, for which it would wait for ever.
+    fn audit<V: Wait>(&self, wait: &V, told: &[Kept<L>])
+        ensures { All (λ list. IsPrefix list self.now.kept) told.now }
+    {
+        for kept in told {
+            if !kept.begins(&self.kept) {
+                for _ in wait.forever() {}
+                unreachable!()
+            }
+        }
+    }
+}

@@ -1,0 +1,98 @@
+//! How a session puts its replies on a sink.
+ghost use Rattle.std.specs.Prelude.{◌≡◌, ◌<◌, [], ℕ, List, Option, OnErr, OnOk};
+ghost use Rattle.std.specs.Io.KnownBytes.{Keeps};
+ghost use Rattle.ps_device.specs.Device.{HoldsBack, Sends};
+ghost use Rattle.ps_session.specs.Replies.{reply_text};
+
+use crate::held_output::HeldOutput;
+use crate::reply::{Reply, send};
+use ps_device::{Failed, Sink, hand_on};
+use std::sync::ledger::Ledger;
+
+/// How replies are put on a sink of this type, and handed on.
+pub(crate) trait Delivery<K> {
+    /// The bytes put so far, where the sink shows them.
+    ghost contents: { K → Option (List ℕ) };
+
+    /// The bytes that wait to be handed on.
+    ghost waiting: { K → List ℕ };
+
+    /// How many calls failed so far.
+    ghost failures: { K → ℕ };
+
+    /// No reply is handed on before the sink is settled.
+    ghost holds_back: { Type 0 };
+
+    /// Puts a reply and its line feed; where the sink fails, a beginning of that.
+    fn put_reply(reply: &Reply, sink: &mut K) -> Result<(), Failed>
+        ensures sent { Sends (contents sink.old) (contents sink.new) result (reply_text reply.now) }
+        ensures calm { OnOk result (failures sink.new ≡ failures sink.old) }
+        ensures failed { OnErr result (failures sink.old < failures sink.new) }
+        ensures held { holds_back
+            → HoldsBack (contents sink.old) (contents sink.new) (waiting sink.old) (waiting sink.new) };
+
+    /// How many bytes wait, where they are held back until the sink is settled.
+    fn waits(sink: &K) -> usize
+        ensures held { 0 < result → holds_back };
+
+    /// Hands on all that waits.
+    fn hand_on(sink: &mut K) -> Result<(), Failed>
+        ensures same { Keeps (contents sink.old) (contents sink.new) }
+        ensures settled { OnOk result (waiting sink.new ≡ []) }
+        ensures calm { OnOk result (failures sink.new ≡ failures sink.old) }
+        ensures failed { OnErr result (failures sink.old < failures sink.new) };
+}
+
+/// Replies go to a sink as they come, and it hands them on when it likes.
+pub(crate) struct AtOnce;
+
+impl<K: Sink> Delivery<K> for AtOnce {
+    ghost contents = { K.contents };
+
+    ghost waiting = { K.waiting };
+
+    ghost failures = { K.failures };
+
+    ghost holds_back = { ⊥ };
+
+    fn put_reply(reply: &Reply, sink: &mut K) -> Result<(), Failed> {
+        send(reply, sink)
+    }
+
+    fn waits(_sink: &K) -> usize {
+        0
+    }
+
+    fn hand_on(sink: &mut K) -> Result<(), Failed> {
+        hand_on(sink)
+    }
+}
+
+/// Replies are held back until the output is settled.
+pub(crate) struct HeldBack;
+
+impl<K: Sink + Drop, L: Ledger> Delivery<HeldOutput<K, L>> for HeldBack {
+    ghost use Rattle.std.specs.Prelude.{⊤};
+    ghost use Rattle.ps_session.specs.Held.{held_contents, held_failures, held_waiting};
+
+    ghost contents = { held_contents K.contents };
+
+    ghost waiting = { held_waiting K.waiting };
+
+    ghost failures = { held_failures };
+
+    ghost holds_back = { ⊤ };
+
+    fn put_reply(reply: &Reply, sink: &mut HeldOutput<K, L>) -> Result<(), Failed> {
+        // the room alone is lent, so nothing that the call does can reach the sink below
+        send(reply, &mut sink.room)
+    }
+
+    fn waits(sink: &HeldOutput<K, L>) -> usize {
+        sink.room.bytes.len()
+    }
+
+    fn hand_on(sink: &mut HeldOutput<K, L>) -> Result<(), Failed> {
+        hand_on(sink)
+    }
+}

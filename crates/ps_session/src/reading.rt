@@ -1,0 +1,251 @@
+//! Reads a source to its end, and has what a session has seen kept before replies are handed on.
+ghost use Rattle.std.specs.Prelude.{◌≡◌, ◌≢◌, ◌⊎◌, [], ◌<◌, ◌≤◌, ◌++◌, ◌+◌, ◌-◌, ◌^◌, ℕ, List, Option, Result, Some};
+ghost use Rattle.std.specs.Prelude.{Ok, Err, IfOk, IsErr, OnOk, OnErr, length, take};
+ghost use Rattle.std.specs.Io.KnownBytes.{Consumes, IsAtEnd, Keeps};
+ghost use Rattle.ps_session.specs.Transcript.{Answered, Stopped, Transcribed};
+ghost use Rattle.ps_session.specs.Boards.{BoardAnswers, BoardLines};
+ghost use Rattle.ps_session.specs.Keeping.{Halted, IsCovered, StaysFit};
+ghost use Rattle.ps_session.specs.Inside.Stands.{Breaks, GoesOn, IsUnderWay, Stands};
+
+use crate::board::Board;
+use crate::delivery::Delivery;
+use crate::keeper::Keeper;
+use crate::session::Session;
+use crate::transcript::{Conversation, RunFault};
+use crate::watcher::Watcher;
+use ps_device::{PIECE_BYTES, Source};
+use std::alloc::Global;
+use std::thread::Threads;
+
+/// Has all kept that the board has, and then hands on what waits.
+fn release<B, K, D: Delivery<K>, Q: Keeper<B>>(
+    alloc: Global,
+    keeper: &mut Q,
+    board: &B,
+    sink: &mut K,
+) -> Result<(), RunFault>
+    requires fits { Q.fits keeper.old board.now }
+    ensures fits { OnOk result (Q.fits keeper.new board.now) }
+    ensures covered { result ≢ Err RunFault.Keep → Q.covers keeper.new board.now }
+    ensures stays { (state : B) → Q.covers keeper.old state → Q.covers keeper.new state }
+    ensures settled { OnOk result (D.waiting sink.new ≡ []) }
+    ensures same { Keeps (D.contents sink.old) (D.contents sink.new) }
+    ensures keep { result ≡ Err RunFault.Keep → Q.can_fail × (sink.new ≡ sink.old) }
+    ensures calm { OnOk result (D.failures sink.new ≡ D.failures sink.old) }
+    ensures sink_failed { result ≡ Err RunFault.Sink → D.failures sink.old < D.failures sink.new }
+    ensures faults { (result ≢ Err RunFault.Memory) × (result ≢ Err RunFault.Source) }
+{
+    match keeper.settle(alloc, board) {
+        Ok(()) => {}
+        Err(_) => return Err(RunFault::Keep),
+    }
+    match D::hand_on(sink) {
+        Ok(()) => Ok(()),
+        Err(_) => Err(RunFault::Sink),
+    }
+}
+
+/// Answers each line that a piece ends. Replies that are held back are released where there are `PIECE_BYTES` bytes of
+/// them, and all at the end.
+fn read_piece<R: Threads + Sync, B: Board<M>, M, W: Watcher, K, D: Delivery<K>, Q: Keeper<B>>(
+    conversation: &mut Conversation<R>,
+    piece: &[u8],
+    board: &mut B,
+    meter: &mut M,
+    watcher: &mut W,
+    sink: &mut K,
+    keeper: &mut Q,
+) -> Result<(), RunFault>
+    requires fits { Q.fits keeper.old board.old }
+    requires covers { Q.covers keeper.old board.old }
+    requires settled { D.waiting sink.old ≡ [] }
+    requires stays { StaysFit (BoardAnswers B.calls) Q.fits }
+    requires under_way { IsUnderWay (BoardLines B.calls) board.old conversation.old.session.pending
+        (D.contents sink.old) conversation.old.answered }
+    ensures stands { OnOk result (GoesOn (BoardLines B.calls) piece.now
+        board.old conversation.old.session.pending (D.contents sink.old) conversation.old.answered
+        board.new conversation.new.session.pending (D.contents sink.new) conversation.new.answered) }
+    ensures kept { OnOk result (Q.fits keeper.new board.new × Q.covers keeper.new board.new
+        × (D.waiting sink.new ≡ [])) }
+    ensures sink { result ≡ Err RunFault.Sink → (first : B) (written : Option (List ℕ)) (read : List ℕ)
+        → Stands (BoardLines B.calls) first written 0 read
+        board.old conversation.old.session.pending (D.contents sink.old) conversation.old.answered
+        → Breaks (BoardLines B.calls) D.holds_back first written (read ++ piece.now)
+        board.new (D.contents sink.new) }
+    ensures keep { result ≡ Err RunFault.Keep → Q.can_fail × ((first : B) (written : Option (List ℕ)) (read : List ℕ)
+        → Stands (BoardLines B.calls) first written 0 read
+        board.old conversation.old.session.pending (D.contents sink.old) conversation.old.answered
+        → Halted (BoardLines B.calls) ⊥ first written (read ++ piece.now) board.new (D.contents sink.new)) }
+    ensures covered { IsErr result → D.holds_back → (first : B) (written : Option (List ℕ)) (read : List ℕ)
+        → Stands (BoardLines B.calls) first written 0 read
+        board.old conversation.old.session.pending (D.contents sink.old) conversation.old.answered
+        → IsCovered (BoardLines B.calls) (Q.covers keeper.new) ⊥ first written (read ++ piece.now)
+        board.new (D.contents sink.new) (D.waiting sink.new) }
+    ensures calm { OnOk result (D.failures sink.new ≡ D.failures sink.old) }
+    ensures sink_failed { result ≡ Err RunFault.Sink → D.failures sink.old < D.failures sink.new }
+    ensures faults { (result ≢ Err RunFault.Memory) × (result ≢ Err RunFault.Source) }
+{
+    let mut start = 0;
+    'parts: while start < piece.len() {
+        match conversation.serve::<B, M, W, K, D>(&piece[start..], board, meter, watcher, sink) {
+            Ok(taken) => start += taken,
+            Err(_) => return Err(RunFault::Sink),
+        }
+        release::<B, K, D, Q>(conversation.alloc, keeper, board, sink)?;
+    }
+    Ok(())
+}
+
+/// Reads the source to its end, and answers each line that ends there. What waits is released before each read.
+fn read_on<
+    R: Threads + Sync,
+    S: Source,
+    B: Board<M>,
+    M,
+    W: Watcher,
+    K,
+    D: Delivery<K>,
+    Q: Keeper<B>,
+>(
+    conversation: &mut Conversation<R>,
+    source: &mut S,
+    board: &mut B,
+    meter: &mut M,
+    watcher: &mut W,
+    sink: &mut K,
+    keeper: &mut Q,
+) -> Result<(), RunFault>
+    requires fresh { (conversation.old.session.pending ≡ Some []) × (conversation.old.answered ≡ 0) }
+    requires fits { Q.fits keeper.old board.old }
+    requires stays { StaysFit (BoardAnswers B.calls) Q.fits }
+    ensures read { OnOk result ((read : List ℕ)
+        × Consumes (S.remaining source.old) (S.remaining source.new) read × IsAtEnd (S.remaining source.new)
+        × Stands (BoardLines B.calls) board.old (D.contents sink.old) 0 read
+        board.new conversation.new.session.pending (D.contents sink.new) conversation.new.answered) }
+    ensures kept { OnOk result (Q.fits keeper.new board.new × Q.covers keeper.new board.new
+        × (D.waiting sink.new ≡ [])) }
+    ensures sink { result ≡ Err RunFault.Sink
+        → (read : List ℕ) × Consumes (S.remaining source.old) (S.remaining source.new) read
+        × Breaks (BoardLines B.calls) D.holds_back board.old (D.contents sink.old) read
+        board.new (D.contents sink.new) }
+    ensures source { result ≡ Err RunFault.Source
+        → (read : List ℕ) × Consumes (S.remaining source.old) (S.remaining source.new) read
+        × Answered (BoardLines B.calls) board.old (D.contents sink.old) read board.new (D.contents sink.new) }
+    ensures source_settled { result ≡ Err RunFault.Source
+        → (D.waiting sink.new ≡ []) × Q.covers keeper.new board.new }
+    ensures keep { result ≡ Err RunFault.Keep → Q.can_fail
+        × (read : List ℕ) × Consumes (S.remaining source.old) (S.remaining source.new) read
+        × Halted (BoardLines B.calls) ⊥ board.old (D.contents sink.old) read board.new (D.contents sink.new) }
+    ensures covered { IsErr result → D.holds_back
+        → (read : List ℕ) × Consumes (S.remaining source.old) (S.remaining source.new) read
+        × IsCovered (BoardLines B.calls) (Q.covers keeper.new) ⊥ board.old (D.contents sink.old) read
+        board.new (D.contents sink.new) (D.waiting sink.new) }
+    ensures memory { result ≢ Err RunFault.Memory }
+    ensures calm { OnOk result ((S.failures source.new ≡ S.failures source.old)
+        × (D.failures sink.new ≡ D.failures sink.old)) }
+    ensures sink_failed { result ≡ Err RunFault.Sink → D.failures sink.old < D.failures sink.new }
+    ensures source_failed { result ≡ Err RunFault.Source → S.failures source.old < S.failures source.new }
+{
+    release::<B, K, D, Q>(conversation.alloc, keeper, board, sink)?;
+    let mut piece = [0u8; PIECE_BYTES];
+    'pieces: loop {
+        let count = match source.take(&mut piece) {
+            Ok(count) => count,
+            Err(_) => return Err(RunFault::Source),
+        };
+        if count == 0 {
+            return Ok(());
+        }
+        read_piece::<R, B, M, W, K, D, Q>(
+            conversation,
+            &piece[..count],
+            board,
+            meter,
+            watcher,
+            sink,
+            keeper,
+        )?;
+    }
+}
+
+/// Answers each line of a source, by whatever a board is lent, to the end of the input.
+pub(crate) fn converse<
+    R: Threads + Sync,
+    S: Source,
+    B: Board<M>,
+    M,
+    W: Watcher,
+    K,
+    D: Delivery<K>,
+    Q: Keeper<B>,
+>(
+    rt: &R,
+    alloc: Global,
+    source: &mut S,
+    sink: &mut K,
+    board: &mut B,
+    meter: &mut M,
+    watcher: &mut W,
+    keeper: &mut Q,
+) -> Result<u64, RunFault>
+    requires fits { Q.fits keeper.old board.old }
+    requires stays { StaysFit (BoardAnswers B.calls) Q.fits }
+    ensures transcribed { IfOk result (λ answered. (read : List ℕ)
+        × Consumes (S.remaining source.old) (S.remaining source.new) read
+        × IsAtEnd (S.remaining source.new)
+        × Transcribed (BoardLines B.calls) board.old (D.contents sink.old) read board.new (D.contents sink.new)
+        answered) }
+    ensures sink { result ≡ Err RunFault.Sink
+        → (read : List ℕ) × Consumes (S.remaining source.old) (S.remaining source.new) read
+        × (Stopped (BoardLines B.calls) (IsAtEnd (S.remaining source.new)) board.old (D.contents sink.old) read
+        board.new (D.contents sink.new)
+        ⊎ (D.holds_back × Halted (BoardLines B.calls) (IsAtEnd (S.remaining source.new)) board.old
+        (D.contents sink.old) read board.new (D.contents sink.new))) }
+    ensures source { result ≡ Err RunFault.Source
+        → (read : List ℕ) × Consumes (S.remaining source.old) (S.remaining source.new) read
+        × Answered (BoardLines B.calls) board.old (D.contents sink.old) read board.new (D.contents sink.new) }
+    ensures keep { result ≡ Err RunFault.Keep → Q.can_fail
+        × (read : List ℕ) × Consumes (S.remaining source.old) (S.remaining source.new) read
+        × Halted (BoardLines B.calls) (IsAtEnd (S.remaining source.new)) board.old (D.contents sink.old) read
+        board.new (D.contents sink.new) }
+    ensures covered { D.holds_back
+        → (read : List ℕ) × Consumes (S.remaining source.old) (S.remaining source.new) read
+        × IsCovered (BoardLines B.calls) (Q.covers keeper.new) (IsAtEnd (S.remaining source.new))
+        board.old (D.contents sink.old) read board.new (D.contents sink.new) (D.waiting sink.new) }
+    ensures kept { OnOk result (Q.covers keeper.new board.new × Q.fits keeper.new board.new) }
+    ensures source_kept { result ≡ Err RunFault.Source → Q.covers keeper.new board.new }
+    ensures settled { OnOk result (D.waiting sink.new ≡ []) }
+    ensures source_settled { result ≡ Err RunFault.Source → D.waiting sink.new ≡ [] }
+    ensures memory { result ≡ Err RunFault.Memory → (source.new ≡ source.old) × (sink.new ≡ sink.old)
+        × (board.new ≡ board.old) × (keeper.new ≡ keeper.old) }
+    ensures calm { OnOk result ((S.failures source.new ≡ S.failures source.old)
+        × (D.failures sink.new ≡ D.failures sink.old)) }
+    ensures sink_failed { result ≡ Err RunFault.Sink → D.failures sink.old < D.failures sink.new }
+    ensures source_failed { result ≡ Err RunFault.Source → S.failures source.old < S.failures source.new }
+{
+    let session = match Session::new(alloc) {
+        Ok(session) => session,
+        Err(_) => return Err(RunFault::Memory),
+    };
+    let mut conversation = Conversation {
+        rt,
+        alloc,
+        session,
+        answered: 0,
+    };
+    read_on::<R, S, B, M, W, K, D, Q>(
+        &mut conversation,
+        source,
+        board,
+        meter,
+        watcher,
+        sink,
+        keeper,
+    )?;
+    match conversation.finish::<B, M, W, K, D>(board, meter, watcher, sink) {
+        Ok(()) => {}
+        Err(_) => return Err(RunFault::Sink),
+    }
+    release::<B, K, D, Q>(alloc, keeper, board, sink)?;
+    Ok(conversation.answered)
+}

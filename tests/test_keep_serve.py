@@ -1,0 +1,265 @@
+"""`serve --keep FILE`: sessions of a server that keeps its sheet, and that is killed at any moment."""
+import os
+import random
+import select
+import signal
+import threading
+import time
+
+from hunt import kept
+from hunt.deltas import delta_line
+from keeping import KeepingTest, Spoilt, text_of
+from program import DEVICE_FAILED, LIMIT, Ended, lines, run
+from servers import Client, free_port, serving, sync
+from shortage import PROGRAM
+
+
+class Serve(KeepingTest):
+    def serving(self, sessions, *words, **how):
+        """A server that keeps its sheet in the file."""
+        return serving(sessions, "--keep", str(self.file), *words, program=PROGRAM, **how)
+
+    def assert_closed(self, server, opened, count):
+        """It ends well after so many changes, of which it had opened so many, and the file has them all."""
+        self.assertEqual(server.ended(), Ended(0, lines(f"closed {count}"), self.opened(opened)))
+        self.assertEqual(self.count_in_file(), count)
+
+    def test_what_sessions_did_is_there_at_the_next_start(self):
+        first = ("set A1 5", "set B1 =[.A1]*2", "set C1 @tally", "add C1 4", "set D1 @choice", "choose D1 7")
+        with self.serving(2) as server:
+            one, two = server.client(), server.client()
+            for number, line in enumerate(first, 1):
+                self.assertEqual((one, two)[number % 2].ask(line), f"ok {number}")
+                self.assertEqual(self.file.read_bytes(), text_of(*first[:number]))
+            self.assertEqual((one.leave(), two.leave()), (b"", b""))
+            self.assert_closed(server, 0, len(first))
+        with self.serving(1) as server:
+            client = server.client()
+            client.send(lines("rows A1:D1", "replica", "add C1 1", "pull 6", "unchoose D1 7"))
+            self.assertEqual(client.leave(), lines(
+                "rows 1", "5,10,4,{7}", "replica 1", "ok 7", 'delta 7 [["C1",null,[[1,5,0]],[]]]', "ok 8"))
+            self.assert_closed(server, 6, 8)
+        self.assertEqual(self.file.read_bytes(), text_of(*first, "add C1 1", "unchoose D1 7"))
+
+    def test_a_start_without_a_session_that_changes_anything(self):
+        with self.serving(1) as server:
+            self.assertEqual(server.client().leave(), b"")
+            self.assert_closed(server, 0, 0)
+        self.assertEqual(self.file.read_bytes(), text_of())
+
+    def test_a_file_of_another_replica_or_with_a_faulty_line(self):
+        for content, told in ((text_of("set A1 5", replica=3), ("err 9 replica", f"{self.file} is of replica 3")),
+                              (text_of("set A1 5") + b"walk\n", ("err 14 delta", f"line 3 of {self.file}"))):
+            with self.subTest(told=told):
+                self.file.write_bytes(content)
+                ended = run("serve", "--port", str(free_port()), "--keep", str(self.file))
+                self.assertEqual((ended.status, ended.error), (3, lines(*told)))
+                self.assertNotIn(b"closed", ended.output)
+                self.assertEqual(self.file.read_bytes(), content)
+
+    def test_a_file_that_another_server_keeps(self):
+        with self.serving(1) as server:
+            ended = run("serve", "--port", str(free_port()), "--keep", str(self.file))
+            told = lines("err 20 device", f"{self.file} is kept by another program")
+            self.assertEqual((ended.status, ended.error), (1, told))
+            client = server.client()
+            self.assertEqual(client.ask("set A1 5"), "ok 1")
+            client.leave()
+            self.assert_closed(server, 0, 1)
+
+    def test_the_journal_of_a_follower_and_the_file_are_the_same_sheet(self):
+        with self.serving(3, "--replica", "2") as server:
+            client = server.client()
+            for number in range(1, 41):
+                self.assertEqual(client.ask(f"set A{number} {number}"), f"ok {number}")
+            journal = run("follow", "--from", str(server.port), "--until-now")
+            self.assertEqual((journal.status, journal.output.count(b"\n")), (0, 3))
+            client.leave()
+            server.client().leave()
+            self.assert_closed(server, 0, 40)
+        shown = lines("rows 40", *range(1, 41))
+        for given in (journal.output, self.file.read_bytes()):
+            self.assertTrue(run("run", given=given + b"rows A1:A40\n").output.endswith(shown))
+
+    def test_changes_of_its_own_replica_are_told_once_and_soon(self):
+        with self.serving(3, "--replica", "5") as server:
+            one, two = server.client(), server.client()
+            self.assertEqual(one.ask("set A1 5"), "ok 1")
+            self.assertEqual(two.ask('push [["A1",[1,5,"5"],[],[]]]'), "ok 1")
+            self.assertEqual(two.ask('push [["B1",[1,6,"5"],[],[]]]'), "ok 2")
+            self.assertEqual(two.ask('push [["A1",[1,5,"5"],[],[]],["B1",[2,6,"7"],[],[]]]'), "ok 3")
+            self.assertEqual(two.ask('push [["A1",[2,5,"6"],[],[]]]'), "ok 4")
+            error = server.session.stderr.fileno()
+            told = self.opened(0) + self.warned(5)
+            read = b""
+            while len(read) < len(told):
+                self.assertTrue(select.select([error], [], [], LIMIT)[0])
+                read += os.read(error, 4096)
+            self.assertEqual(read, told)
+            self.assertEqual(one.ask('push [["C1",null,[[5,1,0]],[]]]'), "ok 5")
+            self.assertEqual((one.leave(), two.leave()), (b"", b""))
+            self.assertEqual(server.client().leave(), b"")
+            self.assertEqual(server.ended(), Ended(0, lines("closed 5"), b""))
+        # at the end, too, however soon that comes; and nothing at a start on a file that has them
+        with self.serving(1, "--replica", "5") as server:
+            client = server.client()
+            client.send(lines('push [["A1",[3,5,"6"],[],[]]]', 'push [["A1",[4,5,"6"],[],[]]]'))
+            self.assertEqual(client.leave(), lines("ok 6", "ok 7"))
+            self.assertEqual(server.ended(), Ended(0, lines("closed 7"), self.opened(5) + self.warned(5)))
+        with self.serving(1, "--replica", "5") as server:
+            self.assertEqual(server.client().leave(), b"")
+            self.assert_closed(server, 7, 7)
+
+    def test_two_that_sync_with_each_other(self):
+        with self.serving(4) as first, serving(4, "--replica", "2") as second:
+            typist, other = first.client(), second.client()
+            for number in range(1, 21):
+                self.assertEqual(typist.ask(f"set A{number} {number}"), f"ok {number}")
+            self.assertEqual(sync(first, second).status, 0)
+            self.assertEqual(other.ask("set B1 7"), "ok 3")
+            # (the last group has changes of both, and brings one)
+            self.assertEqual(sync(second, first).status, 0)
+            self.assertEqual(typist.ask("get B1"), "val 7")
+            self.assertEqual((typist.leave(), other.leave()), (b"", b""))
+            for server in (first, second):
+                server.client().leave()
+            self.assertEqual(second.ended().error, b"")
+            self.assertEqual(first.ended().error, self.opened(0))
+
+    def test_a_server_that_keeps_nothing(self):
+        with serving(1) as server:
+            client = server.client()
+            self.assertEqual(client.ask('push [["A1",[1,1,"5"],[],[]]]'), "ok 1")
+            self.assertEqual(client.leave(), b"")
+            self.assertEqual(server.ended(), Ended(0, lines("closed 1"), b""))
+
+    def test_a_seat_that_goes_on_and_a_server_that_is_stopped(self):
+        with self.serving(None, "--seats", "1", "--wait", "60") as server:
+            for number in range(1, 11):
+                client = server.client()
+                self.assertEqual(client.ask(f"set A1 {number}"), f"ok {number}")
+                client.leave()
+            server.session.terminate()
+            self.assertEqual(server.ended(), Ended(-signal.SIGTERM, b"", self.opened(0)))
+        with self.serving(1) as server:
+            client = server.client()
+            self.assertEqual(client.ask("get A1"), "val 10")
+            client.leave()
+            self.assert_closed(server, 10, 10)
+
+
+class Failing(Spoilt):
+    def test_a_sync_that_fails_ends_it_and_what_was_answered_is_kept(self):
+        for first in (4, 5, 9):
+            with self.subTest(first=first), self.spoiling("s", first, first, 5) as (how, _):
+                self.file.unlink(missing_ok=True)
+                words = ("--keep", str(self.file))
+                with serving(None, *words, program=PROGRAM, **how) as server:
+                    answered = 0
+                    with server_gone():
+                        client = server.client()
+                        while answered < 50:
+                            self.assertEqual(client.ask(f"set A1 {answered}"), f"ok {answered + 1}")
+                            answered += 1
+                    self.assertLess(answered, 50)
+                    with server_gone():
+                        for other in (server.client(), server.client()):
+                            other.leave()
+                    ended = server.ended()
+                    self.assertEqual((ended.status, ended.error), (1, self.opened(0) + DEVICE_FAILED))
+                content = self.file.read_bytes()
+                edits = [f"set A1 {number}" for number in range(answered + 1)]
+                self.assertTrue(text_of(*edits).startswith(content))
+                self.assertGreaterEqual(kept.changes_in(content), answered)
+
+    def test_sessions_that_wait_at_the_same_time_share_syncs(self):
+        clients, each = 8, 100
+        with self.spoiling() as (how, counted):
+            with serving(clients, "--keep", str(self.file), program=PROGRAM, **how) as server:
+                threads = [threading.Thread(target=self.edit, args=(server, number, each)) for number in range(clients)]
+                for thread in threads:
+                    thread.start()
+                for thread in threads:
+                    thread.join(LIMIT)
+                self.assertEqual(server.ended(), Ended(0, lines(f"closed {clients * each}"), self.opened(0)))
+            # those of a start, and at most one for each edit
+            self.assertLessEqual(counted().syncs, 5 + clients * each)
+        self.assertEqual(self.count_in_file(), clients * each)
+
+    def edit(self, server, number, each):
+        """A client that edits so often."""
+        client = Client(server.port)
+        for turn in range(each):
+            client.ask(f"set A{number + 1} {turn}")
+        client.leave()
+
+
+class server_gone:
+    """What a connection to a server raises that has gone is no fault."""
+
+    def __enter__(self):
+        return self
+
+    def __exit__(self, kind, value, trace):
+        return kind is not None and issubclass(kind, (ConnectionError, EOFError))
+
+
+class Killed(KeepingTest):
+    """200 times: eight clients and a pipe change the sheet, and the server is killed meanwhile."""
+
+    CLIENTS, ROUNDS, SECONDS = 8, 200, 50
+
+    def test_each_change_that_was_answered_is_there_at_the_next_start(self):
+        chance = random.Random(39)
+        deadline = time.monotonic() + self.SECONDS
+        opened = rounds = killed_amid = 0
+        while rounds < self.ROUNDS and time.monotonic() < deadline:
+            answered = {}
+            with serving(None, "--keep", str(self.file), "--wait", "60", program=PROGRAM) as server:
+                tasks = [(self.ask_on, number) for number in range(self.CLIENTS)] + [(self.pour, 0)]
+                threads = [threading.Thread(target=task, args=(server, number, rounds, answered))
+                           for task, number in tasks]
+                for thread in threads:
+                    thread.start()
+                time.sleep(chance.choice((0.001, 0.005, 0.02)) * chance.random())
+                server.session.kill()
+                ended = server.ended()
+                for thread in threads:
+                    thread.join(LIMIT)
+            # (it tells that it listens before it tells what it has opened)
+            self.assertIn(ended, [Ended(-signal.SIGKILL, b"", told) for told in (b"", self.opened(opened))])
+            content = self.file.read_bytes()
+            deltas = kept.deltas_in(content)
+            # each receipt is the place of its change in the file
+            for number, text in answered.items():
+                self.assertLess(opened, number)
+                self.assertLessEqual(number, len(deltas), text)
+                self.assertIn(text, delta_line(deltas[number - 1]))
+            opened = len(deltas)
+            killed_amid += content != kept.whole_lines(content) or len(deltas) > max(answered, default=0)
+            rounds += 1
+        self.assertGreater(rounds, 20)
+        # the next start shows what the file says
+        given = self.file.read_bytes()
+        ended = self.run_kept(b"rows A1:I1\n")
+        self.assertEqual((ended.status, ended.error), (0, self.opened(opened)))
+        whole = kept.whole_lines(given).decode().split("\n")[:-1]
+        self.assertTrue(run("run", given=lines(*whole, "rows A1:I1")).output.endswith(ended.output))
+
+    def ask_on(self, server, number, turn, answered):
+        """A client that changes a cell of its own again and again, as far as it comes."""
+        with server_gone():
+            client = Client(server.port)
+            for count in range(10_000):
+                text = f"{turn} {number} {count}"
+                reply = client.ask(f"set {'ABCDEFGH'[number]}1 {text}")
+                answered[int(reply.removeprefix("ok "))] = f"'{text}\"".encode()
+
+    def pour(self, server, _, turn, answered):
+        """A client that sends many lines at once, and reads what comes."""
+        texts = [f"{turn} I {count}" for count in range(300)]
+        with server_gone():
+            client = Client(server.port)
+            client.send(lines(*(f"set I1 {text}" for text in texts)))
+            for text in texts:
+                answered[int(client.reply().removeprefix("ok "))] = f"'{text}\"".encode()
