@@ -4,7 +4,7 @@ The plans are the same in each run. It takes some half a minute.
 """
 import subprocess
 
-from hunt import faults, finds
+from hunt import deltas, faults, finds
 from hunt.finds import Hunt
 from hunt.parts import PARTS, Scripts
 from program import LIMIT, TOP, ProgramTest
@@ -52,6 +52,16 @@ class Fixed(ProgramTest):
                 find = hunt.first(hunt.parts[0], PLANS[part.name])
                 if find is not None:
                     self.fail(hunt.keep(find, self.folder())[1])
+
+
+class Model(ProgramTest):
+    def test_a_number_with_a_sign_is_no_register(self):
+        """Not beside a text in which a sign stands before a 0 either, where the model reads all numbers by itself."""
+        for register in ("-1", "-0"):
+            line = f'[["A1",{register},[[1,1,0]],[]],["B1",[1,1,"=[.A1]-0"],[],[]]]'.encode()
+            with self.subTest(register=register):
+                self.assertIsNone(deltas.read_delta(line))
+                self.assert_session(b"push %s\n" % line, b"err 14 delta\n")
 
 
 class Planted(ProgramTest):

@@ -1,5 +1,5 @@
 """The hunt among replicas: it finds each fault that is planted there, and takes none for one that is harmless."""
-from hunt import finds, replica_faults
+from hunt import finds, processes, replica_faults
 from hunt.finds import Hunt
 from hunt.parts import Replicas
 from program import ProgramTest
@@ -30,6 +30,16 @@ class Planted(ProgramTest):
         for kind in replica_faults.PROCESSES:
             with self.subTest(kind=kind.__name__):
                 self.assert_found(replica_faults.by_process(kind))
+
+    def test_each_fault_of_a_kept_file_is_found(self):
+        for kind in replica_faults.FILES:
+            with self.subTest(kind=kind.__name__):
+                self.assert_found(replica_faults.by_file(kind))
+
+    def test_a_kept_file_without_a_fault_is_none(self):
+        hunt = Hunt(SEED, [Replicas(replica_faults.by_process(processes.StandIn))])
+        find = hunt.first(hunt.parts[0], 60)
+        self.assertIsNone(find and find.trouble)
 
     def test_a_delta_that_is_repeated_is_no_fault(self):
         hunt = Hunt(SEED, [Replicas(replica_faults.by_process(replica_faults.Repeats))])

@@ -35,10 +35,20 @@ class Planted(ProgramTest):
             with self.subTest(kind=kind.__name__):
                 self.found(session_faults.by_desk(kind))
 
+    def test_each_fault_of_a_follower_is_found(self):
+        for kind in session_faults.FOLLOWERS:
+            with self.subTest(kind=kind.__name__):
+                self.found(session_faults.by_follower(kind))
+
+    def test_each_fault_of_a_kept_file_is_found(self):
+        for kind in session_faults.FILES:
+            with self.subTest(kind=kind.__name__):
+                self.found(session_faults.by_file(kind))
+
     def test_a_sync_that_loses_a_line_is_found(self):
         self.found(session_faults.by_desk(desks.Desk), desks.sync_that_loses)
 
     def test_sessions_of_the_model_have_no_fault(self):
         hunt = Hunt(SEED, [Sessions(session_faults.by_desk(desks.Desk), desks.sync)])
-        find = hunt.first(hunt.parts[0], 20)
+        find = hunt.first(hunt.parts[0], 40)
         self.assertIsNone(find and find.trouble)

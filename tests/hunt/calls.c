@@ -1,16 +1,19 @@
 /* Has calls of the C library fail or do a part of their work. A program that is started with this library preloaded
-   asks it for memory, reads, writes and connections in place of the C library, which it hands the requests on to.
+   asks it for memory, reads, writes, syncs and connections in place of the C library, which it hands the requests on
+   to.
 
-   FAULT_CALL is the first letter of the calls that are meant: m for memory, r for what reads, w for what writes, a for
-   what accepts. They are counted from 1 on, and FAULT_FIRST and FAULT_LAST tell the first and the last one that fails
-   by the error with the number FAULT_ERROR; where that is 0 it is cut to one byte. FAULT_COUNTS is an open file of
-   three numbers of eight bytes: how many such calls there were so far, and how many bytes were read and written. */
+   FAULT_CALL is a letter of the calls that are meant: m for memory, r for what reads, w for what writes, f for what
+   writes to a file that has a name, s for what syncs, a for what accepts. They are counted from 1 on, and FAULT_FIRST
+   and FAULT_LAST tell the first and the last one that fails by the error with the number FAULT_ERROR; where that is 0
+   it is cut to one byte. FAULT_COUNTS is an open file of four numbers of eight bytes: how many such calls there were so
+   far, how many bytes were read and written, and how many syncs there were. */
 #define _GNU_SOURCE
 #include <errno.h>
 #include <stdatomic.h>
 #include <stdlib.h>
 #include <sys/mman.h>
 #include <sys/socket.h>
+#include <sys/stat.h>
 #include <sys/syscall.h>
 #include <unistd.h>
 
@@ -20,7 +23,7 @@ void *__libc_calloc(size_t number, size_t size);
 void *__libc_realloc(void *old, size_t size);
 
 struct counts {
-    atomic_ullong calls, read, written;
+    atomic_ullong calls, read, written, syncs;
 };
 
 static struct counts before_start;
@@ -114,9 +117,16 @@ ssize_t recv(int file, void *room, size_t length, int flags)
     return counted(&counts->read, syscall(SYS_recvfrom, file, room, some, flags, NULL, NULL));
 }
 
+/* Whether this is a file that has a name in a folder. */
+static int is_named(int file)
+{
+    struct stat about;
+    return fstat(file, &about) == 0 && S_ISREG(about.st_mode) && about.st_nlink > 0;
+}
+
 ssize_t write(int file, const void *bytes, size_t length)
 {
-    size_t some = length_of('w', length);
+    size_t some = length_of(meant == 'f' && is_named(file) ? 'f' : 'w', length);
     if (some == 0 && length != 0)
         return -1;
     return counted(&counts->written, syscall(SYS_write, file, bytes, some));
@@ -133,6 +143,27 @@ ssize_t send(int file, const void *bytes, size_t length, int flags)
     if (some == 0 && length != 0)
         return -1;
     return counted(&counts->written, syscall(SYS_sendto, file, bytes, some, flags, NULL, 0));
+}
+
+/* Has a sync done, or fail. */
+static int synced(long call, int file)
+{
+    atomic_fetch_add(&counts->syncs, 1);
+    if (is_spoilt('s')) {
+        errno = error;
+        return -1;
+    }
+    return (int)syscall(call, file);
+}
+
+int fsync(int file)
+{
+    return synced(SYS_fsync, file);
+}
+
+int fdatasync(int file)
+{
+    return synced(SYS_fdatasync, file);
 }
 
 int accept4(int file, struct sockaddr *restrict address, socklen_t *restrict length, int flags)

@@ -15,6 +15,8 @@ from servers import HERE, free_port
 PIECE = 65_536
 # (more than one segment of a connection on one machine, for which it would wait again and again)
 ROOM = 150_000
+# The state of a connection that is open, as the system lists it.
+ESTABLISHED = "01"
 MEASURES = {"threads": rb"Threads:\s+(\d+)", "kilobytes": rb"VmRSS:\s+(\d+)"}
 
 
@@ -87,6 +89,7 @@ class Server:
 
     def __init__(self, program, sessions, words, **how):
         self.port = free_port()
+        self.program = program
         asked = [program, "serve", "--port", str(self.port), "--sessions", str(sessions), *words]
         files = {"stdin": subprocess.DEVNULL, "stdout": subprocess.PIPE, "stderr": subprocess.PIPE}
         self.process = subprocess.Popen(asked, start_new_session=True, **files, **how)
@@ -99,6 +102,19 @@ class Server:
             return Channel(self.port, is_narrow)
         except OSError as error:
             raise Broken(f"no connection: {error}") from None
+
+    def follow(self, every):
+        """A follower of it that is under way, which asks so often, each so many milliseconds."""
+        return Follower([self.program, "follow", "--from", str(self.port), "--every", str(every)])
+
+    def follow_until_now(self):
+        """How a follower of it ended that writes what there is."""
+        words = [self.program, "follow", "--from", str(self.port), "--until-now"]
+        try:
+            ran = subprocess.run(words, stdin=subprocess.DEVNULL, capture_output=True, timeout=LIMIT)
+            return Ended(ran.returncode, ran.stdout, ran.stderr)
+        except subprocess.TimeoutExpired:
+            return Ended(None, b"", b"it doesn't end")
 
     def measured(self):
         """How many threads, open files and kilobytes of memory it has."""
@@ -127,7 +143,49 @@ class Server:
             return Ended(None, b"", b"it doesn't end")
 
     def kill(self):
-        """Kills it, if it still runs."""
+        """Kills it, if it still runs, and returns what it has told on standard error."""
+        if self.process.poll() is None:
+            self.process.kill()
+        return self.process.communicate(timeout=LIMIT)[1]
+
+
+class Follower:
+    """`follow` under way, whose output is in a file in memory."""
+
+    # how long one waits until it has written all, in seconds
+    patience = LIMIT
+
+    def __init__(self, words):
+        self.file = os.memfd_create("followed")
+        files = {"stdin": subprocess.DEVNULL, "stdout": self.file, "stderr": subprocess.PIPE}
+        self.process = subprocess.Popen(words, start_new_session=True, **files)
+
+    def is_connected(self):
+        """Whether its connection is open, which is a session of the server then."""
+        with contextlib.suppress(OSError):
+            files = Path(f"/proc/{self.process.pid}/fd")
+            own = {os.readlink(file) for file in files.iterdir()}
+            rows = [row.split() for row in Path("/proc/net/tcp").read_text().splitlines()[1:]]
+            return any(row[3] == ESTABLISHED and f"socket:[{row[9]}]" in own for row in rows)
+        return False
+
+    def written(self):
+        """What it has written so far."""
+        return os.pread(self.file, os.fstat(self.file).st_size, 0)
+
+    def ended(self):
+        """How it ends once its server has."""
+        try:
+            _, error = self.process.communicate(timeout=LIMIT)
+            return Ended(self.process.returncode, self.written(), error)
+        except subprocess.TimeoutExpired:
+            return Ended(None, self.written(), b"it doesn't end")
+
+    def close(self):
+        """Ends it, whatever it does."""
         if self.process.poll() is None:
             self.process.kill()
         self.process.communicate(timeout=LIMIT)
+        if self.file is not None:
+            os.close(self.file)
+            self.file = None

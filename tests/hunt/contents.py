@@ -33,7 +33,7 @@ NO_CELL, NO_TEXT, NO_FORMULA, TOO_LONG = map(refusal, ("cell", "text", "formula"
 NOT_TALLY, NOT_CHOICE, AMOUNT, OPTION = map(refusal, ("not-tally", "not-choice", "amount", "option"))
 TALLY_FULL, CHOICE_FULL, NOT_CHOSEN = map(refusal, ("tally-full", "choice-full", "not-chosen"))
 CLOCK_FULL, NO_DELTA, NO_LINE = map(refusal, ("clock-full", "delta", "line"))
-NO_COMMAND, NO_VERSION, NO_CSV = map(refusal, ("command", "version", "csv"))
+NO_COMMAND, NO_VERSION, NO_CSV, NO_REPLICA = map(refusal, ("command", "version", "csv", "replica"))
 
 
 def read_label(text):

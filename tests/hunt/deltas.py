@@ -55,6 +55,14 @@ def joined(one, other):
     return State(max(one.register, other.register), counts, merged(one.pairs, other.pairs, max))
 
 
+def is_all_by(delta, replica):
+    """Whether a replica made all changes of a delta ("A kept sheet")."""
+    return all((not state.register or state.register[1] == replica)
+               and all(other == replica for other in state.counts)
+               and all(other == replica and not gone for (_, other, _), gone in state.pairs.items())
+               for state in delta.values())
+
+
 def joined_deltas(deltas):
     """The join of some deltas."""
     both = {}
@@ -134,8 +142,8 @@ def state_of(value):
 
 
 def whole(digits):
-    """The number with these digits, and nothing where there is a sign."""
-    return int(digits) if digits.isdigit() else None
+    """The number with these digits, and where there is a sign one that is out of every range, as `-0` is, too."""
+    return int(digits) if digits.isdigit() else -1
 
 
 @functools.lru_cache(maxsize=1 << 12)

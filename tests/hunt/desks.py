@@ -4,16 +4,19 @@ import types
 from program import Ended
 
 from .model import Sheet
+from .processes import StandIn
 from .session import Session
 
 
 class Desk:
     """Sessions on one sheet, each line of which is answered as soon as it is sent."""
 
-    def __init__(self, count, words, kind=Sheet):
-        self.session = Session(int(words[words.index("--replica") + 1]), kind)
+    def __init__(self, count, words, kind=Sheet, kind_of_file=None, kind_of_follower=None):
+        self.stand_in = StandIn(kind, *words, kind_of_file=kind_of_file)
+        self.session = self.stand_in.session
+        self.kind_of_follower = kind_of_follower or DeskFollower
         self.count = count
-        self.channels = []
+        self.channels, self.followers = [], []
         self.before = self.measured()
 
     def connect(self, is_narrow=False):
@@ -22,10 +25,23 @@ class Desk:
         return self.channels[-1]
 
     def answer(self, channel, line):
-        """Answers a line of a session."""
+        """Answers a line of a session, once what it does is kept, and has followers ask."""
         reply = self.reply(channel, line)
+        self.stand_in.keep()
         if reply is not None:
             channel.received += reply + b"\n"
+        for follower in self.followers:
+            follower.ask()
+
+    def follow(self, every):
+        """A follower."""
+        self.followers.append(self.kind_of_follower(self, every))
+        return self.followers[-1]
+
+    def follow_until_now(self):
+        """How a follower ends that writes what there is."""
+        follower = self.kind_of_follower(self, 1)
+        return Ended(0, follower.written())
 
     def reply(self, channel, line):
         """The reply to a line of a session, or nothing."""
@@ -42,9 +58,58 @@ class Desk:
 
     def ended(self):
         """How it ends."""
-        return Ended(0, b"closed %d\n" % len(self.session.sheet.history))
+        return self.stand_in.end()._replace(output=b"closed %d\n" % len(self.session.sheet.history))
 
     def kill(self):
+        """Nothing is left of it, but for what it has told on standard error."""
+        return self.stand_in.file.told() if self.stand_in.file else b""
+
+
+class DeskFollower:
+    """A follower of such a sheet."""
+
+    patience = 0
+
+    def __init__(self, desk, every):
+        self.desk, self.every = desk, every
+        self.place = self.lines = 0
+        self.output = b""
+
+    def is_connected(self):
+        """Whether its connection is open."""
+        return True
+
+    def ask(self):
+        """Asks at one line of so many, as a follower does that waits."""
+        self.lines += 1
+        if self.lines % self.every == 0:
+            self.take()
+
+    def take(self):
+        """Writes the next group, and returns whether there was one."""
+        reply = self.desk.session.reply(b"pull %d 16" % self.place)
+        if not reply.startswith(b"delta "):
+            return False
+        _, place, text = reply.split(b" ", 2)
+        self.place = int(place)
+        self.write(b"push %s\n" % text)
+        return True
+
+    def write(self, line):
+        """Writes a line."""
+        self.output += line
+
+    def written(self):
+        """What it has written at last."""
+        while self.take():
+            pass
+        return self.output
+
+    def ended(self):
+        """How it ends once its server is gone."""
+        return Ended(0, self.output)
+
+    def close(self):
         """Nothing is left of it."""
 
 

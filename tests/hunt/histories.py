@@ -3,7 +3,8 @@
 A receipt's number is the place of its delta in the history. A read shows some version between what its session has seen
 or changed and the newest that there can have been, which ends before the first delta whose line wasn't sent yet. What
 hands out or changes deltas, or is refused as it would, does so at the newest version, which has all that was answered
-to anyone before the line was sent.
+to anyone before the line was sent. Of a server that was killed the newest version is what it has kept, and one that
+goes on begins with that.
 """
 from .contents import refusal
 from .deltas import delta_line, read_delta
@@ -110,6 +111,8 @@ class Judge:
                     continue
                 if not self.history.makes(line.text, number):
                     raise Wrong(f"{line.text!r} is answered {line.reply!r}, and isn't what made that delta")
+                if not self.is_within(talk, number):
+                    raise Wrong(f"{line.text!r} is answered {line.reply!r}, and that isn't kept")
                 if number in owners:
                     raise Wrong(f"{line.text!r} and {owners[number]!r} are both answered {line.reply!r}")
                 owners[number] = line.text
@@ -122,7 +125,7 @@ class Judge:
                 number = receipt_of(line)
                 if number is None or verb_of(line) != b"push" or number in self.sent:
                     continue
-                if self.history.makes(line.text, number):
+                if self.history.makes(line.text, number) and self.is_within(talk, number):
                     delta = self.history.deltas[number - 1]
                     self.sent[number] = min(it.sent for other in self.talks for it in other.lines
                                             if verb_of(it) == b"push" and read_delta(it.text[5:]) == delta)
@@ -130,13 +133,14 @@ class Judge:
     def claim_unanswered(self):
         """Gives places that are left to lines that weren't answered, each of which has one at most."""
         left = [line for talk in self.talks for line in talk.unanswered()]
+        talks = {line: talk for talk in self.talks for line in talk.unanswered()}
         texts = {line.text for line in left}
         owned = {}
         for number in range(1, len(self.history.deltas) + 1):
             if number in self.sent:
                 continue
             able = {text for text in texts if self.history.makes(text, number)}
-            lines = [line for line in left if line.text in able]
+            lines = [line for line in left if line.text in able and self.is_within(talks[line], number)]
             if self.gives(number, {number: lines}, owned, set()):
                 # (whichever of them it was, it was sent since then)
                 self.sent[number] = min(line.sent for line in lines)
@@ -152,12 +156,22 @@ class Judge:
                 return True
         return False
 
-    def newest(self, event):
-        """The newest version that there can have been at an event."""
-        version = 0
-        while version < len(self.history.deltas) and self.sent[version + 1] < event:
+    def is_within(self, talk, number):
+        """Whether a change was made at the server of a session, which may have been killed."""
+        return talk.first < number and (talk.last is None or number <= talk.last)
+
+    def newest(self, event, last=None):
+        """The newest version that there can have been at an event, of those that were kept."""
+        version, end = 0, len(self.history.deltas) if last is None else last
+        while version < end and self.sent[version + 1] < event:
             version += 1
         return version
+
+    def judge_journal(self, begun, ended, count):
+        """Judges how many changes a follower has written that wrote what there was."""
+        if not self.answered(begun) <= count <= self.newest(ended):
+            raise Wrong(f"a follower writes {count} changes until now, where there are {self.answered(begun)} to "
+                        f"{self.newest(ended)}")
 
     def answered(self, event):
         """The newest version that was answered before an event."""
@@ -165,15 +179,16 @@ class Judge:
 
     def follow(self, talk):
         """Follows a session, whose versions never fall."""
-        seen = 0
+        seen = talk.first
         for line in talk.lines:
             if line.reply is None or self.lacked(line):
                 continue
             verb = verb_of(line)
             least = max(seen, self.answered(line.sent)) if verb in NEWEST else seen
-            version = self.version_of(line, least)
+            most = self.newest(line.answered, talk.last)
+            version = self.version_of(line, least, most)
             if version is None:
-                raise Wrong(self.about(line, least))
+                raise Wrong(self.about(line, least, most))
             if verb in READS or verb in SHOW_NEWEST or receipt_of(line) is not None:
                 seen = version
 
@@ -183,9 +198,9 @@ class Judge:
             return False
         return verb_of(line) in (*NEWEST, b"rows")
 
-    def version_of(self, line, least):
-        """The least version at which the reply to a line may have been given, or nothing."""
-        number, most = receipt_of(line), self.newest(line.answered)
+    def version_of(self, line, least, most):
+        """The least version of these at which the reply to a line may have been given, or nothing."""
+        number = receipt_of(line)
         if number is not None:
             is_made = self.history.makes(line.text, number) and least < number
             if not least <= number <= most:
@@ -196,9 +211,8 @@ class Judge:
         versions = range(least, most + 1)
         return next((it for it in versions if self.history.answer(line.text, it)[0] == line.reply), None)
 
-    def about(self, line, least):
-        """What is told of a line whose reply is that of no version."""
-        most = self.newest(line.answered)
+    def about(self, line, least, most):
+        """What is told of a line whose reply is that of none of these versions."""
         versions = sorted({least, most} & {*range(len(self.history.sheets))})
         replies = b" .. ".join(self.history.answer(line.text, it)[0] or b"" for it in versions)
         return (f"{line.text[:300]!r} is answered\n{line.reply[:300]!r}\nwhich is the reply at no version from {least}"

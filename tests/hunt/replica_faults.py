@@ -2,9 +2,11 @@
 
 Those of a sheet (`faults.SHEETS`) are planted too.
 """
-from . import deltas, faults
+import re
+
+from . import deltas, faults, kept
 from .model import Sheet
-from .processes import StandIn
+from .processes import KeptFile, StandIn
 
 
 class LastComes(Sheet):
@@ -118,3 +120,66 @@ PROCESSES = (LosesLast, Fixed, EndsBadly)
 def by_process(kind):
     """How a replica is started whose process has a fault."""
     return lambda *words: kind(Sheet, *words)
+
+
+class LosesKept(KeptFile):
+    """Each fifth change isn't noted."""
+
+    def note(self, lines):
+        super().note(lines if self.noted % 5 else b"")
+
+
+class NotesLate(KeptFile):
+    """What a line does is noted once the next one has come."""
+
+    late = b""
+
+    def note(self, lines):
+        super().note(self.late)
+        self.late = lines
+
+    def close(self):
+        self.note(b"")
+
+
+class CutsWhole(KeptFile):
+    """A start takes the last whole line for one that is torn."""
+
+    def start_of(self, content):
+        return b"".join(content.splitlines(keepends=True)[:-1]) if kept.changes_in(content) > 2 else content
+
+
+class KeepsTorn(KeptFile):
+    """A start leaves what a crash has left of a line, and what comes next follows it."""
+
+    def start_of(self, content):
+        return content
+
+
+class Renumbers(KeptFile):
+    """A start gives the file the number of another replica."""
+
+    def start_of(self, content):
+        return re.sub(rb"^replica (\d+)", lambda found: b"replica %d" % (int(found[1]) % 32 + 1), content)
+
+
+class TornIsWhole(KeptFile):
+    """A start ends what a crash has left of a line, which is then passed over."""
+
+    def start_of(self, content):
+        return content if content.endswith(b"\n") or not content else content + b"\n"
+
+
+class NotesTwice(KeptFile):
+    """Each fourth change is noted twice."""
+
+    def note(self, lines):
+        super().note(lines if self.noted % 4 else lines * 2)
+
+
+FILES = (LosesKept, NotesLate, CutsWhole, KeepsTorn, Renumbers, TornIsWhole, NotesTwice)
+
+
+def by_file(kind):
+    """How a replica is started that keeps itself in a file with a fault."""
+    return lambda *words: StandIn(Sheet, *words, kind_of_file=kind)

@@ -3,10 +3,14 @@
 A replica is a process of the program, with the model's session beside it; each reply has to be that of the model. What
 one replica has is carried to another as delta lines, which wait on their way until the plan delivers, repeats, drops or
 joins them, in any order. A replica that is stopped has kept the lines that it had handed out until then, and once it is
-started they are pushed again before all else. When the network heals, each replica hands all that it has to the next
+started they are pushed again before all else; or it keeps itself in a file, of which it goes on as it was, whatever
+ended it. When the network heals, each replica hands all that it has to the next
 one, twice round; then all have to show what the model shows of the join of all lines that were handed out.
 """
-from . import deltas
+import tempfile
+from pathlib import Path
+
+from . import deltas, kept
 from .model import Sheet
 from .processes import Gone
 from .session import Session
@@ -22,9 +26,14 @@ class Trouble(Exception):
 class Replica:
     """A replica that runs or is stopped: its process, the model's session beside it, and the lines that it keeps."""
 
-    def __init__(self, number, start, workers):
+    def __init__(self, number, start, workers, file=None):
         self.number = number
         self.words = ("--replica", str(number), "--workers", str(workers))
+        self.words += ("--keep", str(file)) if file else ()
+        # where it keeps itself, with how many changes it was opened, and a line that was sent as it was killed
+        self.file = file
+        self.opened = 0
+        self.torn = None
         self.start_process = start
         self.process = None
         self.session = None
@@ -47,11 +56,51 @@ class Replica:
         """Starts it, where it is stopped, and pushes what it has kept."""
         if self.process is not None:
             return
-        self.process, self.session = self.start_process(*self.words), Session(self.number)
+        self.process = self.start_process(*self.words)
+        if self.file:
+            self.go_on()
+            return
+        self.session = Session(self.number)
         for line in self.kept:
             self.ask(b"push " + line)
         # (it has all of these, and hands them out in other groups)
         self.kept_to = len(self.session.sheet.history)
+
+    def go_on(self):
+        """Goes on from its file: as it was, and with the line that was sent as it was killed, if that is kept."""
+        self.session = self.session or Session(self.number)
+        self.opened = len(self.session.sheet.history)
+        is_known, line, self.torn = self.is_known_after(self.opened), self.torn, None
+        if is_known and line is not None:
+            self.session.reply(line)
+            self.opened = len(self.session.sheet.history)
+        self.session.is_elsewhere = False
+        self.compare_file(is_whole=True)
+
+    def is_known_after(self, version):
+        """Whether it knows changes after a version."""
+        try:
+            return self.process.ask(b"pull %d" % version) != b"end %d" % version
+        except Gone as gone:
+            raise Trouble(f"replica {self.number} doesn't go on from its file: {gone.args[0]}") from None
+
+    def compare_file(self, is_whole):
+        """The file has each change, and what follows its last line feed only where it isn't whole."""
+        content = self.file.read_bytes() if self.file.exists() else b""
+        wanted = kept.text_of(self.number, self.session.sheet.history)
+        found = content if is_whole else kept.whole_lines(content)
+        is_torn = self.torn is not None and found.startswith(wanted) and found.count(b"\n") == wanted.count(b"\n") + 1
+        if found != wanted and not is_torn:
+            raise Trouble(f"the file of replica {self.number} ends with\n{found[-600:]!r}\nand has to with\n"
+                          f"{wanted[-600:]!r}")
+
+    def tear(self, line, pause):
+        """Sends a line, and kills it meanwhile."""
+        self.start()
+        process, self.process = self.process, None
+        process.tear(line, pause)
+        self.torn = line
+        self.compare_file(is_whole=False)
 
     def handed_out(self, begin, most=16):
         """The lines of all deltas after a version."""
@@ -71,15 +120,22 @@ class Replica:
         """Stops it."""
         if self.process is None:
             return
-        if how != FORGETS:
+        if how != FORGETS and not self.file:
             self.keep()
         process, self.process = self.process, None
         if how != ENDS:
             process.kill()
-            return
-        ended = process.end()
-        if (ended.status, ended.output, ended.error) != (0, b"", b""):
-            raise Trouble(f"replica {self.number} ends with {ended}")
+        else:
+            self.compare_end(process.end())
+        if self.file:
+            self.compare_file(is_whole=how == ENDS)
+
+    def compare_end(self, ended):
+        """It has ended well, and has told what it has opened, if anything, and where its number is used elsewhere."""
+        elsewhere = self.number if self.session.is_elsewhere else None
+        told = kept.told(self.file, self.opened, elsewhere) if self.file else b""
+        if (ended.status, ended.output, ended.error) != (0, b"", told):
+            raise Trouble(f"replica {self.number}, opened with {self.opened} changes, ends with {ended}")
 
     def close(self):
         """Ends its process, whatever it does."""
@@ -92,11 +148,13 @@ class Network:
 
     def __init__(self, settings, start):
         numbers = range(1, settings["replicas"] + 1)
-        self.replicas = [Replica(number, start, settings["workers"]) for number in numbers]
+        self.folder = tempfile.TemporaryDirectory(prefix="hunt-kept-") if settings.get("kept") else None
+        files = [Path(self.folder.name) / f"{number}.lines" if self.folder else None for number in numbers]
+        self.replicas = [Replica(number, start, settings["workers"], file) for number, file in zip(numbers, files)]
         self.shown = settings["shown"].encode()
         self.ways, self.told = {}, {}
         self.groups = 0
-        self.counts = {"steps": 0, "deltas carried": 0, "stops": 0, "heals": 0}
+        self.counts = {"steps": 0, "deltas carried": 0, "stops": 0, "starts from files": 0, "heals": 0}
 
     def way(self, one, other):
         """The lines on their way from one replica to another."""
@@ -157,9 +215,23 @@ class Network:
         self.counts["stops"] += 1
         self.replicas[one].stop(how)
 
+    def tear(self, one, line, pause):
+        """Sends a line to a replica that keeps itself, and kills it meanwhile."""
+        if self.folder:
+            self.counts["stops"] += 1
+            self.replicas[one].tear(line, pause)
+
     def start(self, one):
         """Starts a replica."""
+        self.counts["starts from files"] += self.folder is not None and self.replicas[one].process is None
         self.replicas[one].start()
+
+    def close(self):
+        """Ends all of it."""
+        for replica in self.replicas:
+            replica.close()
+        if self.folder:
+            self.folder.cleanup()
 
     def cut(self, groups):
         """Cuts the network into two groups."""
@@ -199,7 +271,7 @@ class Network:
                 raise Trouble(f"replica {replica.number} shows\n{shown!r}\nand all that was handed out\n{wanted!r}")
 
     STEPS = {"line": line, "carry": carry, "deliver": deliver, "repeat": repeat, "drop": drop, "join": join,
-             "stop": stop, "start": start, "cut": cut, "heal": heal}
+             "stop": stop, "tear": tear, "start": start, "cut": cut, "heal": heal}
 
 
 def trouble(plan, start, counts=None):
@@ -213,8 +285,7 @@ def trouble(plan, start, counts=None):
     except Trouble as found:
         return found.args[0]
     finally:
-        for replica in network.replicas:
-            replica.close()
+        network.close()
         for name, count in network.counts.items() if counts is not None else ():
             counts[name] = counts.get(name, 0) + count
     return None

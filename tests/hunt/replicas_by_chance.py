@@ -17,6 +17,8 @@ STEPS = (
     {"line": 8, "carry": 5, "deliver": 5, "stop": 3, "start": 3, "repeat": 1},
     {"line": 8, "carry": 6, "deliver": 8, "cut": 2, "heal": 1},
 )
+# How often those come besides, where each replica keeps itself in a file.
+KEPT_STEPS = {"stop": 2, "tear": 3, "start": 3}
 
 
 class Planner:
@@ -82,6 +84,11 @@ class Planner:
     def stop(self):
         return self.one(), self.chance.of((ENDS, ENDS, KILLED, KILLED, FORGETS))
 
+    def tear(self):
+        one, line = self.line()
+        # (mostly within the time that a line takes)
+        return one, line, self.chance.of((0, 0, 50, 200, 1_000, self.chance.randint(0, 5_000)))
+
     def start(self):
         return (self.one(),)
 
@@ -92,7 +99,7 @@ class Planner:
         return ()
 
     MAKES = {"line": line, "carry": carry, "deliver": place, "repeat": place, "drop": place, "join": place,
-             "stop": stop, "start": start, "cut": cut, "heal": heal}
+             "stop": stop, "tear": tear, "start": start, "cut": cut, "heal": heal}
 
 
 def plan(seed, number):
@@ -103,8 +110,11 @@ def plan(seed, number):
     if planner.replicas > 8:
         # (each of many replicas is handed all at each heal)
         steps = {word: count for word, count in steps.items() if word != "heal"}
+    is_kept = chance.once_in(2)
+    for word, count in KEPT_STEPS.items() if is_kept else ():
+        steps = {**steps, word: steps.get(word, 0) + count}
     words = chance.choices([*steps], [*steps.values()], k=chance.of(LENGTHS))
     parts = tuple((word, *planner.MAKES[word](planner)) for word in words)
     shown = f"{planner.names[0].decode()}:{planner.names[-1].decode()}"
     workers = chance.of((1, 1, 1, 2, 16))
-    return Plan({"replicas": planner.replicas, "workers": workers, "shown": shown}, parts)
+    return Plan({"replicas": planner.replicas, "workers": workers, "shown": shown, "kept": is_kept}, parts)

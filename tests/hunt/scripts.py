@@ -12,7 +12,7 @@ AMOUNTS = (b"1", b"1", b"2", b"3", b"7", b"1000000", b"999999", b"0", b"1000001"
            b"18446744073709551615", b"18446744073709551616", b"x", b"0" * 30 + b"4")
 OPTIONS = (b"0", b"0", b"1", b"2", b"3", b"7", b"63", b"64", b"007", b"-1", b"", b"18446744073709551616", b"x")
 VERBS = (b"set", b"add", b"sub", b"choose", b"unchoose", b"get", b"rows", b"entry", b"entries", b"push", b"pull",
-         b"SET", b"", b"walk", b"\xff")
+         b"replica", b"SET", b"", b"walk", b"\xff")
 NO_CELLS = (b"", b"A0", b"A01", b"a1", b"A1025", b"DA1", b"AAA1", b"A", b"1", b"$A1", b"A1:B1", b"\xc3\x81", b"+A1",
             b"CZ1025")
 NUMBERS = (b"0", b"1", b"00", b"01", b"16", b"17", b"x", b"", b"-1", b"18446744073709551615", b"18446744073709551616")
@@ -122,13 +122,17 @@ class Writer:
         self.write(self.choosing(self.session.sheet))
 
     def get(self):
-        """Asks what a cell shows, or what was typed."""
+        """Asks what a cell shows, or what it holds."""
         self.ask(self.chance.of((b"get ", b"get ", b"get ", b"entry ")) + self.name())
 
     def rows(self):
         """Asks the same of the whole corner, or of a part of it."""
         one, other = (self.names[0], self.names[-1]) if self.chance.once_in(2) else (self.name(), self.name())
         self.ask(b"%s %s:%s" % (self.chance.of((b"rows", b"rows", b"entries")), one, other))
+
+    def replica(self):
+        """Asks for the own replica, and mostly names one beside it."""
+        self.ask(b"replica" + self.chance.of((b"", b" 1", b" 2", b" 32", b" " + self.chance.of(NUMBERS))))
 
     def pull(self):
         """Asks for deltas, mostly some that are there."""

@@ -3,6 +3,7 @@ from sizes import LONGEST_DELTA, LONGEST_LINE
 
 from . import contents, deltas
 from .contents import Refusal
+from .deltas import REPLICAS
 from .model import Sheet
 from .places import CELL_OF, spanned
 from .records import written_record
@@ -44,6 +45,8 @@ class Session:
 
     def __init__(self, replica=1, kind=Sheet):
         self.sheet = kind(replica)
+        # whether a new delta was pushed that its replica made all of
+        self.is_elsewhere = False
 
     def reply(self, line):
         """The reply to a line as it stands before its line feed, without the line feed at its own end; or nothing."""
@@ -95,7 +98,13 @@ class Session:
 
     def push(self, line):
         delta = deltas.read_delta(line)
-        return contents.NO_DELTA if delta is None else self.edited(self.sheet.receive(delta))
+        if delta is None:
+            return contents.NO_DELTA
+        before = len(self.sheet.history)
+        reply = self.edited(self.sheet.receive(delta))
+        if len(self.sheet.history) > before and deltas.is_all_by(delta, self.sheet.replica):
+            self.is_elsewhere = True
+        return reply
 
     def pull(self, begin, most=b"1"):
         begin = number_of(begin, contents.NO_VERSION)
@@ -110,11 +119,15 @@ class Session:
         # (of a history of lines the first delta always fits)
         return b"end %d" % begin if begin == len(history) else contents.TOO_LONG
 
+    def replica(self, named=b"1"):
+        number_of(named, contents.NO_REPLICA, 1, REPLICAS)
+        return b"replica %d" % self.sheet.replica
+
     # what each asks for, and how many words it has at least and at most after its first one
     VERBS = {
         b"set": (set, 1, 2), b"add": (add, 2, 2), b"sub": (sub, 2, 2), b"choose": (choose, 2, 2),
         b"unchoose": (unchoose, 2, 2), b"get": (get, 1, 1), b"rows": (rows, 1, 1), b"entry": (entry, 1, 1),
-        b"entries": (entries, 1, 1), b"push": (push, 1, 1), b"pull": (pull, 1, 2),
+        b"entries": (entries, 1, 1), b"push": (push, 1, 1), b"pull": (pull, 1, 2), b"replica": (replica, 0, 1),
     }
 
 

@@ -1,8 +1,8 @@
 """Faults that are planted among sessions for the hunt's own test, each in what stands in for a server."""
 from program import Ended
 
-from . import faults
-from .desks import Desk, at_version
+from . import faults, replica_faults
+from .desks import Desk, DeskFollower, at_version
 
 EDITS = (b"set ", b"add ", b"sub ", b"choose ", b"unchoose ")
 
@@ -151,3 +151,54 @@ SHEETS = (faults.Late, faults.Stale, faults.Partial)
 def by_desk(kind):
     """How a server with a fault is started."""
     return lambda count, words, _: kind(count, words)
+
+
+# -- Of followers and kept files
+
+class Repeats(DeskFollower):
+    """Each third line comes twice."""
+
+    def write(self, line):
+        super().write(line * (1 + (self.place % 3 == 0)))
+
+
+class LeavesOut(DeskFollower):
+    """Each third line is left out."""
+
+    def write(self, line):
+        super().write(line if self.place % 3 else b"")
+
+
+class Exchanges(DeskFollower):
+    """Now and then two lines come in another order."""
+
+    held = b""
+
+    def write(self, line):
+        if self.place % 2 and not self.held:
+            self.held = line
+            return
+        super().write(line + self.held)
+        self.held = b""
+
+
+class StopsShort(DeskFollower):
+    """It doesn't ask again once it has some."""
+
+    def take(self):
+        return self.place < 5 and super().take()
+
+
+FOLLOWERS = (Repeats, LeavesOut, Exchanges, StopsShort)
+FILES = (replica_faults.LosesKept, replica_faults.NotesLate, replica_faults.CutsWhole, replica_faults.Renumbers,
+         replica_faults.NotesTwice)
+
+
+def by_follower(kind):
+    """How a server is started whose followers have a fault."""
+    return lambda count, words, _: Desk(count, words, kind_of_follower=kind)
+
+
+def by_file(kind):
+    """How a server is started that keeps its sheet in a file with a fault."""
+    return lambda count, words, _: Desk(count, words, kind_of_file=kind)

@@ -2,26 +2,33 @@
 
 There are one or two servers. The sessions of a plan come and go, stall, break off and send too much; at the end each
 server has one session more, which pulls each change by itself. `histories` judges by that. With two servers some of
-the changes are handed from one to the other by `sync`.
+the changes are handed from one to the other by `sync`. Followers go along, whose lines are the history; and a single
+server may keep its sheet in a file, from which it goes on after it was killed (`houses`).
 """
 import re
 import subprocess
+import tempfile
 
 from program import LIMIT, Ended
 
 from .channels import Broken
 from .deltas import delta_line, read_delta
 from .histories import History, Judge, Wrong
+from .houses import House, followed_to
 from .session import Session
 from .talks import CLOCK, Line, Talk
 
 # A server may have so much more memory at the end than at the beginning, and so much for each session that there was,
 # which the C library keeps for threads to come.
 KILOBYTES, KILOBYTES_EACH = 40_000, 20_000
+SEATS = 16
 
 
 class Handed:
     """What a `sync` has handed over, as a session of the server that it pushed to."""
+
+    # what any server has
+    first, last = 0, None
 
     def __init__(self, sent):
         self.sent = sent
@@ -39,17 +46,6 @@ class Handed:
                 raise Wrong(f"sync hasn't handed over all of\n{text[:600]!r}")
 
 
-class House:
-    """A server of a run, its sessions by their numbers, and how many it still waits for."""
-
-    def __init__(self, server, count):
-        self.server = server
-        self.count = count
-        self.talks = {}
-        self.handed = []
-        self.deltas = []
-
-
 class Run:
     """A run of a plan."""
 
@@ -58,12 +54,15 @@ class Run:
         self.sync_by = sync
         self.houses = []
         self.syncs = []
-        self.counts = {"lines": 0, "receipts": 0, "reads": 0, "syncs": 0}
+        self.counts = {"lines": 0, "receipts": 0, "reads": 0, "syncs": 0, "followers": 0, "crashes": 0}
+        self.folder = tempfile.TemporaryDirectory(prefix="hunt-kept-") if settings.get("kept") else None
+        followers = settings.get("followers", 0)
         for number in range(settings["servers"]):
-            # (a session for each sync, and one that pulls all at the end)
-            count = settings["sessions"] + settings["syncs"] + 1
+            # (a session for each sync and follower, and one that pulls all at the end)
+            counts = settings["sessions"] + settings["syncs"] + followers + 1, followers
             words = ("--replica", str(settings["replica"] + number), "--workers", str(settings["workers"]))
-            self.houses.append(House(start(count, words, settings.get("fault")), count))
+            self.houses.append(House(lambda *asked: start(*asked, settings.get("fault")), words, counts,
+                                     self.folder and self.folder.name))
 
     def house(self, number):
         """The server of the session with this number."""
@@ -71,11 +70,7 @@ class Run:
 
     def talk(self, number):
         """The session with this number, which is begun where it hasn't been."""
-        house = self.house(number)
-        if number not in house.talks:
-            house.talks[number] = Talk(house.server.connect(number % 3 == 0))
-            house.count -= 1
-        return house.talks[number]
+        return self.house(number).talk(number)
 
     # -- Steps
 
@@ -123,7 +118,20 @@ class Run:
         second.handed.append(handed)
         self.syncs.append((first, begun, int(found[1]), handed))
 
-    STEPS = {"send": send, "wait": wait, "look": look, "end": end, "leave": leave, "sync": sync}
+    def follow(self, one, every):
+        self.counts["followers"] += 1
+        self.house(one).follow(every)
+
+    def journal(self, one):
+        self.counts["followers"] += 1
+        self.house(one).journal()
+
+    def crash(self, one, pause):
+        self.counts["crashes"] += 1
+        self.house(one).crash(pause)
+
+    STEPS = {"send": send, "wait": wait, "look": look, "end": end, "leave": leave, "sync": sync, "follow": follow,
+             "journal": journal, "crash": crash}
 
     # -- The end
 
@@ -140,19 +148,24 @@ class Run:
         for synced in self.syncs:
             self.lines_of(*synced)
         for number, house in enumerate(self.houses):
-            talks = [*house.talks.values(), *house.handed]
+            talks = [*house.all_talks(), *house.handed]
             history = History(self.settings["replica"] + number, house.deltas)
-            Judge(history, talks, (self.settings.get("fault") or "-")[0] == "m").judge()
+            house.compare_file(self.settings["replica"] + number)
+            judge = Judge(history, talks, (self.settings.get("fault") or "-")[0] == "m")
+            judge.judge()
+            for begun, ended, output in house.journals:
+                judge.judge_journal(begun, ended, followed_to(house.deltas, output))
             for handed in house.handed:
                 handed.compare(history)
             self.count_lines(house)
 
     def ask_for_all(self, house):
         """Has a last session of the server pull each change, and the server end as it has to."""
+        following = house.following()
         last = Talk(house.server.connect())
         # (once it is answered, all before it have been accepted)
         last.ask(b"pull 0")
-        self.compare_measures(house.server)
+        self.compare_measures(house, 1 + following)
         number = 0
         while (reply := last.ask(b"pull %d" % number)) is not None and reply.startswith(b"delta %d " % (number + 1)):
             number += 1
@@ -163,16 +176,19 @@ class Run:
             house.deltas.append(delta)
         if reply != b"end %d" % number:
             raise Broken(f"the last session asks for what comes after {number}, and the reply is {reply!r}")
+        house.wait_for_followers()
+        self.compare_measures(house, 1)
         last.end()
-        ended = house.server.ended()
-        if ended != Ended(0, b"closed %d\n" % number):
-            raise Broken(f"after {number} changes the server ends with {ended}")
+        house.compare_end(house.server.ended(), number)
 
-    def compare_measures(self, server):
-        """Once all sessions but the last have ended, memory, open files and threads are as at the beginning."""
-        before, each = server.before, KILOBYTES_EACH * self.settings["sessions"]
-        found = server.settled(lambda it: it and all(it[name] <= before[name] + 1 for name in ("threads", "files")))
-        for name, more in (("threads", 1), ("files", 1), ("kilobytes", KILOBYTES + each)):
+    def compare_measures(self, house, count):
+        """Once all sessions but so many have ended, memory, open files and threads are as at the beginning."""
+        server, before, each = house.server, house.server.before, KILOBYTES_EACH * self.settings["sessions"]
+        # (a server that keeps its sheet has a file for each seat that isn't given on yet)
+        files = count + (SEATS if house.file else 0)
+        found = server.settled(lambda it: it and it["threads"] <= before["threads"] + count
+                               and it["files"] <= before["files"] + files)
+        for name, more in (("threads", count), ("files", files), ("kilobytes", KILOBYTES + each)):
             if found.get(name, 0) > before[name] + more:
                 raise Broken(f"after its sessions it has {found[name]} {name}, at the beginning {before[name]}")
 
@@ -193,7 +209,7 @@ class Run:
 
     def count_lines(self, house):
         """Counts what was judged."""
-        for talk in house.talks.values():
+        for talk in house.all_talks():
             replies = [line.reply for line in talk.lines if line.reply is not None]
             self.counts["lines"] += len(talk.lines)
             self.counts["receipts"] += sum(reply.startswith(b"ok ") for reply in replies)
@@ -202,9 +218,9 @@ class Run:
     def close(self):
         """Ends all that still runs."""
         for house in self.houses:
-            for talk in house.talks.values():
-                talk.channel.close()
-            house.server.kill()
+            house.close()
+        if self.folder:
+            self.folder.cleanup()
 
 
 def lines_at(deltas, version):

@@ -8,6 +8,8 @@ from .scripts import NO_CELLS, NUMBERS
 
 SESSIONS = (1, 2, 3, 4, 6, 8, 12, 15)
 LENGTHS = (10, 30, 60, 100, 200)
+# Of so many plans one has followers, and one has a server that keeps its sheet and is killed now and then.
+FOLLOWED, KEPT = 2, 3
 # How often each step comes: polite sessions, hasty ones, and such as break off.
 STEPS = (
     {"polite": 10, "look": 1, "end": 1},
@@ -39,7 +41,8 @@ class SessionPlanner(Planner):
             return b"pull %d%s" % (chance.of((0, 0, 1, 3, 8, 20)), chance.of((b"", b" 1", b" 3", b" 16")))
         if kind < 0.97:
             return self.push()
-        return chance.of((b"get " + chance.of(NO_CELLS), b"walk", b"", b"\r", b"pull " + chance.of(NUMBERS)))
+        return chance.of((b"get " + chance.of(NO_CELLS), b"walk", b"", b"\r", b"pull " + chance.of(NUMBERS),
+                          b"replica", b"replica 2"))
 
     def push(self):
         """A line that pushes a delta that nobody made, often one that was pushed before."""
@@ -93,6 +96,27 @@ class SessionPlanner(Planner):
              "end": end, "leave": leave, "sync": sync}
 
 
+def with_followers(chance, parts, count):
+    """The steps with so many followers among them, some of which write what there is and end."""
+    for _ in range(count):
+        step = chance.of((("follow", 0, chance.of((1, 1, 5, 20))), ("journal", 0)))
+        parts = put_in(chance, parts, step)
+    return parts
+
+
+def with_crashes(chance, parts):
+    """The steps with crashes among them, each after a pause of so many millionths of a second."""
+    for _ in range(chance.of((1, 1, 2, 3, 5))):
+        parts = put_in(chance, parts, ("crash", 0, chance.of((0, 0, 100, 1_000, chance.randint(0, 10_000)))))
+    return parts
+
+
+def put_in(chance, parts, step):
+    """The steps with another one among them."""
+    place = chance.randint(0, len(parts))
+    return (*parts[:place], step, *parts[place:])
+
+
 def plan(seed, number):
     """The plan with this number."""
     chance = Chance(f"{seed}/sessions", number)
@@ -107,5 +131,12 @@ def plan(seed, number):
     words = chance.choices([*steps], [*steps.values()], k=chance.of(LENGTHS))
     parts = tuple(step for word in words for step in planner.MAKES[word](planner))
     settings = {"servers": servers, "sessions": sessions, "syncs": syncs, "replica": chance.randint(1, 31),
-                "workers": chance.of((1, 1, 2, 16))}
+                "workers": chance.of((1, 1, 2, 16)), "followers": 0, "kept": False}
+    if servers == 1 and chance.once_in(KEPT):
+        settings["kept"] = True
+        parts = with_crashes(chance, parts)
+    if sessions + syncs < 12 and chance.once_in(FOLLOWED):
+        settings["followers"] = chance.randint(1, 3)
+        # (after a crash there may be as many again)
+        parts = with_followers(chance, parts, settings["followers"] * (1 + settings["kept"]))
     return Plan(settings, parts)

@@ -10,6 +10,7 @@ import os
 import struct
 import subprocess
 from pathlib import Path
+from typing import NamedTuple
 
 from program import LIMIT, TOP, Ended
 
@@ -51,12 +52,26 @@ def fault(chance, calls):
     return [call, first, chance.of(lasting), error]
 
 
+class Counts(NamedTuple):
+    """How many calls of the kind that is meant a program has made, the bytes it has read and written, and syncs."""
+
+    calls: int
+    read: int
+    written: int
+    syncs: int
+
+
+def counted(counts):
+    """What this file has counted so far."""
+    return Counts(*struct.unpack("QQQQ", os.pread(counts.fileno(), 32, 0)))
+
+
 @contextlib.contextmanager
 def spoiling(path, fault):
     """How a program with a fault is started, and the file that counts its calls."""
     call, first, last, error = fault
     with open(os.memfd_create("calls"), "r+b") as counts:
-        counts.truncate(24)
+        counts.truncate(32)
         told = {"FAULT_CALL": call, "FAULT_FIRST": first, "FAULT_LAST": last, "FAULT_ERROR": error,
                 "FAULT_COUNTS": counts.fileno(), "LD_PRELOAD": path}
         yield {"env": {**os.environ, **{name: str(it) for name, it in told.items()}},
@@ -73,9 +88,7 @@ def run(path, script, fault):
         except subprocess.TimeoutExpired:
             status, error = None, b"it didn't end"
         output.seek(0)
-        counts.seek(0)
-        _, read, _ = struct.unpack("QQQ", counts.read(24))
-        return Ended(status, output.read(), error), read
+        return Ended(status, output.read(), error), counted(counts).read
 
 
 # -- What may come

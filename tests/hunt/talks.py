@@ -28,8 +28,10 @@ class Line:
 class Talk:
     """A session: its connection, the lines that it has sent, and the beginning of one that it hasn't ended."""
 
-    def __init__(self, channel):
+    def __init__(self, channel, opened=0):
         self.channel = channel
+        # how many changes its server had opened, and has kept where it was killed
+        self.first, self.last = opened, None
         self.lines = []
         self.begun = b""
         self.answered = 0
@@ -94,7 +96,17 @@ class Talk:
         self.is_open = False
         self.channel.close()
 
+    def lose(self):
+        """Reads what has arrived from a server that is gone."""
+        self.is_open, self.is_broken_off = False, True
+        self.wait(lambda: False)
+        self.take_replies()
+        self.channel.close()
+
     def break_off(self, is_reset):
         """Closes the connection or breaks it off, whatever was answered."""
         self.is_open, self.is_broken_off = False, True
+        if self.begun and not is_reset:
+            # (the end of the input ends a line, too)
+            self.lines.append(Line(self.begun))
         self.channel.close(is_reset)

@@ -14,9 +14,10 @@ THEMES = (
     {"edit": 3, "count": 8, "choose": 8, "hostile": 2, "meet": 2, "get": 8, "rows": 1, "pull": 3},
     {"hostile": 10, "again": 5, "get": 10, "rows": 2, "pull": 4, "edit": 2},
     {"meet": 8, "again": 6, "edit": 5, "count": 3, "choose": 3, "get": 10, "rows": 2, "pull": 6},
-    {"broken": 10, "ending": 2, "edit": 4, "hostile": 2, "get": 4, "rows": 1, "pull": 2, "count": 2, "choose": 2},
+    {"broken": 10, "ending": 2, "edit": 4, "hostile": 2, "get": 4, "rows": 1, "pull": 2, "count": 2, "choose": 2,
+     "replica": 1},
     {"edit": 6, "count": 3, "choose": 3, "hostile": 3, "meet": 2, "again": 2, "broken": 1, "ending": 1, "get": 8,
-     "rows": 2, "pull": 3},
+     "rows": 2, "pull": 3, "replica": 1},
 )
 LENGTHS = (5, 20, 60, 150, 300, 300, 450, 450, 600)
 # Of so many scripts one is a table, and one has many cells or long lines.
