@@ -22,8 +22,9 @@ ENTRY = f"=[.{SOURCE}]"
 # How many threads evaluate beside the caller's own, for so many workers.
 THREADS = {1: 0, 2: 1, 4: 3, 16: 15}
 
-# How many cells each formula of sums adds up, and how often the first of them is changed.
-SUMMED, CHANGES = 300, 6
+# The last cell of those that each formula of sums adds up, from the first of them on, and how often that is changed.
+# They have few rows of many columns, so that each sum takes long although sums of columns are remembered.
+SUMMED, CHANGES = name(25, ROWS + 101), 6
 
 SCRIPT = lines(*pushes(lambda column, row: ENTRY, range(1, ROWS + 1)), f"set {SOURCE} 7", f"get {LAST}")
 REPLIES = lines(*(f"ok {number}" for number in range(1, ROWS + 2)), "val 7")
@@ -97,7 +98,7 @@ class Workers(CountsThreads):
 
     def test_each_has_its_part_of_a_level(self):
         # each formula is a sum, so that nearly all time is that of evaluations, most of it in changes of the one cell
-        entry = f"=SUM([.{SOURCE}:.A{ROWS + SUMMED}])"
+        entry = f"=SUM([.{SOURCE}:.{SUMMED}])"
         given = lines(*pushes(lambda *_: entry, range(1, ROWS + 1)), *(f"set {SOURCE} {n}" for n in range(CHANGES)))
         threads, workers = self.threads(), max(THREADS)
         before = resource.getrusage(resource.RUSAGE_CHILDREN)
