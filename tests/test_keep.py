@@ -116,7 +116,8 @@ class Elsewhere(KeepingTest):
 
     def test_each_kind_of_change_of_its_own_replica(self):
         for part in ('[1,1,"5"],[],[]', "null,[[1,0,3]],[]", "null,[],[[7,1,1,0]]",
-                     '[9,1,"@tally"],[[1,2,0]],[[0,1,1,0]]'):
+                     '[9,1,"@tally"],[[1,2,0]],[[0,1,1,0]]', "null,[],[[7,1,1,1]]", '[2,2,"5"],[[1,0,3]],[]',
+                     '[1,1,"5"],[[2,1,1]],[[7,2,1,0]]', "null,[[1,1,0],[2,1,0]],[]", "null,[],[[7,1,1,0],[7,2,1,1]]"):
             with self.subTest(part=part):
                 self.file.unlink(missing_ok=True)
                 self.assert_told(f'push [["B2",{part}]]', "rows A1:B2", told=self.warned())
@@ -141,6 +142,9 @@ class Elsewhere(KeepingTest):
         # .. nor at the next start, at which the file has all of it
         self.before = own
         self.assert_told(*pushes, opened=len(own))
+        # .. nor amid new changes of others
+        others = 'push [["A1",[2,1,"5"],[[2,4,0]],[]],["B1",[5,2,"@tally"],[[1,3,0],[2,1,0]],[]]]'
+        self.assert_told(others, "rows A1:B1", opened=len(own))
 
     def test_changes_of_others_are_not_told(self):
         # (the option is taken out by the other one, which has the pair of this one)
@@ -149,6 +153,13 @@ class Elsewhere(KeepingTest):
         self.before = ("set C1 @choice", "choose C1 7", *PUSHES, 'push [["C1",null,[],[[7,1,1,1]]]]')
         both = 'push [["C1",[1,1,"@choice"],[],[]],["E5",[1,2,"3"],[],[]]]'
         self.assert_told(both, "get E5", opened=len(self.before))
+
+    def test_a_new_part_of_its_own_amid_changes_of_others(self):
+        own = ("set C1 @choice", "choose C1 7")
+        self.assert_told(*own)
+        self.before = own
+        others = '["A1",[1,2,"3"],[[3,1,0]],[]],["B1",[1,1,"5"],[],[]],["D1",null,[],[[7,2,1,0]]]'
+        self.assert_told(f"push [{others}]", "rows A1:D1", told=self.warned(), opened=len(self.before))
 
     def test_by_its_number(self):
         push = 'push [["A1",[1,{0},"5"],[[{0},1,0]],[[0,{0},1,0]]]]'

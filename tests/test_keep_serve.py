@@ -88,7 +88,7 @@ class Serve(KeepingTest):
             self.assertEqual(two.ask('push [["A1",[1,5,"5"],[],[]]]'), "ok 1")
             self.assertEqual(two.ask('push [["B1",[1,6,"5"],[],[]]]'), "ok 2")
             self.assertEqual(two.ask('push [["A1",[1,5,"5"],[],[]],["B1",[2,6,"7"],[],[]]]'), "ok 3")
-            self.assertEqual(two.ask('push [["A1",[2,5,"6"],[],[]]]'), "ok 4")
+            self.assertEqual(two.ask('push [["A1",[2,5,"6"],[],[]],["B1",[3,6,"8"],[],[]]]'), "ok 4")
             error = server.session.stderr.fileno()
             told = self.opened(0) + self.warned(5)
             read = b""

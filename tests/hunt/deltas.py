@@ -55,12 +55,11 @@ def joined(one, other):
     return State(max(one.register, other.register), counts, merged(one.pairs, other.pairs, max))
 
 
-def is_all_by(delta, replica):
-    """Whether a replica made all changes of a delta ("A kept sheet")."""
-    return all((not state.register or state.register[1] == replica)
-               and all(other == replica for other in state.counts)
-               and all(other == replica and not gone for (_, other, _), gone in state.pairs.items())
-               for state in delta.values())
+def made_by(replica, state):
+    """What a replica made of a state of a cell. Any replica can have taken a pair of it out."""
+    register = state.register if state.register and state.register[1] == replica else ()
+    counts = {other: count for other, count in state.counts.items() if other == replica}
+    return State(register, counts, {pair: 0 for pair in state.pairs if pair[1] == replica})
 
 
 def joined_deltas(deltas):

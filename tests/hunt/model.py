@@ -33,8 +33,16 @@ class Sheet:
 
     def receive(self, delta):
         """Takes in a delta of another replica, unless it brings nothing new."""
-        if any(deltas.joined(self.state(cell), state) != self.state(cell) for cell, state in delta.items()):
+        if not all(self.has(cell, state) for cell, state in delta.items()):
             self.append(delta)
+
+    def has(self, cell, state):
+        """Whether a state of the cell brings nothing new."""
+        return deltas.joined(self.state(cell), state) == self.state(cell)
+
+    def has_own(self, delta):
+        """Whether nothing is new of what the sheet's replica made of a delta ("A kept sheet")."""
+        return all(self.has(cell, deltas.made_by(self.replica, state)) for cell, state in delta.items())
 
     def state(self, cell):
         """What the cell holds."""

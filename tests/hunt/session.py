@@ -100,11 +100,8 @@ class Session:
         delta = deltas.read_delta(line)
         if delta is None:
             return contents.NO_DELTA
-        before = len(self.sheet.history)
-        reply = self.edited(self.sheet.receive(delta))
-        if len(self.sheet.history) > before and deltas.is_all_by(delta, self.sheet.replica):
-            self.is_elsewhere = True
-        return reply
+        self.is_elsewhere = self.is_elsewhere or not self.sheet.has_own(delta)
+        return self.edited(self.sheet.receive(delta))
 
     def pull(self, begin, most=b"1"):
         begin = number_of(begin, contents.NO_VERSION)

@@ -1,5 +1,4 @@
 pub mod Commands
-pub mod Elsewhere
 pub mod Kept
 pub mod Sessions
 pub mod Status

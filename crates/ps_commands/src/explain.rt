@@ -51,11 +51,11 @@ impl<W: Write + Drop> Onlooker<W> {
 }
 
 impl<W: Write + Drop> Watcher for Onlooker<W> {
-    fn saw(&mut self, line: &[u8], seen: Seen<'_>) {
+    fn saw(&mut self, line: &[u8], seen: Seen) {
         self.lines = self.lines.saturating_add(1);
         let refusal = match seen {
             Seen::Refused(refusal) => Some(refusal),
-            Seen::Answered | Seen::Received(_) => None,
+            Seen::Answered | Seen::Elsewhere => None,
         };
         if refusal.is_some() {
             self.refused = self.refused.saturating_add(1);

@@ -54,7 +54,6 @@ impl<L: DeskName, D: Device + Drop> Host<L, D> {
             Some(keeper) => {
                 let at = KeptDesk { desk, keeper };
                 let marker = Marker {
-                    replica: desk.replica(),
                     mark: &self.is_elsewhere,
                 };
                 let (pass, is_kept) = attend_keeping(rt, alloc, at, pass, stream, marker);

@@ -48,7 +48,7 @@ mod squash;
 mod table;
 
 pub use connection::{Attended, attend_lines};
-pub use elsewhere::{KeptOnlooker, NumberElsewhere, Warner, is_all_by};
+pub use elsewhere::{KeptOnlooker, NumberElsewhere, Warner};
 pub use exchange::sync_on;
 pub use explain::{KeptReader, Onlooker, explain_table};
 pub use fault::{ProgramFault, status_of};

@@ -1,6 +1,7 @@
 //! The desk: a lock round what its passes share.
 
 ghost use Rattle.std.specs.Prelude.{◌≡◌, ◌⊎◌, ◌+◌, ◌<◌, ◌≤◌, ◌^◌, true, if◌then◌else◌, drop, length, map, take};
+ghost use Rattle.std.specs.Prelude.{List};
 ghost use Rattle.std.specs.Prelude.{Ok, Err, IsOk, IfOk, IfErr, OnOk, OnErr};
 ghost use Rattle.std.specs.Arc.{arc_value};
 ghost use mathlib.Core.List.{IsPrefix};
@@ -8,8 +9,10 @@ ghost use Rattle.ps_grid.specs.declared.refusal.Refusal.TheVariants.{Memory, Ver
 ghost use Rattle.ps_delta.specs.State.{IsBelow};
 ghost use Rattle.ps_delta.specs.Deltas.{joined_history, state_of};
 ghost use Rattle.ps_sheet.specs.Edits.{delta_of_edit};
+ghost use Rattle.ps_sheet.specs.Own.{has_own};
 ghost use Rattle.ps_sheet.specs.Prepared.{IsDeltaOf, IsRefusedBy, IsToAppend};
 ghost use Rattle.ps_csv.specs.Exports.{entry_text, exported_entries, held_in};
+ghost use Rattle.ps_face.specs.declared.patch.Note.{Note};
 ghost use Rattle.ps_face.specs.Legal.{IsLegal, history_of};
 ghost use Rattle.ps_desk.specs.Receipts.{IsAppended, Tells};
 
@@ -214,6 +217,19 @@ impl<L: DeskName, W: Wait + Drop> Desk<L, W> {
         let state = self.state.lock(wait);
         place.catch_up(wait, state.front());
         state.deltas_after(alloc, from, usize::MAX)
+    }
+
+    /// Whether the sheet had, at some time of the call, all of a delta that its own replica made. Where it hadn't, the
+    /// replica's number is used elsewhere, too, or changes of its own were lost.
+    ///
+    /// It may wait for other calls.
+    ///
+    /// Cost: that of `ps_sheet`'s `Staging::has_own`.
+    pub fn has_own<V: Wait>(&self, wait: &V, delta: &Delta) -> bool
+        ensures own { (list : List Note) × IsLegal L.opening list
+            × (result ≡ has_own L.replica (joined_history (history_of L.opening list)) delta.now) }
+    {
+        self.state.lock(wait).has_own(delta)
     }
 
     /// What a cell holds: its entry. The pass has then seen all that is published.

@@ -97,13 +97,14 @@ impl<L: DeskName, W: Wait + Drop, V: Wait, M: Ledger> Board<Meter<M>> for Seat<'
         delta: Arc<Delta>,
         meter: &mut Meter<M>,
     ) -> Result<Taken, Refusal> {
+        let had_own = self.desk.has_own(self.wait, &delta);
         match self
             .desk
             .receive(rt, self.wait, alloc, &mut self.pass, delta, meter)
         {
             Ok(receipt) => Ok(Taken {
                 number: receipt.number,
-                is_new: receipt.fresh,
+                had_own,
             }),
             Err(refusal) => Err(refusal),
         }

@@ -8,6 +8,7 @@ ghost use Rattle.ps_grid.specs.declared.refusal.Refusal.TheVariants.{Memory, Ver
 ghost use Rattle.ps_delta.specs.Deltas.{joined_history};
 ghost use Rattle.ps_csv.specs.Exports.{entry_text, exported_entries, held_in};
 ghost use Rattle.ps_sheet.specs.Prepared.{IsDeltaOf, IsRefusedBy, IsToAppend};
+ghost use Rattle.ps_sheet.specs.Own.{has_own};
 ghost use Rattle.ps_sheet.specs.Sheet.{IsSheet};
 ghost use Rattle.ps_face.specs.Legal.{IsLegal, history_of};
 ghost use Rattle.ps_desk.specs.Receipts.{Tells};
@@ -162,6 +163,16 @@ impl<L: DeskName, W: Wait + Drop> DeskState<L, W> {
 }
 
 impl<L: DeskName, W: Wait + Drop> DeskState<L, W> {
+    /// Whether the sheet has all of a delta that its own replica made.
+    pub(crate) fn has_own(&self, delta: &Delta) -> bool
+        ensures own { result ≡ has_own L.replica (joined_history (history_of L.opening self.now)) delta.now }
+        ensures legal { IsLegal L.opening self.now }
+    {
+        // for the fact that the list is legal
+        let _ = self.front();
+        self.sheet.has_own(delta)
+    }
+
     /// The entry of a cell. Refused only when out of memory.
     pub(crate) fn entry(&self, alloc: Global, cell: Cell) -> Result<Vec<u8>, Refusal>
         ensures text { IfOk result (λ t. t.items ≡ entry_text (held_in (history_of L.opening self.now)) cell) }

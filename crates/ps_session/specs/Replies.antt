@@ -3,7 +3,7 @@ use Rattle.std.specs.Prelude.{ℕ, List, [], ◌∷◌, ◌++◌, codes, decimal
 use Rattle.ps_grid.specs.Refusals.{number_of, name_of}
 use Rattle.ps_grid.specs.declared.refusal.Refusal.{Refusal}
 use Rattle.ps_session.specs.declared.reply.Reply.{Reply}
-use Rattle.ps_session.specs.declared.reply.Reply.TheVariants.{Delta, Done, End, Entries, Entry, Received, Refused}
+use Rattle.ps_session.specs.declared.reply.Reply.TheVariants.{Delta, Done, DoneElsewhere, End, Entries, Entry, Refused}
 use Rattle.ps_session.specs.declared.reply.Reply.TheVariants.{Replica, Rows, Shown}
 use Rattle.ps_value.specs.declared.value.Value.{Value}
 use Rattle.ps_value.specs.Shown.{shown_text}
@@ -42,7 +42,7 @@ refusal_text refusal = codes "err " ++ decimal (number_of refusal) ++ (codes " "
 
 abbrev pub reply_text : Reply → List ℕ
 reply_text (Done version) = done_text version
-reply_text (Received version delta) = done_text version
+reply_text (DoneElsewhere version) = done_text version
 reply_text (Shown value) = value_text value
 reply_text (Rows count table) = rows_text count table.items
 reply_text (Entry entry) = entry_reply entry.items

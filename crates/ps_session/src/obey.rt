@@ -10,7 +10,6 @@ use crate::board::Board;
 use crate::command::Command;
 use crate::pull::greatest_group;
 use crate::reply::Reply;
-use crate::taken::Taken;
 use ps_delta::Delta;
 use ps_grid::{Rect, Refusal};
 use std::alloc::Global;
@@ -120,20 +119,9 @@ fn take_in<R: Threads + Sync, B: Board<M>, M>(
         Ok(pushed) => pushed,
         Err(_) => return Reply::Refused(Refusal::Memory),
     };
-    // (where it has as many owners as can be counted, nobody is shown it)
-    let shown = pushed.clone().ok();
     match board.apply_delta(rt, alloc, pushed, meter) {
-        Ok(taken) => done(taken, shown),
+        Ok(taken) if taken.had_own => Reply::Done(taken.number),
+        Ok(taken) => Reply::DoneElsewhere(taken.number),
         Err(refusal) => Reply::Refused(refusal),
-    }
-}
-
-/// The reply where a delta was taken in, which is shown to who looks on where it is new.
-fn done(taken: Taken, shown: Option<Arc<Delta>>) -> Reply
-    ensures told { reply_text result ≡ done_text taken.number }
-{
-    match shown {
-        Some(delta) if taken.is_new => Reply::Received(taken.number, delta),
-        _ => Reply::Done(taken.number),
     }
 }

@@ -6,19 +6,17 @@ ghost use Rattle.ps_session.specs.Replies.{entry_reply, reply_text};
 
 use crate::watcher::Seen;
 use itoa::Buffer;
-use ps_delta::Delta;
 use ps_device::{Failed, Sink, put_all};
 use ps_grid::Refusal;
 use ps_value::{Value, write_shown};
-use std::sync::Arc;
 
 /// The reply to a line.
 #[derive(Drop)]
 pub enum Reply {
     /// `ok` and the version.
     Done(u64),
-    /// .. where a delta that was pushed is new, with the delta, which isn't told.
-    Received(u64, Arc<Delta>),
+    /// .. where a delta was pushed of which the own replica made a part that the board hadn't, which isn't told.
+    DoneElsewhere(u64),
     /// `val` and what the cell shows.
     Shown(Value),
     /// `rows` and how many lines a table has, and then the lines, each with its line feed.
@@ -39,10 +37,10 @@ pub enum Reply {
 
 impl Reply {
     /// What became of the line, for who looks on.
-    pub(crate) fn outcome(&self) -> Seen<'_> {
+    pub(crate) fn outcome(&self) -> Seen {
         match self {
             Reply::Refused(refusal) => Seen::Refused(*refusal),
-            Reply::Received(_, delta) => Seen::Received(delta),
+            Reply::DoneElsewhere(_) => Seen::Elsewhere,
             _ => Seen::Answered,
         }
     }
@@ -95,8 +93,7 @@ pub fn send<K: Sink>(reply: &Reply, sink: &mut K) -> Result<(), Failed>
     ensures failed { OnErr result (K.failures sink.old < K.failures sink.new) }
 {
     match reply {
-        Reply::Done(version) => send_number(b"ok ", *version, sink),
-        Reply::Received(version, _) => send_number(b"ok ", *version, sink),
+        Reply::Done(version) | Reply::DoneElsewhere(version) => send_number(b"ok ", *version, sink),
         Reply::Shown(value) => send_shown(*value, sink),
         Reply::Rows(count, table) => send_table(b"rows ", *count, table, sink),
         Reply::Entry(entry) => send_entry(entry, sink),

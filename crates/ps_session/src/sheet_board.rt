@@ -40,11 +40,11 @@ impl<L: Ledger> Board<Meter<L>> for Sheet {
         delta: Arc<Delta>,
         meter: &mut Meter<L>,
     ) -> Result<Taken, Refusal> {
-        let before = self.version();
+        let had_own = self.has_own(&delta);
         match self.receive(rt, alloc, delta, meter) {
             Ok(report) => Ok(Taken {
                 number: report.version,
-                is_new: before < report.version,
+                had_own,
             }),
             Err(refusal) => Err(refusal),
         }

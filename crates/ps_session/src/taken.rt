@@ -5,6 +5,6 @@
 pub struct Taken {
     /// The number that is told as `ok`: that of the delta, where it is new, and else that of the last one.
     pub number: u64,
-    /// Whether it changed something. No contract says so, for no reply tells it.
-    pub is_new: bool,
+    /// Whether the board had all of the delta that its own replica made. No contract says so, for no reply tells it.
+    pub had_own: bool,
 }

@@ -1,17 +1,17 @@
 //! Who looks on at a session.
 
-use ps_delta::Delta;
 use ps_grid::Refusal;
 
 /// What became of a line.
 #[derive(Clone, Copy)]
-pub enum Seen<'a> {
+pub enum Seen {
     /// It was answered, or it is empty.
     Answered,
     /// It was refused.
     Refused(Refusal),
-    /// It was answered, and it pushed this delta, which changed something.
-    Received(&'a Delta),
+    /// It was answered, and it pushed changes of the own replica that the sheet hadn't: so the replica's number is used
+    /// elsewhere, too, or changes were lost.
+    Elsewhere,
 }
 
 /// Who looks on at the lines of a session. It changes nothing that the session does, so its call promises nothing.
@@ -20,7 +20,7 @@ pub trait Watcher {
     /// line is one, too. Of one that is too long nothing is left to see.
     ///
     /// Cost: the watcher's own.
-    fn saw(&mut self, line: &[u8], seen: Seen<'_>);
+    fn saw(&mut self, line: &[u8], seen: Seen);
 }
 
 /// A watcher that looks away.
@@ -28,5 +28,5 @@ pub trait Watcher {
 pub struct Unwatched;
 
 impl Watcher for Unwatched {
-    fn saw(&mut self, _line: &[u8], _seen: Seen<'_>) {}
+    fn saw(&mut self, _line: &[u8], _seen: Seen) {}
 }

@@ -6,12 +6,9 @@ use Rattle.std.proofs.Math.ListN.{get_or-append}
 use Rattle.std.proofs.Math.Seq.{get_or-append_seam, take-append_seam}
 use Rattle.std.proofs.lemmas.List.{take-append-le}
 use Rattle.std.proofs.lemmas.Bool.{cases_lt}
-use Rattle.ps_shown.specs.declared.kept.Kept.{Kept}
-use Rattle.ps_shown.specs.Shown.{shown_at}
-use Rattle.ps_delta.specs.State.{State, IsBelow, IsInGrid, joined_state}
+use Rattle.ps_delta.specs.State.{State, IsBelow, joined_state}
 use Rattle.ps_delta.specs.Deltas.{Entries, state_of, joined_history}
-use Rattle.ps_cells.specs.Settled.{IsSettled}
-use Rattle.ps_sheet.specs.Sheet.{SheetView, IsFresh, IsSheet}
+use Rattle.ps_sheet.specs.Sheet.{IsFresh}
 use Rattle.ps_delta.proofs.HistoryLemmas.{joined_history-push}
 
 -- a history stays fresh where a delta is appended that isn't below its join

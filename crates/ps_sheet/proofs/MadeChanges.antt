@@ -1,7 +1,6 @@
 -- What a staged change is once it was listed, and once it was made.
 use Rattle.std.proofs.Common.{◌≡◌, ◌++◌, ◌∷◌, [], ℕ, Bool, true, Option, Some, None, List, map, sym, ap, ◌∙◌, subst}
 use Rattle.std.specs.Prelude.{IsSomeAnd, if◌then◌else◌}
-use Rattle.ps_value.specs.declared.value.Value.{Value}
 use Rattle.ps_eval.specs.Items.{Assignment}
 use Rattle.ps_shown.specs.declared.kept.Kept.{Kept}
 use Rattle.ps_shown.specs.Shown.{shown_at}
@@ -12,7 +11,7 @@ use Rattle.ps_cells.specs.Changes.{IsChanged, put_back}
 use Rattle.ps_cells.specs.Recalculated.{IsRecalculated}
 use Rattle.ps_cells.proofs.ChangeLists.{changes_of}
 use Rattle.ps_cells.proofs.IdleChanges.{idle_recalculated}
-use Rattle.ps_sheet.specs.Prepared.{IsOf, IsPrepared, PreparedView, history_after, shown_after, shown_before}
+use Rattle.ps_sheet.specs.Prepared.{IsOf, IsPrepared, PreparedView, history_after, shown_before}
 use Rattle.ps_sheet.specs.Reports.{IsReport}
 use Rattle.ps_sheet.specs.Sheet.{IsSheet, SheetView}
 use Rattle.ps_sheet.specs.Staging.{IsSameChange, IsStagedAs, IsStaging, IsWorkedOut, StagedView, StagingView}

@@ -1,15 +1,12 @@
 -- What a sheet keeps, where nothing is staged in it, and where a change is.
-use Rattle.std.proofs.Common.{◌≡◌, ◌++◌, ◌∷◌, [], ℕ, Bool, true, false, Option, Some, None, List, map}
-use Rattle.std.proofs.Common.{is_some, refl, sym, ap, ◌∙◌, subst}
-use Rattle.std.specs.Prelude.{IsSomeAnd, if◌then◌else◌}
-use Rattle.std.specs.Arc.{arc_value}
-use Rattle.ps_shown.specs.Shown.{shown_at}
-use Rattle.ps_delta.specs.State.{State, IsInGrid, state_at}
-use Rattle.ps_delta.specs.Deltas.{Entries, joined_history}
-use Rattle.ps_cells.specs.Cells.{AreTheSame, CellsView, state_before, state_now, state_without}
-use Rattle.ps_sheet.specs.Prepared.{IsOf, PreparedView, history_after, shown_before}
-use Rattle.ps_sheet.specs.Sheet.{SheetView, IsFresh, IsSheet}
-use Rattle.ps_sheet.specs.Staging.{IsStagedAs, IsWorkedOut, Stages, StagedView, StagingView, prepared_of, sheet_of}
+use Rattle.std.proofs.Common.{◌≡◌, Option, Some, None}
+use Rattle.std.proofs.Common.{ap, ◌∙◌, subst}
+use Rattle.std.specs.Prelude.{IsSomeAnd}
+use Rattle.ps_delta.specs.State.{state_at}
+use Rattle.ps_delta.specs.Deltas.{joined_history}
+use Rattle.ps_cells.specs.Cells.{CellsView, state_before, state_now, state_without}
+use Rattle.ps_sheet.specs.Sheet.{IsSheet}
+use Rattle.ps_sheet.specs.Staging.{IsStagedAs, StagingView, sheet_of}
 use Rattle.ps_sheet.specs.Inside.Kept.{IsKept, IsStagedBy, staged_of, view_of}
 use Rattle.ps_sheet.specs.declared.staging.Staging.TheInside.{Inside}
 

@@ -4,10 +4,8 @@ use Rattle.std.proofs.Common.{is_some, refl, sym, ap, ◌∙◌, subst, length}
 use Rattle.std.specs.Prelude.{IsSomeAnd, if◌then◌else◌, vec_len, vec_capacity}
 use Rattle.std.specs.Arc.{arc_value}
 use Rattle.ps_grid.specs.declared.parties.TheConstants.{REPLICAS}
-use Rattle.ps_value.specs.declared.value.Value.{Value}
 use Rattle.ps_shown.specs.declared.kept.Kept.{Kept}
 use Rattle.ps_shown.specs.Shown.{shown_at}
-use Rattle.ps_eval.specs.Items.{Assignment}
 use Rattle.ps_delta.specs.State.{State, IsBelow, IsInGrid, empty_state, joined_state, state_at}
 use Rattle.ps_delta.specs.Deltas.{Entries, state_of, joined_history}
 use Rattle.ps_delta.proofs.HistoryLemmas.{joined_history-nil, joined_history-push}

@@ -1,6 +1,7 @@
 pub mod Batches
 pub mod Edits
 pub mod Inside
+pub mod Own
 pub mod Prepared
 pub mod PreparedCode
 pub mod Reports

@@ -1,5 +1,5 @@
 -- A sheet in which at most one change is staged, as contracts see it.
-use Rattle.std.specs.Prelude.{◌≡◌, ℕ, ◌↔◌, Bool, true, false, Option, Some, None, IsSomeAnd, List, [], length}
+use Rattle.std.specs.Prelude.{◌≡◌, ℕ, ◌↔◌, Bool, true, Option, Some, None, IsSomeAnd, List, length}
 use Rattle.ps_value.specs.declared.value.Value.{Value}
 use Rattle.ps_shown.specs.declared.kept.Kept.{Kept}
 use Rattle.ps_shown.specs.Shown.{shown_at}

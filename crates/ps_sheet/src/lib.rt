@@ -46,6 +46,7 @@ mod crossing;
 mod edit;
 mod edit_delta;
 mod laws;
+mod own;
 mod prepared;
 mod sheet;
 mod staging;

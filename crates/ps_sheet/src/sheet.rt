@@ -11,6 +11,7 @@ ghost use Rattle.ps_shown.specs.Shown.{shown_at};
 ghost use Rattle.ps_cells.specs.Settled.{Cyclic};
 ghost use Rattle.ps_sheet.specs.Reports.{IsReport};
 ghost use Rattle.ps_sheet.specs.Edits.{is_clock_full};
+ghost use Rattle.ps_sheet.specs.Own.{has_own};
 
 use crate::edit::Edit;
 use crate::staging::Staging;
@@ -265,6 +266,18 @@ impl Sheet {
         ensures sheet { IsSheet self.now }
     {
         self.staging.content(cell)
+    }
+
+    /// Whether the state has all of a delta that the own replica made. Where it hasn't, the replica's number is used
+    /// elsewhere, too, or changes of its own were lost.
+    ///
+    /// Cost: for each cell of the delta its counts, each with a walk over those that the cell has here, and its pairs,
+    /// each with a search among those that the cell has here; no memory.
+    pub fn has_own(&self, delta: &Delta) -> bool
+        ensures own { result ≡ has_own self.now.replica (joined_history self.now.history) delta.now }
+        ensures sheet { IsSheet self.now }
+    {
+        self.staging.has_own(delta)
     }
 
     /// The accepted deltas that changed the state, in the order in which they came.

@@ -11,14 +11,15 @@ ghost use Rattle.ps_delta.specs.State.{IsBelow};
 ghost use Rattle.ps_delta.specs.Deltas.{joined_history, state_of};
 ghost use Rattle.ps_cells.specs.Changes.{IsChanged};
 ghost use Rattle.ps_sheet.specs.Edits.{delta_of_edit, is_clock_full};
+ghost use Rattle.ps_sheet.specs.Own.{has_own};
 ghost use Rattle.ps_sheet.specs.Prepared.{IsDeltaOf, IsOf, IsRefusedBy, IsToAppend, history_after, shown_before};
 ghost use Rattle.ps_sheet.specs.Sheet.{IsSheet};
 ghost use Rattle.ps_sheet.specs.Staging.{IsListed, IsStaging, IsWorkedOut, Stages, prepared_of, sheet_of, staging_of};
 
-use crate::contents;
 use crate::edit::{Change, Edit};
 use crate::edit_delta::delta_of;
 use crate::sheet::{Report, Sheet};
+use crate::{contents, own};
 use ps_cells::{Cells, content};
 use ps_content::Content;
 use ps_delta::Delta;
@@ -272,6 +273,19 @@ impl Staging {
         ensures staging { IsStaging self.now }
     {
         content(self.cells.grid().at(cell))
+    }
+
+    /// Whether the state has all of a delta that the own replica made, where nothing is staged. Where it hasn't, the
+    /// replica's number is used elsewhere, too, or changes of its own were lost.
+    ///
+    /// Cost: for each cell of the delta its counts, each with a walk over those that the cell has here, and its pairs,
+    /// each with a search among those that the cell has here; no memory.
+    pub fn has_own(&self, delta: &Delta) -> bool
+        requires none { self.now.staged ≡ None }
+        ensures own { result ≡ has_own self.now.replica (joined_history self.now.history) delta.now }
+        ensures staging { IsStaging self.now }
+    {
+        own::has_own(self.cells.grid(), delta, self.replica)
     }
 
     /// Makes the staged change. It takes no memory.

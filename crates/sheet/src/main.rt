@@ -274,7 +274,7 @@ fn run_kept<R: Files<File = File> + Threads + Sync, I: Ledger, O: Ledger, H: Led
         rt.alloc(),
         Some((NumberElsewhere { replica, path }, rt.stderr())),
     );
-    let mut onlooker = KeptOnlooker::new(Onlooker::new(rt.alloc(), told), replica, warner);
+    let mut onlooker = KeptOnlooker::new(Onlooker::new(rt.alloc(), told), warner);
     answer_kept(
         threads,
         rt.alloc(),

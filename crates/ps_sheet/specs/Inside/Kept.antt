@@ -1,11 +1,11 @@
 -- What a sheet with a staged change keeps beside what contracts see, and what the sheet and the prepared change make of
 -- it.
-use Rattle.std.specs.Prelude.{◌≡◌, ◌≤◌, ◌<◌, ℕ, Bool, true, false, Option, Some, None, is_some, List, [], map}
+use Rattle.std.specs.Prelude.{◌≡◌, ◌≤◌, ◌<◌, true, false, Option, Some, None, is_some, [], map}
 use Rattle.std.specs.Prelude.{IsSomeAnd, vec_len, vec_capacity}
 use Rattle.std.specs.Arc.{arc_value}
 use Rattle.ps_grid.specs.declared.parties.TheConstants.{REPLICAS}
 use Rattle.ps_delta.specs.State.{IsInGrid}
-use Rattle.ps_delta.specs.Deltas.{Entries, joined_history}
+use Rattle.ps_delta.specs.Deltas.{joined_history}
 use Rattle.ps_cells.specs.Cells.{CellsView, state_before, state_now}
 use Rattle.ps_sheet.specs.Prepared.{PreparedView, IsPrepared, history_after}
 use Rattle.ps_sheet.specs.Sheet.{IsFresh}

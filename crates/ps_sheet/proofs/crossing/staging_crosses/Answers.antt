@@ -1,5 +1,4 @@
 use denote.RattleType.{RattleType}
-use denote.Hole.{as_row}
 use denote.Param.Send.{IsSend, IsSync, sendable, view_send}
 use denote.Param.SendFields.{declared_send, as_row_send}
 use denote.Struct.Declared as S

@@ -1,0 +1,96 @@
+//! Whether a state has what a replica made.
+
+ghost use Rattle.std.specs.Prelude.{◌≡◌, IsTrue, is_some, true};
+ghost use Rattle.std.specs.Option.{option_map_or};
+ghost use Rattle.std.specs.FinMap as map;
+ghost use Rattle.std.specs.List.{list_all, list_any};
+ghost use Rattle.ps_lattice.specs.Choice.{pair_cmp};
+ghost use Rattle.ps_delta.specs.State.{state_at};
+ghost use Rattle.ps_sheet.specs.Own.{has_assignment, has_count, has_own, has_own_of_cell, has_pair, is_at_most, is_counted_in};
+
+use ps_content::Content;
+use ps_delta::{CellState, Delta, Grid};
+use ps_lattice::{Assignment, Count, Pair, Register};
+
+/// Whether a grid has all that a replica made of a delta.
+///
+/// Cost: for each cell of the delta its counts, each with a walk over those of the cell, and its pairs, each with a
+/// search among those of the cell.
+pub(crate) fn has_own(grid: &Grid, delta: &Delta, replica: u8) -> bool
+    ensures { result ≡ has_own replica (state_at grid.now) delta.now }
+{
+    delta
+        .parts()
+        .iter()
+        .all(|part| has_own_of_cell(grid.at(part.0), &part.1, replica))
+}
+
+/// Whether a cell has all that a replica made of another state of it.
+fn has_own_of_cell(state: &CellState, part: &CellState, replica: u8) -> bool
+    ensures { result ≡ has_own_of_cell replica state.now part.now }
+{
+    let (register, tally, choice) = part.parts();
+    has_assignment(&state.register, register, replica)
+        && has_counts(state.tally.parts(), tally.parts(), replica)
+        && has_pairs(state.choice.parts(), choice.parts(), replica)
+}
+
+/// Whether a register has what a replica assigned to it, or something greater.
+fn has_assignment(register: &Register<Content>, part: &Register<Content>, replica: u8) -> bool
+    ensures { result ≡ option_map_or (has_assignment replica register.now) part.now true }
+{
+    match part.parts() {
+        Some(made) if made.replica == replica => match register.parts() {
+            Some(held) => is_at_most(made, held),
+            None => false,
+        },
+        _ => true,
+    }
+}
+
+/// Whether an assignment isn't greater than another one.
+fn is_at_most(made: &Assignment<Content>, held: &Assignment<Content>) -> bool
+    ensures { result ≡ is_at_most made.now held.now }
+{
+    made.time
+        .cmp(&held.time)
+        .then(made.replica.cmp(&held.replica))
+        .then(made.content.cmp(&held.content))
+        .is_le()
+}
+
+/// Whether counts have all of other ones that are a replica's, or greater ones.
+fn has_counts(counts: &[(u8, Count)], part: &[(u8, Count)], replica: u8) -> bool
+    ensures { result ≡ list_all (has_count replica counts.now) part.now }
+{
+    part.iter()
+        .all(|made| made.0 != replica || is_counted(counts, made))
+}
+
+/// Whether one of these counts is the replica's of that count, and not less.
+fn is_counted(counts: &[(u8, Count)], made: &(u8, Count)) -> bool
+    ensures { result ≡ list_any (is_counted_in made.now) counts.now }
+{
+    counts.iter().any(|held| {
+        held.0 == made.0 && made.1.added <= held.1.added && made.1.subtracted <= held.1.subtracted
+    })
+}
+
+/// Whether pairs have all of other ones that a replica made.
+fn has_pairs(pairs: &[(Pair, bool)], part: &[(Pair, bool)], replica: u8) -> bool
+    requires { IsTrue (map.is_sorted pair_cmp pairs.now) }
+    ensures { result ≡ list_all (has_pair replica pairs.now) part.now }
+{
+    part.iter().all(|made| made.0.replica != replica || is_paired(pairs, made.0))
+}
+
+/// Whether a pair is one of these.
+fn is_paired(pairs: &[(Pair, bool)], pair: Pair) -> bool
+    requires { IsTrue (map.is_sorted pair_cmp pairs.now) }
+    ensures { result ≡ is_some (map.find pair_cmp pair pairs.now) }
+{
+    match pairs.binary_search_by_key(&pair, |&(held, _)| held) {
+        Ok(_) => true,
+        Err(_) => false,
+    }
+}
