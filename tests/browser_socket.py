@@ -16,10 +16,19 @@ class Ended(Exception):
     """The connection ended before what was waited for."""
 
 
-def connection_to(port, wait=LIMIT):
-    """A connection to a port of this machine, at which nothing waits for longer than so many seconds."""
-    connection = socket.create_connection((HERE, port), timeout=wait)
-    connection.setsockopt(socket.IPPROTO_TCP, socket.TCP_NODELAY, 1)
+def connection_to(port, wait=LIMIT, room=None):
+    """A connection to a port of this machine, at which nothing waits for longer than so many seconds, perhaps with room
+    for so many bytes that are received alone."""
+    connection = socket.socket()
+    try:
+        connection.settimeout(wait)
+        if room is not None:
+            connection.setsockopt(socket.SOL_SOCKET, socket.SO_RCVBUF, room)
+        connection.connect((HERE, port))
+        connection.setsockopt(socket.IPPROTO_TCP, socket.TCP_NODELAY, 1)
+    except BaseException:
+        connection.close()
+        raise
     return connection
 
 
@@ -75,9 +84,9 @@ def frame(opcode, payload, is_masked=True, first=0x80):
 class WebSocket:
     """A WebSocket that is open."""
 
-    def __init__(self, port, path="/live", head=None, wait=LIMIT):
+    def __init__(self, port, path="/live", head=None, wait=LIMIT, room=None):
         """Opens it by a head, which is that of the page's own, unless another is given. Refused: `Ended`."""
-        self.connection = connection_to(port, wait)
+        self.connection = connection_to(port, wait, room)
         self.bytes = b""
         try:
             self.connection.sendall(head or upgrade(port, path=path))
@@ -144,14 +153,14 @@ class WebSocket:
         return self.receive()
 
     def closing(self):
-        """The code by which the other side closes, or none where the connection just ends."""
+        """The code and the reason by which the other side closes, or no code where the connection just ends."""
         try:
             while True:
                 opcode, _, payload = self.receive_frame()
                 if opcode == CLOSE:
-                    return struct.unpack(">H", payload[:2])[0] if len(payload) >= 2 else None
+                    return struct.unpack(">H", payload[:2])[0] if len(payload) >= 2 else None, payload[2:].decode()
         except (Ended, OSError):
-            return None
+            return None, ""
 
 
 def accept_of(key):

@@ -5,6 +5,7 @@ import peers
 from program import DEVICE_FAILED, Ended, ProgramTest, run
 
 FAILED = Ended(1, b"", DEVICE_FAILED)
+DELTA = b'[["A1",[1,1,"5"],[],[]]]\n'
 
 
 class Input(ProgramTest):
@@ -13,6 +14,7 @@ class Input(ProgramTest):
         self.addCleanup(os.close, folder)
         self.assertEqual(run("run", stdin=folder), FAILED)
         self.assertEqual(run("table", stdin=folder), FAILED)
+        self.assertEqual(run("squash", stdin=folder), FAILED)
 
 
 class FullOutput(ProgramTest):
@@ -32,6 +34,10 @@ class FullOutput(ProgramTest):
     def test_a_table(self):
         self.assertEqual(run("table", given=b"1,2\n", stdout=self.full), FAILED)
 
+    def test_lines_that_are_squashed(self):
+        self.assertEqual(run("squash", given=DELTA, stdout=self.full), FAILED)
+        self.assertEqual(run("squash", given=b"replica 1\n", stdout=self.full), FAILED)
+
     def test_the_help(self):
         self.assertEqual(run("--help", stdout=self.full), FAILED)
         self.assertEqual(run("run", "--help", stdout=self.full), FAILED)
@@ -39,9 +45,12 @@ class FullOutput(ProgramTest):
     def test_nothing_to_write_is_no_failure(self):
         self.assertEqual(run("run", given=b"\n\n", stdout=self.full), Ended(0))
         self.assertEqual(run("table", given=b"\n\n", stdout=self.full), Ended(0))
+        self.assertEqual(run("squash", given=b"\n\n", stdout=self.full), Ended(0))
 
-    def test_a_refused_table_is_refused_all_the_same(self):
+    def test_what_is_refused_is_refused_all_the_same(self):
         self.assertEqual(run("table", given=b"=bad\n", stdout=self.full), Ended(3, b"", b"err 3 formula\n"))
+        self.assertEqual(run("squash", given=DELTA + b"x\n", stdout=self.full),
+                         Ended(3, b"", b"err 14 delta\nline 2\n"))
 
 
 class ClosedOutput(ProgramTest):

@@ -11,7 +11,7 @@ import unittest
 import browser_socket
 from browser_gateway import paging
 from browser_socket import (
-    BINARY, PING, PONG, TEXT, WebSocket, accept_of, answer, connection_to, frame, request, upgrade,
+    BINARY, HERE, PING, PONG, TEXT, WebSocket, accept_of, answer, connection_to, frame, request, upgrade,
 )
 from program import DEVICE_FAILED, LIMIT, TOP, Ended, ProgramTest, run
 from servers import free_port, serving
@@ -21,6 +21,27 @@ KEY = "dGhlIHNhbXBsZSBub25jZQ=="
 # the answer to this key, from the standard of WebSockets (RFC 6455, section 1.3)
 ACCEPTED = "s3pPLMBiTxaQ9kYGzzhZRbK+xOo="
 SESSIONS = 16
+# The bounds of `docs/FORMATS.md`.
+MOST_CONNECTIONS, LONGEST_REPLY = 64, 16_777_216
+# What closes a WebSocket is told.
+NO_LINE, NO_SERVER, NO_ROOM = (1008, "no line"), (1011, "no server"), (1013, "no room")
+
+
+def seated(port, seconds=LIMIT):
+    """A WebSocket that has a session, once there is room: the gateway may not know yet of some that have gone."""
+    deadline = time.monotonic() + seconds
+    while True:
+        with contextlib.suppress(browser_socket.Ended, ConnectionError):
+            opened = WebSocket(port)
+            try:
+                if opened.ask("get B1") == "val \n":
+                    return opened
+            except BaseException:
+                opened.connection.close()
+                raise
+        if time.monotonic() > deadline:
+            raise AssertionError(f"no room within {seconds} seconds")
+        time.sleep(0.05)
 
 
 class PageTest(ProgramTest):
@@ -52,16 +73,10 @@ class PageTest(ProgramTest):
         self.seated()
 
     def seated(self):
-        """A WebSocket that has a session, once there is room for it: of those that have gone the gateway may not know
-        yet."""
-        deadline = time.monotonic() + LIMIT
-        while True:
-            with contextlib.suppress(browser_socket.Ended, ConnectionError):
-                opened = self.socket()
-                self.assertEqual(opened.ask("get B1"), "val \n")
-                return opened
-            self.assertLess(time.monotonic(), deadline)
-            time.sleep(0.01)
+        """A WebSocket that has a session, once there is room for it."""
+        opened = seated(self.port)
+        self.addCleanup(opened.connection.close)
+        return opened
 
 
 class Heads(PageTest):
@@ -161,9 +176,11 @@ class Heads(PageTest):
                 while time.monotonic() < began + 8:
                     slow.sendall(b"a")
                     time.sleep(0.5)
-            for connection in (silent, half, slow):
-                with contextlib.suppress(ConnectionError):
-                    self.assertIn(browser_socket.read_all(connection)[:13], (b"", b"HTTP/1.1 408 ", b"HTTP/1.1 400 "))
+            for connection in (silent, half):
+                self.assertTrue(browser_socket.read_all(connection).startswith(b"HTTP/1.1 408 "))
+            # (what is sent to one that is closed already may take the answer away)
+            with contextlib.suppress(ConnectionError):
+                self.assertTrue(browser_socket.read_all(slow).startswith(b"HTTP/1.1 408 "))
         self.assertLess(time.monotonic() - began, LIMIT)
 
     def test_connections_that_say_nothing_stop_nobody_for_long(self):
@@ -177,6 +194,13 @@ class Heads(PageTest):
                         break
                 self.assertLess(time.monotonic(), deadline)
                 time.sleep(0.1)
+
+    def test_a_connection_too_many_is_closed_at_once(self):
+        with contextlib.ExitStack() as stack:
+            for _ in range(MOST_CONNECTIONS):
+                stack.enter_context(connection_to(self.port))
+            # (one that is let in is told that it is too late, when its time is over)
+            self.assertEqual(browser_socket.read_all(stack.enter_context(connection_to(self.port))), b"")
 
 
 class Messages(PageTest):
@@ -220,20 +244,20 @@ class Messages(PageTest):
             with self.subTest(text=text):
                 opened = self.socket()
                 opened.connection.sendall(frame(TEXT, text))
-                self.assertEqual(opened.closing(), 1008)
+                self.assertEqual(opened.closing(), NO_LINE)
         self.assertEqual(self.socket().ask("get A1"), "val \n")
 
     def test_bytes_that_are_no_text_close_the_connection(self):
         opened = self.socket()
         opened.connection.sendall(frame(BINARY, b"get A1"))
-        self.assertEqual(opened.closing(), 1008)
+        self.assertEqual(opened.closing(), NO_LINE)
         for bad in (frame(TEXT, b"\xff\xfe"), frame(TEXT, b"get A1", is_masked=False),
                     frame(TEXT, b"get A1", first=0xC0), frame(3, b"get A1"), frame(PING, b"a" * 126),
                     bytes([0x81, 0xFF]) + struct.pack(">Q", 2**62)):
             with self.subTest(bad=bad[:10]):
                 opened = self.socket()
                 opened.connection.sendall(bad)
-                self.assertNotEqual(opened.closing(), 1000)
+                self.assertNotEqual(opened.closing()[0], 1000)
         self.assert_serves()
 
     def test_a_giant_message_closes_the_connection(self):
@@ -250,14 +274,18 @@ class Messages(PageTest):
         opened = [self.socket() for _ in range(4)]
         for browser in opened:
             self.assertEqual(browser.ask("get A1"), "val \n")
-        self.assertEqual(self.socket().closing(), 1013)
+        self.assertEqual(self.socket().closing(), NO_ROOM)
         opened[0].connection.close()
         self.seated()
 
     def test_browsers_that_say_nothing_keep_none_out_for_long(self):
-        for _ in range(4):
+        heard = self.socket()
+        self.assertEqual(heard.ask("get A1"), "val \n")
+        for _ in range(3):
             self.socket()
         self.seated()
+        # one that has said something may be silent for longer
+        self.assertEqual(heard.ask("get A1"), "val \n")
 
     def test_browsers_that_come_and_go_take_no_further_session(self):
         for number in range(1, 101):
@@ -297,12 +325,72 @@ class Messages(PageTest):
         self.assert_serves()
 
 
+@contextlib.contextmanager
+def replying(reply):
+    """What stands in for a server: each line that it gets is replied by these bytes. It yields its port."""
+    with socket.create_server((HERE, 0)) as listener:
+
+        def work():
+            with contextlib.suppress(OSError):
+                while True:
+                    connection, _ = listener.accept()
+                    with connection, connection.makefile("rb") as asked, contextlib.suppress(OSError):
+                        for _ in asked:
+                            connection.sendall(reply)
+
+        thread = threading.Thread(target=work, daemon=True)
+        thread.start()
+        yield listener.getsockname()[1]
+        listener.shutdown(socket.SHUT_RDWR)
+    thread.join(LIMIT)
+
+
 class Ends(ProgramTest):
     def test_without_a_server_a_browser_is_told_so(self):
         with paging(free_port()) as gateway:
             self.assertEqual(answer(gateway.port, request(gateway.port))[0], 200)
             with WebSocket(gateway.port) as opened:
-                self.assertEqual(opened.closing(), 1011)
+                self.assertEqual(opened.closing(), NO_SERVER)
+
+    def test_places_are_free_again_whatever_became_of_their_sessions(self):
+        """Though the server can't be reached, or goes amid a session, or while sessions wait for a browser."""
+        port = free_port()
+        with paging(port, "--browsers", "2") as gateway:
+            for _ in range(3):
+                with WebSocket(gateway.port) as opened:
+                    self.assertEqual(opened.closing(), NO_SERVER)
+            for leaving in (0, 2, 1, 2, 0):
+                with contextlib.ExitStack() as stack:
+                    server = stack.enter_context(serving(SESSIONS, port=port))
+                    both = [stack.enter_context(seated(gateway.port)) for _ in range(2)]
+                    for opened in both[:leaving]:
+                        opened.connection.close()
+                    server.session.kill()
+                    server.session.wait(LIMIT)
+                    for opened in both[leaving:]:
+                        with contextlib.suppress(OSError):
+                            opened.send("get A1")
+                        self.assertEqual(opened.closing(), NO_SERVER)
+
+    def test_a_browser_that_reads_nothing_gives_its_place_up(self):
+        with serving(SESSIONS) as server, paging(server.port, "--browsers", "1") as gateway:
+            with WebSocket(gateway.port, room=4096) as slow:
+                slow.connection.settimeout(1)
+                with contextlib.suppress(OSError):
+                    for _ in range(500):
+                        slow.connection.sendall(frame(TEXT, b"rows A1:CZ200"))
+                # (several writes may wait, one after another)
+                seated(gateway.port, 2 * LIMIT).connection.close()
+
+    def test_a_reply_of_the_most_bytes(self):
+        for size, is_whole in ((LONGEST_REPLY, True), (LONGEST_REPLY + 1, False)):
+            text = "rows 1\n" + "5" * (size - len("rows 1\n\n")) + "\n"
+            with replying(text.encode()) as port, paging(port) as gateway, WebSocket(gateway.port) as opened:
+                if is_whole:
+                    self.assertTrue(opened.ask("rows A1:A1") == text)
+                else:
+                    opened.send("rows A1:A1")
+                    self.assertEqual(opened.closing(), NO_SERVER)
 
     def test_a_server_that_ends_closes_the_connection(self):
         with contextlib.ExitStack() as stack:
@@ -318,7 +406,7 @@ class Ends(ProgramTest):
                 server.session.wait(LIMIT)
                 with contextlib.suppress(OSError):
                     opened.send("get A1")
-                self.assertEqual(opened.closing(), 1011)
+                self.assertEqual(opened.closing(), NO_SERVER)
             with serving(SESSIONS, port=server.port), WebSocket(gateway.port) as opened:
                 self.assertEqual(opened.ask("get A1"), "val \n")
 
