@@ -88,6 +88,7 @@ pub text_same : (told : Option ℕ) (s : State) (cells es : Entries) (begun text
 text_same told s cells es begun text same e gives begins lines = record {
   fewer = lines.0;
   cells = es;
+  ordered = subst AreEntries (sym same) e;
   divide = lines.1;
   spelled = lines.2 ∙ ap (λ t. t ++ push_lines lines.0) begins;
   same =

@@ -4,7 +4,7 @@ use Rattle.std.specs.Prelude.{Contains, Option, Some, None, ⊤}
 use Rattle.std.specs.List.{All}
 use Rattle.ps_delta.specs.declared.cell_state.CellState.{CellState}
 use Rattle.ps_delta.specs.State.{State, empty_cell}
-use Rattle.ps_delta.specs.Deltas.{Entries, IsDelta, cells_of, joined_history, state_of}
+use Rattle.ps_delta.specs.Deltas.{AreEntries, Entries, IsDelta, cells_of, joined_history, state_of}
 use Rattle.ps_delta.specs.Order.{Rising, Under}
 use Rattle.ps_wire.specs.Fits.{FitsLine}
 use Rattle.ps_wire.specs.Length.{size}
@@ -82,10 +82,11 @@ abbrev pub IsOfIntake : SquashFault → Type 0
 IsOfIntake faults.Source = ⊤
 IsOfIntake fault = IsOfLines fault
 
--- the text tells the replica, and pushes just the state, by deltas that divide cells
+-- the text tells the replica, and pushes just the state, by deltas that divide cells in order
 pub record IsText (told : Option ℕ) (state : State) (text : List ℕ) : Type 0 where
   pub fewer : List Entries
   pub cells : Entries
+  pub ordered : AreEntries cells
   pub divide : Divide fewer cells
   pub spelled : text ≡ told_line told ++ push_lines fewer
   pub same : joined_history fewer ≡ state

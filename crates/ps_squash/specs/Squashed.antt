@@ -4,7 +4,7 @@ use Rattle.std.specs.Prelude.{codes, decimal, drop, flat_map, if◌then◌else�
 use Rattle.std.specs.List.{All, starts_with}
 use Rattle.ps_grid.specs.declared.parties.TheConstants.{REPLICAS}
 use Rattle.ps_delta.specs.State.{State}
-use Rattle.ps_delta.specs.Deltas.{Entries, IsDelta, joined_history}
+use Rattle.ps_delta.specs.Deltas.{AreEntries, Entries, IsDelta, joined_history}
 use Rattle.ps_wire.specs.Fits.{FitsLine}
 use Rattle.ps_wire.specs.Line.{IsLine, delta_text}
 use Rattle.ps_session.specs.Feeding.{HasNoFeed, without_return}
@@ -119,13 +119,14 @@ pub record Divide (deltas : List Entries) (cells : Entries) : Type 0 where
   pub full : AreFull deltas []
 
 -- SQUASHED: the text tells whose the lines are, where their first one does, and then pushes as few deltas as the cells
--- of the joined lines need, which say the same together
+-- of the joined lines need, each cell once and in order, which say the same together
 pub record IsSquashed (bytes text : List ℕ) : Type 0 where
   pub told : Option ℕ
   pub state : State
   pub given : SayTogether bytes told state
   pub fewer : List Entries
   pub cells : Entries
+  pub ordered : AreEntries cells
   pub divide : Divide fewer cells
   pub spelled : text ≡ told_line told ++ push_lines fewer
   pub same : joined_history fewer ≡ state
