@@ -1,6 +1,10 @@
 """The hunt among sessions: it finds each fault that is planted there, and takes none for one that is harmless."""
-from hunt import desks, finds, session_faults
+from unittest import mock
+
+from hunt import desks, finds, kept, session_faults
+from hunt.channels import Broken
 from hunt.finds import Hunt
+from hunt.houses import House
 from hunt.parts import Sessions
 from program import ProgramTest
 
@@ -52,3 +56,17 @@ class Planted(ProgramTest):
         hunt = Hunt(SEED, [Sessions(session_faults.by_desk(desks.Desk), desks.sync)])
         find = hunt.first(hunt.parts[0], 40)
         self.assertIsNone(find and find.trouble)
+
+
+class Killed(ProgramTest):
+    def test_what_a_server_was_telling_is_cut_anywhere(self):
+        server = mock.Mock()
+        house = House(lambda *_: server, ("--replica", "6"), (1, 0), self.folder())
+        opened, whole = kept.told(house.file, 0), kept.told(house.file, 0, 6)
+        for size in range(len(whole) + 1):
+            server.kill.return_value = whole[:size]
+            house.crash(0)
+        others = (b"x", opened + b"x", whole + b"x", opened[1:], opened.replace(b", 0 ", b", 1 "))
+        for server.kill.return_value in others:
+            with self.subTest(told=server.kill()), self.assertRaises(Broken):
+                house.crash(0)
