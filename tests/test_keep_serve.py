@@ -207,13 +207,12 @@ class server_gone:
 class Killed(KeepingTest):
     """200 times: eight clients and a pipe change the sheet, and the server is killed meanwhile."""
 
-    CLIENTS, ROUNDS, SECONDS = 8, 200, 50
+    CLIENTS, ROUNDS = 8, 200
 
     def test_each_change_that_was_answered_is_there_at_the_next_start(self):
         chance = random.Random(39)
-        deadline = time.monotonic() + self.SECONDS
         opened = rounds = killed_amid = 0
-        while rounds < self.ROUNDS and time.monotonic() < deadline:
+        while rounds < self.ROUNDS:
             answered = {}
             with serving(None, "--keep", str(self.file), "--wait", "60", program=PROGRAM) as server:
                 tasks = [(self.ask_on, number) for number in range(self.CLIENTS)] + [(self.pour, 0)]
@@ -238,7 +237,6 @@ class Killed(KeepingTest):
             opened = len(deltas)
             killed_amid += content != kept.whole_lines(content) or len(deltas) > max(answered, default=0)
             rounds += 1
-        self.assertGreater(rounds, 20)
         # the next start shows what the file says
         given = self.file.read_bytes()
         ended = self.run_kept(b"rows A1:I1\n")
