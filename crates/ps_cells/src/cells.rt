@@ -108,6 +108,7 @@ impl Cells {
     /// Leaves the staged change as it was made. It takes no memory.
     ///
     /// Cost: the touched cells with their references, and the cells that were put.
+    #[inline(always)]
     pub fn commit(&mut self)
         requires staged { is_some self.old.staged ≡ true }
         ensures none { (self.new.staged ≡ None) × (self.new.olds ≡ []) }

@@ -168,6 +168,7 @@ impl Screen {
     }
 
     /// Puts what a cell shows from now on.
+    #[inline(always)]
     pub(crate) fn put(&mut self, cell: Cell, kept: Kept)
         ensures shown { shown_at self.new.kept ≡ with_value (shown_at self.old.kept) cell (value_kept kept) }
         ensures before { before_of self.new ≡ before_of self.old }
@@ -305,6 +306,7 @@ fn list_values(cells: &[Cell], shown: &Shown, changes: &mut Vec<(Cell, Value)>)
 }
 
 /// Notes what a cell showed, where nothing is noted of it.
+#[inline(always)]
 fn note(olds: &mut Vec<(Cell, Kept)>, is_put: &mut [bool], cell: Cell, old: Kept)
     requires noted { IsNoted olds.old.items is_put.old }
     requires room { CELLS ≤ vec_capacity olds.old }

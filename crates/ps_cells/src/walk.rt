@@ -55,6 +55,7 @@ fn flag_dependents(index: &Index, cell: Cell, flags: &mut [bool])
 }
 
 /// Lets a cell show a value, and flags the cells that refer to it where that is another one than it showed.
+#[inline(always)]
 pub(crate) fn show(index: &Index, cell: Cell, kept: Kept, shown: &mut Screen, flags: &mut [bool])
     requires whole { length flags.old ≡ CELLS }
     ensures shows { Shows cell (value_kept kept) (listed index.now cell) (shown_at shown.old.kept)
@@ -70,6 +71,7 @@ pub(crate) fn show(index: &Index, cell: Cell, kept: Kept, shown: &mut Screen, fl
 }
 
 /// Looks after a touched cell: flags it where it has a formula, and else lets it show its value.
+#[inline(always)]
 fn show_first(
     grid: &Grid,
     index: &Index,
@@ -92,6 +94,7 @@ fn show_first(
 }
 
 /// Looks after the touched cells, which come with their first values.
+#[inline(always)]
 pub(crate) fn show_all_first(
     grid: &Grid,
     index: &Index,

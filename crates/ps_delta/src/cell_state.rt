@@ -72,6 +72,7 @@ impl CellState {
 }
 
 impl Twin for CellState {
+    #[inline(always)]
     fn twin(&self, alloc: Global) -> Result<CellState, Refusal> {
         Ok(CellState {
             register: self.register.twin(alloc)?,
@@ -88,6 +89,7 @@ impl Join for CellState {
     ghost joined = { joined_cell };
 
     #[tactic(auto, unfolding(crate::specs::State::joined_cell))]
+    #[inline(always)]
     fn join(&mut self, alloc: Global, other: &CellState) -> Result<(), Refusal> {
         let mut tally = self.tally.twin(alloc)?;
         tally.join(alloc, &other.tally)?;
@@ -100,6 +102,7 @@ impl Join for CellState {
     }
 
     #[tactic(auto, using(crate::specs::CellLaws::below_from_parts), unfolding(crate::specs::State::joined_cell))]
+    #[inline(always)]
     fn below(&self, other: &CellState) -> bool {
         self.register.below(&other.register)
             && self.tally.below(&other.tally)

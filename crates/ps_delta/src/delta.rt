@@ -41,6 +41,7 @@ impl Delta {
     /// ascending and distinct, or where one has an empty state.
     ///
     /// Cost: the number of cells.
+    #[inline(always)]
     pub fn new(mut cells: Vec<(Cell, CellState)>) -> Option<Delta>
         ensures { SomeIff result (IsDelta cells.items) cells.items }
     {

@@ -1,6 +1,6 @@
 //! The value of a formula, by its tree.
 
-ghost use Rattle.std.specs.Prelude.{◌≡◌, ◌+◌, ◌*◌, ◌^◌, ◌<◌, ◌≤◌, List, ◌∷◌, [], ◌++◌, map, MatchOption};
+ghost use Rattle.std.specs.Prelude.{◌≡◌, ◌+◌, ◌*◌, ◌^◌, ◌<◌, ◌≤◌, List, ◌∷◌, [], ◌++◌, map, IfSome, MatchOption};
 ghost use Rattle.ps_grid.specs.declared.size.TheConstants.{CELLS};
 ghost use Rattle.ps_formula.specs.Tree.{call, in_row, reference};
 ghost use Rattle.ps_formula.specs.TreeOf.{item_of, tree_of};
@@ -63,8 +63,14 @@ fn number<K: Look>(tree: &Expr, look: &K) -> Result<i64, Fault>
         Expr::Reference(cell) => single(look.operand(*cell)),
         Expr::Prefix(sign, operand) => prefixed(*sign, number(operand, look)?),
         Expr::Infix(left, operator, right) => {
-            let a = number(left, look)?;
-            let b = number(right, look)?;
+            let a = match leaf(left, look) {
+                Some(value) => value?,
+                None => number(left, look)?,
+            };
+            let b = match leaf(right, look) {
+                Some(value) => value?,
+                None => number(right, look)?,
+            };
             operation(*operator, a, b)
         }
         Expr::Group(inner) => number(inner, look),
@@ -72,7 +78,20 @@ fn number<K: Look>(tree: &Expr, look: &K) -> Result<i64, Fault>
     }
 }
 
+/// The number of a tree that is a numeral or a reference; none of another tree.
+#[inline(always)]
+fn leaf<K: Look>(tree: &Expr, look: &K) -> Option<Result<i64, Fault>>
+    ensures { IfSome result (λ value. value ≡ number_of (tree_of tree.now) (K.value_at look.now)) }
+{
+    match tree {
+        Expr::Numeral(n) => Some(Ok(*n)),
+        Expr::Reference(cell) => Some(single(look.operand(*cell))),
+        _ => None,
+    }
+}
+
 /// A cell's operand where one number is wanted.
+#[inline(always)]
 fn single(operand: Operand) -> Result<i64, Fault>
     ensures { result ≡ single_of operand }
 {

@@ -106,6 +106,7 @@ impl Cell {
     /// has no such cell.
     ///
     /// Cost: constant, for more digits than a name has are refused unread.
+    #[inline(always)]
     pub fn named(letters: &[u8], digits: &[u8]) -> Option<Cell>
         ensures { (c : ℕ) → (result ≡ Some c)
             ↔ ((c < CELLS) × (letters.now ≡ column_name (column_of c)) × (digits.now ≡ decimal (row_of c))) }
@@ -168,6 +169,7 @@ fn letter_count(text: &[u8]) -> usize
 }
 
 /// The column that letters name, if the grid has it.
+#[inline(always)]
 fn column_named(letters: &[u8]) -> Option<u8>
     ensures { (column : ℕ) → (result ≡ Some column) ↔ ((column < COLUMNS) × (letters.now ≡ column_name column)) }
 {
@@ -180,6 +182,7 @@ fn column_named(letters: &[u8]) -> Option<u8>
 }
 
 /// The column that one or two letters name, whether the grid has it or not.
+#[inline(always)]
 fn column_number(letters: &[u8]) -> Option<usize>
     ensures { (column : ℕ) → (result ≡ Some column)
         ↔ ((column < LETTERS + LETTERS * LETTERS) × (letters.now ≡ column_name column)) }
@@ -196,6 +199,7 @@ fn column_number(letters: &[u8]) -> Option<usize>
 }
 
 /// The number of a letter: 0 for A, to 25 for Z.
+#[inline(always)]
 fn letter_number(letter: u8) -> Option<usize>
     ensures number { (number : ℕ) → (result ≡ Some number) ↔ ((number < LETTERS) × (letter ≡ letter_of number)) }
     ensures below { IfSome result (λ number. number < LETTERS) }
@@ -205,33 +209,30 @@ fn letter_number(letter: u8) -> Option<usize>
 }
 
 /// The row that digits write, if the grid has it.
+#[inline(always)]
 fn row_named(digits: &[u8]) -> Option<u16>
     ensures { (row : ℕ) → (result ≡ Some row) ↔ ((1 ≤ row) × (row ≤ ROWS) × (digits.now ≡ decimal row)) }
 {
     if digits.len() > NAME_BYTES {
         return None;
     }
-    let row = number_written(digits)?;
-    if row < 1 || row as usize > ROWS {
+    if digits.is_empty() {
         return None;
     }
-    let mut text = [0; NAME_BYTES];
-    let len = put_decimal(&mut text, 0, row);
-    if &text[..len] == digits {
-        Some(row)
-    } else {
-        None
+    if digits[0] == b'0' {
+        return None;
     }
-}
-
-/// The number that digits write; other texts may give a number too.
-fn number_written(digits: &[u8]) -> Option<u16>
-    ensures { (row : ℕ) → row ≤ ROWS → digits.now ≡ decimal row → result ≡ Some row }
-{
-    match str::from_utf8(digits) {
-        Ok(text) => u16::from_str_radix(text, 10).ok(),
-        Err(_) => None,
+    let mut row = 0u32;
+    for digit in digits {
+        if *digit < b'0' || *digit > b'9' {
+            return None;
+        }
+        row = row * 10 + u32::from(*digit - b'0');
     }
+    if row as usize > ROWS {
+        return None;
+    }
+    Some(row as u16)
 }
 
 /// The letter of a number: A for 0, to Z for 25.

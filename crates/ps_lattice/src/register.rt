@@ -121,6 +121,7 @@ impl<V: Linear + Drop> Register<V> {
 }
 
 impl<V: Twin> Twin for Register<V> {
+    #[inline(always)]
     fn twin(&self, alloc: Global) -> Result<Self, Refusal> {
         let held = match &self.held {
             None => None,
@@ -146,6 +147,7 @@ impl<V: Linear + Twin + Drop> Join for Register<V> {
 
     ghost idempotent = { (registers_is_join V.cmp V.Ord.total V.no_ties).idempotent };
 
+    #[inline(always)]
     fn join(&mut self, alloc: Global, other: &Self) -> Result<(), Refusal> {
         if !other.below(self) {
             *self = other.twin(alloc)?;
@@ -153,6 +155,7 @@ impl<V: Linear + Twin + Drop> Join for Register<V> {
         Ok(())
     }
 
+    #[inline(always)]
     fn below(&self, other: &Self) -> bool {
         match (&self.held, &other.held) {
             (None, _) => true,

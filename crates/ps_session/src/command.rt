@@ -64,6 +64,7 @@ impl Command {
     /// Only an entry that is a formula or a text, and the line of a delta, take memory to be read.
     ///
     /// Cost: O(n) in the n bytes of the line.
+    #[inline(always)]
     pub fn read(alloc: Global, line: &[u8]) -> Result<Command, Refusal>
         ensures read { ReadsLine line.now result }
         ensures memory { result ≡ Err Refusal.Memory → TakesMemoryToRead line.now }
@@ -91,6 +92,7 @@ fn read_alone(verb: Verb) -> Result<Command, Refusal>
 }
 
 /// What a verb asks for, by all that stands after its space.
+#[inline(always)]
 fn read_rest(alloc: Global, verb: Verb, rest: &[u8]) -> Result<Command, Refusal>
     ensures { ReadsVerb (Some verb) (words rest.now) rest.now result }
 {
@@ -149,6 +151,7 @@ fn read_one_cell(rest: &[u8]) -> Result<Cell, Refusal>
 }
 
 /// `set`: a cell, and perhaps an entry after a space.
+#[inline(always)]
 fn read_set(alloc: Global, rest: &[u8]) -> Result<Command, Refusal>
     ensures { ReadsSet (words rest.now) (after_word rest.now) result }
 {

@@ -87,6 +87,7 @@ fn send_shown<K: Sink>(value: Value, sink: &mut K) -> Result<(), Failed>
 /// Writes a reply and its line feed; where the sink fails, a beginning of that.
 ///
 /// Cost: O(n) in the n bytes of the reply, in a constant number of pieces.
+#[inline(always)]
 pub fn send<K: Sink>(reply: &Reply, sink: &mut K) -> Result<(), Failed>
     ensures sent { Sends (K.contents sink.old) (K.contents sink.new) result (reply_text reply.now) }
     ensures calm { OnOk result (K.failures sink.new ≡ K.failures sink.old) }
@@ -111,6 +112,7 @@ pub fn send<K: Sink>(reply: &Reply, sink: &mut K) -> Result<(), Failed>
 }
 
 /// Writes a word with its space, a number and a line feed.
+#[inline(always)]
 fn send_number<K: Sink>(word: &[u8], number: u64, sink: &mut K) -> Result<(), Failed>
     ensures sent { Sends (K.contents sink.old) (K.contents sink.new) result
         (word.now ++ decimal number ++ 10 ∷ []) }

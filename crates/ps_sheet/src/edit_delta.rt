@@ -22,6 +22,7 @@ use ps_lattice::{AMOUNT_LIMIT, Choice, OPTIONS, Register, Tally};
 use std::alloc::Global;
 
 /// The delta of an edit at the replica over the grid, or the first refusal that holds.
+#[inline(always)]
 pub(crate) fn delta_of(
     alloc: Global,
     grid: &Grid,
@@ -135,6 +136,7 @@ fn check_choice(state: &CellState, option: u64) -> Result<(), Refusal>
 }
 
 /// A cell with nothing but a register.
+#[inline(always)]
 fn with_register(alloc: Global, register: Register<Content>) -> CellState
     ensures { result ≡ registered register }
 {

@@ -183,6 +183,7 @@ impl Sheet {
     }
 
     /// Appends a delta that isn't below the state.
+    #[inline(always)]
     fn append<R: Threads + Sync, L: Ledger>(
         &mut self,
         rt: &R,

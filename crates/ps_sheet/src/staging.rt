@@ -451,6 +451,7 @@ impl Staging {
 }
 
 /// Appends a delta to a history that has room for it.
+#[inline(always)]
 fn put(history: &mut Vec<Arc<Delta>>, delta: Arc<Delta>)
     requires { vec_len history.old < vec_capacity history.old }
     ensures { map arc_value history.new.items ≡ map arc_value history.old.items ++ arc_value delta ∷ [] }

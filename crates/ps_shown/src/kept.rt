@@ -57,6 +57,7 @@ impl Kept {
     /// Whether both cells show the same value. No value is copied.
     ///
     /// Cost: constant; of texts the bytes are compared.
+    #[inline(always)]
     pub fn is_same(&self, other: &Kept) -> bool
         ensures { IsTrue result ↔ (value_of self.now ≡ value_of other.now) }
     {

@@ -207,6 +207,7 @@ impl Shown {
     ///
     /// Cost: constant, and what is remembered of the cell's block is dropped; but the first that lies further on in the
     /// table than all before writes what is between, so that all calls together write the table once more at most.
+    #[inline(always)]
     pub fn put(&mut self, cell: Cell, kept: Kept) -> Kept
         ensures shown { shown_at self.new ≡ with_value (shown_at self.old) cell (value_of kept) }
         ensures old { value_of result ≡ shown_at self.old cell }
