@@ -73,7 +73,8 @@ numbers_in-fault (Err first ∷ items) fault = numbers_in-fault items fault
 pub lowest_more : (items : List Number) (n : ℤ)
     → lowest_of (numbers_in (items ++ Ok n ∷ [])) ≡ int_min (lowest_of (numbers_in items)) n
 lowest_more items n =
-    ap lowest_of (numbers_in-append items (Ok n ∷ [])) ∙ fold-append int_min (pos (2 ^ 63 - 1)) (numbers_in items) (n ∷ [])
+    ap lowest_of (numbers_in-append items (Ok n ∷ []))
+    ∙ fold-append int_min (pos (2 ^ 63 - 1)) (numbers_in items) (n ∷ [])
 
 pub highest_more : (items : List Number) (n : ℤ)
     → highest_of (numbers_in (items ++ Ok n ∷ [])) ≡ int_max (highest_of (numbers_in items)) n
@@ -135,7 +136,10 @@ first_fault-append (Err fault ∷ xs) ys = refl
 
 total_from : (a : ℤ) (ns : List ℤ) → fold ◌+ℤ◌ a ns ≡ a +ℤ total ns
 total_from a [] = omega (arith, ints)
-total_from a (n ∷ ns) = let p = total_from (a +ℤ n) ns in let q = total_from (pos 0 +ℤ n) ns in omega (arith, ints, p, q)
+total_from a (n ∷ ns) =
+    let p = total_from (a +ℤ n) ns in
+    let q = total_from (pos 0 +ℤ n) ns in
+    omega (arith, ints, p, q)
 
 pub total-append : (ns ms : List ℤ) → total (ns ++ ms) ≡ total ns +ℤ total ms
 total-append ns ms = fold-append ◌+ℤ◌ (pos 0) ns ms ∙ total_from (total ns) ms

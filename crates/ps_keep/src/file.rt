@@ -30,8 +30,8 @@ pub struct FoundFile {
 }
 
 impl FoundFile {
-    /// Opens the file of this path, or makes it, locks it, has its name on the disk and reads it. Refused as `Busy` where
-    /// another process has it locked, and as `Device` where it is no regular file; such a file isn't read.
+    /// Opens the file of this path, or makes it, locks it, has its name on the disk and reads it. Refused as `Busy`
+    /// where another process has it locked, and as `Device` where it is no regular file; such a file isn't read.
     ///
     /// Cost: linear in the file, and its memory; one sync of the folder.
     pub fn open<R: Files<File = File>>(
@@ -90,8 +90,8 @@ fn open_there<R: Files<File = File>>(rt: &R, path: &str, is_new: bool) -> Result
     }
 }
 
-/// Has the names of the file's folder on the disk, so that the file is there after a crash. At each start, since a crash
-/// may have come before an earlier one did so.
+/// Has the names of the file's folder on the disk, so that the file is there after a crash. At each start, since a
+/// crash may have come before an earlier one did so.
 fn sync_folder<R: Files<File = File>>(rt: &R, path: &str) -> Result<(), FileFault> {
     let folder = match Path::new(path).parent() {
         Some(parent) if !parent.path_text().is_empty() => parent,

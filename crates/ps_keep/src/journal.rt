@@ -117,7 +117,8 @@ impl<D: Device + Drop> Journal<D> {
         self.waiting.clear();
         Ok(())
     }
-    /// Gives the file back as it is: without the lines that weren't settled, but for what a failed settle wrote of them.
+    /// Gives the file back as it is: without the lines that weren't settled, but for what a failed settle wrote of
+    /// them.
     ///
     /// Cost: constant.
     pub fn into_device(self) -> D

@@ -35,8 +35,8 @@ pub trait Board<M> {
         requires shared { IsSync R.row }
         ensures edited { calls.edits self.old edit result self.new };
 
-    /// Takes in a delta made elsewhere: the number that is told as `ok`, and whether the board had all of it that its own
-    /// replica made.
+    /// Takes in a delta made elsewhere: the number that is told as `ok`, and whether the board had all of it that its
+    /// own replica made.
     ///
     /// Cost: that of the change, and of what it makes others show.
     fn apply_delta<R: Threads + Sync>(

@@ -6,7 +6,15 @@ ghost use Rattle.std.specs.FinMap as map;
 ghost use Rattle.std.specs.List.{list_all, list_any};
 ghost use Rattle.ps_lattice.specs.Choice.{pair_cmp};
 ghost use Rattle.ps_delta.specs.State.{state_at};
-ghost use Rattle.ps_sheet.specs.Own.{has_assignment, has_count, has_own, has_own_of_cell, has_pair, is_at_most, is_counted_in};
+ghost use Rattle.ps_sheet.specs.Own.{
+  has_assignment,
+  has_count,
+  has_own,
+  has_own_of_cell,
+  has_pair,
+  is_at_most,
+  is_counted_in,
+};
 
 use ps_content::Content;
 use ps_delta::{CellState, Delta, Grid};

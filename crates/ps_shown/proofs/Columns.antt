@@ -91,7 +91,8 @@ module _ (a : Area) (e : ℕ → List Number) where
       let next : s + a.width ≡ (d + 1) * a.width = omega arith in
       let cut = ap (range_with_len s) more ∙ ranges-append s a.width (a.width * h) in
       ap (λ xs. flat_map e (map (nth_cell a) xs)) cut
-      ∙ ap (flat_map e) (map-append (nth_cell a) (range_with_len s a.width) (range_with_len (s + a.width) (a.width * h)))
+      ∙ ap (flat_map e)
+      (map-append (nth_cell a) (range_with_len s a.width) (range_with_len (s + a.width) (a.width * h)))
       ∙ flat_map-append e (map (nth_cell a) (range_with_len s a.width))
       (map (nth_cell a) (range_with_len (s + a.width) (a.width * h)))
       ∙ (λ i. row d 0 a.width s start (omega arith) i

@@ -32,7 +32,8 @@ returns c =
     let end : c.loop-across.across ≡ c.args.rect.width =
     omega (arith, c.loop-across-test.false, c.width-across-end.ensures.width, c.loop-across.auto.across-end) in
     record {
-      summary = subst (λ n. Summarizes (items_by_columns (shown_at c.args.self.now) c.args.rect n) c.loop-across.summary)
+      summary =
+          subst (λ n. Summarizes (items_by_columns (shown_at c.args.self.now) c.args.rect n) c.loop-across.summary)
           end c.loop-across.invariant.0;
       in_grid = c.area.ensures.in_grid;
     }
