@@ -9,6 +9,7 @@ ghost use Rattle.ps_shown.specs.declared.shown.TheConstants.{PLACES};
 
 use crate::kept::Kept;
 use crate::run::summary_of_run;
+use crate::runs::Runs;
 use ps_eval::Summary;
 
 /// How many places a block has. It is no power of two, and neither is a column of whole blocks, so that the cells of a
@@ -106,27 +107,27 @@ fn reach(sums: &mut Vec<Option<Summary>>, block: usize)
     }
 }
 
-/// Remembers the summaries of the whole blocks from one place up to another one.
-pub(crate) fn remember_between(
+/// Remembers the summaries of the blocks from one up to another one.
+pub(crate) fn remember_blocks(
     kept: &[Kept],
     sums: &mut Vec<Option<Summary>>,
     from: usize,
-    to: usize,
+    end: usize,
 )
     requires remembered { AreRemembered kept.now sums.old.items }
-    requires within { to ≤ PLACES }
+    requires within { end * BLOCK ≤ PLACES }
     requires room { PLACES ≤ vec_capacity sums.old * BLOCK }
     ensures remembered { AreRemembered kept.now sums.new.items }
     ensures capacity { vec_capacity sums.old ≤ vec_capacity sums.new }
 {
-    for block in from.div_ceil(BLOCK)..to / BLOCK {
+    for block in from..end {
         remember_block(kept, sums, block);
     }
 }
 
 /// Forgets the summary of the block in which a place lies.
 #[inline]
-pub(crate) fn forget(sums: &mut Vec<Option<Summary>>, place: usize)
+pub(crate) fn forget(sums: &mut Vec<Option<Summary>>, runs: &mut Runs, place: usize)
     ensures left { (b : ℕ) (s : Sum) → slice_index_or sums.new.items b None ≡ Some s → b ≢ place / BLOCK }
     ensures there { (b : ℕ) (s : Sum) → slice_index_or sums.new.items b None ≡ Some s
         → slice_index_or sums.old.items b None ≡ Some s }
@@ -135,5 +136,6 @@ pub(crate) fn forget(sums: &mut Vec<Option<Summary>>, place: usize)
     let block = place / BLOCK;
     if block < sums.len() {
         sums[block] = None;
+        runs.cut(block);
     }
 }

@@ -23,6 +23,7 @@
 mod blocks;
 mod kept;
 mod run;
+mod runs;
 mod shown;
 
 pub use blocks::LONG;

@@ -12,8 +12,9 @@ ghost use Rattle.ps_shown.specs.Sums.{column_items, items_by_columns};
 ghost use Rattle.ps_eval.specs.Summarized.{Summarizes};
 ghost use Rattle.ps_eval.specs.Items.{range_items};
 
-use crate::blocks::{BLOCK, forget, remember_between, summary_between};
+use crate::blocks::{BLOCK, forget, remember_blocks, summary_between};
 use crate::kept::Kept;
+use crate::runs::Runs;
 use ps_eval::{Look, Summary};
 use ps_grid::{COLUMNS, Cell, ROWS, Rect, Refusal, Twin};
 use ps_value::{Operand, Value};
@@ -40,6 +41,8 @@ pub struct Shown {
     kept: Vec<Kept>,
     /// the summaries of blocks that are remembered, up to the last block that ever was; there is room for all
     sums: Vec<Option<Summary>>,
+    /// which of them are known to be there
+    runs: Runs,
     /// what is lent for a cell after those
     empty: Kept,
 }
@@ -95,6 +98,7 @@ impl Shown {
         Ok(Shown {
             kept,
             sums,
+            runs: Runs::new(),
             empty: Kept::Empty,
         })
     }
@@ -183,7 +187,8 @@ impl Shown {
     /// Remembers what SUM, MIN, MAX and COUNT need to know of each block of 57 rows that lies in the range, so that
     /// `summary` doesn't walk those cells again before one of the block is put. What the cells show stays.
     ///
-    /// Cost: the blocks of the range, and the cells of those that aren't remembered yet.
+    /// Cost: constant for each column where all blocks of the range are known to be remembered; else its blocks, and
+    /// the cells of those that aren't remembered yet.
     pub fn remember(&mut self, rect: Rect)
         ensures { self.new ≡ self.old }
     {
@@ -200,7 +205,14 @@ impl Shown {
         // for the fact that the range lies in the grid
         let _ = rect.area();
         let top = place(rect.at(across, 0));
-        remember_between(&self.kept, &mut self.sums, top, top + rect.height());
+        let first = top.div_ceil(BLOCK);
+        let end = (top + rect.height()) / BLOCK;
+        let column = top / STRIDE;
+        let from = self.runs.past(column, first);
+        if from < end {
+            remember_blocks(&self.kept, &mut self.sums, from, end);
+            self.runs.extend(column, first, end);
+        }
     }
 
     /// Puts what a cell shows from now on, and returns what was kept of it. It takes no memory.
@@ -213,7 +225,7 @@ impl Shown {
         ensures old { value_of result ≡ shown_at self.old cell }
     {
         let place = place(cell);
-        forget(&mut self.sums, place);
+        forget(&mut self.sums, &mut self.runs, place);
         reach(&mut self.kept, place);
         mem::replace(&mut self.kept[place], kept)
     }
@@ -249,6 +261,7 @@ impl Twin for Shown {
         Ok(Shown {
             kept,
             sums,
+            runs: Runs::new(),
             empty: Kept::Empty,
         })
     }

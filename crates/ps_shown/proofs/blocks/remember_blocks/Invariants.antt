@@ -1,7 +1,7 @@
 use Rattle.std.proofs.Common.{◌≤◌}
 use Rattle.std.specs.Prelude.{vec_capacity}
 use Rattle.ps_shown.specs.Blocks.{AreRemembered}
-use Rattle.ps_shown.proofs.blocks.remember_between.Given as goal
+use Rattle.ps_shown.proofs.blocks.remember_blocks.Given as goal
 
 abbrev pub invariant-loop-block : goal.invariant-loop-block
 invariant-loop-block l = record {
