@@ -200,7 +200,7 @@ single_rows g (j ∷ js) =
     (λ i. append-nil (g j) i ++ single_rows g js i) ∙ sym (append_assoc (g j) (flat_map g js) [])
 
 -- one column is walked in the order of rows
-pub single_column : (v : Assignment) (a : Area) → LiesInGrid a → a.width ≡ 1
+single_column : (v : Assignment) (a : Area) → LiesInGrid a → a.width ≡ 1
     → items_by_columns v a a.width ≡ range_items v a
 single_column v a g one =
     ap (items_by_columns v a) one
@@ -208,6 +208,11 @@ single_column v a g one =
     ∙ ap (λ w. flat_map (λ y. flat_map (λ x. cell_items (v (cell_within a x y))) (range_with_len 0 w))
     (range_with_len 0 a.height)) (sym one)
     ∙ sym (rows_are v a g)
+
+-- and has the items of the range
+pub one_column : (v : Assignment) (a : Area) → LiesInGrid a → a.width ≡ 1 → column_items v a 0 ≡ range_items v a
+one_column v a g one =
+    sym (append-nil (column_items v a 0)) ∙ ap (items_by_columns v a) (sym one) ∙ single_column v a g one
 
 -- one column more
 pub one_more_column : (v : Assignment) (a : Area) (n : ℕ)

@@ -20,10 +20,14 @@ pub(crate) const BLOCK: usize = 57;
 pub const LONG: usize = 2 * BLOCK;
 
 /// What is known of the items from one place up to another one, which are walked. The table may end before.
+#[inline]
 fn walk(kept: &[Kept], from: usize, to: usize) -> Summary
     requires { from ≤ to }
     ensures { Summarizes (items_between kept.now from to) result }
 {
+    if from == to {
+        return Summary::new();
+    }
     let reached = kept.len();
     summary_of_run(&kept[from.min(reached)..to.min(reached)])
 }
@@ -57,6 +61,8 @@ fn take_block(summary: &mut Summary, kept: &[Kept], sums: &[Option<Summary>], bl
 
 /// What is known of the items from one place up to another one: block by block, and what lies before the first whole
 /// block and after the last one is walked.
+// Not inlined, so that the summary lies in registers while blocks are joined.
+#[inline(never)]
 pub(crate) fn summary_between(
     kept: &[Kept],
     sums: &[Option<Summary>],

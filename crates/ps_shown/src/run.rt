@@ -6,6 +6,8 @@ use crate::kept::Kept;
 use ps_eval::Summary;
 
 /// What SUM, MIN, MAX and COUNT need to know of what is kept.
+// Not inlined, so that the summary lies in registers while the cells are walked.
+#[inline(never)]
 pub(crate) fn summary_of_run(run: &[Kept]) -> Summary
     ensures { Summarizes (items_kept run.now) result }
 {

@@ -145,8 +145,10 @@ impl Shown {
     pub fn summary(&self, rect: Rect) -> Summary
         ensures { Summarizes (range_items (shown_at self.now) rect) result }
     {
+        // for the fact that the range lies in the grid
+        let _ = rect.area();
         if rect.width() == 1 {
-            return self.columns(rect);
+            return self.column(rect, 0);
         }
         if rect.height() < FEW_ROWS {
             return self.summary_by_cells(rect);
