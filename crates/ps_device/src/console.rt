@@ -94,24 +94,11 @@ impl<W: Write + Drop, L: Ledger> ConsoleOutput<W, L> {
         self.is_stopped = false;
         Ok(())
     }
-}
 
-impl<W: Write + Drop, L: Ledger> Sink for ConsoleOutput<W, L> {
-    ghost use Rattle.ps_device.specs.Writers.{console_contents, console_waiting, console_writer, has_failed};
-
-    ghost contents = { λ output. append_known (W.contents output.sink.writer) (drop output.sent output.bytes.items) };
-
-    ghost waiting = { λ output. drop output.sent output.bytes.items };
-
-    ghost failures = { λ output. output.sink.failed };
-
-    ghost holds_back = { ⊥ };
-
-    /// Keeps bytes from the front of the piece; where the room is full, it is sent first. Some of a piece that isn't
-    /// empty is taken at Ok.
-    ///
-    /// Cost: O(n) in the bytes taken, and no call of the writer while there is room.
-    fn put(&mut self, piece: &[u8]) -> Result<usize, Failed>
+    /// Keeps bytes from the front of a piece, for which there may be no room; where the room is full, it is sent first.
+    #[cold]
+    #[inline(never)]
+    fn put_front(&mut self, piece: &[u8]) -> Result<usize, Failed>
         ensures within { IfOk result (λ count. count ≤ length piece.now) }
         ensures bytes { WriteAppends (console_contents W.contents self.old) (console_contents W.contents self.new)
             result piece.now }
@@ -133,6 +120,42 @@ impl<W: Write + Drop, L: Ledger> Sink for ConsoleOutput<W, L> {
         let count = piece.len().min(PIECE_BYTES - self.bytes.len());
         self.bytes.extend_from_slice(&piece[..count]).unwrap();
         Ok(count)
+    }
+}
+
+impl<W: Write + Drop, L: Ledger> Sink for ConsoleOutput<W, L> {
+    ghost use Rattle.ps_device.specs.Writers.{console_contents, console_waiting, console_writer, has_failed};
+
+    ghost contents = { λ output. append_known (W.contents output.sink.writer) (drop output.sent output.bytes.items) };
+
+    ghost waiting = { λ output. drop output.sent output.bytes.items };
+
+    ghost failures = { λ output. output.sink.failed };
+
+    ghost holds_back = { ⊥ };
+
+    /// Keeps bytes from the front of the piece; where the room is full, it is sent first. Some of a piece that isn't
+    /// empty is taken at Ok.
+    ///
+    /// Cost: O(n) in the bytes taken, and no call of the writer while there is room.
+    #[inline]
+    fn put(&mut self, piece: &[u8]) -> Result<usize, Failed>
+        ensures within { IfOk result (λ count. count ≤ length piece.now) }
+        ensures bytes { WriteAppends (console_contents W.contents self.old) (console_contents W.contents self.new)
+            result piece.now }
+        ensures counted { self.new.sink.failed ≡ self.old.sink.failed + failed_put result piece.now }
+        ensures some { IfOk result (λ count. 0 < length piece.now → 0 < count) }
+        ensures waits { has_failed self.old ≡ false → length (console_waiting self.old) < PIECE_BYTES
+            → IsOk result × (console_writer self.new ≡ console_writer self.old) }
+        ensures stops { has_failed self.new ≡ is_err result }
+        ensures stopped { IsTrue (has_failed self.old)
+            → IsErr result × (console_writer self.new ≡ console_writer self.old) }
+    {
+        if self.is_stopped || PIECE_BYTES - self.bytes.len() < piece.len() {
+            return self.put_front(piece);
+        }
+        self.bytes.extend_from_slice(piece).unwrap();
+        Ok(piece.len())
     }
 
     /// Gives the writer what waits, and flushes it.

@@ -72,6 +72,7 @@ pub trait Sink {
 /// Puts all of these bytes, or those before a failure of the sink.
 ///
 /// Cost: O(n) in the bytes, in as many calls as the sink wants.
+#[inline]
 pub fn put_all<K: Sink>(sink: &mut K, bytes: &[u8]) -> Result<(), Failed>
     ensures sent { Sends (K.contents sink.old) (K.contents sink.new) result bytes.now }
     ensures calm { OnOk result (K.failures sink.new ≡ K.failures sink.old) }
