@@ -14,7 +14,7 @@ use Rattle.ps_value.specs.declared.value.Value.TheVariants.{Empty}
 use Rattle.ps_eval.specs.Items.{Assignment}
 use Rattle.ps_shown.specs.declared.kept.Kept.{Kept}
 use Rattle.ps_shown.specs.Kept.{value_of}
-use Rattle.ps_shown.specs.Shown.{place_of, shown_at}
+use Rattle.ps_shown.specs.Shown.{shown_at}
 use Rattle.ps_delta.specs.State.{State}
 use Rattle.ps_cells.specs.Settled.{IsSettled}
 use Rattle.ps_cells.specs.Inside.Screens.{cells_in, put_back, was_cyclic, AddsCyclic, ShowCycle}

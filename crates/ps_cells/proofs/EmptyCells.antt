@@ -1,9 +1,8 @@
 -- Tables that hold nothing.
-use Rattle.std.proofs.Common.{◌≡◌, ℕ, ◌≤◌, true, false, List, []}
-use Rattle.std.proofs.Common.{refl, sym, ap, arith}
-use Rattle.std.proofs.Common.{subst}
+use Rattle.std.proofs.Common.{◌≡◌, ℕ, true, false, []}
+use Rattle.std.proofs.Common.{refl, ap}
 use Rattle.ps_value.specs.declared.value.Value.TheVariants.{Empty}
-use Rattle.ps_delta.specs.State.{State, IsInGrid, empty_cell, empty_state}
+use Rattle.ps_delta.specs.State.{IsInGrid, empty_cell, empty_state}
 use Rattle.ps_eval.specs.Items.{Assignment}
 use Rattle.ps_cells.specs.Settled.{refers_to, Cyclic, IsSettled}
 use Rattle.ps_cells.specs.Inside.Waiting.{is_waiting}

@@ -1,5 +1,5 @@
 -- Cells in which nothing is staged are whole, and a staged change can be taken back.
-use Rattle.std.proofs.Common.{◌≡◌, Option, Some, None, ap, ◌∙◌, subst}
+use Rattle.std.proofs.Common.{◌≡◌, Some, None, ap, ◌∙◌, subst}
 use Rattle.ps_delta.specs.State.{state_at}
 use Rattle.ps_delta.specs.Deltas.{Entries, overlaid}
 use Rattle.ps_cells.specs.Cells.{CellsView}

@@ -14,71 +14,82 @@ use ps_index::Index;
 use ps_shown::Kept;
 use std::alloc::Global;
 
-/// What a change is about to do.
+/// Lists of the touched cells of a change. They are kept from one change to the next, so that a change asks for memory
+/// only where it touches more cells than all before.
 #[derive(Drop)]
-pub(crate) struct Plan {
-    /// the touched cells, ascending, each with its new state
-    pub(crate) raised: Vec<(Cell, CellState)>,
+pub(crate) struct Lists {
     /// the touched cells
     pub(crate) touched: Vec<Cell>,
-    /// the touched cells, each with what it shows at first
+    /// the touched cells, each with what it shows at first; between two changes nothing is kept there
     pub(crate) first: Vec<(Cell, Kept)>,
 }
 
-/// Begins the change that a delta makes: its formulas are put into the index beside the old ones.
+impl Lists {
+    /// Lists without a cell.
+    pub(crate) fn new(alloc: Global) -> Lists {
+        Lists {
+            touched: Vec::new(alloc),
+            first: Vec::new(alloc),
+        }
+    }
+}
+
+/// Begins the change that a delta makes: its formulas are put into the index beside the old ones. The touched cells,
+/// ascending, each with its new state.
 ///
 /// Refused only when out of memory, and then the index stands for what it stood for.
 pub(crate) fn begin(
     alloc: Global,
     grid: &mut Grid,
     index: &mut Index,
+    lists: &mut Lists,
     delta: &Delta,
-) -> Result<Plan, Refusal>
+) -> Result<Vec<(Cell, CellState)>, Refusal>
     requires stands { (forms : Puts) × Stands index.old forms }
-    ensures raised { IfOk result (λ x. IsRaised (state_at grid.old) (state_of delta.now) x.raised.items) }
-    ensures ready { IfOk result (λ x. HasRoomFor grid.new x.raised.items) }
-    ensures touched { IfOk result (λ x. x.touched.items ≡ cells_of x.raised.items) }
-    ensures first { IfOk result (λ x. shown_firsts x.first.items ≡ firsts x.raised.items) }
+    ensures raised { IfOk result (λ x. IsRaised (state_at grid.old) (state_of delta.now) x.items) }
+    ensures ready { IfOk result (λ x. HasRoomFor grid.new x.items) }
+    ensures touched { IfOk result (λ x. lists.new.touched.items ≡ cells_of x.items) }
+    ensures first { IfOk result (λ x. shown_firsts lists.new.first.items ≡ firsts x.items) }
     ensures put { IfOk result (λ x. (forms : Puts) → Stands index.old forms
-        → Stands index.new (with_puts x.raised.items forms)) }
+        → Stands index.new (with_puts x.items forms)) }
     ensures undone { OnErr result ((forms : Puts) → Stands index.old forms → Stands index.new forms) }
     ensures same { state_at grid.new ≡ state_at grid.old }
     ensures memory { IfErr result (λ e. e ≡ Refusal.Memory) }
 {
     let raised = grid.raised(alloc, delta)?;
-    let touched = cells_alone(alloc, &raised)?;
-    let first = first_values(alloc, &raised)?;
+    list_cells(&raised, &mut lists.touched)?;
+    list_first(alloc, &raised, &mut lists.first)?;
     put_formulas(index, &raised)?;
-    Ok(Plan {
-        raised,
-        touched,
-        first,
-    })
+    Ok(raised)
 }
 
-/// The cells alone.
-fn cells_alone(alloc: Global, cells: &[(Cell, CellState)]) -> Result<Vec<Cell>, Refusal>
-    ensures cells { IfOk result (λ v. v.items ≡ cells_of cells.now) }
+/// Lists the cells alone.
+fn list_cells(cells: &[(Cell, CellState)], alone: &mut Vec<Cell>) -> Result<(), Refusal>
+    ensures cells { OnOk result (alone.new.items ≡ cells_of cells.now) }
     ensures memory { IfErr result (λ e. e ≡ Refusal.Memory) }
 {
-    let mut alone = Vec::with_capacity(alloc, cells.len())?;
+    alone.clear();
     for (cell, _) in cells {
         alone.push(*cell)?;
     }
-    Ok(alone)
+    Ok(())
 }
 
-/// The cells, each with what it shows at first.
-fn first_values(alloc: Global, cells: &[(Cell, CellState)]) -> Result<Vec<(Cell, Kept)>, Refusal>
-    ensures first { IfOk result (λ v. shown_firsts v.items ≡ firsts cells.now) }
+/// Lists the cells, each with what it shows at first.
+fn list_first(
+    alloc: Global,
+    cells: &[(Cell, CellState)],
+    first: &mut Vec<(Cell, Kept)>,
+) -> Result<(), Refusal>
+    ensures first { OnOk result (shown_firsts first.new.items ≡ firsts cells.now) }
     ensures memory { IfErr result (λ e. e ≡ Refusal.Memory) }
 {
-    let mut first = Vec::with_capacity(alloc, cells.len())?;
+    first.clear();
     for (cell, state) in cells {
         let kept = first_of(alloc, state)?;
         first.push((*cell, kept))?;
     }
-    Ok(first)
+    Ok(())
 }
 
 /// Puts the formulas of the cells into the index. Where one is refused, those before it are taken out again.

@@ -4,6 +4,7 @@
 ghost use denote.Param.Send.{IsSend, IsSync};
 ghost use Rattle.ps_cells.specs.contracts.cells.Cells as cells;
 
+use crate::change::Lists;
 use crate::level::Level;
 use crate::screen::Screen;
 use ps_delta::{CellState, Grid};
@@ -27,5 +28,6 @@ pub fn cells_cross()
     crosses::<Index>();
     crosses::<Screen>();
     crosses::<Region>();
+    crosses::<Lists>();
     crosses::<Level>();
 }

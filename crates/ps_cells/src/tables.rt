@@ -17,7 +17,7 @@ ghost use Rattle.ps_cells.specs.Inside.Waiting.{is_waiting};
 ghost use Rattle.ps_cells.specs.Inside.Walk.{formula_at};
 ghost use Rattle.ps_region.specs.Listed.{listed};
 
-use crate::change::{Plan, begin, take_formulas};
+use crate::change::{Lists, begin, take_formulas};
 use crate::contents::holds_formula;
 use crate::level::{Inputs, Level, Workers};
 use crate::region::find_region;
@@ -31,6 +31,7 @@ use ps_region::Region;
 use ps_shown::Kept;
 use ps_workers::Gate;
 use std::alloc::Global;
+use std::mem;
 use std::sync::ledger::Ledger;
 use std::thread::Threads;
 
@@ -51,6 +52,8 @@ pub(crate) struct Tables {
     pub(crate) cyclic: Vec<Cell>,
     /// which cells are due, while a change is made
     flags: Vec<bool>,
+    /// the touched cells of the last change
+    lists: Lists,
     /// the due cells of one level
     level: Level,
     /// how many workers evaluate a level
@@ -90,6 +93,7 @@ impl Tables {
             source: None,
             cyclic,
             flags,
+            lists: Lists::new(alloc),
             level,
             workers,
         })
@@ -122,14 +126,17 @@ impl Tables {
             × (self.new.shown ≡ self.old.shown)) }
         ensures unmetered { OnErr result (meter.new ≡ meter.old) }
     {
-        let change = begin(alloc, &mut self.grid, &mut self.index, delta)?;
-        let Plan {
-            mut raised,
-            touched,
-            first,
-        } = change;
+        let mut raised = begin(
+            alloc,
+            &mut self.grid,
+            &mut self.index,
+            &mut self.lists,
+            delta,
+        )?;
         self.grid.exchange(&mut raised);
-        let work = self.recalculate(rt, gate, &touched, first, meter);
+        let mut lists = mem::replace(&mut self.lists, Lists::new(alloc));
+        let work = self.recalculate(rt, gate, &lists.touched, &mut lists.first, meter);
+        self.lists = lists;
         Ok((work, raised))
     }
 
@@ -167,10 +174,10 @@ impl Tables {
         rt: &R,
         gate: &G,
         touched: &[Cell],
-        first: Vec<(Cell, Kept)>,
+        first: &mut [(Cell, Kept)],
         meter: &mut Meter<L>,
     ) -> Work
-        requires may { MayRecalculate self.old touched.now first.items }
+        requires may { MayRecalculate self.old touched.now first.old }
         ensures done { Recalculates self.old self.new touched.now result.evaluated result.cyclic result.levels }
         ensures before { before_of self.new.shown ≡ before_of self.old.shown }
         ensures metered { meter.new ≡ meter.old + result.evaluated }
@@ -184,8 +191,8 @@ impl Tables {
 
     /// Settles what the cells show where no touched cell has a formula, no formula refers to one, and no cell was
     /// cyclic: the touched cells are the region.
-    fn show_alone(&mut self, touched: &[Cell], first: Vec<(Cell, Kept)>) -> Work
-        requires may { MayRecalculate self.old touched.now first.items }
+    fn show_alone(&mut self, touched: &[Cell], first: &mut [(Cell, Kept)]) -> Work
+        requires may { MayRecalculate self.old touched.now first.old }
         requires alone { list_all (is_alone (formula_at (state_at self.old.grid)) (listed self.old.index)) touched.now
             ≡ true }
         requires none { self.old.cyclic.items ≡ [] }
@@ -215,10 +222,10 @@ impl Tables {
         rt: &R,
         gate: &G,
         touched: &[Cell],
-        first: Vec<(Cell, Kept)>,
+        first: &mut [(Cell, Kept)],
         meter: &mut Meter<L>,
     ) -> Work
-        requires { MayRecalculate self.old touched.now first.items }
+        requires { MayRecalculate self.old touched.now first.old }
         ensures done { Recalculates self.old self.new touched.now result.evaluated result.cyclic result.levels }
         ensures before { before_of self.new.shown ≡ before_of self.old.shown }
         ensures metered { meter.new ≡ meter.old + result.evaluated }

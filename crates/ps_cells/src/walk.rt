@@ -27,6 +27,7 @@ use ps_region::Region;
 use ps_shown::Kept;
 use ps_value::Fault;
 use ps_workers::Gate;
+use std::mem;
 use std::sync::ledger::Ledger;
 use std::thread::Threads;
 
@@ -93,25 +94,27 @@ fn show_first(
     }
 }
 
-/// Looks after the touched cells, which come with their first values.
+/// Looks after the touched cells, which come with their first values, and leaves nothing in place of these.
 #[inline(always)]
 pub(crate) fn show_all_first(
     grid: &Grid,
     index: &Index,
-    first: Vec<(Cell, Kept)>,
+    first: &mut [(Cell, Kept)],
     shown: &mut Screen,
     flags: &mut [bool],
 )
     requires whole { length flags.old ≡ CELLS }
-    requires once { IsDistinct nat_eq (map (λ e. e.0) first.items) }
-    requires values { All (λ e. value_kept e.1 ≡ first_value (state_at grid.now e.0)) first.items }
-    ensures begun { BeginsAll (state_at grid.now) (listed index.now) (map (λ e. e.0) first.items)
+    requires once { IsDistinct nat_eq (map (λ e. e.0) first.old) }
+    requires values { All (λ e. value_kept e.1 ≡ first_value (state_at grid.now e.0)) first.old }
+    ensures begun { BeginsAll (state_at grid.now) (listed index.now) (map (λ e. e.0) first.old)
         (shown_at shown.old.kept)
         (shown_at shown.new.kept) (flag_at flags.old) (flag_at flags.new) }
     ensures before { before_of shown.new ≡ before_of shown.old }
 {
-    for (cell, kept) in first {
-        show_first(grid, index, cell, kept, shown, flags);
+    for i in 0..first.len() {
+        let entry = &mut first[i];
+        let kept = mem::replace(&mut entry.1, Kept::Empty);
+        show_first(grid, index, entry.0, kept, shown, flags);
     }
 }
 

@@ -1,7 +1,7 @@
 use denote.Builtin.{bool}
 use denote.RattleType.{RattleType}
 use denote.Hole.{as_row}
-use denote.Param.Send.{IsSend, IsSync, sendable, view_send}
+use denote.Param.Send.{IsSend, sendable, view_send}
 use denote.Param.SendFields.{declared_send, as_row_send}
 use denote.Struct.Declared as S
 use denote.Struct.Tuple.{Tuple}
@@ -18,6 +18,7 @@ use Rattle.ps_index.specs.contracts.index.Index as index
 use Rattle.ps_region.specs.contracts.region.Region as region
 use Rattle.ps_cells.specs.contracts.cells.Cells.TheInside as cells_inside
 use Rattle.ps_cells.specs.contracts.tables.Tables as tables
+use Rattle.ps_cells.specs.contracts.change.Lists as lists
 use Rattle.ps_delta.specs.contracts.cell_state.CellState as cell_state
 use Rattle.ps_cells.specs.contracts.level.Level as level
 use Rattle.ps_cells.specs.contracts.screen.Screen as screen
@@ -35,8 +36,8 @@ source_send : IsSend (as_row (Option.the_field cell.the_row))
 source_send = search (crosses, sendable) depth 20
 
 tables_send : IsSend grid.the_row → IsSend index.the_row → IsSend screen.the_row → IsSend region.the_row
-    → IsSend level.the_row → IsSend tables.the_row
-tables_send g i s r l = declared_send tables.the_type (
+    → IsSend lists.the_row → IsSend level.the_row → IsSend tables.the_row
+tables_send g i s r o l = declared_send tables.the_type (
   as_row_send grid.the_field g,
   (
     as_row_send index.the_field i,
@@ -48,7 +49,7 @@ tables_send g i s r l = declared_send tables.the_type (
           source_send,
           (
             as_row_send (Vec.the_field cell.the_row Global.the_row ghosts) list_send,
-            (as_row_send (Vec.the_field bool Global.the_row ghosts) flags_send, (l, (search sendable, tt))),
+            (as_row_send (Vec.the_field bool Global.the_row ghosts) flags_send, (o, (l, (search sendable, tt)))),
           ),
         ),
       ),
@@ -90,6 +91,8 @@ returns c =
     let i : IsSend index.the_row = record { owned = c.crosses-3.ensures.send.owned; leaving = λ k x w. tt } in
     let s : IsSend screen.the_row = record { owned = c.crosses-4.ensures.send.owned; leaving = λ k x w. tt } in
     let r : IsSend region.the_row = record { owned = c.crosses-5.ensures.send.owned; leaving = λ k x w. tt } in
-    let l : IsSend level.the_row =
+    let o : IsSend lists.the_row =
     record { owned = c.crosses-6.ensures.send.owned; leaving = λ k x w. (tt, (tt, tt)) } in
-    view_send _ _ _ _ _ (cells_send (tables_send g i s r l) (staged_send (olds_send a)))
+    let l : IsSend level.the_row =
+    record { owned = c.crosses-7.ensures.send.owned; leaving = λ k x w. (tt, (tt, tt)) } in
+    view_send _ _ _ _ _ (cells_send (tables_send g i s r o l) (staged_send (olds_send a)))

@@ -45,7 +45,7 @@ flags_first g c =
 
 begun_first : (g : Over) (c : After-settle_frame-arg-4-1 g)
     → Begun (state_at c.args.self.now.grid) (shown_at c.args.self.now.shown.kept) c.args.touched.now
-    (map (λ (e : ℕ × Kept). e.0) c.args.first.items) [] (shown_at c.show_all_first.new.shown.kept)
+    (map (λ (e : ℕ × Kept). e.0) c.args.first.now) [] (shown_at c.show_all_first.new.shown.kept)
     (flag_at c.show_all_first.new.flags)
 begun_first g c =
     c.show_all_first.ensures.begun (shown_at c.args.self.now.shown.kept) c.args.touched.now c.requires.lists
@@ -62,7 +62,7 @@ begun_all g c =
     let t = state_at c.args.self.now.grid in
     let v = shown_at c.args.self.now.shown.kept in
     let touched = c.args.touched.now in
-    let closed = c.close_all.ensures.closed t v touched (map (λ (e : ℕ × Kept). e.0) c.args.first.items)
+    let closed = c.close_all.ensures.closed t v touched (map (λ (e : ℕ × Kept). e.0) c.args.first.now)
     (flag_at c.show_all_first.new.flags)
     (λ q i. let z = (found g c).cyclic_sound q (subst (λ xs. In xs q) c.cyclic.ensures i) in (z.0, z.2))
     (begun_first g c) in

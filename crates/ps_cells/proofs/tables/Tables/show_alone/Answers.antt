@@ -20,7 +20,7 @@ clear-requires-clause-within c = λ q on.
     (c.show_all_first.auto.flags ∙ c.deref_mut.ensures.len) in
     flags_alone may.before (state_at c.args.self.now.grid) (shown_at c.args.self.now.shown.kept) c.args.touched.now
     may.change may.inside may.once (listed c.args.self.now.index) may.lists c.requires.alone
-    (map (λ (e : ℕ × Kept). e.0) c.args.first.items) may.cells (shown_at c.show_all_first.new.shown.kept)
+    (map (λ (e : ℕ × Kept). e.0) c.args.first.now) may.cells (shown_at c.show_all_first.new.shown.kept)
     (flag_at c.deref_mut.result.now) (flag_at c.show_all_first.new.flags)
     (λ p. ap (λ (xs : List Bool). flag_at xs p) c.deref_mut.ensures.value ∙ may.tidy.off p)
     c.show_all_first.ensures.begun q (subst (λ (xs : List Bool). flag_at xs q ≡ true) first on)
@@ -32,7 +32,7 @@ returns-clause-done c =
     let touched = c.args.touched.now in
     let list = listed c.args.self.now.index in
     let may = c.requires.may in
-    let cells = map (λ (e : ℕ × Kept). e.0) c.args.first.items in
+    let cells = map (λ (e : ℕ × Kept). e.0) c.args.first.now in
     let u = shown_at c.show_all_first.new.shown.kept in
     let none = flag_at c.deref_mut.result.now in
     let flags = flag_at c.show_all_first.new.flags in
