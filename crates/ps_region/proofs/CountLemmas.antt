@@ -137,6 +137,25 @@ raised_no f walked left left2 e so_far no_f q =
     (λ (ne : q ≢ e). rw (in-push_other walked q e ne) (so_far q))
     (cases_eq q e)
 
+-- what is counted of one more cell
+pub raised_more : (f : ℕ → Bool) (walked left left2 left3 : List ℕ) (e : ℕ)
+    → ((q : ℕ) → get_or left2 q 0 ≡ get_or left q 0 + as_one (list_any (eqb q) walked && f q))
+    → ((q : ℕ) → get_or left3 q 0 ≡ get_or left2 q 0 + as_one (list_any (eqb q) (e ∷ []) && f q))
+    → list_any (eqb e) walked ≡ false
+    → (q : ℕ) → get_or left3 q 0 ≡ get_or left q 0 + as_one (list_any (eqb q) (walked ++ e ∷ []) && f q)
+raised_more f walked left left2 left3 e so_far one new q =
+    ⊎_elim
+    (λ (eq : q ≡ e). subst
+    (λ x. get_or left3 x 0 ≡ get_or left x 0 + as_one (list_any (eqb x) (walked ++ e ∷ []) && f x)) (sym eq)
+    (let o = rw new at (so_far e) in
+    let h = rw (in-push_same [] e) at (one e) in
+    rw (in-push_same walked e) (omega (arith, o, h))))
+    (λ (ne : q ≢ e).
+    let h = rw (in-push_other [] q e ne) at (one q) in
+    let o = so_far q in
+    rw (in-push_other walked q e ne) (omega (arith, o, h)))
+    (cases_eq q e)
+
 -- one more cell is looked at: it adds where it is pending
 pub cells_left-look : (refers : References) (p : ℕ → Bool) (n q : ℕ) → p n ≡ true
     → cells_left refers p [] (n + 1) q ≡ cells_left refers p [] n q + as_one (refers q n)

@@ -1,6 +1,7 @@
 -- The counts that grow with the region, and with the cyclic cells outside it.
 use Rattle.std.proofs.Common.{◌≡◌, ◌≢◌, ℕ, suc, zero, ◌+◌, ◌<◌, ◌≤◌, Bool, true, false, cond, ◌&&◌, List}
 use Rattle.std.proofs.Common.{[], ◌∷◌, ◌++◌, length, refl, sym, ap, ◌∙◌, arith, ⊎_elim, eqb, subst, get_or, set, take}
+use Rattle.std.proofs.Common.{eqb-true, not, ◌==◌}
 use Rattle.std.proofs.lemmas.Bool.{cases_eq}
 use Rattle.std.proofs.lemmas.List.{get_or-set_same, get_or-set_other, take_more}
 use Rattle.std.specs.List.{list_any, IsDistinct}
@@ -8,7 +9,8 @@ use Rattle.ps_grid.specs.Chains.{References, In}
 use Rattle.ps_region.specs.Inside.Cells.{Marked, with_all}
 use Rattle.ps_region.specs.Inside.Counts.{as_one, count_below, waiting, cells_left, is_in, is_walked, counted_in}
 use Rattle.ps_region.specs.Inside.Settles.{is_pending}
-use Rattle.ps_region.proofs.CellListLemmas.{bool_cases, in-push_same, in-push_other, in-take_apart, with_all-prefix}
+use Rattle.ps_region.specs.Inside.Touched.{not_plain}
+use Rattle.ps_region.proofs.CellListLemmas.{bool_cases, or_cases, in-push_same, in-push_other, in-take_apart, with_all-prefix}
 use Rattle.ps_region.proofs.CountLemmas.{count_below-same, count_below-clear, and_false}
 
 pub count_below-zero : (p : ℕ → Bool) (n : ℕ) → ((k : ℕ) → p k ≡ false) → count_below p n ≡ 0
@@ -242,3 +244,48 @@ pub outside_small : (refers : References) (formula : ℕ → Bool) (marks : List
 outside_small refers formula marks done n q h lt off new =
     cells_left-lt refers (is_pending formula (is_in done) marks) n q h lt
     (ap (λ b. cond b (formula h) (list_any (eqb h) done)) off ∙ new)
+
+-- a cell of a list where none passes doesn't pass
+none_of : (p : ℕ → Bool) (xs : List ℕ) (c : ℕ) → list_any p xs ≡ false → In xs c → p c ≡ false
+none_of p [] c none i = absurd (let f : false ≡ true = i in cc)
+none_of p (x ∷ xs) c none i =
+    ⊎_elim
+    (λ (t : p x ≡ true). absurd (let f : true ≡ false = rw t at none in cc))
+    (λ (f : p x ≡ false).
+    let later : list_any p xs ≡ false = rw f at none in
+    ⊎_elim
+    (λ (e : eqb c x ≡ true). subst (λ y. p y ≡ false) (sym (eqb-true c x e)) f)
+    (λ (there : list_any (eqb c) xs ≡ true). none_of p xs c later there)
+    (or_cases (eqb c x) (list_any (eqb c) xs) i))
+    (bool_cases (p x))
+
+-- where no member has a formula, or no cell is outside, none outside is counted
+pub outside_none : (refers : References) (formula : ℕ → Bool) (marks plain : List Bool) (members outside : List ℕ)
+    (n : ℕ) → Marked marks members
+    → ((c d : ℕ) → refers c d ≡ true → formula c ≡ true)
+    → ((c : ℕ) → In members c → not_plain plain c ≡ formula c)
+    → (not (length outside == 0) && list_any (not_plain plain) members) ≡ false
+    → (c : ℕ) → get_or marks c false ≡ true
+    → cells_left refers (is_pending formula (is_in []) marks) [] n c
+    ≡ cells_left refers (is_pending formula (is_in outside) marks) [] n c
+outside_none refers formula marks plain members [] n m has known none c t = refl
+outside_none refers formula marks plain members (e ∷ more) n m has known none c t =
+    let inside : In members c = sym (m.same c) ∙ t in
+    let plain_all : list_any (not_plain plain) members ≡ false =
+    ⊎_elim
+    (λ (t : (length (e ∷ more) == 0) ≡ true).
+    absurd (let z : length (e ∷ more) ≡ 0 = eqb-true (length (e ∷ more)) 0 t in omega arith))
+    (λ (f : (length (e ∷ more) == 0) ≡ false). rw f at none)
+    (bool_cases (length (e ∷ more) == 0)) in
+    let no : formula c ≡ false = sym (known c inside) ∙ none_of (not_plain plain) members c plain_all inside in
+    let nowhere : (d : ℕ) → refers c d ≡ false =
+    λ d. ⊎_elim
+    (λ (r : refers c d ≡ true). absurd (let f : true ≡ false = sym (has c d r) ∙ no in cc))
+    (λ (r : refers c d ≡ false). r)
+    (bool_cases (refers c d)) in
+    zero_left (is_pending formula (is_in []) marks) nowhere
+    ∙ sym (zero_left (is_pending formula (is_in (e ∷ more)) marks) nowhere)
+  where
+    zero_left : (p : ℕ → Bool) → ((d : ℕ) → refers c d ≡ false) → cells_left refers p [] n c ≡ 0
+    zero_left p nowhere =
+        count_below-zero (λ d. refers c d && waiting p [] d) n (λ d. ap (λ b. b && waiting p [] d) (nowhere d))

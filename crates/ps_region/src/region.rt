@@ -98,8 +98,8 @@ impl Region {
     /// `index` lists the formulas after the change, and at most those that touched cells had before. `cyclic` has the
     /// cells that are cyclic after the change, but for the region's: there it doesn't matter which it has.
     ///
-    /// Cost: the cells of the region and the references to them, and for each cell of `cyclic` outside the region the
-    /// references to it; it takes no memory.
+    /// Cost: the cells of the region and the references to them, and where one of them has a formula, for each cell of
+    /// `cyclic` outside the region the references to it; it takes no memory.
     pub fn mark<A: After>(&mut self, index: &Index, after: &A, touched: &[Cell], cyclic: &[Cell])
         requires lists_all { (c d : ℕ) → A.refers after.now c d ≡ true → In (listed index.now d) c }
         requires extra { (c d : ℕ) → d < ALL → In (listed index.now d) c
@@ -131,7 +131,7 @@ impl Region {
             plain,
         };
         grow(&change, marks, left, members, sole);
-        count_outside(&change, marks, left);
+        count_outside(&change, marks, members, left);
         order.clear();
         first_level(plain, left, level, members, order);
         starts.clear();
@@ -204,6 +204,9 @@ impl Region {
     }
 
     /// How many of the cells that a formula cell of the region refers to are cyclic; none for any other cell.
+    ///
+    /// Nothing in the program calls it. It is part of the public interface, and shows what the region keeps: the counts
+    /// by which it is sorted into levels and cycles, as they stand after a mark.
     ///
     /// Cost: constant.
     pub fn left(&self, c: Cell) -> Option<usize>

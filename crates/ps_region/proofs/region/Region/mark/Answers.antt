@@ -13,7 +13,7 @@ use Rattle.ps_region.proofs.CountLemmas.{and_true_left}
 use Rattle.ps_region.proofs.FoundLemmas.{is_found}
 use Rattle.ps_region.proofs.GrowthCounts.{counts_by_marks}
 use Rattle.ps_region.proofs.QueueStart.{marks_closed, starting}
-use Rattle.ps_region.proofs.TouchedLemmas.{fresh_known, formula_cells}
+use Rattle.ps_region.proofs.TouchedLemmas.{fresh_known, formula_cells, not_plain_is}
 use Rattle.ps_region.proofs.region.Region.mark.Goals as goal
 
 -- there are no more members than cells
@@ -32,12 +32,21 @@ count_outside-requires-clause-counted g c =
     c.grow.new.members.items c.grow.new.left CELLS
     c.grow.ensures.marked c.grow.ensures.counts
 
+pub count_outside-requires-clause-marked : goal.count_outside-requires-clause-marked
+count_outside-requires-clause-marked g c = rw c.deref.ensures.value c.grow.ensures.marked
+
+pub count_outside-requires-clause-formula : goal.count_outside-requires-clause-formula
+count_outside-requires-clause-formula g c = rw c.deref.ensures.value
+    (λ q i. not_plain_is (g.A.After.refers c.args.after.now) (g.A.After.formula c.args.after.now)
+    c.note_touched.new.plain c.args.touched.now (g.met.A.After.refers_formula c.args.after.now)
+    c.note_touched.ensures.plain q (c.grow.ensures.sound q i))
+
 pub first_level-requires-clause-room : goal.first_level-requires-clause-room
 first_level-requires-clause-room g c =
     let few = few_members c.grow.new.marks c.grow.new.members.items c.grow.ensures.marked
     (c.grow.auto.marks ∙ (c.clear.auto.marks ∙ (ap length c.deref_mut-marks.ensures.value
     ∙ c.self.invariant.marks_length))) in
-    rw c.deref.ensures.value (omega (arith, few, c.clear-2.ensures.capacity, c.self.invariant.order_room))
+    rw c.deref-2.ensures.value (omega (arith, few, c.clear-2.ensures.capacity, c.self.invariant.order_room))
 
 pub settle-requires-clause-closed : goal.settle-requires-clause-closed
 settle-requires-clause-closed g c =
@@ -67,7 +76,7 @@ settle-requires-clause-starting g c =
     (settle-requires-clause-closed g c)
     c.grow.ensures.marked long
     c.count_outside.ensures.counts
-    ((rw c.deref.ensures.value at c.first_level.ensures.order) ∙ same)
+    ((rw c.deref-2.ensures.value at c.first_level.ensures.order) ∙ same)
     c.first_level.ensures.level
 
 pub list_held-requires-clause-room : goal.list_held-requires-clause-room
@@ -75,7 +84,7 @@ list_held-requires-clause-room g c =
     let few = few_members c.grow.new.marks c.grow.new.members.items c.grow.ensures.marked
     (c.grow.auto.marks ∙ (c.clear.auto.marks ∙ (ap length c.deref_mut-marks.ensures.value
     ∙ c.self.invariant.marks_length))) in
-    rw c.deref-2.ensures.value (omega (arith, few, c.clear-4.ensures.capacity, c.self.invariant.cyclic_room))
+    rw c.deref-3.ensures.value (omega (arith, few, c.clear-4.ensures.capacity, c.self.invariant.cyclic_room))
 
 pub invariant_of-self : goal.invariant_of-self
 invariant_of-self g c =
@@ -138,7 +147,7 @@ returns g c =
           c.note_touched.new.plain c.note_touched.ensures.plain
           c.settle.ensures.ended c.settle.ensures.levels
           c.settle.ensures.whole
-          ((rw c.deref-2.ensures.value at c.list_held.ensures.cyclic)
+          ((rw c.deref-3.ensures.value at c.list_held.ensures.cyclic)
           ∙ formula_cells (g.A.After.refers c.args.after.now) (g.A.After.formula c.args.after.now)
           c.note_touched.new.plain c.args.touched.now c.grow.new.members.items
           (g.met.A.After.refers_formula c.args.after.now) c.note_touched.ensures.plain c.grow.ensures.sound

@@ -3,7 +3,7 @@ use Rattle.std.specs.List.{list_any}
 use Rattle.std.specs.Prelude.{nat_eq}
 use Rattle.ps_region.specs.Inside.Counts.{as_one}
 use Rattle.ps_region.specs.Listed.{listed}
-use Rattle.ps_region.proofs.outside.raise.Given as goal
+use Rattle.ps_region.proofs.outside.raise_each.Given as goal
 
 abbrev pub invariant-loop-e : goal.invariant-loop-e
 invariant-loop-e g l = record {
