@@ -111,6 +111,17 @@ module _ {X : Type 0} (f : X → Entries) (xs : List X) (most : ℕ) where
     greatest = none;
   }
 
+  -- a line of all that may share one is that of the greatest number
+  pub greatest_whole : (reach : ℕ) (line : List ℕ) → 0 < reach → reach ≤ most → IsGroupLine (map f xs) reach line
+      → ((k : ℕ) → reach < k → k ≤ most → k ≤ length xs → HasNoLine (take k (map f xs)))
+      → IsGreatest (map f xs) most reach line
+  greatest_whole reach line some within grouped none = record {
+    some = omega (arith, some);
+    within = within;
+    grouped = grouped;
+    greatest = none_above_all reach reach none (λ k longer above few. absurd (omega (arith, above, few)));
+  }
+
   pub none_found : (count : ℕ) → count ≤ 0 → NoneAbove count → HasNone (map f xs) most
   none_found count none_left none k line some within = none k line (omega (arith, some, none_left)) within
 

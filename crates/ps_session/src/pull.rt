@@ -1,25 +1,32 @@
 //! How many deltas one line holds, for those who pull them.
 
-ghost use Rattle.std.specs.Prelude.{◌≡◌, ◌⊎◌, ◌+◌, ◌<◌, ◌≤◌, Err, IfOk, IfErr, length, map, take, ◌∷◌, []};
+ghost use Rattle.std.specs.Prelude.{◌≡◌, ◌⊎◌, ◌↔◌, ◌+◌, ◌-◌, ◌<◌, ◌≤◌, Err, IfOk, IfErr, IfSome, IsTrue, length};
+ghost use Rattle.std.specs.Prelude.{map, sum_by, take, ◌∷◌, []};
 ghost use Rattle.std.specs.Arc.{arc_value};
+ghost use Rattle.std.specs.Option.{SomeIff};
 ghost use Rattle.ps_delta.specs.Deltas.{IsDelta, joined_history, state_of};
 ghost use Rattle.ps_wire.specs.Line.{delta_text};
 ghost use Rattle.ps_wire.specs.declared.TheConstants.{DELTA_LINE_LIMIT};
-ghost use Rattle.ps_session.specs.Handing.{HasNone, IsGreatest, IsJoint};
-ghost use Rattle.ps_session.specs.Inside.Joints.{AreFirstJoints, AreJoints};
+ghost use Rattle.ps_session.specs.Handing.{HasNone, IsGreatest, IsGroupLine, IsJoint};
+ghost use Rattle.ps_session.specs.Inside.Joints.{AreFirstJoints, AreJoints, part_count, parts_in};
 
-use ps_delta::Delta;
-use ps_grid::Refusal;
+use ps_delta::{CellState, Delta};
+use ps_grid::{Cell, Refusal};
 use ps_wire::{encode, may_share_line, outgrows_line};
 use std::alloc::Global;
 use std::sync::Arc;
+
+/// The join of all that may share a line is tried first where they have no more cells, counts and pairs than these:
+/// then it nearly always fits, and little was done in vain where it doesn't.
+const FEW_PARTS: usize = 512;
 
 /// The greatest number of the deltas, at most so many, whose join has a line that isn't too long, and this line.
 ///
 /// Refused as `TooLong` where there is no such number, and when out of memory.
 ///
-/// Cost: that of joining the deltas upward, one more at a time, for as long as one more may fit, of the line, and of
-/// what one line may hold for each greater join; for one delta that of its line.
+/// Cost: for one delta that of its line, and for a few small ones that of one join and its line. Else, and where this
+/// line is too long, that of joining the deltas upward, one more at a time, for as long as one more may fit, of the
+/// line, and of what one line may hold for each greater join.
 pub fn greatest_group(
     alloc: Global,
     deltas: &[Arc<Delta>],
@@ -36,6 +43,11 @@ pub fn greatest_group(
         };
     }
     let reach = may_share_line(alloc, deltas, most)?;
+    if reach > 1 && have_few_parts(&deltas[..reach], FEW_PARTS) {
+        if let Some(line) = whole_line(alloc, deltas, reach)? {
+            return Ok((reach, line));
+        }
+    }
     let joints = joined_upward(alloc, deltas, reach)?;
     let mut count = joints.len();
     'counts: while count > 0 {
@@ -58,6 +70,77 @@ fn line_alone(alloc: Global, delta: &Arc<Delta>) -> Result<Vec<u8>, Refusal>
     // the call brings that the parts are a delta
     let _ = delta.parts();
     joint_line(alloc, delta)
+}
+
+/// Whether the deltas have at most so many cells, counts and pairs, where one counts as often as it comes.
+fn have_few_parts(deltas: &[Arc<Delta>], most: usize) -> bool
+    ensures { IsTrue result ↔ (sum_by (λ d. parts_in (arc_value d)) deltas.now ≤ most) }
+{
+    let mut left = most;
+    for delta in deltas {
+        match left_after(delta.parts(), left) {
+            Some(rest) => left = rest,
+            None => return false,
+        }
+    }
+    true
+}
+
+/// What is left of so many after the cells with their counts and pairs, if they aren't more.
+fn left_after(cells: &[(Cell, CellState)], most: usize) -> Option<usize>
+    ensures { SomeIff result (parts_in cells.now ≤ most) (most - parts_in cells.now) }
+{
+    let mut left = most;
+    for cell in cells {
+        match left_after_one(cell, left) {
+            Some(rest) => left = rest,
+            None => return None,
+        }
+    }
+    Some(left)
+}
+
+/// What is left of so many after one cell with its counts and pairs, if they aren't more.
+fn left_after_one(cell: &(Cell, CellState), most: usize) -> Option<usize>
+    ensures { SomeIff result (part_count cell.now ≤ most) (most - part_count cell.now) }
+{
+    let (_, tally, choice) = cell.1.parts();
+    let left = most.checked_sub(1)?;
+    let left = left.checked_sub(tally.parts().len())?;
+    left.checked_sub(choice.parts().len())
+}
+
+/// The line of the join of the first deltas, if it isn't too long.
+fn whole_line(
+    alloc: Global,
+    deltas: &[Arc<Delta>],
+    count: usize,
+) -> Result<Option<Vec<u8>>, Refusal>
+    requires some { 0 < count }
+    requires within { count ≤ length deltas.now }
+    ensures line { IfOk result (λ o. IfSome o (λ line. IsGroupLine (map arc_value deltas.now) count line.items)) }
+    ensures memory { IfErr result (λ e. e ≡ Refusal.Memory) }
+{
+    let joint = Delta::joined(alloc, &deltas[..count])?;
+    // the call brings that the parts are a delta
+    let _ = joint.parts();
+    let Some(line) = short_line(alloc, &joint)? else {
+        return Ok(None);
+    };
+    Ok(Some(line))
+}
+
+/// The line of the delta, if it isn't too long.
+fn short_line(alloc: Global, delta: &Delta) -> Result<Option<Vec<u8>>, Refusal>
+    ensures line { IfOk result (λ o. IfSome o (λ line. line.items ≡ delta_text delta.now)) }
+    ensures fits { IfOk result (λ o. IfSome o (λ line. length line.items ≤ DELTA_LINE_LIMIT)) }
+    ensures memory { IfErr result (λ e. e ≡ Refusal.Memory) }
+{
+    match joint_line(alloc, delta) {
+        Ok(line) => Ok(Some(line)),
+        Err(Refusal::TooLong) => Ok(None),
+        Err(refusal) => Err(refusal),
+    }
 }
 
 /// The joins of the first delta, of the first two, and so on: of at most so many, and of none that can have no line.

@@ -1,5 +1,7 @@
 -- Deltas of a history joined upward, one more at a time.
-use Rattle.std.specs.Prelude.{ℕ, ◌+◌, ◌<◌, ◌≤◌, List, length, take, get_or}
+use Rattle.std.specs.Prelude.{ℕ, ◌+◌, ◌<◌, ◌≤◌, List, length, take, get_or, sum_by}
+use Rattle.std.specs.FinMap as map
+use Rattle.ps_delta.specs.declared.cell_state.CellState.{CellState}
 use Rattle.ps_delta.specs.Deltas.{Entries}
 use Rattle.ps_session.specs.Handing.{IsGroupLine, IsJoint}
 
@@ -14,3 +16,11 @@ pub record AreJoints (deltas : List Entries) (most : ℕ) (joints : List Entries
   pub within : length joints ≤ length deltas
   pub first : AreFirstJoints deltas joints
   pub last : (k : ℕ) (line : List ℕ) → length joints < k → k ≤ most → ¬ IsGroupLine deltas k line
+
+-- a cell with its counts and pairs
+abbrev pub part_count : ℕ × CellState → ℕ
+part_count e = 1 + length (map.entries e.1.tally) + length (map.entries e.1.choice)
+
+-- .. of all the cells
+abbrev pub parts_in : Entries → ℕ
+parts_in cells = sum_by part_count cells

@@ -3,8 +3,8 @@ use Rattle.std.proofs.lemmas.List.{length-map}
 use Rattle.std.specs.Arc.{arc_value}
 use Rattle.ps_wire.specs.Line.{delta_text}
 use Rattle.ps_wire.specs.declared.TheConstants.{DELTA_LINE_LIMIT}
-use Rattle.ps_session.proofs.GreatestGroup.{greatest_found, none_above_all, none_above_next, none_found}
-use Rattle.ps_session.proofs.GreatestGroup.{none_of_one, one_item}
+use Rattle.ps_session.proofs.GreatestGroup.{greatest_found, greatest_whole, none_above_all, none_above_next}
+use Rattle.ps_session.proofs.GreatestGroup.{none_found, none_of_one, one_item}
 use Rattle.ps_session.proofs.JointLemmas.{joint_at}
 use Rattle.ps_session.proofs.ReadLemmas.{same_fault}
 use Rattle.ps_session.proofs.pull.greatest_group.Goals as goal
@@ -59,3 +59,9 @@ returns-then-deltas-eq1-clause-none c = λ is.
       | in-Ok w ↦ absurd (let no = sym w.result-is ∙ is in cc)
       | in-Err w ↦ w.in-Err.is ∙ same_fault c.match-line_alone.result _ _ _ w.result-is refl is
     ]))
+
+pub returns-in-Some-clause-found : goal.returns-in-Some-clause-found
+returns-in-Some-clause-found c =
+    greatest_whole arc_value c.args.deltas.now c.args.most c.in_ok-reach.reach c.in-Some.line.items
+    (omega arith) c.in_ok-reach.ensures.most (rw c.in-Some.is at c.in_ok-line.ensures.line)
+    c.in_ok-reach.ensures.more
