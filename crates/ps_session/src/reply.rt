@@ -1,11 +1,13 @@
 //! What a line is answered.
-ghost use Rattle.std.specs.Prelude.{◌≡◌, ◌<◌, ◌++◌, ◌∷◌, [], OnErr, OnOk, codes, decimal, flat_map};
+ghost use Rattle.std.specs.Prelude.{◌≡◌, ◌<◌, ◌≤◌, ◌+◌, ◌++◌, ◌∷◌, [], OnErr, OnOk, codes, decimal, drop};
+ghost use Rattle.std.specs.Prelude.{flat_map, length};
+ghost use Rattle.std.specs.Fmt.{signed_decimal};
 ghost use Rattle.ps_device.specs.Device.{Sends};
 ghost use Rattle.ps_value.specs.Shown.{shown_text};
 ghost use Rattle.ps_session.specs.Replies.{entry_reply, reply_text};
 
 use crate::watcher::Seen;
-use itoa::Buffer;
+use itoa::{Buffer, write_digits};
 use ps_device::{Failed, Sink, put_all};
 use ps_grid::Refusal;
 use ps_value::{Value, write_shown};
@@ -73,7 +75,7 @@ fn send_value<K: Sink>(value: Value, sink: &mut K) -> Result<(), Failed>
 }
 
 /// Writes `val` and what a cell shows.
-fn send_shown<K: Sink>(value: Value, sink: &mut K) -> Result<(), Failed>
+fn send_other<K: Sink>(value: Value, sink: &mut K) -> Result<(), Failed>
     ensures sent { Sends (K.contents sink.old) (K.contents sink.new) result
         (codes "val " ++ (shown_text value ++ 10 ∷ [])) }
     ensures calm { OnOk result (K.failures sink.new ≡ K.failures sink.old) }
@@ -82,6 +84,20 @@ fn send_shown<K: Sink>(value: Value, sink: &mut K) -> Result<(), Failed>
     put_all(sink, b"val ")?;
     send_value(value, sink)?;
     Ok(())
+}
+
+/// Writes `val` and what a cell shows; a number in one piece.
+#[inline(always)]
+fn send_shown<K: Sink>(value: &Value, sink: &mut K) -> Result<(), Failed>
+    ensures sent { Sends (K.contents sink.old) (K.contents sink.new) result
+        (codes "val " ++ (shown_text value.now ++ 10 ∷ [])) }
+    ensures calm { OnOk result (K.failures sink.new ≡ K.failures sink.old) }
+    ensures failed { OnErr result (K.failures sink.old < K.failures sink.new) }
+{
+    match value {
+        Value::Num(number) => send_signed(*number, sink),
+        _ => send_other(*value, sink),
+    }
 }
 
 /// Writes a reply and its line feed; where the sink fails, a beginning of that.
@@ -95,7 +111,7 @@ pub fn send<K: Sink>(reply: &Reply, sink: &mut K) -> Result<(), Failed>
 {
     match reply {
         Reply::Done(version) | Reply::DoneElsewhere(version) => send_number(b"ok ", *version, sink),
-        Reply::Shown(value) => send_shown(*value, sink),
+        Reply::Shown(value) => send_shown(value, sink),
         Reply::Rows(count, table) => send_table(b"rows ", *count, table, sink),
         Reply::Entry(entry) => send_entry(entry, sink),
         Reply::Entries(count, table) => send_table(b"entries ", *count, table, sink),
@@ -111,17 +127,67 @@ pub fn send<K: Sink>(reply: &Reply, sink: &mut K) -> Result<(), Failed>
     }
 }
 
-/// Writes a word with its space, a number and a line feed.
+/// How many bytes a word with its space, a number and a line feed have at most, and a few more.
+const ROOM: usize = 32;
+
+/// Writes a word with its space, a number and a line feed, in one piece.
 #[inline(always)]
 fn send_number<K: Sink>(word: &[u8], number: u64, sink: &mut K) -> Result<(), Failed>
+    requires short { length word.now ≤ 11 }
     ensures sent { Sends (K.contents sink.old) (K.contents sink.new) result
         (word.now ++ decimal number ++ 10 ∷ []) }
     ensures calm { OnOk result (K.failures sink.new ≡ K.failures sink.old) }
     ensures failed { OnErr result (K.failures sink.old < K.failures sink.new) }
 {
-    let mut buffer = Buffer::new();
-    let pieces: [&[u8]; 3] = [word, buffer.format(number).as_bytes(), b"\n"];
-    send_pieces(pieces.as_slice(), sink)
+    // from its end on, as the digits come
+    let mut line = [b'\n'; ROOM];
+    let digits = write_digits(number, &mut line, ROOM - 1);
+    let start = write_before(word, &mut line, digits);
+    put_all(sink, &line[start..])
+}
+
+/// Writes `val`, a number and a line feed, in one piece.
+#[inline(always)]
+fn send_signed<K: Sink>(number: i64, sink: &mut K) -> Result<(), Failed>
+    ensures sent { Sends (K.contents sink.old) (K.contents sink.new) result
+        (codes "val " ++ (signed_decimal number ++ 10 ∷ [])) }
+    ensures calm { OnOk result (K.failures sink.new ≡ K.failures sink.old) }
+    ensures failed { OnErr result (K.failures sink.old < K.failures sink.new) }
+{
+    let mut line = [b'\n'; ROOM];
+    let digits = write_signed(number, &mut line, ROOM - 1);
+    let start = write_before(b"val ", &mut line, digits);
+    put_all(sink, &line[start..])
+}
+
+/// Writes the number so that its digits end at `end`, and returns where it starts.
+#[inline(always)]
+fn write_signed(number: i64, line: &mut [u8], end: usize) -> usize
+    requires room { 20 ≤ end }
+    requires within { end ≤ length line.old }
+    ensures start { result + length (signed_decimal number) ≡ end }
+    ensures written { drop result line.new ≡ signed_decimal number ++ drop end line.old }
+{
+    let digits = write_digits(number.unsigned_abs(), line, end);
+    if number >= 0 {
+        return digits;
+    }
+    line[digits - 1] = b'-';
+    digits - 1
+}
+
+/// Writes the bytes so that they end at `end`, and returns where they start.
+#[inline(always)]
+fn write_before(bytes: &[u8], line: &mut [u8], end: usize) -> usize
+    requires room { length bytes.now ≤ end }
+    requires within { end ≤ length line.old }
+    ensures start { result + length bytes.now ≡ end }
+    ensures written { drop result line.new ≡ bytes.now ++ drop end line.old }
+{
+    let start = end - bytes.len();
+    let place = &mut line[start..end];
+    place.copy_from_slice(bytes);
+    start
 }
 
 /// Writes a word with its space, a number, a text after a space, and a line feed.

@@ -3,7 +3,7 @@ use Rattle.std.proofs.lemmas.Result.{err_from_is_err_and}
 use Rattle.ps_device.proofs.DeviceLemmas.{cut_after}
 use Rattle.ps_value.specs.Shown.{shown_text}
 use Rattle.ps_session.proofs.SendLemmas.{cut_first}
-use Rattle.ps_session.proofs.reply.send_shown.Goals as goal
+use Rattle.ps_session.proofs.reply.send_other.Goals as goal
 
 pub returns-in_err-put_all-clause-sent : goal.returns-in_err-put_all-clause-sent
 returns-in_err-put_all-clause-sent g c =
