@@ -1,13 +1,13 @@
 -- A piece that was fed, and the line that it may have ended.
 use Rattle.std.proofs.Common.{◌≡◌, ◌≢◌, ◌^◌, ◌+◌, ◌-◌, ◌<◌, ℕ, min, List, [], ◌∷◌, ◌++◌}
 use Rattle.std.proofs.Common.{length, take, drop, refl, sym, ap, ◌∙◌, Option, Some, None}
-use Rattle.std.proofs.Common.{subst, append_assoc}
+use Rattle.std.proofs.Common.{subst, append_assoc, rules}
 use Rattle.std.specs.Io.KnownBytes.{Appends}
 use Rattle.std.proofs.lemmas.List.{take-append-drop}
 use Rattle.ps_session.specs.Feeding.{EndsLine, Feeds, HasNoFeed, Reading, kept, kept_after}
 use Rattle.ps_session.specs.Transcript.{Answering, Cut, has_reply}
 use Rattle.ps_session.specs.Inside.Stands.{Stands}
-use Rattle.ps_session.specs.Inside.Holds.{Holds, as_one}
+use Rattle.ps_session.specs.Inside.Holds.{Holds, as_one, with_line}
 use Rattle.ps_session.specs.declared.session.Line.{Line}
 use Rattle.ps_session.specs.declared.session.Line.TheVariants as lines
 use Rattle.ps_session.proofs.OneLineMore.{cut_line, kept_cut, stands_line, stands_part}
@@ -23,6 +23,9 @@ kept_whole before bytes rest wanted held ends = (
   sym (kept_cut rest ends.0) ∙ ap (λ p. kept_after p ends.0) (sym held)
       ∙ ends.3,
 )
+
+some_line : lines.Full ≢ lines.None
+some_line is = search (rules, is)
 
 module _ {State : Type 0} (Handles : Answering State) (first : State) (written : Option (List ℕ)) (base : ℕ)
     (read : List ℕ)
@@ -87,3 +90,27 @@ module _ {State : Type 0} (Handles : Answering State) (first : State) (written :
         (cut_line Handles first written base read old new before.pending contents more answered e.0 (drop taken piece)
         r.0
         r.1 s e.2 r.2 r.3 r.4)
+
+    -- a line that lies whole in a piece, after nothing that is held, was answered
+    pub whole_stands : (old new : State) (before : Reading) (contents more : Option (List ℕ)) (answered counted : ℕ)
+        (bytes line : List ℕ)
+        → before.pending ≡ Some [] → Feeds before (with_line line) bytes lines.Full
+        → ((raw : List ℕ) → kept raw ≡ Some line → (reply : List ℕ) × Handles old raw reply new
+        × Appends contents more reply × (counted ≡ min (answered + as_one (has_reply raw)) (2 ^ 64 - 1)))
+        → Stands Handles first written base read old before.pending contents answered
+        → Stands Handles first written base (read ++ bytes) new before.pending more counted
+    whole_stands old new before contents more answered counted bytes line none fed replied s =
+        subst (λ p. Stands Handles first written base (read ++ bytes) new p more counted) (sym none)
+        (line_stands old new before (with_line line) contents more answered counted bytes lines.Full some_line fed
+        replied s)
+
+    -- .. or its reply was cut
+    pub whole_cut : (old new : State) (before : Reading) (contents more : Option (List ℕ)) (answered : ℕ)
+        (piece : List ℕ) (taken : ℕ) (line : List ℕ)
+        → Feeds before (with_line line) (take taken piece) lines.Full
+        → ((raw : List ℕ) → kept raw ≡ Some line → (reply : List ℕ) × (count : ℕ) × Handles old raw reply new
+        × (count < length reply) × Appends contents more (take count reply))
+        → Stands Handles first written base read old before.pending contents answered
+        → Cut Handles ⊥ first written (read ++ piece) new more
+    whole_cut old new before contents more answered piece taken line fed replied s =
+        line_cut old new before (with_line line) contents more answered piece taken lines.Full some_line fed replied s

@@ -1,8 +1,9 @@
 //! The reader of a session's lines.
-ghost use Rattle.std.specs.Prelude.{◌≡◌, ◌<◌, ◌≤◌, Some, None, [], IfOk, length, take, vec_len, vec_capacity};
-ghost use Rattle.std.specs.Prelude.{if◌then◌else◌};
+ghost use Rattle.std.specs.Prelude.{◌≡◌, ◌+◌, ◌<◌, ◌≤◌, Some, None, [], IfOk, IfSome, length, take, vec_len};
+ghost use Rattle.std.specs.Prelude.{if◌then◌else◌, vec_capacity};
+ghost use Rattle.std.specs.Bool.{OnTrue};
 ghost use Rattle.ps_session.specs.declared.session.TheConstants.{LINE_LIMIT};
-ghost use Rattle.ps_session.specs.Feeding.{held, kept_after};
+ghost use Rattle.ps_session.specs.Feeding.{held, kept_after, without_return};
 
 use memchr::memchr;
 use std::alloc::{AllocError, Global};
@@ -71,6 +72,13 @@ fn begin(bytes: &mut Vec<u8>, too_long: bool, ended: bool) -> bool
     too_long
 }
 
+/// Whether no byte of a line is held.
+fn holds_none(bytes: &[u8], too_long: bool, ended: bool) -> bool
+    ensures { OnTrue result ((if ended then Some [] else held too_long bytes.now) ≡ Some []) }
+{
+    ended || !too_long && bytes.is_empty()
+}
+
 /// What a line is once it has ended.
 fn ended_line(too_long: bool) -> Line
     ensures { result ≡ (if too_long then Line.TooLong else Line.Full) }
@@ -93,8 +101,20 @@ fn keep(bytes: &mut Vec<u8>, too_long: bool, part: &[u8]) -> bool
     false
 }
 
+/// A line without a carriage return at its end.
+pub(crate) fn trimmed(bytes: &[u8]) -> &[u8]
+    ensures { result.now ≡ without_return bytes.now }
+{
+    if bytes.ends_with(b"\r") {
+        &bytes[..bytes.len() - 1]
+    } else {
+        bytes
+    }
+}
+
 impl Session {
-    ghost use Rattle.ps_session.specs.Feeding.{Ends, Feeds, without_return};
+    ghost use Rattle.ps_session.specs.Feeding.{Ends, Feeds};
+    ghost use Rattle.ps_session.specs.Inside.Holds.{with_line};
 
     /// A reader that has read nothing. Refused out of memory.
     ///
@@ -138,6 +158,23 @@ impl Session {
         }
     }
 
+    /// The place of the line feed of a line that lies whole at the front of a piece, where no byte of a line is held;
+    /// none where it is too long, or that isn't so. Such a line needn't be taken in.
+    pub(crate) fn whole_line(&self, piece: &[u8]) -> Option<usize>
+        ensures within { IfSome result (λ place. place < length piece.now) }
+        ensures none_held { IfSome result (λ place. self.now.pending ≡ Some []) }
+        ensures fed { IfSome result (λ place. self.now.pending ≡ Some []
+            → Feeds self.now (with_line (take place piece.now)) (take (place + 1) piece.now) Line.Full) }
+    {
+        if !holds_none(&self.bytes, self.too_long, self.ended) {
+            return None;
+        }
+        match memchr(b'\n', piece) {
+            Some(place) if place <= LINE_LIMIT => Some(place),
+            _ => None,
+        }
+    }
+
     /// At the end of the input: what remains without a line feed.
     ///
     /// Cost: constant.
@@ -163,11 +200,6 @@ impl Session {
     pub fn line(&self) -> &[u8]
         ensures { result.now ≡ without_return self.now.line }
     {
-        let bytes = self.bytes.as_slice();
-        if bytes.ends_with(b"\r") {
-            &bytes[..bytes.len() - 1]
-        } else {
-            bytes
-        }
+        trimmed(&self.bytes)
     }
 }

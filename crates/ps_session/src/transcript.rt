@@ -21,7 +21,7 @@ use crate::keeper::{Keeper, Unkept};
 use crate::obey::answer;
 use crate::reading::converse;
 use crate::reply::Reply;
-use crate::session::{Line, Session};
+use crate::session::{Line, Session, trimmed};
 use crate::watcher::{Seen, Unwatched, Watcher};
 use ps_device::{Failed, PIECE_BYTES, Sink, Source};
 use ps_grid::Refusal;
@@ -40,6 +40,40 @@ pub(crate) struct Conversation<'a, R> {
     pub(crate) session: Session,
     /// How many lines had a reply; 2^64 - 1 stands for more.
     pub(crate) answered: u64,
+}
+
+/// Answers a line that isn't too long, and counts its reply; an empty one has none.
+fn answer_line<R: Threads + Sync, B: Board<M>, M, W: Watcher, K, D: Delivery<K>>(
+    rt: &R,
+    alloc: Global,
+    line: &[u8],
+    answered: &mut u64,
+    board: &mut B,
+    meter: &mut M,
+    watcher: &mut W,
+    sink: &mut K,
+) -> Result<(), Failed>
+    ensures replied { Replied (λ old reply new. Replies (BoardAnswers B.calls) old line.now reply new)
+        board.old board.new (as_one (is_filled line.now))
+        (D.contents sink.old) (D.contents sink.new) answered.old answered.new result }
+    ensures calm { OnOk result (D.failures sink.new ≡ D.failures sink.old) }
+    ensures failed { OnErr result (D.failures sink.old < D.failures sink.new) }
+    ensures held { D.holds_back → HoldsBack (D.contents sink.old) (D.contents sink.new)
+        (D.waiting sink.old) (D.waiting sink.new) }
+{
+    let count = *answered;
+    if line.is_empty() {
+        watcher.saw(line, Seen::Answered);
+        return Ok(());
+    }
+    let reply = answer(rt, alloc, line, board, meter);
+    watcher.saw(line, reply.outcome());
+    match D::put_reply(&reply, sink) {
+        Ok(()) => {}
+        Err(failed) => return Err(failed),
+    }
+    *answered = count.saturating_add(1);
+    Ok(())
 }
 
 impl<R: Threads + Sync> Conversation<'_, R> {
@@ -61,20 +95,16 @@ impl<R: Threads + Sync> Conversation<'_, R> {
             (D.waiting sink.old) (D.waiting sink.new) }
         ensures session { self.new.session ≡ self.old.session }
     {
-        let count = self.answered;
-        let line = self.session.line();
-        if line.is_empty() {
-            watcher.saw(line, Seen::Answered);
-            return Ok(());
-        }
-        let reply = answer(self.rt, self.alloc, line, board, meter);
-        watcher.saw(line, reply.outcome());
-        match D::put_reply(&reply, sink) {
-            Ok(()) => {}
-            Err(failed) => return Err(failed),
-        }
-        self.answered = count.saturating_add(1);
-        Ok(())
+        answer_line::<R, B, M, W, K, D>(
+            self.rt,
+            self.alloc,
+            self.session.line(),
+            &mut self.answered,
+            board,
+            meter,
+            watcher,
+            sink,
+        )
     }
 
     /// Refuses a line that is too long.
@@ -125,7 +155,8 @@ impl<R: Threads + Sync> Conversation<'_, R> {
     }
 
     /// Takes in a piece up to its first line feed, and answers the line that it ends.
-    fn turn<B: Board<M>, M, W: Watcher, K, D: Delivery<K>>(
+    #[inline(never)]
+    fn turn_in_parts<B: Board<M>, M, W: Watcher, K, D: Delivery<K>>(
         &mut self,
         piece: &[u8],
         board: &mut B,
@@ -152,6 +183,45 @@ impl<R: Threads + Sync> Conversation<'_, R> {
             line => self.close::<B, M, W, K, D>(line, board, meter, watcher, sink)?,
         }
         Ok(fed.taken)
+    }
+
+    /// Takes in a piece up to its first line feed, and answers the line that it ends. A line that lies whole in the
+    /// piece isn't copied.
+    fn turn<B: Board<M>, M, W: Watcher, K, D: Delivery<K>>(
+        &mut self,
+        piece: &[u8],
+        board: &mut B,
+        meter: &mut M,
+        watcher: &mut W,
+        sink: &mut K,
+    ) -> Result<usize, Failed>
+        requires some { 0 < length piece.now }
+        ensures within { IfOk result (λ taken. (0 < taken) × (taken ≤ length piece.now)) }
+        ensures stands { IfOk result (λ taken. GoesOn (BoardLines B.calls) (take taken piece.now)
+            board.old self.old.session.pending (D.contents sink.old) self.old.answered
+            board.new self.new.session.pending (D.contents sink.new) self.new.answered) }
+        ensures cut { OnErr result (CutsShort (BoardLines B.calls) piece.now
+            board.old self.old.session.pending (D.contents sink.old) self.old.answered
+            board.new (D.contents sink.new)) }
+        ensures calm { OnOk result (D.failures sink.new ≡ D.failures sink.old) }
+        ensures failed { OnErr result (D.failures sink.old < D.failures sink.new) }
+        ensures held { D.holds_back → HoldsBack (D.contents sink.old) (D.contents sink.new)
+            (D.waiting sink.old) (D.waiting sink.new) }
+    {
+        let Some(place) = self.session.whole_line(piece) else {
+            return self.turn_in_parts::<B, M, W, K, D>(piece, board, meter, watcher, sink);
+        };
+        answer_line::<R, B, M, W, K, D>(
+            self.rt,
+            self.alloc,
+            trimmed(&piece[..place]),
+            &mut self.answered,
+            board,
+            meter,
+            watcher,
+            sink,
+        )?;
+        Ok(place + 1)
     }
 
     /// Takes in a piece, and answers each line that it ends: to its end, or until `PIECE_BYTES` bytes of replies are

@@ -1,10 +1,14 @@
 -- How the line that a session holds stands for the bytes between two line feeds.
-use Rattle.std.specs.Prelude.{◌≡◌, ◌+◌, ◌-◌, ◌<◌, ◌^◌, ℕ, Bool, List, Option, Some, None, Result, MatchResult, length}
-use Rattle.std.specs.Prelude.{take, min, if◌then◌else◌}
+use Rattle.std.specs.Prelude.{◌≡◌, ◌+◌, ◌-◌, ◌<◌, ◌^◌, ℕ, Bool, List, [], Option, Some, None, Result, MatchResult}
+use Rattle.std.specs.Prelude.{length, take, min, if◌then◌else◌}
 use Rattle.std.specs.Io.KnownBytes.{Appends}
 use Rattle.ps_session.specs.Feeding.{Reading, kept}
 use Rattle.ps_session.specs.declared.session.Line.{Line}
 use Rattle.ps_session.specs.declared.session.Line.TheVariants as lines
+
+-- a reader that holds this line, and nothing of another
+abbrev pub with_line : List ℕ → Reading
+with_line line = record { pending = Some []; line = line }
 
 abbrev pub Holds : Line → Reading → List ℕ → Type 0
 Holds lines.None session raw = ⊥

@@ -1,30 +1,34 @@
+use Rattle.std.proofs.Common.{◌+◌, ℕ, Ok, Err, take}
 use Rattle.std.proofs.lemmas.Result.{err_from_is_err_and}
-use Rattle.ps_session.proofs.OnePieceMore.{line_cut, line_stands}
+use Rattle.ps_grid.specs.declared.refusal.Refusal.TheVariants as refusals
+use Rattle.ps_session.specs.Boards.{BoardAnswers, BoardLines}
+use Rattle.ps_session.specs.Replies.{refusal_text}
+use Rattle.ps_session.proofs.HoldsLemmas.{handled_full}
+use Rattle.ps_session.proofs.OnePieceMore.{whole_cut, whole_stands}
 use Rattle.ps_session.proofs.transcript.Conversation.turn.Goals as goal
 
-pub returns-in_err-close-in_default : goal.returns-in_err-close-in_default
-returns-in_err-close-in_default g c =
+pub returns-in_err-answer_line-clause-cut : goal.returns-in_err-answer_line-clause-cut
+returns-in_err-answer_line-clause-cut g c =
     let p = err_from_is_err_and c.from_residual.result c.from_residual.ensures.1 in
-    rw (p.1) (record {
-      within = tt;
-      stands = tt;
-      cut = λ first written base read s. line_cut _ first written base read c.args.board.now _ c.args.self.now.session
-          c.feed-fed.new.self _ _ _
-          c.args.piece.now c.feed-fed.result.taken c.feed-fed.result.line c.in_default.not-None c.feed-fed.ensures.fed
-          c.in_err-close-in_default.ensures.replied s;
-      calm = tt;
-      failed = c.in_err-close-in_default.ensures.failed;
-      held = c.in_err-close-in_default.ensures.held;
-    })
+    let line = take c.in-Some.place c.args.piece.now in
+    let contents = g.D.Delivery.contents c.args.sink.now in
+    let after = g.D.Delivery.contents c.answer_line.new.sink in
+    rw (p.1) (λ first written base read s. whole_cut (BoardLines g.B.Board.calls) first written base read
+    c.args.board.now c.answer_line.new.board c.args.self.now.session contents after c.args.self.now.answered
+    c.args.piece.now (c.in-Some.place + 1) line (c.in-Some.ensures.fed c.in-Some.ensures.none_held)
+    (λ raw is. handled_full (refusal_text refusals.Line) (BoardAnswers g.B.Board.calls) c.args.board.now
+    c.answer_line.new.board contents after c.args.self.now.answered 0 (Err c.in_err-answer_line.field-0) raw line is
+    (rw c.trimmed.ensures at c.in_err-answer_line.ensures.replied)) s)
 
-pub returns-in_ok-close-in_default : goal.returns-in_ok-close-in_default
-returns-in_ok-close-in_default g c = record {
-  within = (c.feed-fed.ensures.some c.requires.some, c.feed-fed.ensures.within);
-  stands = λ first written base read s. rw (c.in_ok-close-in_default.ensures.session)
-      (line_stands _ first written base read c.args.board.now _ c.args.self.now.session c.feed-fed.new.self _ _ _ _ _
-      c.feed-fed.result.line c.in_default.not-None c.feed-fed.ensures.fed c.in_ok-close-in_default.ensures.replied s);
-  cut = tt;
-  calm = c.in_ok-close-in_default.ensures.calm;
-  failed = tt;
-  held = c.in_ok-close-in_default.ensures.held;
-}
+pub returns-clause-stands : goal.returns-clause-stands
+returns-clause-stands g c =
+    let line = take c.in-Some.place c.args.piece.now in
+    let contents = g.D.Delivery.contents c.args.sink.now in
+    let after = g.D.Delivery.contents c.answer_line.new.sink in
+    λ first written base read s. whole_stands (BoardLines g.B.Board.calls) first written base read
+    c.args.board.now c.answer_line.new.board c.args.self.now.session contents after c.args.self.now.answered
+    c.answer_line.new.answered (take (c.in-Some.place + 1) c.args.piece.now) line c.in-Some.ensures.none_held
+    (c.in-Some.ensures.fed c.in-Some.ensures.none_held)
+    (λ raw is. handled_full {E = ℕ} (refusal_text refusals.Line) (BoardAnswers g.B.Board.calls) c.args.board.now
+    c.answer_line.new.board contents after c.args.self.now.answered c.answer_line.new.answered
+    (Ok c.in_ok-answer_line.field-0) raw line is (rw c.trimmed.ensures at c.in_ok-answer_line.ensures.replied)) s
