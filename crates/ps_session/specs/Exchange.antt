@@ -1,18 +1,18 @@
 -- What one replica hands to another, or to whoever reads on: the peer's replies to one pull after the other, and the
 -- lines that they are handed on as.
-use Rattle.std.specs.Prelude.{◌≡◌, ◌⊎◌, ◌<◌, ⊤, ℕ, List, [], ◌∷◌, ◌++◌, Option, Some, codes, decimal}
-use Rattle.std.specs.Prelude.{string_bytes}
+use Rattle.std.specs.Prelude.{◌≡◌, ◌⊎◌, ◌<◌, ◌≤◌, ⊤, ℕ, List, [], ◌∷◌, ◌++◌, Option, Some, codes, decimal}
+use Rattle.std.specs.Prelude.{drop, length, string_bytes}
 use Rattle.std.specs.Io.KnownBytes.{Appends, Consumes}
 use Rattle.std.specs.List.{All}
 use Rattle.ps_session.specs.declared.command.TheConstants.{LARGEST_GROUP}
 use Rattle.ps_session.specs.declared.replies.PeerReply.{PeerReply}
 use Rattle.ps_session.specs.declared.replies.PeerReply.TheVariants as replies
-use Rattle.ps_session.specs.declared.exchange.Due.{Due}
-use Rattle.ps_session.specs.declared.exchange.Due.TheVariants as dues
-use Rattle.ps_session.specs.declared.exchange.SyncFault.{SyncFault}
-use Rattle.ps_session.specs.declared.exchange.SyncFault.TheVariants.{PeerRefused, Refused}
+use Rattle.ps_session.specs.declared.pulling.Due.{Due}
+use Rattle.ps_session.specs.declared.pulling.Due.TheVariants as dues
+use Rattle.ps_session.specs.declared.pulling.SyncFault.{SyncFault}
+use Rattle.ps_session.specs.declared.pulling.SyncFault.TheVariants.{PeerRefused, Refused}
 use Rattle.ps_session.specs.Feeding.{HasNoFeed, without_return}
-use Rattle.ps_session.specs.Peers.{IsClosed, PeerView, PutsSome, TakesLine}
+use Rattle.ps_session.specs.Peers.{IsClosed, IsReplied, PeerView, PutsSome, TakesLine}
 use Rattle.ps_session.specs.Transcript.{Answering, Run, stream_of}
 use Rattle.ps_session.specs.Words.{whole_number}
 
@@ -20,9 +20,13 @@ use Rattle.ps_session.specs.Words.{whole_number}
 abbrev pub pull_text : ℕ → List ℕ
 pull_text version = codes "pull " ++ decimal version ++ (codes " " ++ decimal LARGEST_GROUP) ++ 10 ∷ []
 
+-- the word of a line that is to be pushed, with its space
+abbrev pub push_word : List ℕ
+push_word = codes "push "
+
 -- the line that hands on a delta line
 abbrev pub push_text : List ℕ → List ℕ
-push_text delta = codes "push " ++ (delta ++ 10 ∷ [])
+push_text delta = push_word ++ (delta ++ 10 ∷ [])
 
 -- the reply `delta`, with a version and a delta line
 pub record TellsDelta (reply : List ℕ) (last : ℕ) (delta : List ℕ) : Type 0 where
@@ -59,10 +63,16 @@ IsOwn (Refused refusal) line = ⊤
 abbrev pub IsGroup : ℕ → List ℕ → ℕ → List ℕ → Type 0
 IsGroup version reply last delta = TellsDelta reply last delta × (version < last)
 
--- what a reply to a pull after `version` hands out
+-- what a reply to a pull after `version` hands out: of a group, where its line begins
 abbrev pub IsDue : ℕ → List ℕ → Due → Type 0
-IsDue version reply (dues.Group last delta) = IsGroup version reply last delta.now
+IsDue version reply (dues.Group last start) = IsGroup version reply last (drop start reply) × (start ≤ length reply)
 IsDue version reply dues.End = TellsEnd reply version
+IsDue version reply dues.Closed = ⊥
+
+-- what a pull after `version` came to: a reply that is due, or the peer closed in the place of one
+abbrev pub IsNext : ℕ → PeerView → PeerView → Due → Type 0
+IsNext version old new dues.Closed = IsClosed (pull_text version) old new
+IsNext version old new due = IsReplied (pull_text version) old new × IsDue version (without_return new.line) due
 
 -- what a line that replies to a pull after `version` is handed on as, and the version to ask after next
 abbrev pub HandsOver : Answering ℕ

@@ -5,10 +5,10 @@ ghost use Rattle.ps_grid.specs.declared.refusal.Refusal.TheVariants as Refusal;
 ghost use Rattle.ps_session.specs.Exchange.{IsAll, IsHalted, IsLeft, IsOwn, push_text};
 ghost use Rattle.ps_session.specs.Feeding.{without_return};
 ghost use Rattle.ps_session.specs.Peers.{PutsSome};
-ghost use Rattle.ps_session.specs.declared.exchange.SyncFault.TheVariants.{Refused};
+ghost use Rattle.ps_session.specs.declared.pulling.SyncFault.TheVariants.{Refused};
 
-use crate::exchange::{Due, PUSH, SyncFault, ask_after, due_reply, fault_of};
-use crate::peer::{Peer, PeerFault};
+use crate::peer::Peer;
+use crate::pulling::{Due, PUSH, SyncFault, next_due};
 use crate::reply::send_pieces;
 use ps_device::{Failed, Sink, Source, hand_on};
 use ps_grid::Refusal;
@@ -71,14 +71,9 @@ pub fn follow<S: Source + Drop, K: Sink + Drop, O: Sink, C: Clock>(
 {
     let mut version = 0u64;
     'pulls: loop {
-        match ask_after(from, version) {
-            Ok(()) => {}
-            Err(PeerFault::Closed) if !following.until_now => return Ok(()),
-            Err(fault) => return Err(fault_of(fault)),
-        }
-        match due_reply(alloc, from.reply(), version) {
-            Ok(Due::Group(last, delta)) => {
-                match write_push(delta, out) {
+        match next_due(alloc, from, version) {
+            Ok(Due::Group(last, start)) => {
+                match write_push(&from.reply()[start..], out) {
                     Ok(()) => {}
                     Err(_) => return Err(SyncFault::Refused(Refusal::Device)),
                 }
@@ -86,6 +81,8 @@ pub fn follow<S: Source + Drop, K: Sink + Drop, O: Sink, C: Clock>(
             }
             Ok(Due::End) if following.until_now => return Ok(()),
             Ok(Due::End) => sleep(clock, following.every),
+            Ok(Due::Closed) if following.until_now => return Err(SyncFault::Refused(Refusal::Line)),
+            Ok(Due::Closed) => return Ok(()),
             Err(fault) => return Err(fault),
         }
     }

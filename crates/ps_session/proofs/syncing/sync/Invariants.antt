@@ -1,6 +1,6 @@
 use Rattle.std.proofs.Common.{◌≡◌}
 use Rattle.ps_session.specs.Exchange.{IsFollowed}
-use Rattle.ps_session.proofs.exchange.sync.Given as goal
+use Rattle.ps_session.proofs.syncing.sync.Given as goal
 
 abbrev pub invariant-pulls : goal.invariant-pulls
 invariant-pulls g l = record {
