@@ -2,7 +2,8 @@
 //!
 //! `commands` asks what lines ask for, `session` how bytes are put together to lines, `runs` what a sheet's session
 //! replies, `keeping` what one hands on whose keeper or sink fails, `exchange` and `following` what peers may reply,
-//! all of `ps_session`. `desk` has a sheet shared by several sessions, of `ps_desk`.
+//! `replica_line` which line tells a replica, all of `ps_session`. `desk` has a sheet shared by several sessions, of
+//! `ps_desk`.
 //!
 //! A crate with tests is proved a second time with them, so these stand apart from what they test.
 #![tactic(auto)]
@@ -17,6 +18,8 @@ mod exchange;
 mod following;
 #[cfg(test)]
 mod keeping;
+#[cfg(test)]
+mod replica_line;
 #[cfg(test)]
 mod runs;
 #[cfg(test)]

@@ -15,7 +15,8 @@ use Rattle.ps_delta.specs.Deltas.{Entries}
 use Rattle.ps_keep.specs.Journals.{IsJournal, JournalView}
 use Rattle.ps_keep.specs.Lines.{IsLine, whole_lines}
 use Rattle.ps_kept.specs.Inside.{IsDue}
-use Rattle.ps_kept.specs.Kept.{IsKept, IsNoted, PushAll, Tells, replica_line, started}
+use Rattle.ps_session.specs.ReplicaLine.{replica_line}
+use Rattle.ps_kept.specs.Kept.{IsKept, IsNoted, PushAll, Tells, started}
 use Rattle.ps_kept.specs.Starts.{Reads}
 
 pub PushAll-length : (lines : List (List ℕ)) (h : List Entries) → PushAll lines h → length lines ≡ length h

@@ -1,17 +1,11 @@
 -- The lines of a kept sheet: whose it is, and the changes of its history, one after another.
-use Rattle.std.specs.Prelude.{◌≡◌, ℕ, List, [], ◌∷◌, ◌++◌, codes, decimal, map, ⊤}
+use Rattle.std.specs.Prelude.{◌≡◌, ℕ, List, [], ◌∷◌, ◌++◌, map, ⊤}
 use mathlib.Core.List.{IsPrefix}
 use Rattle.ps_delta.specs.Deltas.{Entries}
 use Rattle.ps_wire.specs.Line.{IsLine, delta_text}
+use Rattle.ps_session.specs.Exchange.{push_word}
+use Rattle.ps_session.specs.ReplicaLine.{replica_line}
 use Rattle.ps_keep.specs.Journals.{IsJournal, JournalView}
-
--- the first line: the number of the replica whose sheet is kept
-abbrev pub replica_line : ℕ → List ℕ
-replica_line n = codes "replica " ++ decimal n
-
--- the word of a line that is to be pushed, with its space
-abbrev pub push_word : List ℕ
-push_word = codes "push "
 
 -- the line that is written for a delta
 abbrev pub push_line : Entries → List ℕ

@@ -4,10 +4,10 @@ ghost use Rattle.std.specs.Arc.{arc_value};
 ghost use Rattle.ps_keep.specs.Journals.{IsJournal};
 ghost use Rattle.ps_kept.specs.Kept.{Notes, Pushes, push_line};
 
-use crate::reading::PUSH;
 use ps_delta::Delta;
 use ps_grid::Refusal;
 use ps_keep::{Device, Journal};
+use ps_session::PUSH;
 use ps_wire::encode;
 use std::alloc::Global;
 use std::sync::Arc;

@@ -12,9 +12,10 @@ ghost use Rattle.ps_kept.specs.Inside.{IsDue, IsKeepFault};
 
 use crate::fault::KeepFault;
 use crate::keeper::SheetKeeper;
-use crate::reading::{read_sheet, replica_text};
+use crate::reading::read_sheet;
 use ps_eval::Meter;
 use ps_keep::{Device, Found, Journal, first_line, open};
+use ps_session::line_of_replica;
 use ps_sheet::Sheet;
 use std::alloc::Global;
 use std::sync::ledger::Ledger;
@@ -34,7 +35,7 @@ fn begin<D: Device + Drop>(
     ensures journal { IfOk result IsJournal }
     ensures fault { IfErr result (IsKeepFault []) }
 {
-    let first = replica_text(alloc, replica)?;
+    let first = line_of_replica(alloc, replica)?;
     journal.note(first.as_slice())?;
     match journal.settle() {
         Ok(()) => Ok(journal),

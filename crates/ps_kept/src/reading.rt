@@ -1,54 +1,26 @@
 //! The lines of a kept file, read at the start.
-ghost use Rattle.std.specs.Prelude.{◌≡◌, ◌≢◌, ◌⊎◌, ◌+◌, ◌≤◌, ◌++◌, ◌∷◌, [], ℕ, List, Err, IfOk, IfErr, OnOk, OnErr};
-ghost use Rattle.std.specs.Prelude.{None, Some, true, false, length, MatchOption};
+ghost use Rattle.std.specs.Prelude.{◌≡◌, ◌⊎◌, ◌+◌, ◌≤◌, ◌++◌, ◌∷◌, [], Err, IfOk, IfErr, OnOk};
+ghost use Rattle.std.specs.Prelude.{None, Some, true, false};
 ghost use Rattle.ps_grid.specs.declared.parties.TheConstants.{REPLICAS, WORKERS};
 ghost use Rattle.ps_delta.specs.Deltas.{Entries};
 ghost use Rattle.ps_sheet.specs.Sheet.{IsSheet};
 ghost use Rattle.ps_keep.specs.Lines.{whole_lines};
-ghost use Rattle.ps_kept.specs.Kept.{PushAll, replica_line};
+ghost use Rattle.ps_session.specs.ReplicaLine.{replica_line};
+ghost use Rattle.ps_kept.specs.Kept.{PushAll};
 ghost use Rattle.ps_kept.specs.Starts.{Follows, IsFaultOf, IsUnbegun, Reads};
 ghost use Rattle.ps_kept.specs.Inside.{IsPushFault};
 
 use crate::fault::KeepFault;
-use itoa::Buffer;
 use ps_eval::Meter;
-use ps_grid::{REPLICAS, Refusal};
+use ps_grid::Refusal;
 use ps_keep::first_line;
+use ps_session::{PUSH, line_of_replica, told_replica};
 use ps_sheet::Sheet;
 use ps_wire::decode;
-use std::alloc::{AllocError, Global};
+use std::alloc::Global;
 use std::sync::Arc;
 use std::sync::ledger::Ledger;
 use std::thread::Threads;
-
-/// What stands before a delta in a line that pushes it.
-pub(crate) const PUSH: &[u8] = b"push ";
-
-/// The first line of the file of a replica.
-pub(crate) fn replica_text(alloc: Global, replica: u8) -> Result<Vec<u8>, AllocError>
-    ensures { IfOk result (λ line. line.items ≡ replica_line replica) }
-{
-    let mut line = Vec::new(alloc);
-    line.extend_from_slice(b"replica ")?;
-    let mut digits = Buffer::new();
-    line.extend_from_slice(digits.format(replica).as_bytes())?;
-    Ok(line)
-}
-
-/// The replica that a first line tells, where it tells one.
-fn told_replica(alloc: Global, line: &[u8]) -> Result<Option<u8>, AllocError>
-    ensures told { IfOk result (λ found. MatchOption found
-        ((n : ℕ) → 1 ≤ n → n ≤ REPLICAS → line.now ≢ replica_line n) (λ n. line.now ≡ replica_line n)) }
-{
-    let mut replica = 1;
-    'replicas: while replica <= REPLICAS {
-        if replica_text(alloc, replica)?.as_slice() == line {
-            return Ok(Some(replica));
-        }
-        replica += 1;
-    }
-    Ok(None)
-}
 
 /// The bytes after the first line, which has to tell this replica.
 fn after_first(alloc: Global, bytes: &[u8], replica: u8) -> Result<&[u8], KeepFault>
@@ -57,7 +29,7 @@ fn after_first(alloc: Global, bytes: &[u8], replica: u8) -> Result<&[u8], KeepFa
         ⊎ (whole_lines bytes.now ≡ replica_line replica ∷ whole_lines rest.now)) }
     ensures fault { IfErr result (λ fault. IsFaultOf replica bytes.now fault) }
 {
-    let own = replica_text(alloc, replica)?;
+    let own = line_of_replica(alloc, replica)?;
     match first_line(bytes) {
         Some((line, rest)) => {
             if line == own.as_slice() {

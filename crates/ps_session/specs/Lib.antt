@@ -4,6 +4,7 @@ pub mod Replies
 pub mod Inside
 pub mod Peers
 pub mod Exchange
+pub mod ReplicaLine
 pub mod Words
 pub mod Commands
 pub mod Handing

@@ -36,6 +36,7 @@ mod peer;
 mod pull;
 mod pulling;
 mod reading;
+mod replica_line;
 mod replies;
 mod reply;
 mod session;
@@ -57,6 +58,7 @@ pub use laws::{bytes_divide_one_way, edit_lines_fit, pulls_hand_out, transcript_
 pub use peer::{Peer, PeerFault};
 pub use pull::greatest_group;
 pub use pulling::{PUSH, SyncFault};
+pub use replica_line::{line_of_replica, put_replica_line, told_replica};
 pub use reply::{Reply, send};
 pub use session::{Fed, LINE_LIMIT, Line, Session};
 pub use sheet_board::deltas_after;

@@ -18,7 +18,8 @@ use Rattle.ps_session.specs.declared.session.Line.{Line}
 use Rattle.ps_session.specs.declared.session.Line.TheVariants as lines
 use Rattle.ps_session.specs.Feeding.{Ends, EndsLine, Feeds, HasNoFeed, Reading, kept, kept_after, without_return}
 use Rattle.ps_session.specs.Transcript.{IsAfterLine, stream_of, with_last}
-use Rattle.ps_squash.specs.Squashed.{FirstFault, FirstSays, Say, SayAll, SayTogether, Says, TellsNone}
+use Rattle.ps_session.specs.ReplicaLine.{TellsNone}
+use Rattle.ps_squash.specs.Squashed.{FirstFault, FirstSays, Say, SayAll, SayTogether, Says}
 use Rattle.ps_squash.specs.Inside.{Holds, NextSays, Stands}
 use Rattle.ps_squash.proofs.LineLemmas.{held_line}
 

@@ -1,20 +1,17 @@
 -- What delta lines say together, and the lines that say the same in fewer.
-use Rattle.std.specs.Prelude.{◌≡◌, ◌≢◌, ◌+◌, ◌-◌, ◌^◌, ◌≤◌, ℕ, List, [], ◌∷◌, ◌++◌, Option, Some, None, ⊤}
-use Rattle.std.specs.Prelude.{codes, decimal, drop, flat_map, if◌then◌else◌, length, min, nat_eq}
+use Rattle.std.specs.Prelude.{◌≡◌, ◌+◌, ◌-◌, ◌^◌, ℕ, List, [], ◌∷◌, ◌++◌, Option, Some, None, ⊤}
+use Rattle.std.specs.Prelude.{drop, flat_map, if◌then◌else◌, length, min, nat_eq}
 use Rattle.std.specs.List.{All, starts_with}
-use Rattle.ps_grid.specs.declared.parties.TheConstants.{REPLICAS}
 use Rattle.ps_delta.specs.State.{State}
 use Rattle.ps_delta.specs.Deltas.{AreEntries, Entries, IsDelta, joined_history}
 use Rattle.ps_wire.specs.Fits.{FitsLine}
 use Rattle.ps_wire.specs.Line.{IsLine, delta_text}
+use Rattle.ps_session.specs.Exchange.{push_word}
 use Rattle.ps_session.specs.Feeding.{HasNoFeed, without_return}
+use Rattle.ps_session.specs.ReplicaLine.{Tells, TellsNone, replica_line}
 use Rattle.ps_session.specs.Transcript.{IsAfterLine, Splits, stream_of, with_last}
 
 -- ---- lines in
-
--- the word of a line that is to be pushed, with its space
-abbrev pub push_word : List ℕ
-push_word = codes "push "
 
 -- all after that word, or the whole line where it doesn't begin with it
 abbrev pub after_push : List ℕ → List ℕ
@@ -30,18 +27,6 @@ abbrev pub Say : List (List ℕ) → List Entries → Type 0
 Say [] deltas = deltas ≡ []
 Say (line ∷ lines) deltas = (first : List Entries) × (others : List Entries)
     × Says (without_return line) first × Say lines others × (deltas ≡ first ++ others)
-
--- the first line of a kept file: the number of the replica whose lines those after it are
-abbrev pub replica_line : ℕ → List ℕ
-replica_line n = codes "replica " ++ decimal n
-
--- the line tells this replica
-abbrev pub Tells : List ℕ → ℕ → Type 0
-Tells line n = (1 ≤ n) × (n ≤ REPLICAS) × (line ≡ replica_line n)
-
--- .. or none
-abbrev pub TellsNone : List ℕ → Type 0
-TellsNone line = (n : ℕ) → 1 ≤ n → n ≤ REPLICAS → line ≢ replica_line n
 
 -- what a first line says: it tells a replica, and pushes nothing; or it tells none, and is a line like the others
 abbrev pub FirstSays : List ℕ → Option ℕ → List Entries → Type 0

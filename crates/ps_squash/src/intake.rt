@@ -6,17 +6,16 @@ ghost use Rattle.ps_grid.specs.declared.refusal.Refusal.TheVariants as refusals;
 ghost use Rattle.ps_delta.specs.Deltas.{Entries, joined_history};
 ghost use Rattle.ps_delta.specs.State.{joined_state, state_at};
 ghost use Rattle.ps_session.specs.Feeding.{without_return};
-ghost use Rattle.ps_squash.specs.Squashed.{FirstFault, FirstSays, SayTogether, Says, TellsNone, after_push};
+ghost use Rattle.ps_session.specs.ReplicaLine.{TellsNone};
+ghost use Rattle.ps_squash.specs.Squashed.{FirstFault, FirstSays, SayTogether, Says, after_push};
 ghost use Rattle.ps_squash.specs.Inside.{Fails, GoesOn, Holds, IsOfIntake, IsOfLines, NextSays, Stands};
 ghost use Rattle.ps_squash.specs.declared.fault.SquashFault.TheVariants.{Line as FaultyLine};
 
 use crate::fault::SquashFault;
-use crate::lines::PUSH;
-use crate::told::told_replica;
 use ps_delta::Grid;
 use ps_device::{PIECE_BYTES, Source};
 use ps_grid::Refusal;
-use ps_session::{Line, Session};
+use ps_session::{Line, PUSH, Session, told_replica};
 use ps_wire::decode;
 use std::alloc::Global;
 

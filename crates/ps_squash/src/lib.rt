@@ -24,7 +24,6 @@ mod cells;
 mod fault;
 mod intake;
 mod lines;
-mod told;
 mod whole;
 
 pub use fault::SquashFault;

@@ -13,11 +13,9 @@ ghost use Rattle.ps_squash.specs.Inside.{HasWide, cell_size, ended_size};
 
 use ps_delta::{CellState, Delta};
 use ps_grid::{Cell, Refusal, Twin};
+use ps_session::PUSH;
 use ps_wire::{DELTA_LINE_LIMIT, encode};
 use std::alloc::Global;
-
-/// What stands before a delta in a line that pushes it.
-pub(crate) const PUSH: &[u8] = b"push ";
 
 /// Appends the lines that push the cells, as few as there is room for: each has as many cells as it can, in order.
 ///

@@ -4,7 +4,7 @@ ghost use Rattle.std.specs.Io.KnownBytes.{Appends, Consumes, IsAtEnd};
 ghost use Rattle.ps_grid.specs.declared.refusal.Refusal.TheVariants as refusals;
 ghost use Rattle.ps_delta.specs.State.{state_at};
 ghost use Rattle.ps_wire.specs.Fits.{FitsLine};
-ghost use Rattle.ps_squash.specs.Squashed.{FirstFault, HasWideCell, IsSquashed};
+ghost use Rattle.ps_squash.specs.Squashed.{FirstFault, HasWideCell, IsSquashed, told_line};
 ghost use Rattle.ps_squash.specs.Inside.{IsText};
 ghost use Rattle.ps_squash.specs.declared.fault.SquashFault.TheVariants.{Line as FaultyLine};
 
@@ -12,10 +12,10 @@ use crate::cells::entries_of;
 use crate::fault::SquashFault;
 use crate::intake::taken_in;
 use crate::lines::put_lines;
-use crate::told::begun;
 use ps_delta::Grid;
 use ps_device::{Sink, Source, hand_on, put_all};
 use ps_grid::Refusal;
+use ps_session::put_replica_line;
 use std::alloc::Global;
 
 /// Reads the lines of a source to its end, each a delta's line with or without the word `push` before it, and writes
@@ -104,4 +104,17 @@ fn text_of(alloc: Global, told: Option<u8>, state: &Grid) -> Result<Vec<u8>, Ref
         Ok(()) => Ok(text),
         Err(refusal) => Err(refusal),
     }
+}
+
+/// The text that begins with the line of a replica, where there is one.
+fn begun(alloc: Global, told: Option<u8>) -> Result<Vec<u8>, Refusal>
+    ensures line { IfOk result (λ text. text.items ≡ told_line told) }
+    ensures memory { IfErr result (λ e. e ≡ refusals.Memory) }
+{
+    let mut text = Vec::new(alloc);
+    if let Some(replica) = told {
+        put_replica_line(replica, &mut text)?;
+        text.push(b'\n')?;
+    }
+    Ok(text)
 }

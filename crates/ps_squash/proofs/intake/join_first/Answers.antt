@@ -3,7 +3,7 @@ use Rattle.std.specs.Prelude.{MatchOption}
 use Rattle.ps_delta.specs.State.{joined_state, state_at}
 use Rattle.ps_delta.proofs.HistoryLemmas.{joined_history-nil}
 use Rattle.ps_delta.proofs.StateLemmas.{joined_state-empty_right}
-use Rattle.ps_squash.specs.Squashed.{Tells, TellsNone}
+use Rattle.ps_session.specs.ReplicaLine.{Tells, TellsNone}
 use Rattle.ps_squash.proofs.intake.join_first.Goals as goal
 
 pub returns-in-Ok-Some-clause-joined : goal.returns-in-Ok-Some-clause-joined

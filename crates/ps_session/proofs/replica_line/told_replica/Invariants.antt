@@ -1,7 +1,7 @@
 use Rattle.std.proofs.Common.{◌≢◌, ◌+◌, ◌-◌, ◌<◌, ◌≤◌, ℕ}
 use Rattle.ps_grid.specs.declared.parties.TheConstants.{REPLICAS}
-use Rattle.ps_kept.specs.Kept.{replica_line}
-use Rattle.ps_kept.proofs.reading.told_replica.Given as goal
+use Rattle.ps_session.specs.ReplicaLine.{replica_line}
+use Rattle.ps_session.proofs.replica_line.told_replica.Given as goal
 
 -- none of those before tells itself in the line
 abbrev pub invariant-replicas : goal.invariant-replicas
