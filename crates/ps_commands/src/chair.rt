@@ -2,9 +2,10 @@
 ghost use Rattle.std.specs.Prelude.{◌≡◌, ◌+◌, ◌<◌, ◌^◌, true, MatchResult};
 ghost use Rattle.ps_commands.specs.Sessions.{Attended, IsAttended};
 
+use crate::attend::attend;
 use crate::door::Door;
-use crate::host::Host;
-use ps_desk::{Desk, DeskName, Pass, desk_crosses};
+use crate::host::Hosted;
+use ps_desk::{DeskName, Pass, desk_crosses};
 use ps_keep::Device;
 use ps_kept_desk::keeper_crosses;
 use std::alloc::Global;
@@ -155,8 +156,7 @@ impl<'s, L: DeskName> Chair<'s, L> {
         scope: &Scope<'s, E>,
         rt: &'s R,
         alloc: Global,
-        desk: &'s Desk<L, W>,
-        host: &'s Host<L, D>,
+        at: &Hosted<'s, L, W, D>,
         door: &mut Door<'_>,
     )
     where
@@ -166,7 +166,7 @@ impl<'s, L: DeskName> Chair<'s, L> {
         self.take_back(rt);
         if self.is_free() {
             if let Some(stream) = door.next() {
-                self.begin(scope, rt, alloc, desk, host, stream);
+                self.begin(scope, rt, alloc, at, stream);
             }
         }
     }
@@ -177,8 +177,7 @@ impl<'s, L: DeskName> Chair<'s, L> {
         scope: &Scope<'s, E>,
         rt: &'s R,
         alloc: Global,
-        desk: &'s Desk<L, W>,
-        host: &'s Host<L, D>,
+        at: &Hosted<'s, L, W, D>,
         stream: TcpStream,
     )
     where
@@ -192,8 +191,8 @@ impl<'s, L: DeskName> Chair<'s, L> {
             Err(pass) => pass,
         };
         self.sign.lower();
-        self.second = host.second(&stream);
-        self.state = Some(begin(scope, rt, alloc, desk, host, pass, stream, self.sign));
+        self.second = at.host.second(&stream);
+        self.state = Some(begin(scope, rt, alloc, at, pass, stream, self.sign));
         self.begun += 1;
     }
 }
@@ -210,8 +209,7 @@ fn begin<
     scope: &Scope<'s, E>,
     rt: &'s R,
     alloc: Global,
-    desk: &'s Desk<L, W>,
-    host: &'s Host<L, D>,
+    at: &Hosted<'s, L, W, D>,
     pass: Pass<L>,
     stream: TcpStream,
     sign: Sign<'s>,
@@ -220,13 +218,15 @@ fn begin<
 {
     desk_crosses::<L, W>();
     keeper_crosses::<L, D>();
+    let desk = at.desk;
+    let host = at.host;
     let promise = ComesBack(Snapshot::of(&pass));
     let begun = scope.spawn_with(
         promise,
         move || -> Pass<L>
             ensures { IsAttended L.replica L.opening pass result }
         {
-            let back = host.attend(rt, alloc, desk, pass, &stream);
+            let back = attend(rt, alloc, desk, host, pass, &stream);
             drop(stream);
             sign.raise();
             back

@@ -1,27 +1,31 @@
-//! One session at a desk, over any source and sink, and over a connection.
+//! One session at a desk, over any source and sink.
 ghost use Rattle.std.specs.Prelude.{◌≡◌, ◌<◌, ℕ, List, [], Err, IfOk, OnOk};
 ghost use Rattle.std.specs.Io.KnownBytes.{Consumes, IsAtEnd};
-ghost use Rattle.ps_grid.specs.Blanks.{IsBlankOf};
+ghost use mathlib.Core.List.{IsPrefix};
+ghost use Rattle.ps_session.specs.Held.{held_contents, held_waiting};
+ghost use Rattle.ps_session.specs.Keeping.{IsCovered};
 ghost use Rattle.ps_session.specs.Transcript.{Answered, Stopped, Transcribed};
 ghost use Rattle.ps_desk.specs.Seats.{SeatLines};
 ghost use Rattle.ps_commands.specs.Sessions.{IsAttended};
 
 use ps_desk::{Desk, DeskName, Pass, Seat};
-use ps_device::{ConsoleOutput, Reading, Sink, Source};
+use ps_device::{Sink, Source};
 use ps_eval::Meter;
-use ps_session::{RunFault, talk};
+use ps_keep::Device;
+use ps_kept_desk::{DeskKeeper, Kept, SeatKeeper};
+use ps_session::{HeldOutput, RunFault, Watcher, talk, talk_kept};
 use std::alloc::Global;
-use std::marker::Brand;
-use std::net::TcpStream;
 use std::sync::Wait;
-use std::sync::ledger::{Blank, Ledger};
+use std::sync::ledger::Ledger;
 use std::thread::Threads;
 
 /// What a session at a desk came to.
 #[derive(Drop)]
-pub struct Attended<L: DeskName> {
+pub struct Attended<L: DeskName, K = ()> {
     /// The session's pass, as its lines left it.
     pub pass: Pass<L>,
+    /// What the session was told is kept, where the desk is kept.
+    pub kept: K,
     /// How many lines had a reply, or why it ended before the end of its input.
     pub ended: Result<u64, RunFault>,
 }
@@ -74,68 +78,63 @@ pub fn attend_lines<
     let ended = talk(rt, alloc, source, sink, &mut seat, meter);
     Attended {
         pass: seat.leave(),
+        kept: (),
         ended,
     }
 }
 
-/// What counts a connection's failures, and a session's evaluations.
+/// A seat at a desk that is kept.
 #[derive(Drop)]
-struct Counts {
-    input: Blank,
-    output: Blank,
-    evaluations: Blank,
+pub struct KeptSeat<'a, L: DeskName, W: Wait + Drop, D: Device + Drop> {
+    /// The desk.
+    pub desk: &'a Desk<L, W>,
+    /// The keeper that was made for it.
+    pub keeper: &'a DeskKeeper<L, D>,
+    /// The pass of the seat.
+    pub pass: Pass<L>,
 }
 
-/// Answers each line of a connection by a desk, to the end of its input, and gives the pass back.
+/// Answers each line of a source on an output by a seat at a kept desk, to the end of the input, while a watcher looks
+/// on. All that the session has seen, by whichever session it was made, is kept before any reply is handed on.
 ///
-/// A failure of the connection ends it early, and so does a lack of memory before the first line, which then isn't
-/// read.
-pub(crate) fn attend<L: DeskName, W: Wait + Drop, R: Threads + Wait + Sync>(
-    rt: &R,
-    alloc: Global,
-    desk: &Desk<L, W>,
-    pass: Pass<L>,
-    stream: &TcpStream,
-) -> Pass<L>
-    ensures { IsAttended L.replica L.opening pass result }
-{
-    let counts = Counts {
-        input: Blank::new(1),
-        output: Blank::new(1),
-        evaluations: Blank::new(1),
-    };
-    attend_counted::<L, W, R, Brand, Brand, Brand>(rt, alloc, desk, pass, stream, counts)
-}
-
-/// Answers each line of a connection, whose failures and whose evaluations these blanks count.
-fn attend_counted<
+/// At any end, also after a fault, there is a state of the seat, between the lines that were carried out, whose list is
+/// a beginning of the one that is kept, and what was handed on are replies to the lines up to it (`IsCovered`).
+///
+/// Cost: that of [`talk_kept`]. It may wait while another session settles.
+pub fn attend_kept<
     L: DeskName,
     W: Wait + Drop,
     R: Threads + Wait + Sync,
-    I: Ledger,
-    O: Ledger,
+    S: Source,
+    K: Sink + Drop,
+    N: Ledger,
     M: Ledger,
+    D: Device + Drop,
+    V: Watcher,
 >(
     rt: &R,
     alloc: Global,
-    desk: &Desk<L, W>,
-    pass: Pass<L>,
-    stream: &TcpStream,
-    counts: Counts,
-) -> Pass<L>
-    requires input { IsBlankOf counts.input I.name I.parts }
-    requires output { IsBlankOf counts.output O.name O.parts }
-    requires evaluations { IsBlankOf counts.evaluations M.name M.parts }
-    ensures { IsAttended L.replica L.opening pass result }
+    source: &mut S,
+    sink: &mut HeldOutput<K, N>,
+    at: KeptSeat<'_, L, W, D>,
+    meter: &mut Meter<M>,
+    watcher: &mut V,
+) -> Attended<L, Kept<L>>
+    ensures covered { (read : List ℕ) × Consumes (S.remaining source.old) (S.remaining source.new) read
+        × IsCovered (SeatLines L.replica L.opening) (λ seen. IsPrefix seen.list result.kept)
+        (IsAtEnd (S.remaining source.new)) at.entry.pass (held_contents K.contents sink.old) read
+        result.pass (held_contents K.contents sink.new) (held_waiting K.waiting sink.new) }
+    ensures kept { OnOk result.ended (IsPrefix result.pass.list result.kept) }
+    ensures settled { OnOk result.ended (held_waiting K.waiting sink.new ≡ []) }
+    ensures attended { IsAttended L.replica L.opening at.entry.pass result.pass }
 {
-    // (without it a reply may only come later)
-    let _ = stream.set_nodelay(true);
-    let mut source = Reading::<&TcpStream, I>::new(stream, counts.input);
-    let mut sink = match ConsoleOutput::<&TcpStream, O>::new(alloc, stream, counts.output) {
-        Ok(sink) => sink,
-        Err(_) => return pass,
-    };
-    let mut meter = Meter::<M>::new(counts.evaluations);
-    let attended = attend_lines(rt, alloc, &mut source, &mut sink, desk, pass, &mut meter);
-    attended.pass
+    let KeptSeat { desk, keeper, pass } = at;
+    let mut seat = Seat::new(desk, rt, pass);
+    let mut own = SeatKeeper::new(keeper, desk, rt);
+    let ended = talk_kept(rt, alloc, source, sink, &mut seat, meter, watcher, &mut own);
+    Attended {
+        pass: seat.leave(),
+        kept: own.leave(),
+        ended,
+    }
 }

@@ -1,17 +1,13 @@
 //! How the sessions of a desk are held: with a keeper, or with none.
-ghost use Rattle.ps_commands.specs.Sessions.{IsAttended};
+ghost use Rattle.std.specs.Prelude.{◌≡◌};
 
-use crate::connection::attend;
 use crate::elsewhere::Marker;
-use crate::kept_connection::{KeptDesk, attend_keeping};
-use ps_desk::{Desk, DeskName, Pass};
+use ps_desk::{Desk, DeskName};
 use ps_keep::Device;
 use ps_kept_desk::DeskKeeper;
-use std::alloc::Global;
-use std::net::{Shutdown, TcpStream};
+use std::net::TcpStream;
 use std::sync::Wait;
 use std::sync::atomic::{AtomicBool, Ordering};
-use std::thread::Threads;
 
 /// Holds the sessions of a desk. Where there is a keeper they are told nothing but what it keeps.
 #[derive(Drop)]
@@ -25,7 +21,9 @@ pub(crate) struct Host<L: DeskName, D: Device + Drop> {
 
 impl<L: DeskName, D: Device + Drop> Host<L, D> {
     /// A host with this keeper, or with none.
-    pub(crate) fn new(keeper: Option<DeskKeeper<L, D>>) -> Host<L, D> {
+    pub(crate) fn new(keeper: Option<DeskKeeper<L, D>>) -> Host<L, D>
+        ensures { result.keeper ≡ keeper }
+    {
         Host {
             keeper,
             is_stopped: AtomicBool::new(false),
@@ -33,39 +31,29 @@ impl<L: DeskName, D: Device + Drop> Host<L, D> {
         }
     }
 
-    /// The keeper.
-    pub(crate) fn into_keeper(self) -> Option<DeskKeeper<L, D>> {
+    /// The keeper, once no session has it any more.
+    pub(crate) fn into_keeper(self) -> Option<DeskKeeper<L, D>>
+        ensures { result ≡ self.keeper }
+    {
         let Host { keeper, .. } = self;
         keeper
     }
 
-    /// Answers the lines of a connection at a seat, to the end of its input, and gives the pass back.
-    pub(crate) fn attend<W: Wait + Drop, R: Threads + Wait + Sync>(
-        &self,
-        rt: &R,
-        alloc: Global,
-        desk: &Desk<L, W>,
-        pass: Pass<L>,
-        stream: &TcpStream,
-    ) -> Pass<L>
-        ensures { IsAttended L.replica L.opening pass result }
-    {
-        match &self.keeper {
-            Some(keeper) => {
-                let at = KeptDesk { desk, keeper };
-                let marker = Marker {
-                    mark: &self.is_elsewhere,
-                };
-                let (pass, is_kept) = attend_keeping(rt, alloc, at, pass, stream, marker);
-                if !is_kept {
-                    self.is_stopped.store(true, Ordering::SeqCst);
-                }
-                // (its second would keep the connection open)
-                let _ = stream.shutdown(Shutdown::Both);
-                pass
-            }
-            None => attend(rt, alloc, desk, pass, stream),
+    /// The keeper, for a session.
+    pub(crate) fn keeper(&self) -> Option<&DeskKeeper<L, D>> {
+        self.keeper.as_ref()
+    }
+
+    /// What looks on at a session that has the keeper.
+    pub(crate) fn marker(&self) -> Marker<'_> {
+        Marker {
+            mark: &self.is_elsewhere,
         }
+    }
+
+    /// Has no session go on: what one of them has seen couldn't be kept.
+    pub(crate) fn stop(&self) {
+        self.is_stopped.store(true, Ordering::SeqCst);
     }
 
     /// Whether sessions may go on.
@@ -90,4 +78,13 @@ impl<L: DeskName, D: Device + Drop> Host<L, D> {
             None => None,
         }
     }
+}
+
+/// A desk, who holds its sessions, and how many are asked for.
+#[derive(Drop)]
+pub(crate) struct Hosted<'s, L: DeskName, W: Wait + Drop, D: Device + Drop> {
+    pub(crate) desk: &'s Desk<L, W>,
+    pub(crate) host: &'s Host<L, D>,
+    /// none where there is no end to them
+    pub(crate) asked: Option<u64>,
 }

@@ -25,6 +25,7 @@
 //! Cost: that of the sessions, or of an import and an export.
 #![tactic(auto)]
 
+mod attend;
 mod chair;
 mod connection;
 mod door;
@@ -35,8 +36,7 @@ mod fault;
 mod follow;
 mod host;
 mod kept;
-mod kept_connection;
-mod kept_server;
+mod listening;
 mod notice;
 mod page;
 mod port;
@@ -47,18 +47,17 @@ mod sessions;
 mod squash;
 mod table;
 
-pub use connection::{Attended, attend_lines};
+pub use connection::{Attended, KeptSeat, attend_kept, attend_lines};
 pub use elsewhere::{KeptOnlooker, NumberElsewhere, Warner};
 pub use exchange::sync_on;
 pub use explain::{KeptReader, Onlooker, explain_table};
 pub use fault::{ProgramFault, status_of};
 pub use follow::follow_on;
 pub use kept::{KeptFault, KeptTrouble, Opened, keep_sheet, open_file};
-pub use kept_connection::{KeptAttended, KeptDesk, attend_kept};
-pub use kept_server::{KeptClosed, serve_kept, serve_kept_on};
+pub use listening::{serve, serve_kept};
 pub use page::open_page;
 pub use port::{PortFault, PortTrouble, port_fault};
-pub use server::{Closed, serve, serve_on};
+pub use server::{Closed, serve_kept_on, serve_on};
 pub use serving::{Entrance, Serving};
 pub use session::{answer_kept, answer_lines, open_sheet};
 pub use squash::squash_on;

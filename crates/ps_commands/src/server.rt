@@ -1,42 +1,46 @@
-//! The command `serve`: the lines of several sessions in, the replies of one sheet out.
-ghost use Rattle.std.specs.Prelude.{◌≡◌, ◌⊎◌, ◌<◌, ◌≤◌, ◌++◌, [], Some, IfErr, IfOk, OnOk, length};
+//! A server: the sessions of a sheet, which is kept in a journal, or isn't.
+ghost use Rattle.std.specs.Prelude.{◌≡◌, ◌+◌, ◌⊎◌, ◌<◌, ◌≤◌, [], false, IfErr, IfOk, IfSome, IsSome, OnOk, Some};
+ghost use Rattle.std.specs.Prelude.{length, vec_len};
 ghost use Rattle.std.specs.Io.KnownBytes.{Appends};
 ghost use Rattle.ps_grid.specs.declared.refusal.Refusal.TheVariants.{Device, Memory, Seat};
-ghost use Rattle.ps_sheet.specs.Sheet.{SheetView};
-ghost use Rattle.ps_desk.specs.Opening.{IsNamed};
-ghost use Rattle.ps_commands.specs.Commands.{IsOpened, closed_text, listening_text};
+ghost use Rattle.ps_sheet.specs.Sheet.{IsSheet};
+ghost use Rattle.ps_desk.specs.Closing.{HistoryBegins, IsClosed, appended_of};
+ghost use Rattle.ps_desk.specs.Opening.{IsNamed, new_passes};
+ghost use Rattle.ps_keep.specs.Journals.{IsJournal};
+ghost use Rattle.ps_kept.specs.Kept.{Tells};
+ghost use Rattle.ps_commands.specs.Commands.{closed_text};
 ghost use Rattle.ps_commands.specs.Sessions.{IsServed};
-ghost use Rattle.ps_commands.specs.Status.{HasNoPort};
 ghost use Rattle.ps_commands.specs.declared.fault.ProgramFault.TheVariants.{Refused};
 
 use crate::elsewhere::Warner;
 use crate::fault::ProgramFault;
 use crate::host::Host;
 use crate::notice::tell;
-use crate::port::listen;
 use crate::serving::{Entrance, Serving};
-use crate::session::open_sheet;
 use crate::sessions::serve_all;
-use ps_desk::{Desk, DeskName, Parts};
+use ps_desk::{Desk, DeskName, Parts, Pass};
 use ps_device::Sink;
 use ps_grid::Refusal;
-use ps_keep::MemoryDevice;
+use ps_keep::{Device, Journal, MemoryDevice};
+use ps_kept_desk::{DeskKeeper, Ended};
 use ps_sheet::Sheet;
-use ps_words::{RunOptions, ServeOptions};
 use std::alloc::Global;
+use std::io::Write;
 use std::marker::Brand;
-use std::net::{Net, TcpListener, TcpStream};
+use std::net::TcpListener;
 use std::sync::Wait;
 use std::thread::Threads;
-use std::time::{Clock, Duration};
+use std::time::Clock;
 
 /// What a server closed.
 #[derive(Drop)]
-pub struct Closed {
+pub struct Closed<J = ()> {
     /// The sheet, as its sessions left it.
     pub sheet: Sheet,
     /// How many sessions shared it.
     pub sessions: u64,
+    /// The journal, which has all of it on the disk, where it was kept in one.
+    pub journal: J,
 }
 
 /// Serves sessions on a sheet, each over a connection to this listener, so many at a time, and writes `closed` and the
@@ -71,8 +75,123 @@ pub fn serve_on<R: Threads + Wait + Clock + Sync, K: Sink>(
         ⊎ ((f ≡ Refused Device) × (K.failures out.old < K.failures out.new))) }
     ensures refused { IfErr result (λ f. (f ≡ Refused Memory) ⊎ (f ≡ Refused Seat) ⊎ (f ≡ Refused Device)) }
 {
-    let parts = Parts::new(sheet, seats_for(serving));
-    let closed = match serve_parts::<Brand, R>(rt, alloc, listener, parts, serving) {
+    let entrance = Entrance { listener, serving };
+    // (where nothing is kept, nobody is warned)
+    let mut warner = Warner::<Vec<u8>>::new(alloc, None);
+    match serve_sheet::<R, MemoryDevice, K, Vec<u8>>(
+        rt,
+        alloc,
+        entrance,
+        sheet,
+        None,
+        out,
+        &mut warner,
+    ) {
+        Ok(
+            Closed {
+                sheet,
+                sessions,
+                ..
+            },
+        ) => Ok(Closed {
+            sheet,
+            sessions,
+            journal: (),
+        }),
+        Err(fault) => Err(fault),
+    }
+}
+
+/// Serves sessions on a sheet as [`serve_on`] does, and keeps it in this journal: nothing that a session is told, or
+/// that a reply shows, is handed on before it is on the disk.
+///
+/// At the end the journal's kept lines tell all of the closed sheet's history. Refused as `serve_on` is; as `Device`,
+/// too, where the journal's device fails, or there is no memory for a line: then nothing is handed on any more that
+/// isn't kept, the sessions are ended, and `closed` isn't written. The warner warns soon after a session was pushed
+/// changes that are the sheet's replica's own, and new.
+///
+/// Cost: that of `serve_on`, and of the settles, one for all sessions that wait at a time.
+pub fn serve_kept_on<
+    R: Threads + Wait + Clock + Sync,
+    D: Device + Drop + Send,
+    K: Sink,
+    W: Write + Drop,
+>(
+    rt: &R,
+    alloc: Global,
+    entrance: Entrance<'_>,
+    sheet: Sheet,
+    journal: Journal<D>,
+    out: &mut K,
+    warner: &mut Warner<'_, W>,
+) -> Result<Closed<Journal<D>>, ProgramFault>
+    requires told { Tells sheet.replica journal.lines sheet.history }
+    requires kept { journal.kept ≡ journal.lines }
+    requires open { journal.has_failed ≡ false }
+    requires journal { IsJournal journal }
+    ensures asked { IfOk result (λ closed. entrance.entry.serving.sessions ≡ Some closed.sessions) }
+    ensures served { IfOk result (λ closed. IsServed entrance.entry.serving.seats closed.sessions sheet closed.sheet) }
+    ensures kept { IfOk result (λ closed. Tells closed.sheet.replica closed.journal.kept closed.sheet.history) }
+    ensures journal { IfOk result (λ closed. IsJournal closed.journal) }
+    ensures told { IfOk result (λ closed. Appends (K.contents out.old) (K.contents out.new)
+        (closed_text (length closed.sheet.history))) }
+    ensures settled { OnOk result (K.waiting out.new ≡ []) }
+    ensures calm { OnOk result (K.failures out.new ≡ K.failures out.old) }
+    ensures untold { IfErr result (λ f. (out.new ≡ out.old)
+        ⊎ ((f ≡ Refused Device) × (K.failures out.old < K.failures out.new))) }
+    ensures refused { IfErr result (λ f. (f ≡ Refused Memory) ⊎ (f ≡ Refused Seat) ⊎ (f ≡ Refused Device)) }
+{
+    match serve_sheet(rt, alloc, entrance, sheet, Some(journal), out, warner) {
+        Ok(
+            Closed {
+                sheet,
+                sessions,
+                journal,
+            },
+        ) => Ok(Closed {
+            sheet,
+            sessions,
+            journal: journal.unwrap(),
+        }),
+        Err(fault) => Err(fault),
+    }
+}
+
+/// Serves sessions on a sheet that a journal keeps, or none, and writes `closed` and the version once as many as were
+/// asked for have ended.
+fn serve_sheet<R: Threads + Wait + Clock + Sync, D: Device + Drop + Send, K: Sink, W: Write + Drop>(
+    rt: &R,
+    alloc: Global,
+    entrance: Entrance<'_>,
+    sheet: Sheet,
+    journal: Option<Journal<D>>,
+    out: &mut K,
+    warner: &mut Warner<'_, W>,
+) -> Result<Closed<Option<Journal<D>>>, ProgramFault>
+    requires told { IfSome journal (λ j. Tells sheet.replica j.lines sheet.history) }
+    requires kept { IfSome journal (λ j. j.kept ≡ j.lines) }
+    requires open { IfSome journal (λ j. j.has_failed ≡ false) }
+    requires journal { IfSome journal (λ j. IsJournal j) }
+    ensures asked { IfOk result (λ closed. entrance.entry.serving.sessions ≡ Some closed.sessions) }
+    ensures served { IfOk result (λ closed. IsServed entrance.entry.serving.seats closed.sessions sheet closed.sheet) }
+    ensures some { IfOk result (λ closed. IsSome journal → IsSome closed.journal) }
+    ensures kept { IfOk result (λ closed. IfSome closed.journal
+        (λ j. Tells closed.sheet.replica j.kept closed.sheet.history)) }
+    ensures journal { IfOk result (λ closed. IfSome closed.journal (λ j. IsJournal j)) }
+    ensures told { IfOk result (λ closed. Appends (K.contents out.old) (K.contents out.new)
+        (closed_text (length closed.sheet.history))) }
+    ensures settled { OnOk result (K.waiting out.new ≡ []) }
+    ensures calm { OnOk result (K.failures out.new ≡ K.failures out.old) }
+    ensures untold { IfErr result (λ f. (out.new ≡ out.old)
+        ⊎ ((f ≡ Refused Device) × (K.failures out.old < K.failures out.new))) }
+    ensures refused { IfErr result (λ f. (f ≡ Refused Memory) ⊎ (f ≡ Refused Seat) ⊎ (f ≡ Refused Device)) }
+{
+    let changes = sheet.version();
+    let parts = Parts::new(sheet, seats_for(entrance.serving));
+    let served = serve_parts::<Brand, R, D, W>(
+        rt, alloc, entrance, parts, journal, changes, warner,
+    );
+    let closed = match served {
         Ok(closed) => closed,
         Err(refusal) => return Err(ProgramFault::Refused(refusal)),
     };
@@ -83,7 +202,7 @@ pub fn serve_on<R: Threads + Wait + Clock + Sync, K: Sink>(
 }
 
 /// How many seats are made: no more than there are sessions.
-pub(crate) fn seats_for(serving: Serving) -> usize
+fn seats_for(serving: Serving) -> usize
     ensures { (1 ≤ result) × (result ≤ serving.seats) }
 {
     match serving.sessions {
@@ -92,103 +211,105 @@ pub(crate) fn seats_for(serving: Serving) -> usize
     }
 }
 
-/// Serves the sessions of a desk that is made from these parts, and gives its sheet back, with their number.
-fn serve_parts<L: DeskName + Send + Sync, R: Threads + Wait + Clock + Sync>(
+/// Serves the sessions of a desk that is made from these parts, with so many changes, and gives back what it closed.
+fn serve_parts<
+    L: DeskName + Send + Sync,
+    R: Threads + Wait + Clock + Sync,
+    D: Device + Drop + Send,
+    W: Write + Drop,
+>(
     rt: &R,
     alloc: Global,
-    listener: &TcpListener,
+    entrance: Entrance<'_>,
     parts: Parts,
-    serving: Serving,
-) -> Result<Closed, Refusal>
+    journal: Option<Journal<D>>,
+    changes: u64,
+    warner: &mut Warner<'_, W>,
+) -> Result<Closed<Option<Journal<D>>>, Refusal>
     requires named { IsNamed L.name L.parts L.book L.opening L.replica parts }
-    ensures asked { IfOk result (λ closed. serving.sessions ≡ Some closed.sessions) }
+    requires told { IfSome journal (λ j. Tells parts.sheet.replica j.lines parts.sheet.history) }
+    requires kept { IfSome journal (λ j. j.kept ≡ j.lines) }
+    requires open { IfSome journal (λ j. j.has_failed ≡ false) }
+    requires journal { IfSome journal (λ j. IsJournal j) }
+    requires changes { changes ≡ length parts.sheet.history }
+    ensures asked { IfOk result (λ closed. entrance.entry.serving.sessions ≡ Some closed.sessions) }
     ensures served { IfOk result (λ closed. IsServed parts.seats closed.sessions parts.sheet closed.sheet) }
+    ensures some { IfOk result (λ closed. IsSome journal → IsSome closed.journal) }
+    ensures kept { IfOk result (λ closed. IfSome closed.journal
+        (λ j. Tells closed.sheet.replica j.kept closed.sheet.history)) }
+    ensures journal { IfOk result (λ closed. IfSome closed.journal (λ j. IsJournal j)) }
     ensures refused { IfErr result (λ e. (e ≡ Memory) ⊎ (e ≡ Seat) ⊎ (e ≡ Device)) }
 {
     let (desk, passes) = match Desk::<L, &R>::open(rt, alloc, parts) {
         Ok(opened) => opened,
         Err((_, refusal)) => return Err(refusal),
     };
-    let host = Host::<L, MemoryDevice>::new(None);
-    let entrance = Entrance { listener, serving };
-    // (where nothing is kept, nobody is warned)
-    let mut warner = Warner::<Vec<u8>>::new(alloc, None);
-    match serve_all(rt, alloc, &desk, &host, entrance, passes, &mut warner) {
-        Ok((sessions, back)) => Ok(Closed {
-            sheet: desk.close(rt, back),
+    let host = Host::new(keeper_of(journal, &desk, passes.as_slice(), changes));
+    let (sessions, back) = match serve_all(rt, alloc, &desk, &host, entrance, passes, warner) {
+        Ok(served) => served,
+        Err(refusal) => return Err(refusal),
+    };
+    match close(rt, alloc, desk, back, host.into_keeper()) {
+        Ok((sheet, journal)) => Ok(Closed {
+            sheet,
             sessions,
+            journal,
         }),
         Err(refusal) => Err(refusal),
     }
 }
 
-/// How the seats are given, as the words ask for it.
-pub(crate) fn serving_of(options: ServeOptions<'_>) -> Serving
-    ensures sessions { result.sessions ≡ options.entry.sessions }
-    ensures seats { result.seats ≡ options.entry.seats }
+/// The keeper of a desk that was just opened with so many changes, where there is a journal of them.
+fn keeper_of<L: DeskName, W: Wait + Drop, D: Device + Drop>(
+    journal: Option<Journal<D>>,
+    desk: &Desk<L, W>,
+    passes: &[Pass<L>],
+    changes: u64,
+) -> Option<DeskKeeper<L, D>>
+    requires told { IfSome journal (λ j. Tells L.replica j.lines L.opening) }
+    requires kept { IfSome journal (λ j. j.kept ≡ j.lines) }
+    requires open { IfSome journal (λ j. j.has_failed ≡ false) }
+    requires journal { IfSome journal (λ j. IsJournal j) }
+    requires passes { passes.now ≡ new_passes desk.now }
+    requires changes { changes ≡ length L.opening }
+    ensures { IsSome journal → IsSome result }
 {
-    Serving {
-        sessions: widened(options.sessions),
-        seats: usize::from(options.seats),
-        wait: Duration::from_secs(u64::from(options.wait)),
-        idle: match options.idle {
-            Some(seconds) => Some(Duration::from_secs(u64::from(seconds))),
-            None => None,
-        },
-    }
-}
-
-/// The same number.
-fn widened(number: Option<u32>) -> Option<u64>
-    ensures { result ≡ number }
-{
-    match number {
-        Some(number) => Some(u64::from(number)),
+    match journal {
+        Some(journal) => Some(DeskKeeper::new(journal, desk, passes, changes)),
         None => None,
     }
 }
 
-/// Listens on a port of this machine, opens an empty sheet of the replica that was asked for, writes `listening` and
-/// the port, and serves sessions on the sheet as [`serve_on`] does. Returns the sheet that it closed.
-///
-/// A port that can't be listened on is a fault of its own, at which nothing is written. Refused as `Memory` where there
-/// is none for the sheet; else as [`serve_on`] is.
-///
-/// Cost: that of opening a sheet, and of [`serve_on`].
-pub fn serve<
-    R: Net<Listener = TcpListener, Stream = TcpStream> + Threads + Wait + Clock + Sync,
-    K: Sink,
->(rt: &R, alloc: Global, options: ServeOptions<'_>, out: &mut K) -> Result<Closed, ProgramFault>
-    ensures asked { IfOk result (λ closed. options.entry.sessions ≡ Some closed.sessions) }
-    ensures served { IfOk result (λ closed. (first : SheetView) × IsOpened options.entry.replica first
-        × IsServed options.entry.seats closed.sessions first closed.sheet) }
-    ensures told { IfOk result (λ closed. Appends (K.contents out.old) (K.contents out.new)
-        (listening_text options.entry.port ++ closed_text (length closed.sheet.history))) }
-    ensures settled { OnOk result (K.waiting out.new ≡ []) }
-    ensures calm { OnOk result (K.failures out.new ≡ K.failures out.old) }
-    ensures untold { IfErr result (λ f. (out.new ≡ out.old)
-        ⊎ (Appends (K.contents out.old) (K.contents out.new) (listening_text options.entry.port)
-        × (K.waiting out.new ≡ []) × (K.failures out.new ≡ K.failures out.old))
-        ⊎ ((f ≡ Refused Device) × (K.failures out.old < K.failures out.new))) }
-    ensures refused { IfErr result (λ f. (f ≡ Refused Memory) ⊎ (f ≡ Refused Seat) ⊎ (f ≡ Refused Device)
-        ⊎ HasNoPort options.entry.port f) }
-    ensures unheard { IfErr result (λ f. HasNoPort options.entry.port f → out.new ≡ out.old) }
+/// Ends a desk, whose passes are given back, and has what isn't kept yet kept, where it has a keeper.
+fn close<L: DeskName, W: Wait + Drop, D: Device + Drop, V: Wait>(
+    wait: &V,
+    alloc: Global,
+    desk: Desk<L, W>,
+    passes: Vec<Pass<L>>,
+    keeper: Option<DeskKeeper<L, D>>,
+) -> Result<(Sheet, Option<Journal<D>>), Refusal>
+    requires passes { vec_len passes ≡ desk }
+    ensures replica { IfOk result (λ r. r.0.replica ≡ L.replica) }
+    ensures begins { IfOk result (λ r. HistoryBegins L.opening r.0.history passes.items) }
+    ensures grown { IfOk result (λ r. length r.0.history ≡ length L.opening + appended_of passes.items) }
+    ensures one { IfOk result (λ r. IsClosed L.opening r.0.history passes.items) }
+    ensures sheet { IfOk result (λ r. IsSheet r.0) }
+    ensures some { IfOk result (λ r. IsSome keeper → IsSome r.1) }
+    ensures kept { IfOk result (λ r. IfSome r.1 (λ j. Tells r.0.replica j.kept r.0.history)) }
+    ensures journal { IfOk result (λ r. IfSome r.1 (λ j. IsJournal j)) }
+    ensures refused { IfErr result (λ e. e ≡ Device) }
 {
-    let listener = match listen(rt, options.port) {
-        Ok(listener) => listener,
-        Err(fault) => return Err(fault),
+    let Some(keeper) = keeper else {
+        return Ok((desk.close(wait, passes), None));
     };
-    let asked = RunOptions {
-        workers: options.workers,
-        replica: options.replica,
-    };
-    let sheet = match open_sheet(alloc, asked) {
-        Ok(sheet) => sheet,
-        Err(refusal) => return Err(ProgramFault::Refused(refusal)),
-    };
-    match tell(b"listening ", u64::from(options.port), out) {
-        Ok(()) => {}
-        Err(_) => return Err(ProgramFault::Refused(Refusal::Device)),
+    let told = Vec::new(alloc);
+    let Ended {
+        sheet,
+        journal,
+        settled,
+    } = keeper.close(wait, alloc, desk, passes, told.as_slice());
+    match settled {
+        Ok(()) => Ok((sheet, Some(journal))),
+        Err(_) => Err(Refusal::Device),
     }
-    serve_on(rt, alloc, &listener, serving_of(options), sheet, out)
 }

@@ -6,7 +6,7 @@ ghost use Rattle.ps_commands.specs.Sessions.{AreBack, Back};
 use crate::chair::{Chair, Sign};
 use crate::door::Door;
 use crate::elsewhere::Warner;
-use crate::host::Host;
+use crate::host::{Host, Hosted};
 use crate::serving::Entrance;
 use ps_desk::{Desk, DeskName, Pass};
 use ps_grid::Refusal;
@@ -18,13 +18,6 @@ use std::sync::atomic::AtomicU64;
 use std::thread;
 use std::thread::{Scope, Threads};
 use std::time::Clock;
-
-/// A desk, and who holds its sessions.
-#[derive(Drop)]
-struct Hosted<'s, L: DeskName, W: Wait + Drop, D: Device + Drop> {
-    desk: &'s Desk<L, W>,
-    host: &'s Host<L, D>,
-}
 
 /// A seat for each pass, which nobody has had.
 fn set_up<'s, L: DeskName>(
@@ -80,7 +73,7 @@ fn turn_all<
     ensures { map (λ t. t.first) chairs.new.items ≡ map (λ t. t.first) chairs.old.items }
 {
     for chair in chairs.iter_mut() {
-        chair.turn(scope, rt, alloc, at.desk, at.host, door);
+        chair.turn(scope, rt, alloc, at, door);
     }
 }
 
@@ -101,16 +94,15 @@ fn give_seats<
     at: &Hosted<'s, L, W, D>,
     door: &mut Door<'_>,
     chairs: &mut Vec<Chair<'s, L>>,
-    asked: Option<u64>,
     warner: &mut Warner<'_, T>,
 ) -> Option<u64>
     ensures firsts { map (λ t. t.first) chairs.new.items ≡ map (λ t. t.first) chairs.old.items }
-    ensures asked { IfSome result (λ n. (asked ≡ Some n) × (sum_by (λ t. t.begun) chairs.new.items ≡ n)) }
+    ensures asked { IfSome result (λ n. (at.now.asked ≡ Some n) × (sum_by (λ t. t.begun) chairs.new.items ≡ n)) }
 {
     for _ in rt.forever() {
-        let left = left_of(asked, chairs);
+        let left = left_of(at.asked, chairs);
         if left == Some(0) {
-            return asked;
+            return at.asked;
         }
         if !at.host.goes_on() || door.let_in(rt, left).is_err() {
             return None;
@@ -180,8 +172,6 @@ pub(crate) fn serve_all<
 {
     let word = AtomicU64::new(0);
     let signs = &word;
-    let hosted = Hosted { desk, host };
-    let at = &hosted;
     thread::scope(
         thread::scope_env(),
         rt,
@@ -195,16 +185,9 @@ pub(crate) fn serve_all<
             let mut back = Vec::with_capacity(alloc, passes.len())?;
             let mut door = Door::new(alloc, entrance, host.is_watchful())?;
             set_up(passes, signs, &mut chairs);
-            let given = give_seats(
-                scope,
-                rt,
-                alloc,
-                at,
-                &mut door,
-                &mut chairs,
-                entrance.serving.sessions,
-                warner,
-            );
+            let asked = entrance.serving.sessions;
+            let at = Hosted { desk, host, asked };
+            let given = give_seats(scope, rt, alloc, &at, &mut door, &mut chairs, warner);
             door.close();
             hang_up(host, &chairs);
             end_all(rt, chairs, &mut back);

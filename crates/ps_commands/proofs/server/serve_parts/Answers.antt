@@ -10,15 +10,15 @@ close-requires g c =
     c.in-Ok.opened.1.ok.0 ∙ ap length c.in-Ok.ensures.passes ∙ new_passes-length c.args.parts.seats in
     record { passes = c.in-Ok-serve_all.ensures.len ∙ given ∙ sym c.in-Ok.ensures.seats }
 
-pub returns-in-Ok-serve_all-clause-served : goal.returns-in-Ok-serve_all-clause-served
-returns-in-Ok-serve_all-clause-served g c =
-    let closed = c.close.ensures in
+pub returns-in-Ok-close-clause-served : goal.returns-in-Ok-close-clause-served
+returns-in-Ok-close-clause-served g c =
+    let closed = c.in-Ok-close.ensures in
     let given : vec_len c.in-Ok.opened.1 ≡ c.args.parts.seats =
     c.in-Ok.opened.1.ok.0 ∙ ap length c.in-Ok.ensures.passes ∙ new_passes-length c.args.parts.seats in
-    let back = c.in-Ok-serve_all.back in
+    let back = c.in-Ok-serve_all.served.1 in
     let count : length back.items ≡ c.args.parts.seats =
     sym back.ok.0 ∙ c.in-Ok-serve_all.ensures.len ∙ given in
-    let came : AreBack g.L.DeskName.replica g.L.Named.opening c.in-Ok-serve_all.sessions
+    let came : AreBack g.L.DeskName.replica g.L.Named.opening c.in-Ok-serve_all.served.0
     (new_passes c.args.parts.seats) back.items =
     rw c.in-Ok.ensures.passes at c.in-Ok-serve_all.ensures.back in
     record {

@@ -1,6 +1,6 @@
 use Rattle.std.proofs.lemmas.Result.{IfOk-weaker}
 use Rattle.ps_device.proofs.DeviceLemmas.{Appends-append}
-use Rattle.ps_commands.proofs.kept_server.serve_kept.Goals as goal
+use Rattle.ps_commands.proofs.listening.serve_kept.Goals as goal
 
 pub returns-clause-told : goal.returns-clause-told
 returns-clause-told g c =

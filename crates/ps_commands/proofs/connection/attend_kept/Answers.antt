@@ -5,7 +5,7 @@ use Rattle.ps_desk.specs.Seats.{GoesOn, SeatAnswers, SeatCalls, SeatLines}
 use Rattle.ps_desk.proofs.SeatLemmas.{answers_go_on, seat_answers}
 use Rattle.ps_desk.proofs.SeatRuns.{goes_itself, goes_trans}
 use Rattle.ps_commands.proofs.Attending.{Ran, attended, ran_covered}
-use Rattle.ps_commands.proofs.kept_connection.attend_kept.Goals as goal
+use Rattle.ps_commands.proofs.connection.attend_kept.Goals as goal
 
 pub returns-clause-covered : goal.returns-clause-covered
 returns-clause-covered g c =

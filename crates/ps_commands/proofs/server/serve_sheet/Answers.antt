@@ -1,6 +1,6 @@
 use Rattle.std.proofs.Common.{arith}
 use Rattle.ps_commands.proofs.Backs.{with_more_seats}
-use Rattle.ps_commands.proofs.server.serve_on.Goals as goal
+use Rattle.ps_commands.proofs.server.serve_sheet.Goals as goal
 
 pub returns-in-Ok-tell-clause-served : goal.returns-in-Ok-tell-clause-served
 returns-in-Ok-tell-clause-served g c =

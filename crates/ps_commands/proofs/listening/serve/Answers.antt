@@ -1,7 +1,7 @@
 use Rattle.std.proofs.Common.{◌∙◌, sym, arith, inl, inr}
 use Rattle.std.proofs.lemmas.Result.{IfErr-weaker, IfOk-weaker}
 use Rattle.ps_device.proofs.DeviceLemmas.{Appends-append}
-use Rattle.ps_commands.proofs.server.serve.Goals as goal
+use Rattle.ps_commands.proofs.listening.serve.Goals as goal
 
 pub returns-clause-asked : goal.returns-clause-asked
 returns-clause-asked g c = IfOk-weaker c.serve_on.result _ _
@@ -11,7 +11,7 @@ pub returns-clause-served : goal.returns-clause-served
 returns-clause-served g c = IfOk-weaker c.serve_on.result _ _
     (λ closed served. (
       c.in-Ok-open_sheet.sheet,
-      c.in-Ok-open_sheet.ensures.opened,
+      rw c.sheet_of.ensures.replica at c.in-Ok-open_sheet.ensures.opened,
       rw c.serving_of.ensures.seats at served,
     ))
     c.serve_on.ensures.served

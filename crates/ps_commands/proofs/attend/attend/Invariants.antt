@@ -1,4 +1,4 @@
-use Rattle.ps_commands.proofs.kept_connection.attend_keeping.Given as goal
+use Rattle.ps_commands.proofs.attend.attend.Given as goal
 
 abbrev pub ghosts-attend_counted-I-Ledger : goal.ghosts-attend_counted-I-Ledger
 ghosts-attend_counted-I-Ledger g a = record { name = a.counts.input.name; parts = a.counts.input.parts }

@@ -1,0 +1,111 @@
+//! One session over a connection.
+ghost use Rattle.ps_grid.specs.Blanks.{IsBlankOf};
+ghost use Rattle.ps_commands.specs.Sessions.{IsAttended};
+
+use crate::connection::{KeptSeat, attend_kept, attend_lines};
+use crate::host::Host;
+use ps_desk::{Desk, DeskName, Pass};
+use ps_device::{ConsoleOutput, Reading, Writing};
+use ps_eval::Meter;
+use ps_keep::Device;
+use ps_session::{HeldOutput, RunFault};
+use std::alloc::Global;
+use std::marker::Brand;
+use std::net::{Shutdown, TcpStream};
+use std::sync::Wait;
+use std::sync::ledger::{Blank, Ledger};
+use std::thread::Threads;
+
+/// What counts a connection's failures, and a session's evaluations.
+#[derive(Drop)]
+struct Counts {
+    input: Blank,
+    output: Blank,
+    /// those of replies that are held back
+    held: Blank,
+    evaluations: Blank,
+}
+
+/// Answers each line of a connection at a seat of a desk, to the end of its input, and gives the pass back. Where the
+/// host has a keeper nothing is handed on but what is kept.
+///
+/// A failure of the connection ends it early, and so does a lack of memory before the first line, which then isn't
+/// read. Where what the session has seen can't be kept it stops the host.
+pub(crate) fn attend<L: DeskName, W: Wait + Drop, R: Threads + Wait + Sync, D: Device + Drop>(
+    rt: &R,
+    alloc: Global,
+    desk: &Desk<L, W>,
+    host: &Host<L, D>,
+    pass: Pass<L>,
+    stream: &TcpStream,
+) -> Pass<L>
+    ensures { IsAttended L.replica L.opening pass result }
+{
+    let counts = Counts {
+        input: Blank::new(1),
+        output: Blank::new(1),
+        held: Blank::new(1),
+        evaluations: Blank::new(1),
+    };
+    attend_counted::<L, W, R, D, Brand, Brand, Brand, Brand>(
+        rt, alloc, desk, host, pass, stream, counts,
+    )
+}
+
+/// Answers each line of a connection, whose failures and whose evaluations these blanks count.
+fn attend_counted<
+    L: DeskName,
+    W: Wait + Drop,
+    R: Threads + Wait + Sync,
+    D: Device + Drop,
+    I: Ledger,
+    O: Ledger,
+    N: Ledger,
+    M: Ledger,
+>(
+    rt: &R,
+    alloc: Global,
+    desk: &Desk<L, W>,
+    host: &Host<L, D>,
+    pass: Pass<L>,
+    stream: &TcpStream,
+    counts: Counts,
+) -> Pass<L>
+    requires input { IsBlankOf counts.input I.name I.parts }
+    requires output { IsBlankOf counts.output O.name O.parts }
+    requires held { IsBlankOf counts.held N.name N.parts }
+    requires evaluations { IsBlankOf counts.evaluations M.name M.parts }
+    ensures { IsAttended L.replica L.opening pass result }
+{
+    // (without it a reply may only come later)
+    let _ = stream.set_nodelay(true);
+    let mut source = Reading::<&TcpStream, I>::new(stream, counts.input);
+    let mut meter = Meter::<M>::new(counts.evaluations);
+    let Some(keeper) = host.keeper() else {
+        let mut sink = match ConsoleOutput::<&TcpStream, O>::new(alloc, stream, counts.output) {
+            Ok(sink) => sink,
+            Err(_) => return pass,
+        };
+        let attended = attend_lines(rt, alloc, &mut source, &mut sink, desk, pass, &mut meter);
+        return attended.pass;
+    };
+    let writing = Writing::<&TcpStream, O>::new(stream, counts.output);
+    let mut sink = HeldOutput::<_, N>::new(alloc, writing, counts.held);
+    let mut marker = host.marker();
+    let at = KeptSeat { desk, keeper, pass };
+    let attended = attend_kept(
+        rt,
+        alloc,
+        &mut source,
+        &mut sink,
+        at,
+        &mut meter,
+        &mut marker,
+    );
+    if matches!(attended.ended, Err(RunFault::Keep)) {
+        host.stop();
+    }
+    // (its second would keep the connection open)
+    let _ = stream.shutdown(Shutdown::Both);
+    attended.pass
+}

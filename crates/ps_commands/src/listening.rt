@@ -1,0 +1,182 @@
+//! The command `serve`: the lines of several sessions in, the replies of one sheet out.
+ghost use Rattle.std.specs.Prelude.{◌≡◌, ◌⊎◌, ◌<◌, ◌++◌, [], IfErr, IfOk, OnOk, Some, length};
+ghost use Rattle.std.specs.Io.KnownBytes.{Appends};
+ghost use Rattle.ps_grid.specs.declared.refusal.Refusal.TheVariants.{Device, Memory, Seat};
+ghost use Rattle.ps_sheet.specs.Sheet.{SheetView};
+ghost use Rattle.ps_keep.specs.Journals.{IsJournal};
+ghost use Rattle.ps_kept.specs.Kept.{Tells};
+ghost use Rattle.ps_commands.specs.Commands.{IsOpened, closed_text, listening_text};
+ghost use Rattle.ps_commands.specs.Sessions.{IsServed};
+ghost use Rattle.ps_commands.specs.Status.{HasNoPort};
+ghost use Rattle.ps_commands.specs.declared.fault.ProgramFault.TheVariants.{Refused};
+
+use crate::elsewhere::{NumberElsewhere, Warner};
+use crate::fault::ProgramFault;
+use crate::kept::{Opened, keep_sheet, open_file};
+use crate::notice::{tell, tell_line};
+use crate::port::listen;
+use crate::server::{Closed, serve_kept_on, serve_on};
+use crate::serving::{Entrance, Serving};
+use crate::session::open_sheet;
+use ps_device::Sink;
+use ps_eval::Meter;
+use ps_grid::Refusal;
+use ps_keep::{Journal, KeptFile};
+use ps_words::{RunOptions, ServeOptions};
+use std::alloc::Global;
+use std::fs::File;
+use std::io::Write;
+use std::net::{Net, TcpListener, TcpStream};
+use std::rt::Files;
+use std::sync::Wait;
+use std::sync::ledger::Ledger;
+use std::thread::Threads;
+use std::time::{Clock, Duration};
+
+/// How the seats are given, as the words ask for it.
+fn serving_of(options: ServeOptions<'_>) -> Serving
+    ensures sessions { result.sessions ≡ options.entry.sessions }
+    ensures seats { result.seats ≡ options.entry.seats }
+{
+    Serving {
+        sessions: widened(options.sessions),
+        seats: usize::from(options.seats),
+        wait: Duration::from_secs(u64::from(options.wait)),
+        idle: match options.idle {
+            Some(seconds) => Some(Duration::from_secs(u64::from(seconds))),
+            None => None,
+        },
+    }
+}
+
+/// The same number.
+fn widened(number: Option<u32>) -> Option<u64>
+    ensures { result ≡ number }
+{
+    match number {
+        Some(number) => Some(u64::from(number)),
+        None => None,
+    }
+}
+
+/// The sheet that the words ask for.
+fn sheet_of(options: ServeOptions<'_>) -> RunOptions
+    ensures workers { result.workers ≡ options.entry.workers }
+    ensures replica { result.replica ≡ options.entry.replica }
+{
+    RunOptions {
+        workers: options.workers,
+        replica: options.replica,
+    }
+}
+
+/// Listens on a port of this machine, opens an empty sheet of the replica that was asked for, writes `listening` and
+/// the port, and serves sessions on the sheet as [`serve_on`] does. Returns the sheet that it closed.
+///
+/// A port that can't be listened on is a fault of its own, at which nothing is written. Refused as `Memory` where there
+/// is none for the sheet; else as [`serve_on`] is.
+///
+/// Cost: that of opening a sheet, and of [`serve_on`].
+pub fn serve<
+    R: Net<Listener = TcpListener, Stream = TcpStream> + Threads + Wait + Clock + Sync,
+    K: Sink,
+>(rt: &R, alloc: Global, options: ServeOptions<'_>, out: &mut K) -> Result<Closed, ProgramFault>
+    ensures asked { IfOk result (λ closed. options.entry.sessions ≡ Some closed.sessions) }
+    ensures served { IfOk result (λ closed. (first : SheetView) × IsOpened options.entry.replica first
+        × IsServed options.entry.seats closed.sessions first closed.sheet) }
+    ensures told { IfOk result (λ closed. Appends (K.contents out.old) (K.contents out.new)
+        (listening_text options.entry.port ++ closed_text (length closed.sheet.history))) }
+    ensures settled { OnOk result (K.waiting out.new ≡ []) }
+    ensures calm { OnOk result (K.failures out.new ≡ K.failures out.old) }
+    ensures untold { IfErr result (λ f. (out.new ≡ out.old)
+        ⊎ (Appends (K.contents out.old) (K.contents out.new) (listening_text options.entry.port)
+        × (K.waiting out.new ≡ []) × (K.failures out.new ≡ K.failures out.old))
+        ⊎ ((f ≡ Refused Device) × (K.failures out.old < K.failures out.new))) }
+    ensures refused { IfErr result (λ f. (f ≡ Refused Memory) ⊎ (f ≡ Refused Seat) ⊎ (f ≡ Refused Device)
+        ⊎ HasNoPort options.entry.port f) }
+    ensures unheard { IfErr result (λ f. HasNoPort options.entry.port f → out.new ≡ out.old) }
+{
+    let listener = match listen(rt, options.port) {
+        Ok(listener) => listener,
+        Err(fault) => return Err(fault),
+    };
+    let sheet = match open_sheet(alloc, sheet_of(options)) {
+        Ok(sheet) => sheet,
+        Err(refusal) => return Err(ProgramFault::Refused(refusal)),
+    };
+    match tell(b"listening ", u64::from(options.port), out) {
+        Ok(()) => {}
+        Err(_) => return Err(ProgramFault::Refused(Refusal::Device)),
+    }
+    serve_on(rt, alloc, &listener, serving_of(options), sheet, out)
+}
+
+/// Listens on a port of this machine, opens the sheet of the replica that was asked for from the file of this path, and
+/// writes `listening` and the port; then tells what it opened, and serves sessions on the sheet as [`serve_kept_on`]
+/// does, whose warner tells the same writer.
+///
+/// A port that can't be listened on, and a file that isn't taken, are faults of their own, at which nothing is written.
+///
+/// Cost: that of [`open_file`], [`keep_sheet`] and [`serve_kept_on`].
+pub fn serve_kept<
+    R: Files<File = File>
+        + Net<Listener = TcpListener, Stream = TcpStream>
+        + Threads
+        + Wait
+        + Clock
+        + Sync,
+    K: Sink,
+    L: Ledger,
+    W: Write + Drop,
+>(
+    rt: &R,
+    alloc: Global,
+    options: ServeOptions<'_>,
+    path: &str,
+    out: &mut K,
+    told: W,
+    meter: &mut Meter<L>,
+) -> Result<Closed<Journal<KeptFile>>, ProgramFault>
+    ensures asked { IfOk result (λ closed. options.entry.sessions ≡ Some closed.sessions) }
+    ensures kept { IfOk result (λ closed. Tells closed.sheet.replica closed.journal.kept closed.sheet.history) }
+    ensures journal { IfOk result (λ closed. IsJournal closed.journal) }
+    ensures told { IfOk result (λ closed. Appends (K.contents out.old) (K.contents out.new)
+        (listening_text options.entry.port ++ closed_text (length closed.sheet.history))) }
+    ensures settled { OnOk result (K.waiting out.new ≡ []) }
+    ensures calm { OnOk result (K.failures out.new ≡ K.failures out.old) }
+{
+    let listener = match listen(rt, options.port) {
+        Ok(listener) => listener,
+        Err(fault) => return Err(fault),
+    };
+    let found = match open_file(rt, alloc, path) {
+        Ok(found) => found,
+        Err(fault) => return Err(fault),
+    };
+    let (sheet, keeper) = match keep_sheet(rt, alloc, found, path, sheet_of(options), meter) {
+        Ok(kept) => kept,
+        Err(fault) => return Err(fault),
+    };
+    match tell(b"listening ", u64::from(options.port), out) {
+        Ok(()) => {}
+        Err(_) => return Err(ProgramFault::Refused(Refusal::Device)),
+    }
+    let changes = sheet.version();
+    let mut told = told;
+    tell_line(alloc, &Opened { path, changes }, &mut told);
+    let replica = options.replica;
+    let mut warner = Warner::new(alloc, Some((NumberElsewhere { replica, path }, told)));
+    let entrance = Entrance {
+        listener: &listener,
+        serving: serving_of(options),
+    };
+    serve_kept_on(
+        rt,
+        alloc,
+        entrance,
+        sheet,
+        keeper.into_journal(),
+        out,
+        &mut warner,
+    )
+}
