@@ -12,7 +12,7 @@ use ps_eval::Meter;
 use ps_grid::Cell;
 use ps_keep::{Found, Journal, first_line, open};
 use ps_session::Board;
-use ps_sheet::Edit;
+use ps_sheet::{Edit, Sheet};
 use std::alloc::{AllocError, Global};
 use std::marker::Brand;
 use std::process::Abort;
@@ -38,11 +38,7 @@ pub(crate) fn empty_file(rt: &impl Abort, alloc: Global) -> Vec<u8>
 }
 
 /// The journal of such a file.
-pub(crate) fn journal_of<F: Found + Drop>(
-    rt: &impl Abort,
-    alloc: Global,
-    found: F,
-) -> Journal<F::Device>
+fn journal_of<F: Found + Drop>(rt: &impl Abort, alloc: Global, found: F) -> Journal<F::Device>
     requires told { Tells 1 (whole_lines (F.bytes found)) [] }
     ensures told { Tells 1 result.lines [] }
     ensures kept { result.kept ≡ result.lines }
@@ -50,6 +46,24 @@ pub(crate) fn journal_of<F: Found + Drop>(
     ensures journal { IsJournal result }
 {
     open(alloc, found).ok().expect(rt, "a journal")
+}
+
+/// A sheet of replica 1, and the journal of such a file.
+pub(crate) fn begin<F: Found + Drop>(
+    rt: &impl Abort,
+    alloc: Global,
+    found: F,
+) -> (Sheet, Journal<F::Device>)
+    requires told { Tells 1 (whole_lines (F.bytes found)) [] }
+    ensures replica { result.0.replica ≡ 1 }
+    ensures history { result.0.history ≡ [] }
+    ensures told { Tells 1 result.1.lines [] }
+    ensures kept { result.1.kept ≡ result.1.lines }
+    ensures open { result.1.has_failed ≡ false }
+    ensures journal { IsJournal result.1 }
+{
+    let sheet = Sheet::open(alloc, 1, 1).ok().expect(rt, "a sheet");
+    (sheet, journal_of(rt, alloc, found))
 }
 
 /// Enters 7 with a meter of its own.

@@ -1,7 +1,8 @@
 //! Tests of desks that are kept, by public calls alone.
 //!
 //! `failing` has several sessions in threads of their own over a device that fails at each call in turn, `shared` one
-//! sync for all that wait, and an edit during a sync.
+//! sync for all that wait, and an edit during a sync. `sessions` has what the sessions of both do, `desks` and
+//! `devices` what they do it at.
 //!
 //! A crate with tests is proved a second time with them, so these stand apart from what they test.
 #![tactic(auto)]
@@ -12,5 +13,7 @@ mod desks;
 mod devices;
 #[cfg(test)]
 mod failing;
+#[cfg(test)]
+mod sessions;
 #[cfg(test)]
 mod shared;

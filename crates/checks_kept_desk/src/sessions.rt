@@ -1,0 +1,150 @@
+//! Sessions at a desk that is kept, each in a thread of its own, and what they leave.
+
+use crate::desks::enter;
+use ps_desk::{Desk, DeskName, Pass, Seat, desk_crosses};
+use ps_keep::Device;
+use ps_kept_desk::{DeskKeeper, Ended, Kept, SeatKeeper, keeper_crosses};
+use ps_session::Keeper;
+use std::alloc::Global;
+use std::process::Abort;
+use std::sync::{Barrier, Wait};
+use std::thread;
+use std::thread::Threads;
+
+/// What the sessions of a desk do.
+#[derive(Clone, Copy)]
+pub(crate) enum Job<'a> {
+    /// Each edits its column down so many rows, and has each edit kept before it is acknowledged.
+    Down(u16),
+    /// Each edits and meets all the others; then each has all kept.
+    Together(&'a Barrier),
+    /// The first edits, and has its edit kept, and its sync meets the other one, who edits until they meet again.
+    Meanwhile(&'a Barrier),
+}
+
+/// A session that has ended: its pass, what it was told is kept, and of each edit that was acknowledged its number, its
+/// seat and its row.
+#[derive(Drop)]
+pub(crate) struct Left<L: DeskName> {
+    pass: Pass<L>,
+    kept: Kept<L>,
+    acknowledged: Vec<(u64, u64, u16)>,
+}
+
+/// Edits a column down, and has each edit kept. Once a settle failed, each later one fails too.
+fn edit_down<L: DeskName, D: Device + Drop, W: Wait + Drop, T: Abort + Threads + Wait + Sync>(
+    rt: &T,
+    alloc: Global,
+    seat: &mut Seat<'_, L, W, T>,
+    own: &mut SeatKeeper<'_, L, W, D, T>,
+    column: u64,
+    rows: u16,
+) -> Vec<(u64, u64, u16)> {
+    let mut acknowledged = Vec::new(alloc);
+    let mut failed = false;
+    for row in 1..=rows {
+        let number = enter(rt, alloc, seat, column, row);
+        if own.settle(alloc, &*seat).is_err() {
+            failed = true;
+        } else {
+            assert!(rt; !failed);
+            acknowledged
+                .push((number, column, row))
+                .ok()
+                .expect(rt, "room");
+        }
+    }
+    acknowledged
+}
+
+/// Does what the seat has to do.
+fn session<L: DeskName, D: Device + Drop, W: Wait + Drop, T: Abort + Threads + Wait + Sync>(
+    rt: &T,
+    alloc: Global,
+    keeper: &DeskKeeper<L, D>,
+    desk: &Desk<L, W>,
+    pass: Pass<L>,
+    job: Job<'_>,
+) -> Left<L> {
+    let column = pass.seat();
+    let mut seat = Seat::new(desk, rt, pass);
+    let mut own = SeatKeeper::new(keeper, desk, rt);
+    let mut acknowledged = Vec::new(alloc);
+    match job {
+        Job::Down(rows) => {
+            acknowledged = edit_down(rt, alloc, &mut seat, &mut own, column, rows);
+        }
+        Job::Together(all) => {
+            enter(rt, alloc, &mut seat, column, 1);
+            all.wait(rt);
+            assert!(rt; own.settle(alloc, &seat).is_ok());
+        }
+        Job::Meanwhile(meeting) => {
+            if column == 0 {
+                enter(rt, alloc, &mut seat, column, 1);
+                assert!(rt; own.settle(alloc, &seat).is_ok());
+            } else {
+                meeting.wait(rt);
+                enter(rt, alloc, &mut seat, column, 1);
+                meeting.wait(rt);
+            }
+        }
+    }
+    Left {
+        pass: seat.leave(),
+        kept: own.leave(),
+        acknowledged,
+    }
+}
+
+/// Runs a session for each pass, each in a thread of its own.
+pub(crate) fn sessions<
+    L: DeskName + Send + Sync,
+    D: Device + Drop + Send,
+    W: Wait + Drop + Send,
+    T: Abort + Threads + Wait + Sync,
+>(
+    rt: &T,
+    alloc: Global,
+    keeper: &DeskKeeper<L, D>,
+    desk: &Desk<L, W>,
+    passes: Vec<Pass<L>>,
+    job: Job<'_>,
+) -> Vec<Left<L>> {
+    desk_crosses::<L, W>();
+    keeper_crosses::<L, D>();
+    let left = thread::map_vec(
+        rt,
+        passes,
+        &|pass| session(rt, alloc, keeper, desk, pass, job),
+    )
+    .ok();
+    left.expect(rt, "room")
+}
+
+/// Closes a desk that its sessions have left, and gives back all that was acknowledged.
+pub(crate) fn close<L: DeskName, D: Device + Drop, W: Wait + Drop, T: Abort + Wait>(
+    rt: &T,
+    alloc: Global,
+    keeper: DeskKeeper<L, D>,
+    desk: Desk<L, W>,
+    left: Vec<Left<L>>,
+) -> (Ended<D>, Vec<(u64, u64, u16)>) {
+    let mut passes = Vec::new(alloc);
+    let mut told = Vec::new(alloc);
+    let mut all = Vec::new(alloc);
+    for one in left {
+        let Left {
+            pass,
+            kept,
+            acknowledged,
+        } = one;
+        passes.push(pass).ok().expect(rt, "room");
+        told.push(kept).ok().expect(rt, "room");
+        for edit in acknowledged {
+            all.push(edit).ok().expect(rt, "room");
+        }
+    }
+    assert!(rt; passes.len() == desk.seats());
+    (keeper.close(rt, alloc, desk, passes, &told), all)
+}
