@@ -20,11 +20,11 @@ class Gateway:
 
 
 @contextlib.contextmanager
-def paging(server_port, *words, port=None):
-    """A gateway beside the server on a port, with these further words, once it listens."""
+def paging(server_port, *words, port=None, **how):
+    """A gateway beside the server on a port, with these further words, once it listens. `how` says how it is started."""
     port = port or free_port()
     asked = ["page", "--from", str(server_port), "--port", str(port), *words]
-    with started(*asked, stdin=subprocess.DEVNULL, stdout=subprocess.PIPE) as session:
+    with started(*asked, stdin=subprocess.DEVNULL, stdout=subprocess.PIPE, **how) as session:
         first = session.stdout.readline()
         if first != lines(f"page http://127.0.0.1:{port}/"):
             raise AssertionError(f"the first line is {first!r}")

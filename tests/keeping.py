@@ -5,8 +5,8 @@ import subprocess
 
 from hunt import kept, shortages
 from hunt.session import Session
+from preloaded import PROGRAM
 from program import LIMIT, Ended, ProgramTest, lines, started
-from shortage import PROGRAM
 
 # No call of the C library fails.
 NOTHING = ["s", 0, 0, 0]

@@ -6,11 +6,11 @@ import sys
 from concurrent.futures import ThreadPoolExecutor
 from typing import NamedTuple
 
-from program import LIMIT, TOP, Ended, lines, started
+import preloaded
+from preloaded import PROGRAM
+from program import LIMIT, Ended, lines, started
 from servers import Client, free_port
 
-# Started without the launcher, whose own requests aren't meant; `./test` has it built.
-PROGRAM = TOP / "crates/sheet/out/sheet"
 # More requests than any program has.
 ALL = 2**64 - 1
 # How many programs run side by side.
@@ -26,10 +26,7 @@ class Short(NamedTuple):
 
 def build(folder):
     """The library, built in this folder."""
-    library = folder / "refuse.so"
-    words = ["cc", "-shared", "-fPIC", "-O2", "-Wall", "-Wextra", "-Werror", "-o", library, TOP / "tests/refuse.c"]
-    subprocess.run(words, check=True, timeout=LIMIT)
-    return library
+    return preloaded.build("refuse.c", folder / "refuse.so")
 
 
 class ShortServer(NamedTuple):
@@ -46,7 +43,7 @@ def refusing(library, first, last):
     with open(os.memfd_create("requests"), "r+b") as count:
         count.truncate(8)
         refused = {"REFUSE_FIRST": str(first), "REFUSE_LAST": str(last), "REFUSE_COUNT": str(count.fileno())}
-        yield {"env": {**os.environ, **refused, "LD_PRELOAD": str(library)}, "pass_fds": [count.fileno()]}, count
+        yield {"env": preloaded.before(library, **refused), "pass_fds": [count.fileno()]}, count
 
 
 def requests_in(count):

@@ -6,8 +6,8 @@ import subprocess
 
 import peers
 from keeping import KeepingTest, replies_to, text_of, without_rights
+from preloaded import PROGRAM
 from program import DEVICE_FAILED, LIMIT, Ended, lines, run, started
-from shortage import PROGRAM
 
 EDITS = (
     "set A1 5", "set B1 =[.A1]*2", "set A2 it's \"tea\", \\n", "set A3 äöü 漢字", "set C1 @tally", "add C1 7",

@@ -8,8 +8,9 @@ import time
 import peers
 from hunt import kept
 from keeping import ALL, KeepingTest, Spoilt, replies_to, session_of, sizes_limited, text_of
+from preloaded import PROGRAM
 from program import DEVICE_FAILED, LIMIT, Ended, lines, started
-from shortage import PROGRAM, build, run_short
+from shortage import build, run_short
 
 EDITS = tuple(line for turn in range(1, 9) for line in (
     f"set A1 {turn}", f"set B{turn} =[.A1]+{turn}", "get B1", f"set C{turn} {'text' * turn}", "rows A1:C2", "walk"))

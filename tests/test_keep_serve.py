@@ -9,9 +9,9 @@ import time
 from hunt import kept
 from hunt.deltas import delta_line
 from keeping import KeepingTest, Spoilt, text_of
+from preloaded import PROGRAM
 from program import DEVICE_FAILED, LIMIT, Ended, lines, run
 from servers import Client, free_port, serving, sync
-from shortage import PROGRAM
 
 
 class Serve(KeepingTest):

@@ -4,15 +4,19 @@ import re
 import socket
 import struct
 import subprocess
+import tempfile
 import threading
 import time
 import unittest
+from pathlib import Path
 
 import browser_socket
+import preloaded
 from browser_gateway import paging
 from browser_socket import (
     BINARY, HERE, PING, PONG, TEXT, WebSocket, accept_of, answer, connection_to, frame, request, upgrade,
 )
+from preloaded import PROGRAM
 from program import DEVICE_FAILED, LIMIT, TOP, Ended, ProgramTest, run
 from servers import free_port, serving
 from sizes import LONGEST_LINE
@@ -343,6 +347,39 @@ def replying(reply):
         yield listener.getsockname()[1]
         listener.shutdown(socket.SHUT_RDWR)
     thread.join(LIMIT)
+
+
+class Silences(ProgramTest):
+    """What is waited for longer than a test likes to: at a gateway whose long waits are shorter (`hasten.c`)."""
+
+    @classmethod
+    def setUpClass(cls):
+        folder = tempfile.TemporaryDirectory()
+        cls.addClassCleanup(folder.cleanup)
+        library = preloaded.build("hasten.c", Path(folder.name) / "hasten.so")
+        cls.how = {"program": PROGRAM, "env": preloaded.before(library)}
+
+    def assert_lasted(self, since, seconds):
+        """It has taken so many seconds, and not much longer: a busy machine takes its time, too."""
+        lasted = time.monotonic() - since
+        self.assertGreater(lasted, 0.95 * seconds)
+        self.assertLess(lasted, 1.5 * seconds + 2)
+
+    def test_a_server_that_gives_no_reply_for_30_seconds(self):
+        with replying(b"") as port, paging(port, **self.how) as gateway, WebSocket(gateway.port) as opened:
+            since = time.monotonic()
+            opened.send("get A1")
+            self.assertEqual(opened.closing(), NO_SERVER)
+            self.assert_lasted(since, 30 / 10)
+
+    def test_a_browser_that_says_nothing_for_5_minutes(self):
+        with serving(SESSIONS) as server, paging(server.port, **self.how) as gateway:
+            with WebSocket(gateway.port) as opened:
+                self.assertEqual(opened.ask("get A1"), "val \n")
+                since = time.monotonic()
+                with self.assertRaises((browser_socket.Ended, ConnectionError)):
+                    opened.receive()
+                self.assert_lasted(since, 300 / 60)
 
 
 class Ends(ProgramTest):

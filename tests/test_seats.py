@@ -4,9 +4,9 @@ import threading
 import time
 from pathlib import Path
 
+from preloaded import PROGRAM
 from program import LIMIT, Ended, ProgramTest, lines
 from servers import Client, comes_to, serving
-from shortage import PROGRAM
 
 NO_SEAT = lines("err 21 seat")
 # The longest that a server takes to see that something has changed, in seconds, on a machine that does much else.

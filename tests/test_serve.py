@@ -5,9 +5,9 @@ import socket
 import subprocess
 import threading
 
+from preloaded import PROGRAM
 from program import DEVICE_FAILED, LIMIT, Ended, ProgramTest, lines, run
 from servers import HERE, PAUSE, comes_to, free_port, serving, sync
-from shortage import PROGRAM
 
 
 class Sessions(ProgramTest):

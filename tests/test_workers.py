@@ -9,9 +9,10 @@ import subprocess
 import sys
 from pathlib import Path
 
-from program import LIMIT, TOP, Ended, ProgramTest, lines, started
+import preloaded
+from preloaded import PROGRAM
+from program import LIMIT, Ended, ProgramTest, lines, started
 from servers import serving
-from shortage import PROGRAM
 from sizes import COLUMNS, name, pushes
 
 # So many rows of formulas are wide enough for 16 workers. All of them refer to the one cell below.
@@ -37,7 +38,7 @@ class Threads:
 
     def __init__(self, library, count):
         self.count = count
-        env = {**os.environ, "LD_PRELOAD": str(library), "THREADS_COUNT": str(count.fileno())}
+        env = preloaded.before(library, THREADS_COUNT=str(count.fileno()))
         # (without the launcher, whose own threads aren't meant)
         self.how = {"program": PROGRAM, "env": env, "pass_fds": [count.fileno()]}
 
@@ -59,8 +60,7 @@ class CountsThreads(ProgramTest):
 
     def setUp(self):
         self.library = Path(self.folder()) / "threads.so"
-        words = ["cc", "-shared", "-fPIC", "-O2", "-Wall", "-Wextra", "-Werror", "-o", self.library]
-        subprocess.run([*words, TOP / "tests/threads.c"], check=True, timeout=LIMIT)
+        preloaded.build("threads.c", self.library)
 
     def threads(self):
         """A count of threads for one program."""

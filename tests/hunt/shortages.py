@@ -12,7 +12,8 @@ import subprocess
 from pathlib import Path
 from typing import NamedTuple
 
-from program import LIMIT, TOP, Ended
+import preloaded
+from program import LIMIT, Ended
 
 from . import channels, contents, runs, sessions_by_chance, themes
 from .chance import Chance
@@ -36,8 +37,7 @@ def library(folder):
     """The library of `calls.c`, built in this folder."""
     path = Path(folder) / "calls.so"
     if not path.exists():
-        words = ["cc", "-shared", "-fPIC", "-O2", "-Wall", "-Wextra", "-Werror", "-o", path, TOP / "tests/hunt/calls.c"]
-        subprocess.run(words, check=True, timeout=LIMIT)
+        preloaded.build("hunt/calls.c", path)
     return path
 
 
@@ -73,9 +73,9 @@ def spoiling(path, fault):
     with open(os.memfd_create("calls"), "r+b") as counts:
         counts.truncate(32)
         told = {"FAULT_CALL": call, "FAULT_FIRST": first, "FAULT_LAST": last, "FAULT_ERROR": error,
-                "FAULT_COUNTS": counts.fileno(), "LD_PRELOAD": path}
-        yield {"env": {**os.environ, **{name: str(it) for name, it in told.items()}},
-               "pass_fds": [counts.fileno()]}, counts
+                "FAULT_COUNTS": counts.fileno()}
+        env = preloaded.before(path, **{name: str(it) for name, it in told.items()})
+        yield {"env": env, "pass_fds": [counts.fileno()]}, counts
 
 
 def run(path, script, fault):

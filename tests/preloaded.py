@@ -1,0 +1,20 @@
+"""Libraries that are loaded before the program, and stand in for the C library's calls."""
+import os
+import subprocess
+
+from program import LIMIT, TOP
+
+# Started without the launcher, whose own calls aren't meant; `./test` has it built.
+PROGRAM = TOP / "crates/sheet/out/sheet"
+
+
+def build(source, library):
+    """The library of a source of `tests/`, built at this path."""
+    words = ["cc", "-shared", "-fPIC", "-O2", "-Wall", "-Wextra", "-Werror", "-o", library, TOP / "tests" / source]
+    subprocess.run(words, check=True, timeout=LIMIT)
+    return library
+
+
+def before(library, **variables):
+    """The environment in which a program is started that asks this library first, with these further variables."""
+    return {**os.environ, **variables, "LD_PRELOAD": str(library)}
