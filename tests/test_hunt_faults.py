@@ -43,3 +43,7 @@ class Devices(ProgramTest):
         for wrong in (Ended(0, WELL[:9]), Ended(1, WELL[:4] + WELL[9:], FAILED), Ended(3, WELL[:9], FAILED)):
             with self.subTest(wrong=wrong):
                 self.assertIsNotNone(shortages.unwritten(SCRIPT, wrong))
+
+    def test_a_long_script_has_longer_to_end_since_each_byte_may_be_a_call(self):
+        long = Script(("run",), (b"push " + b"0" * 2_600_000 + b"\n",))
+        self.assertGreater(shortages.patience(long), shortages.patience(SCRIPT) + 500)

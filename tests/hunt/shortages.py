@@ -24,6 +24,8 @@ from .scripts import Script
 from .session import Session, lines_of
 
 ALL = 2**64 - 1
+# How many calls the program makes a second at least, on a machine that does much else.
+SLOW_CALLS = 5_000
 NO_DEVICE = contents.refusal("device")
 # What may fail of each kind of call, by its letter; 0 where it is cut to one byte.
 ERRORS = {"m": (errno.ENOMEM,), "r": (0, 0, errno.EIO), "w": (0, 0, errno.EIO, errno.ENOSPC),
@@ -78,12 +80,18 @@ def spoiling(path, fault):
         yield {"env": env, "pass_fds": [counts.fileno()]}, counts
 
 
+def patience(script):
+    """How many seconds a program may take: each byte of the script may be a call of its own."""
+    return LIMIT + len(script.given()) / SLOW_CALLS
+
+
 def run(path, script, fault):
     """How the program ends on a script with a fault, and how many bytes it has read and written."""
     with spoiling(path, fault) as (how, counts), runs.file_of(script.given()) as given, runs.file_of() as output:
         try:
             words = [runs.PROGRAM, *script.words]
-            ran = subprocess.run(words, stdin=given, stdout=output, stderr=subprocess.PIPE, timeout=LIMIT, **how)
+            files = {"stdin": given, "stdout": output, "stderr": subprocess.PIPE}
+            ran = subprocess.run(words, timeout=patience(script), **files, **how)
             status, error = ran.returncode, ran.stderr
         except subprocess.TimeoutExpired:
             status, error = None, b"it didn't end"
