@@ -132,10 +132,10 @@ fn ends_after<R: Threads + Sync>(rt: &R, alloc: Global, calls: usize) -> Result<
     )
 }
 
-/// A sink that fails at its k-th call, for each k.
+/// A sink that fails at its k-th call, for each k: each reply is one call.
 #[test]
 fn a_failing_sink(rt: HostRuntime) -> Result<(), Fail> {
-    for calls in 0..9 {
+    for calls in 0..3 {
         assert!(rt; ends_after(&rt, rt.alloc(), calls)?, "after {calls} calls");
     }
     Ok(())
