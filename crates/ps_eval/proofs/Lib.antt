@@ -4,4 +4,3 @@ pub mod CycleFaults
 pub mod ModuloLemmas
 pub mod RangeItems
 pub mod SummaryLemmas
-pub mod TotalLemmas

@@ -1,5 +1,5 @@
 -- One more item in a summary.
-use Rattle.std.proofs.Common.{◌≡◌, ◌+◌, List, [], ◌∷◌, ◌++◌, length, Some, Ok, Err, ℤ, pos}
+use Rattle.std.proofs.Common.{◌≡◌, ℕ, ◌+◌, List, [], ◌∷◌, ◌++◌, length, Option, Some, Ok, Err, ℤ, pos}
 use Rattle.std.proofs.Common.{◌+ℤ◌, refl, ap, ◌∙◌, arith, length-append}
 use Rattle.std.specs.List.{list_all, list_any}
 use Rattle.std.proofs.Math.Bool.{and-true, or-false}
@@ -12,7 +12,7 @@ use Rattle.std.proofs.lemmas.Bool.{cond_both, lt-ltb, ltb-false, ltb-true}
 use Rattle.std.proofs.lemmas.Int.{ints, clamps, fold-int_min_bounds, fold-int_max_bounds}
 use Rattle.std.proofs.Common.{◌-◌, ◌^◌, ◌≤◌, ◌≢◌, ◌≤ℤ◌, sym, true, fold, negsuc, FitsSigned, w64}
 use Rattle.std.specs.Prelude.{nat_lt}
-use Rattle.ps_eval.specs.Summarized.{lowest_of, highest_of}
+use Rattle.ps_eval.specs.Summarized.{AreKnown, lowest_of, highest_of}
 use Rattle.ps_value.specs.declared.value.Fault.{Fault}
 use Rattle.ps_eval.specs.Number.{Number, is_zero, in_range}
 use Rattle.ps_eval.specs.Items.{numbers_in, first_fault, total, least, greatest}
@@ -167,6 +167,26 @@ pub highest-append : (ns ms : List ℤ) → highest_of (ns ++ ms) ≡ int_max (h
 highest-append ns ms =
     let high = fold-int_max_bounds (negsuc (2 ^ 63 - 1)) ns (highest_of ns) refl in
     fold-append int_max (negsuc (2 ^ 63 - 1)) ns ms ∙ highest_from (highest_of ns) ms high.0
+
+-- what is known of items, and of others after them, tells what is known of all of them
+pub known-append : (items others : List Number) {n m k : ℕ} {a b c low low' lowest high high' highest : ℤ}
+    {f g first : Option Fault}
+    → AreKnown items n a low high f → AreKnown others m b low' high' g
+    → k ≡ n + m → c ≡ a +ℤ b → lowest ≡ int_min low low' → highest ≡ int_max high high' → first ≡ option_or f g
+    → AreKnown (items ++ others) k c lowest highest first
+known-append items others s t count_is sum_is lowest_is highest_is first_is =
+    let ns = numbers_in items in
+    let ms = numbers_in others in
+    let both = numbers_in-append items others in
+    record {
+      counted = count_is ∙ (λ i. s.counted i + t.counted i) ∙ sym (ap length both ∙ length-append ns ms);
+      summed = sum_is ∙ (λ i. s.summed i +ℤ t.summed i) ∙ sym (ap total both ∙ total-append ns ms);
+      lowest = lowest_is ∙ (λ i. int_min (s.lowest i) (t.lowest i)) ∙ sym (ap lowest_of both ∙ lowest-append ns ms);
+      highest = highest_is ∙ (λ i. int_max (s.highest i) (t.highest i))
+          ∙ sym (ap highest_of both ∙ highest-append ns ms);
+      first = first_is ∙ (λ i. option_or (s.first i) (t.first i)) ∙ sym (first_fault-append items others);
+      ranged = ap (list_all in_range) both ∙ list_all-append in_range ns ms ∙ (λ i. s.ranged i && t.ranged i);
+    }
 
 -- there are no more numbers than items
 pub fewer_numbers : (items : List Number) → length (numbers_in items) ≤ length items

@@ -1,7 +1,9 @@
 -- What a summary says of the items that it has taken.
-use Rattle.std.specs.Prelude.{◌≡◌, ◌-◌, ◌^◌, ℕ, not, true, List, length, fold, ℤ, pos, negsuc}
+use Rattle.std.specs.Prelude.{◌≡◌, ◌-◌, ◌^◌, ℕ, not, true, List, Option, length, fold, ℤ, pos, negsuc}
 use Rattle.std.specs.Int.{int_min, int_max}
 use Rattle.std.specs.List.{list_all, list_any}
+use Rattle.ps_value.specs.declared.value.Fault.{Fault}
+use Rattle.ps_eval.specs.declared.arguments_summary.ArgumentsSummary.{ArgumentsSummary}
 use Rattle.ps_eval.specs.declared.summary.Summary.{Summary}
 use Rattle.ps_eval.specs.declared.truths.Truths.{Truths}
 use Rattle.ps_eval.specs.Number.{Number, is_zero, in_range}
@@ -14,17 +16,24 @@ lowest_of ns = fold int_min (pos (2 ^ 63 - 1)) ns
 abbrev pub highest_of : List ℤ → ℤ
 highest_of ns = fold int_max (negsuc (2 ^ 63 - 1)) ns
 
+-- what is known of items: how many numbers there are, their sum, the lowest and the highest, and the first fault
+pub record AreKnown (items : List Number) (count : ℕ) (sum least greatest : ℤ) (fault : Option Fault) : Type 0 where
+  pub counted : count ≡ length (numbers_in items)
+  pub summed : sum ≡ total (numbers_in items)
+  pub lowest : least ≡ lowest_of (numbers_in items)
+  pub highest : greatest ≡ highest_of (numbers_in items)
+  pub first : fault ≡ first_fault items
+  pub ranged : list_all in_range (numbers_in items) ≡ true
+
+abbrev pub Summarizes : List Number → Summary → Type 0
+Summarizes items s = AreKnown items s.count s.sum s.least s.greatest s.fault
+
+abbrev pub SummarizesArguments : List Number → ArgumentsSummary → Type 0
+SummarizesArguments items s = AreKnown items s.count s.sum s.least s.greatest s.fault
+
 -- how many numbers it has taken
 abbrev pub numbers_taken : Summary → ℕ
 numbers_taken s = s.count
-
-pub record Summarizes (items : List Number) (s : Summary) : Type 0 where
-  pub counted : s.count ≡ length (numbers_in items)
-  pub summed : s.sum ≡ total (numbers_in items)
-  pub lowest : s.least ≡ lowest_of (numbers_in items)
-  pub highest : s.greatest ≡ highest_of (numbers_in items)
-  pub first : s.fault ≡ first_fault items
-  pub ranged : list_all in_range (numbers_in items) ≡ true
 
 pub record Judges (values : List Number) (t : Truths) : Type 0 where
   pub every : t.all ≡ list_all (λ n. not (is_zero n)) (numbers_in values)

@@ -16,6 +16,7 @@
 //! Cost: no memory, and a walk of the tree and of the cells in its ranges.
 #![tactic(auto)]
 
+mod arguments_summary;
 mod arithmetic;
 mod laws;
 mod look;

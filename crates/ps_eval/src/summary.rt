@@ -1,11 +1,8 @@
-//! What SUM, MIN, MAX and COUNT need to know of their items.
+//! What SUM, MIN, MAX and COUNT need to know of some items, as those of a range.
 
-ghost use Rattle.std.specs.Prelude.{◌≡◌, ◌+◌, ◌*◌, ◌^◌, ◌<◌, ◌≤◌, ◌==◌, not, ◌&&◌, ◌||◌, if◌then◌else◌};
-ghost use Rattle.std.specs.Prelude.{List, [], ◌∷◌, ◌++◌, unsigned_abs, is_some};
-ghost use Rattle.std.specs.Int.{int_max, int_min};
+ghost use Rattle.std.specs.Prelude.{◌≡◌, ◌+◌, ◌*◌, ◌^◌, ◌<◌, ◌≤◌, List, [], ◌∷◌, ◌++◌, unsigned_abs, is_some};
 ghost use Rattle.ps_eval.specs.Number.{Number};
 
-use crate::total::Total;
 use ps_value::{Fault, Operand};
 
 /// What is known of the items so far: how many numbers there are, their exact sum, the least and the greatest of them,
@@ -13,18 +10,18 @@ use ps_value::{Fault, Operand};
 #[derive(Drop)]
 pub struct Summary {
     /// how many numbers there are, and their sum
-    count: u128,
-    sum: Total,
+    pub(crate) count: u64,
+    pub(crate) sum: i128,
     /// the least and the greatest number; where there is none, the greatest and the least that there are
-    least: i64,
-    greatest: i64,
+    pub(crate) least: i64,
+    pub(crate) greatest: i64,
     /// the first fault
-    fault: Option<Fault>,
+    pub(crate) fault: Option<Fault>,
     ghost bounded: { unsigned_abs sum ≤ count * 2 ^ 63 },
 }
 
 impl Summary {
-    ghost use Rattle.ps_eval.specs.Items.{count_of, first_fault, max_of, min_of, sum_of};
+    ghost use Rattle.ps_eval.specs.Items.{first_fault};
     ghost use Rattle.ps_eval.specs.Inside.Operands.{items_from};
     ghost use Rattle.ps_eval.specs.Summarized.{Summarizes, numbers_taken};
 
@@ -36,7 +33,7 @@ impl Summary {
     {
         Summary {
             count: 0,
-            sum: Total::new(),
+            sum: 0,
             least: i64::MAX,
             greatest: i64::MIN,
             fault: None,
@@ -46,7 +43,7 @@ impl Summary {
     /// One more number.
     #[inline(always)]
     fn take_number(&mut self, number: i64)
-        requires { self.old.count < 2 ^ 100 }
+        requires { self.old.count < 2 ^ 60 }
         ensures items { (items : List Number)
             → Summarizes items self.old
             → Summarizes (items ++ Ok number ∷ []) self.new }
@@ -55,21 +52,7 @@ impl Summary {
         self.least = self.least.min(number);
         self.greatest = self.greatest.max(number);
         self.count += 1;
-        self.sum.add(number);
-    }
-
-    /// One more item.
-    pub(crate) fn take(&mut self, item: Result<i64, Fault>)
-        requires { self.old.count < 2 ^ 100 }
-        ensures items { (items : List Number)
-            → Summarizes items self.old
-            → Summarizes (items ++ item ∷ []) self.new }
-        ensures count { self.new.count ≤ self.old.count + 1 }
-    {
-        match item {
-            Ok(number) => self.take_number(number),
-            Err(fault) => self.take_fault(fault),
-        }
+        self.sum += i128::from(number);
     }
 
     /// One more fault: the first one stays.
@@ -87,7 +70,7 @@ impl Summary {
     /// Cost: constant.
     #[inline(always)]
     pub fn take_cell(&mut self, operand: Operand)
-        requires { numbers_taken self.old < 2 ^ 100 }
+        requires { numbers_taken self.old < 2 ^ 60 }
         ensures items { (items : List Number)
             → Summarizes items self.old
             → Summarizes (items ++ items_from operand) self.new }
@@ -105,8 +88,8 @@ impl Summary {
     /// Cost: constant.
     #[inline]
     pub fn join(&mut self, other: &Summary)
-        requires room { numbers_taken self.old < 2 ^ 100 }
-        requires room_of_other { numbers_taken other.now < 2 ^ 100 }
+        requires room { numbers_taken self.old < 2 ^ 60 }
+        requires room_of_other { numbers_taken other.now < 2 ^ 60 }
         ensures items { (items others : List Number)
             → Summarizes items self.old
             → Summarizes others other.now
@@ -116,7 +99,7 @@ impl Summary {
         self.least = self.least.min(other.least);
         self.greatest = self.greatest.max(other.greatest);
         self.count += other.count;
-        self.sum.join(&other.sum);
+        self.sum += other.sum;
         self.fault = self.fault.or(other.fault);
     }
 
@@ -130,49 +113,26 @@ impl Summary {
         self.fault.is_some()
     }
 
-    /// SUM of the items.
-    pub(crate) fn sum(&self) -> Result<i64, Fault>
-        ensures { (items : List Number) → Summarizes items self.now → result ≡ sum_of items }
+    /// Of one item.
+    pub(crate) fn of_item(item: Result<i64, Fault>) -> Summary
+        ensures items { Summarizes (item ∷ []) result }
+        ensures count { numbers_taken result ≤ 1 }
     {
-        match self.fault {
-            Some(fault) => Err(fault),
-            None => self.sum.value(),
+        let mut summary = Summary::new();
+        match item {
+            Ok(number) => summary.take_number(number),
+            Err(fault) => summary.take_fault(fault),
         }
+        summary
     }
 
-    /// MIN of the items.
-    pub(crate) fn min(&self) -> Result<i64, Fault>
-        ensures { (items : List Number) → Summarizes items self.now → result ≡ min_of items }
+    /// Of the operand of one cell, which may be no item.
+    pub(crate) fn of_cell(operand: Operand) -> Summary
+        ensures items { Summarizes (items_from operand) result }
+        ensures count { numbers_taken result ≤ 1 }
     {
-        match self.fault {
-            Some(fault) => Err(fault),
-            None if self.count == 0 => Ok(0),
-            None => Ok(self.least),
-        }
-    }
-
-    /// MAX of the items.
-    pub(crate) fn max(&self) -> Result<i64, Fault>
-        ensures { (items : List Number) → Summarizes items self.now → result ≡ max_of items }
-    {
-        match self.fault {
-            Some(fault) => Err(fault),
-            None if self.count == 0 => Ok(0),
-            None => Ok(self.greatest),
-        }
-    }
-
-    /// COUNT of the items.
-    pub(crate) fn count(&self) -> Result<i64, Fault>
-        ensures { (items : List Number) → Summarizes items self.now → result ≡ count_of items }
-    {
-        if self.count <= GREATEST {
-            Ok(self.count as i64)
-        } else {
-            Err(Fault::Num)
-        }
+        let mut summary = Summary::new();
+        summary.take_cell(operand);
+        summary
     }
 }
-
-/// The greatest number of 64 bits.
-const GREATEST: u128 = 0x7fff_ffff_ffff_ffff;

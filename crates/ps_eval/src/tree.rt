@@ -7,9 +7,10 @@ ghost use Rattle.ps_formula.specs.TreeOf.{item_of, tree_of};
 ghost use Rattle.ps_eval.specs.Number.{Number};
 ghost use Rattle.ps_eval.specs.Items.{Assignment, range_items};
 ghost use Rattle.ps_eval.specs.Inside.Operands.{single_of};
-ghost use Rattle.ps_eval.specs.Summarized.{Judges, Summarizes, numbers_taken};
+ghost use Rattle.ps_eval.specs.Summarized.{Judges, Summarizes, SummarizesArguments, numbers_taken};
 ghost use Rattle.ps_eval.specs.Value.{called, ev, items_alone, items_in, items_of, number_of, value_in, values_of};
 
+use crate::arguments_summary::ArgumentsSummary;
 use crate::arithmetic::{absolute, modulo, operation, prefixed, quotient, truth};
 use crate::look::Look;
 use crate::meter::Meter;
@@ -239,30 +240,27 @@ fn operands<K: Look>(arguments: &[Argument], look: &K) -> Truths
 
 /// What is known of the items of the arguments.
 #[cycle(numbers)]
-fn items<K: Look>(arguments: &[Argument], look: &K) -> Summary
-    ensures { Summarizes (items_of (in_row (map item_of arguments.now)) (K.value_at look.now)) result }
+fn items<K: Look>(arguments: &[Argument], look: &K) -> ArgumentsSummary
+    ensures { SummarizesArguments (items_of (in_row (map item_of arguments.now)) (K.value_at look.now)) result }
 {
-    let mut summary = Summary::new();
+    let mut summary = ArgumentsSummary::new();
     for argument in arguments {
-        take_argument(&mut summary, argument, look);
+        summary.join(&items_of_one(argument, look));
     }
     summary
 }
 
-/// The items of one more argument.
+/// What is known of the items of one argument.
 #[cycle(numbers)]
-fn take_argument<K: Look>(summary: &mut Summary, argument: &Argument, look: &K)
-    requires { numbers_taken summary.old < 2 ^ 90 }
-    ensures items { (items : List Number)
-        → Summarizes items summary.old
-        → Summarizes (items ++ items_in (item_of argument.now) (K.value_at look.now)) summary.new }
-    ensures count { numbers_taken summary.new ≤ numbers_taken summary.old + CELLS }
+fn items_of_one<K: Look>(argument: &Argument, look: &K) -> Summary
+    ensures items { Summarizes (items_in (item_of argument.now) (K.value_at look.now)) result }
+    ensures count { numbers_taken result ≤ CELLS }
 {
     match argument {
-        Argument::Range(rect) => take_range(summary, *rect, look),
+        Argument::Range(rect) => items_of_range(*rect, look),
         Argument::Expression(tree) => match cell_alone(tree) {
-            Some(cell) => summary.take_cell(look.operand(cell)),
-            None => summary.take(number(tree, look)),
+            Some(cell) => Summary::of_cell(look.operand(cell)),
+            None => Summary::of_item(number(tree, look)),
         },
     }
 }
@@ -283,15 +281,12 @@ fn cell_alone(tree: &Expr) -> Option<Cell>
     }
 }
 
-/// The items of a range.
-fn take_range<K: Look>(summary: &mut Summary, rect: Rect, look: &K)
-    requires { numbers_taken summary.old < 2 ^ 90 }
-    ensures items { (items : List Number)
-        → Summarizes items summary.old
-        → Summarizes (items ++ range_items (K.value_at look.now) rect) summary.new }
-    ensures count { numbers_taken summary.new ≤ numbers_taken summary.old + CELLS }
+/// What is known of the items of a range.
+fn items_of_range<K: Look>(rect: Rect, look: &K) -> Summary
+    ensures items { Summarizes (range_items (K.value_at look.now) rect) result }
+    ensures count { numbers_taken result ≤ CELLS }
 {
     // for the fact that the range lies in the grid
     let _ = rect.area();
-    summary.join(&look.summary(rect));
+    look.summary(rect)
 }

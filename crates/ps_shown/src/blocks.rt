@@ -48,7 +48,7 @@ fn known(sums: &[Option<Summary>], block: usize) -> Option<&Summary>
 fn take_block(summary: &mut Summary, kept: &[Kept], sums: &[Option<Summary>], block: usize)
     requires remembered { AreRemembered kept.now sums.now }
     requires block { block * BLOCK + BLOCK ≤ PLACES }
-    requires room { numbers_taken summary.old < 2 ^ 90 }
+    requires room { numbers_taken summary.old < 2 ^ 50 }
     ensures { (items : List Number)
         → Summarizes items summary.old
         → Summarizes (items ++ block_items kept.now block) summary.new }

@@ -4,7 +4,7 @@ use Rattle.ps_formula.specs.Tree.{in_row}
 use Rattle.ps_formula.specs.TreeOf.{item_of}
 use Rattle.ps_tokens.specs.declared.token.Function.TheVariants.{If, Mod, Quotient, Abs, Not, True, False}
 use Rattle.ps_eval.specs.Value.{items_of, values_of}
-use Rattle.ps_eval.specs.Summarized.{Judges, Summarizes}
+use Rattle.ps_eval.specs.Summarized.{Judges, SummarizesArguments}
 use Rattle.ps_eval.proofs.CallLemmas.{items_of-push, values_of-push, if_many, fewer_than_two, more_than_two}
 use Rattle.ps_eval.proofs.CallLemmas.{more_than_one, more_than_none}
 use Rattle.ps_eval.proofs.tree.+numbers.Goals as goal
@@ -65,10 +65,11 @@ items-loop-argument-preserved g t c =
     let more : take (i + 1) xs ≡ take i xs ++ x ∷ [] = take_more xs i x (omega arith)
     ∙ ap (λ y. take i xs ++ y ∷ []) (sym c.argument-item.is) in
     let items = ap (λ ys. items_of (in_row (map item_of ys)) v) more ∙ items_of-push (take i xs) x v in
-    let few = c.take_argument.ensures.count in
-    let fewer = c.loop-argument.invariant.1 in (
-      subst (λ ns. Summarizes ns c.take_argument.new.summary) (sym items)
-          (c.take_argument.ensures.items before c.loop-argument.invariant.0),
+    let few = c.items_of_one.ensures.count in
+    let fewer = c.loop-argument.invariant.1 in
+    let one_more = c.join.ensures.count in (
+      subst (λ ns. SummarizesArguments ns c.join.new.self) (sym items)
+          (c.join.ensures.items before _ c.loop-argument.invariant.0 c.items_of_one.ensures.items),
       omega arith,
     )
 

@@ -3,7 +3,7 @@ use Rattle.ps_grid.specs.declared.size.TheConstants.{CELLS}
 use Rattle.ps_formula.specs.Tree.{in_row}
 use Rattle.ps_formula.specs.TreeOf.{item_of}
 use Rattle.ps_eval.specs.Value.{items_of, values_of}
-use Rattle.ps_eval.specs.Summarized.{Judges, Summarizes}
+use Rattle.ps_eval.specs.Summarized.{Judges, SummarizesArguments}
 use Rattle.ps_eval.proofs.tree.+numbers.Given as goal
 
 abbrev pub invariant-operands-loop-argument : goal.invariant-operands-loop-argument
@@ -12,6 +12,6 @@ invariant-operands-loop-argument g l =
 
 abbrev pub invariant-items-loop-argument : goal.invariant-items-loop-argument
 invariant-items-loop-argument g l =
-    Summarizes (items_of (in_row (map item_of (take l.argument-index l.arguments))) (g.K.Look.value_at l.look))
-    l.summary
+    SummarizesArguments
+    (items_of (in_row (map item_of (take l.argument-index l.arguments))) (g.K.Look.value_at l.look)) l.summary
     × (l.summary.count ≤ l.argument-index * CELLS)
