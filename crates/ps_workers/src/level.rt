@@ -43,14 +43,14 @@ fn share(cells: usize, count: usize, low: usize) -> usize
 
 /// What the workers of a level share.
 #[derive_where(Clone, Copy)]
-struct Level<'a, R, F, K, G> {
+struct Task<'a, R, F, K, G> {
     rt: &'a R,
     formulas: &'a F,
     look: &'a K,
     gate: &'a G,
 }
 
-impl<R: Threads + Sync, F: Formulas + Sync, K: Look + Sync, G: Gate> Level<'_, R, F, K, G> {
+impl<R: Threads + Sync, F: Formulas + Sync, K: Look + Sync, G: Gate> Task<'_, R, F, K, G> {
     /// Evaluates the cells of one worker, one after the other, and counts them by a meter of its own.
     fn by_one(&self, worker: usize, cells: &[Cell], out: &mut [Kept]) -> Counted
         requires { IsWorkFor (F.formula_at self.now.formulas.now) worker 1 cells.now out.old }
@@ -144,11 +144,11 @@ pub fn eval_level<R: Threads + Sync, F: Formulas + Sync, K: Look + Sync, G: Gate
     if cells.is_empty() {
         return;
     }
-    let level = &Level {
+    let task = &Task {
         rt,
         formulas,
         look,
         gate,
     };
-    meter.add(level.by_several(0, workers.min(cells.len()), cells, out));
+    meter.add(task.by_several(0, workers.min(cells.len()), cells, out));
 }

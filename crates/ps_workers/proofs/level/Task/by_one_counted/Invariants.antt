@@ -1,6 +1,6 @@
 use Rattle.std.proofs.Common.{◌≡◌, take}
 use Rattle.ps_workers.specs.Level.{kept_values, values_of}
-use Rattle.ps_workers.proofs.level.Level.by_one_counted.Given as goal
+use Rattle.ps_workers.proofs.level.Task.by_one_counted.Given as goal
 
 -- the cells so far are counted, and their values are there
 abbrev pub invariant-loop-k : goal.invariant-loop-k
