@@ -1,6 +1,6 @@
 //! The value of a formula, by its tree.
 
-ghost use Rattle.std.specs.Prelude.{◌≡◌, ◌+◌, ◌*◌, ◌^◌, ◌<◌, ◌≤◌, List, ◌∷◌, [], ◌++◌, map, IfSome, MatchOption};
+ghost use Rattle.std.specs.Prelude.{◌≡◌, ◌+◌, ◌*◌, ◌^◌, ◌<◌, ◌≤◌, List, ◌∷◌, [], ◌++◌, map, MatchOption};
 ghost use Rattle.ps_grid.specs.declared.size.TheConstants.{CELLS};
 ghost use Rattle.ps_formula.specs.Tree.{call, in_row, reference};
 ghost use Rattle.ps_formula.specs.TreeOf.{item_of, tree_of};
@@ -64,14 +64,8 @@ fn number<K: Look>(tree: &Expr, look: &K) -> Result<i64, Fault>
         Expr::Reference(cell) => single(look.operand(*cell)),
         Expr::Prefix(sign, operand) => prefixed(*sign, number(operand, look)?),
         Expr::Infix(left, operator, right) => {
-            let a = match leaf(left, look) {
-                Some(value) => value?,
-                None => number(left, look)?,
-            };
-            let b = match leaf(right, look) {
-                Some(value) => value?,
-                None => number(right, look)?,
-            };
+            let a = side(left, look)?;
+            let b = side(right, look)?;
             operation(*operator, a, b)
         }
         Expr::Group(inner) => number(inner, look),
@@ -79,15 +73,16 @@ fn number<K: Look>(tree: &Expr, look: &K) -> Result<i64, Fault>
     }
 }
 
-/// The number of a tree that is a numeral or a reference; none of another tree.
+/// The number of a side of an operator: that of a numeral or a reference without a call.
+#[cycle(numbers)]
 #[inline(always)]
-fn leaf<K: Look>(tree: &Expr, look: &K) -> Option<Result<i64, Fault>>
-    ensures { IfSome result (λ value. value ≡ number_of (tree_of tree.now) (K.value_at look.now)) }
+fn side<K: Look>(tree: &Expr, look: &K) -> Result<i64, Fault>
+    ensures { result ≡ number_of (tree_of tree.now) (K.value_at look.now) }
 {
     match tree {
-        Expr::Numeral(n) => Some(Ok(*n)),
-        Expr::Reference(cell) => Some(single(look.operand(*cell))),
-        _ => None,
+        Expr::Numeral(n) => Ok(*n),
+        Expr::Reference(cell) => single(look.operand(*cell)),
+        _ => number(tree, look),
     }
 }
 
