@@ -1,6 +1,6 @@
 -- A walk goes through the cells that refer to a row, in order.
 use Rattle.std.proofs.Common.{◌≡◌, ℕ, ◌+◌, ◌-◌, ◌<◌, ◌≤◌, ◌⊎◌, inl, inr, sym, ◌∙◌, ap, refl, arith, Bool, true, false}
-use Rattle.std.proofs.Common.{List, ◌∷◌, length, get_or, set, min, nat_eq}
+use Rattle.std.proofs.Common.{List, ◌∷◌, length, get_or, set, min, nat_eq, subst}
 use Rattle.std.specs.Prelude.{Option, None, Some, ⊤}
 use Rattle.std.specs.Option.{SomeIff}
 use Rattle.std.specs.Iterator.{YieldsFirst, MakesProgress, item_count}
@@ -14,7 +14,7 @@ use Rattle.ps_index.proofs.ColumnsSorted.{by_cell_within, ends_rise, within_key}
 use Rattle.ps_index.proofs.KeysOnTheWay.{OnTheWay, key_of_within, on_the_way}
 use Rattle.ps_index.specs.Inside.Columns.{IsColumn, IsSole, IsSpan, key_at}
 use Rattle.ps_index.specs.Inside.Nodes.{key_of}
-use Rattle.ps_index.specs.Inside.Walks.{IsAhead, IsHead, IsLooked, IsRuns, IsWalk}
+use Rattle.ps_index.specs.Inside.Walks.{IsAhead, IsHead, IsLooked, IsMoved, IsRuns, IsWalk}
 use Rattle.ps_index.specs.Spans.{cell_of, cells_from, holds, refers_at}
 use Rattle.ps_index.proofs.BoolTests.{never_true, true_or_false}
 use Rattle.ps_index.proofs.SpansCounted.{holds_both, is_there, one_there, refers_at-some, refers_at-true}
@@ -201,14 +201,14 @@ module _ (spans : List Span) (y : ℕ) (before starts ends : List ℕ) (runs lea
         omega (arith, (found.2 (any_span spans found.0)).1))
   ]
 
-  pub first_in_grid : first ≤ CELLS
+  first_in_grid : first ≤ CELLS
   first_in_grid = elim head.there [
     | inl e ↦ omega arith
     | inr h ↦ (let d = any_span spans h.0 in let c : cell_of spans h.0 d < CELLS = walk.in_grid h.0 d h.1 in
         omega (arith, (h.2 d).1))
   ]
 
-  pub IsWalk-next : IsWalk spans y starts ends runs (first + 1)
+  IsWalk-next : IsWalk spans y starts ends runs (first + 1)
   IsWalk-next = record {
     few = walk.few;
     rising = head.rising;
@@ -227,7 +227,7 @@ module _ (spans : List Span) (y : ℕ) (before starts ends : List ℕ) (runs lea
   }
 
   -- the walk with the head as its next cell
-  pub IsAhead-next : IsAhead spans y starts ends runs first
+  IsAhead-next : IsAhead spans y starts ends runs first
   IsAhead-next = record {
     later = IsWalk-next;
     found = elim head.there [
@@ -238,7 +238,7 @@ module _ (spans : List Span) (y : ℕ) (before starts ends : List ℕ) (runs lea
   }
 
   -- no cell is passed over
-  pub none_passed : cells_from (refers_at spans y) least CELLS ≡ cells_from (refers_at spans y) first CELLS
+  none_passed : cells_from (refers_at spans y) least CELLS ≡ cells_from (refers_at spans y) first CELLS
   none_passed = elim (cases_lt first least) [
     | inr le ↦ none_within (first - least) (refers_at spans y) least first CELLS (omega arith) first_in_grid not_before
     | inl lt ↦ elim head.there [
@@ -247,6 +247,77 @@ module _ (spans : List Span) (y : ℕ) (before starts ends : List ℕ) (runs lea
       | inr h ↦ absurd (let l : least ≤ first = (h.2 (any_span spans h.0)).2 in omega arith)
     ]
   ]
+
+  pub IsMoved-head : IsMoved spans y starts ends runs least first
+  IsMoved-head = record { ahead = IsAhead-next; none_passed = none_passed }
+
+-- the walk of one run
+module _ (spans : List Span) (y : ℕ) (starts ends : List ℕ) (least start : ℕ)
+    (walk : IsWalk spans y starts ends 1 least) (len : 0 < length starts) (from : get_or starts 0 0 ≤ start)
+    (to : start ≤ get_or ends 0 0)
+    (gone : (i : ℕ) (d : Span) → get_or starts 0 0 ≤ i → i < start → holds (get_or spans i d) y ≡ true
+    → cell_of spans i d < least) where
+  -- it has come to its end
+  pub only_end : start ≡ get_or ends 0 0 → IsMoved spans y (set starts 0 start) ends 1 least CELLS
+  only_end done = IsMoved-head spans y starts (set starts 0 start) ends 1 least CELLS walk
+      (head_end spans y starts starts ends 0 least CELLS start (head_start spans y starts ends least) len refl from to
+      gone done)
+
+  -- it has a first span
+  only_at : (cell : ℕ) → start < length spans → ((d : Span) → cell_of spans start d ≡ cell)
+      → ((d : Span) → holds (get_or spans start d) y ≡ true) → least ≤ cell → cell < CELLS
+      → IsMoved spans y (set starts 0 start) ends 1 least cell
+  only_at cell within at has from_least small =
+      let e : min CELLS cell ≡ cell = omega arith in
+      IsMoved-head spans y starts (set starts 0 start) ends 1 least cell walk
+      (subst (λ n. IsHead spans y starts (set starts 0 start) ends 1 least n) e
+      (head_found spans y starts starts ends 0 least CELLS start (head_start spans y starts ends least) len refl from to
+      gone cell within at has from_least))
+
+  -- and goes on past that
+  pub only_found : (cell : ℕ) → start < get_or ends 0 0 → ((d : Span) → cell_of spans start d ≡ cell)
+      → ((d : Span) → holds (get_or spans start d) y ≡ true) → least ≤ cell
+      → IsMoved spans y (set starts 0 (start + 1)) ends 1 least cell
+  only_found cell more at has from_least =
+      let d = any_span spans start in
+      let within : start < length spans = omega (arith, walk.within 0 (omega arith)) in
+      let small : cell < CELLS = omega (arith, walk.in_grid start d within, at d) in
+      let there = only_at cell within at has from_least small in
+      let now : get_or (set starts 0 start) 0 0 ≡ start = get_or-set_same starts 0 start 0 len in
+      let next : get_or (set starts 0 (start + 1)) 0 0 ≡ start + 1 = get_or-set_same starts 0 (start + 1) 0 len in
+      let later : IsWalk spans y (set starts 0 start) ends 1 (cell + 1) = there.ahead.later in
+      record {
+        ahead = record {
+          later = record {
+            few = later.few;
+            rising = λ (r : ℕ) (lt : r < 1). let e : r ≡ 0 = omega arith in rw (e, next) (omega arith);
+            within = later.within;
+            by_cell = λ (r i j : ℕ) (d : Span) (lt : r < 1) (from : get_or (set starts 0 (start + 1)) r 0 ≤ i)
+                (le : i ≤ j) (to : j < get_or ends r 0). (let e : r ≡ 0 = omega arith in
+                let from' : get_or (set starts 0 (start + 1)) 0 0 ≤ i = rw e at from in
+                let to' : j < get_or ends 0 0 = rw e at to in
+                later.by_cell 0 i j d (omega arith) (omega (arith, now, next, from')) le to');
+            whole = λ (i : ℕ) (d : Span) (inside : i < length spans) (has : holds (get_or spans i d) y ≡ true)
+                (le : cell + 1 ≤ cell_of spans i d).
+                let found = later.whole i d inside has le in
+                let e : found.0 ≡ 0 = omega (arith, found.1) in
+                let from' : start ≤ i = (let f = found.2 in let f' = rw e at f in omega (arith, now, f')) in
+                let to' : i < get_or ends 0 0 = (let t = found.3 in let t' = rw e at t in t') in (
+                  0,
+                  omega arith,
+                  elim (cases_lt start i) [
+                    | inl lt ↦ omega (arith, next)
+                    | inr ge ↦ absurd (let same : start ≡ i = omega arith in
+                        let c : cell_of spans i d ≡ cell = ap (λ j. cell_of spans j d) (sym same) ∙ at d in omega arith)
+                  ],
+                  to',
+                );
+            in_grid = later.in_grid;
+          };
+          found = there.ahead.found;
+        };
+        none_passed = there.none_passed;
+      }
 
 -- the next cell comes, and the walk goes on from it
 pub next_yields : (spans : List Span) (y : ℕ) (starts ends : List ℕ) (runs next first : ℕ)

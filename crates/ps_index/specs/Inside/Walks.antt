@@ -3,7 +3,7 @@ use Rattle.std.specs.Prelude.{◌≡◌, ℕ, ◌+◌, ◌-◌, ◌<◌, ◌≤�
 use Rattle.ps_grid.specs.declared.size.TheConstants.{CELLS, ROWS}
 use Rattle.ps_index.specs.declared.span.Span.{Span}
 use Rattle.ps_index.specs.Inside.Nodes.{node_of, rounded}
-use Rattle.ps_index.specs.Spans.{cell_of, holds, refers_at}
+use Rattle.ps_index.specs.Spans.{cell_of, cells_from, holds, refers_at}
 
 -- a span that has row y is kept at a row like this
 abbrev pub IsLooked : Bool → ℕ → ℕ → Type 0
@@ -47,3 +47,8 @@ pub record IsWalk (spans : List Span) (y : ℕ) (starts ends : List ℕ) (runs l
 pub record IsAhead (spans : List Span) (y : ℕ) (starts ends : List ℕ) (runs next : ℕ) : Type 0 where
   pub later : IsWalk spans y starts ends runs (next + 1)
   pub found : (next ≡ CELLS) ⊎ ((next < CELLS) × (refers_at spans y next ≡ true))
+
+-- a walk that has come to its first cell from `least` on, CELLS if there is none
+pub record IsMoved (spans : List Span) (y : ℕ) (starts ends : List ℕ) (runs least next : ℕ) : Type 0 where
+  pub ahead : IsAhead spans y starts ends runs next
+  pub none_passed : cells_from (refers_at spans y) least CELLS ≡ cells_from (refers_at spans y) next CELLS
