@@ -7,7 +7,8 @@ use Rattle.std.proofs.lemmas.List.Edits.{length-insert, get_or-insert_below, get
 use Rattle.ps_grid.specs.declared.size.TheConstants.{ROWS}
 use Rattle.ps_index.specs.declared.span.Span.{Span}
 use Rattle.ps_index.proofs.ColumnsSorted.{beside, placed_le, placed_lt, same_tests, within_key}
-use Rattle.ps_index.specs.Inside.Columns.{IsColumn, IsSpan, key_at}
+use Rattle.ps_index.proofs.KeysOnTheWay.{divided_less}
+use Rattle.ps_index.specs.Inside.Columns.{IsColumn, IsFromLevel, IsSpan, key_at}
 use Rattle.ps_index.specs.Inside.Nodes.{key_of}
 use Rattle.ps_index.specs.Spans.{cell_of}
 
@@ -29,17 +30,22 @@ was spans p x i d le = elim (cases_lt i p) [
   ])
 ]
 
+-- what isn't below a level isn't below a lower one
+pub from_lower : (a b : ℕ) (s : Span) → b ≤ a → IsFromLevel a s → IsFromLevel b s
+from_lower a b s le (inl one) = inl one
+from_lower a b s le (inr divides) = inr (divided_less a b (key_of s.from s.to) le divides)
+
 abbrev pub key_is : Span → ℕ
 key_is s = key_of s.from s.to
 
-module _ (spans : List Span) (ends ends' : List ℕ) (ranges ranges' : Bool) (col : IsColumn spans ends ranges)
+module _ (spans : List Span) (ends ends' : List ℕ) (lowest lowest' : ℕ) (col : IsColumn spans ends lowest)
     (x : Span) (is : IsSpan x) (k p : ℕ) (key : key_is x ≡ k) (some : 1 ≤ k) (small : k ≤ ROWS)
     (from : get_or ends (k - 1) 0 ≤ p) (to : p ≤ get_or ends k 0)
     (below : (i : ℕ) (d : Span) → get_or ends (k - 1) 0 ≤ i → i < p → cell_of spans i d < x.cell)
     (above : (i : ℕ) (d : Span) → p ≤ i → i < get_or ends k 0 → x.cell ≤ cell_of spans i d)
     (len : length ends' ≡ length ends)
     (raised : (j : ℕ) → j < length ends → get_or ends' j 0 ≡ get_or ends j 0 + cond (nat_le k j) 1 0)
-    (narrow : ranges' ≡ false → (ranges ≡ false) × (x.from ≡ x.to)) where
+    (less : lowest' ≤ lowest) (high : IsFromLevel lowest' x) where
   le_p : p ≤ length spans
   le_p = omega (arith, col.within k small)
 
@@ -52,7 +58,7 @@ module _ (spans : List Span) (ends ends' : List ℕ) (ranges ranges' : Bool) (co
       let n : length (insert spans p x) ≡ length spans + 1 = length-insert spans p x le_p in
       let old : (m : ℕ) → m < length spans → nat_le (key_at spans m d) j ≡ nat_lt m (get_or ends j 0) =
       λ (m : ℕ) (l : m < length spans). col.placed m j d l in_rows in
-      elim (beside spans ends ranges col k j d some small in_rows) [
+      elim (beside spans ends lowest col k j d some small in_rows) [
         | inl r ↦ (let up : get_or ends' j 0 ≡ get_or ends j 0 + 1 = raised_at j in_rows true r.1 in
             elim (was spans p x i d le_p) [
               | was_before lt e ↦ rw (ap key_is e) (same_tests (key_at spans i d) j i (get_or ends' j 0)
@@ -89,7 +95,7 @@ module _ (spans : List Span) (ends ends' : List ℕ) (ranges ranges' : Bool) (co
   -- a span of the row k stands in its bucket
   bucket : (i : ℕ) (d : Span) → i < length spans → key_at spans i d ≡ key_is x
       → (get_or ends (k - 1) 0 ≤ i) × (i < get_or ends k 0)
-  bucket i d within e = within_key spans ends ranges col k i d some small within (e ∙ key)
+  bucket i d within e = within_key spans ends lowest col k i d some small within (e ∙ key)
 
   put_by_cell : (i j : ℕ) (d : Span) → i ≤ j → j < length (insert spans p x)
       → key_at (insert spans p x) i d ≡ key_at (insert spans p x) j d
@@ -132,22 +138,21 @@ module _ (spans : List Span) (ends ends' : List ℕ) (ranges ranges' : Bool) (co
         | was_later m at ge e ↦ rw e (col.each m d (omega arith))
       ]
 
-  put_narrow : ranges' ≡ false → (i : ℕ) (d : Span) → i < length (insert spans p x)
-      → (get_or (insert spans p x) i d).from ≡ (get_or (insert spans p x) i d).to
-  put_narrow off i d within =
+  put_ranges : (i : ℕ) (d : Span) → i < length (insert spans p x) → IsFromLevel lowest' (get_or (insert spans p x) i d)
+  put_ranges i d within =
       let n : length (insert spans p x) ≡ length spans + 1 = length-insert spans p x le_p in
       elim (was spans p x i d le_p) [
-        | was_before lt e ↦ rw e (col.narrow (narrow off).0 i d (omega arith))
-        | was_put at e ↦ rw e ((narrow off).1)
-        | was_later m at ge e ↦ rw e (col.narrow (narrow off).0 m d (omega arith))
+        | was_before lt e ↦ rw e (from_lower lowest lowest' (get_or spans i d) less (col.ranges i d (omega arith)))
+        | was_put at e ↦ rw e high
+        | was_later m at ge e ↦ rw e (from_lower lowest lowest' (get_or spans m d) less (col.ranges m d (omega arith)))
       ]
 
-  pub IsColumn-insert : IsColumn (insert spans p x) ends' ranges'
+  pub IsColumn-insert : IsColumn (insert spans p x) ends' lowest'
   IsColumn-insert =
       let n : length (insert spans p x) ≡ length spans + 1 = length-insert spans p x le_p in
       record {
         size = len ∙ col.size;
-        within = λ (j : ℕ) (in_rows : j ≤ ROWS). elim (beside spans ends ranges col k j x some small in_rows) [
+        within = λ (j : ℕ) (in_rows : j ≤ ROWS). elim (beside spans ends lowest col k j x some small in_rows) [
           | inl r ↦ (let up : get_or ends' j 0 ≡ get_or ends j 0 + 1 = raised_at j in_rows true r.1 in
               omega (arith, col.within j in_rows))
           | inr r ↦ (let up : get_or ends' j 0 ≡ get_or ends j 0 + 0 = raised_at j in_rows false r.1 in
@@ -156,5 +161,6 @@ module _ (spans : List Span) (ends ends' : List ℕ) (ranges ranges' : Bool) (co
         placed = put_placed;
         by_cell = put_by_cell;
         each = put_each;
-        narrow = put_narrow;
+        levels = omega (arith, col.levels);
+        ranges = put_ranges;
       }

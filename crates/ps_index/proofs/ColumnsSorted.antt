@@ -1,10 +1,11 @@
 -- How a column keeps its spans: row by row of those at which they are kept.
-use Rattle.std.proofs.Common.{◌≡◌, ℕ, ◌+◌, ◌-◌, ◌<◌, ◌≤◌, ◌⊎◌, inl, inr, sym, ◌∙◌, ap, arith, nat_le, nat_lt, Bool}
+use Rattle.std.proofs.Common.{◌≡◌, ℕ, ◌+◌, ◌-◌, ◌<◌, ◌≤◌, ◌⊎◌, inl, inr, sym, ◌∙◌, ap, arith, nat_le, nat_lt}
 use Rattle.std.proofs.Common.{true, false, List, [], length, get_or, replicate}
 use Rattle.std.proofs.lemmas.Bool.{cases_lt}
 use Rattle.std.proofs.lemmas.List.{get_or-replicate, get_or_past, length-replicate}
 use Rattle.std.proofs.lemmas.Bool.Decides.{nat_tests}
 use Rattle.ps_grid.specs.declared.size.TheConstants.{ROWS}
+use Rattle.ps_index.specs.declared.nodes.TheConstants.{LEVELS}
 use Rattle.ps_index.specs.declared.span.Span.{Span}
 use Rattle.ps_index.specs.Inside.Columns.{IsColumn, key_at}
 use Rattle.ps_index.specs.Spans.{cell_of}
@@ -30,7 +31,7 @@ same_tests a b c d to back = elim (cases_lt c d) [
       ] in l ∙ sym r)
 ]
 
-module _ (spans : List Span) (ends : List ℕ) (ranges : Bool) (col : IsColumn spans ends ranges) where
+module _ (spans : List Span) (ends : List ℕ) (lowest : ℕ) (col : IsColumn spans ends lowest) where
   pub ends_rise : (i j : ℕ) (d : Span) → i ≤ j → j ≤ ROWS → get_or ends i 0 ≤ get_or ends j 0
   ends_rise i j d le small = elim (cases_lt (get_or ends j 0) (get_or ends i 0)) [
     | inr e ↦ e
@@ -97,7 +98,7 @@ zeros_length xs n e = rw e (length-replicate n 0)
 
 pub empty_column : (spans : List Span) (ends : List ℕ) → spans ≡ [] → length ends ≡ ROWS + 1
     → ((j : ℕ) → get_or ends j 0 ≡ 0)
-    → IsColumn spans ends false
+    → IsColumn spans ends LEVELS
 empty_column spans ends none size zeros =
     let n : length spans ≡ 0 = ap length none in
     record {
@@ -106,5 +107,6 @@ empty_column spans ends none size zeros =
       placed = λ (i j : ℕ) (d : Span) (lt : i < length spans). absurd (omega arith);
       by_cell = λ (i j : ℕ) (d : Span) (le : i ≤ j) (lt : j < length spans). absurd (omega arith);
       each = λ (i : ℕ) (d : Span) (lt : i < length spans). absurd (omega arith);
-      narrow = λ (off : false ≡ false) (i : ℕ) (d : Span) (lt : i < length spans). absurd (omega arith);
+      levels = omega arith;
+      ranges = λ (i : ℕ) (d : Span) (lt : i < length spans). absurd (omega arith);
     }

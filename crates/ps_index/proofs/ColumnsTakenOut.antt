@@ -8,7 +8,7 @@ use Rattle.ps_grid.specs.declared.size.TheConstants.{ROWS}
 use Rattle.ps_index.specs.declared.span.Span.{Span}
 use Rattle.ps_index.proofs.ColumnsPutIn.{key_is}
 use Rattle.ps_index.proofs.ColumnsSorted.{beside, ends_rise, placed_le, placed_lt, same_tests, within_key}
-use Rattle.ps_index.specs.Inside.Columns.{IsColumn, IsSpan, key_at}
+use Rattle.ps_index.specs.Inside.Columns.{IsColumn, IsFromLevel, IsSpan, key_at}
 use Rattle.ps_index.specs.Inside.Nodes.{key_of}
 use Rattle.ps_index.specs.Spans.{cell_of, count_of}
 use Rattle.ps_index.proofs.SpansCounted.{is_there}
@@ -25,7 +25,7 @@ stays spans p i d le = elim (cases_lt i p) [
   | inr ge ↦ stays_later ge (get_or-remove_above spans p d i ge le)
 ]
 
-module _ (spans : List Span) (ends ends' : List ℕ) (ranges : Bool) (col : IsColumn spans ends ranges)
+module _ (spans : List Span) (ends ends' : List ℕ) (lowest : ℕ) (col : IsColumn spans ends lowest)
     (x₀ : Span) (k p : ℕ) (some : 1 ≤ k) (small : k ≤ ROWS)
     (from : get_or ends (k - 1) 0 ≤ p) (to : p < get_or ends k 0)
     (len : length ends' ≡ length ends)
@@ -42,7 +42,7 @@ module _ (spans : List Span) (ends ends' : List ℕ) (ranges : Bool) (col : IsCo
       let n : length (remove spans p) + 1 ≡ length spans = length-remove spans p lt_p in
       let old : (m : ℕ) → m < length spans → nat_le (key_at spans m d) j ≡ nat_lt m (get_or ends j 0) =
       λ (m : ℕ) (l : m < length spans). col.placed m j d l in_rows in
-      elim (beside spans ends ranges col k j d some small in_rows) [
+      elim (beside spans ends lowest col k j d some small in_rows) [
         | inl r ↦ (let down : get_or ends' j 0 + 1 ≡ get_or ends j 0 = lowered_at j in_rows true r.1 in
             elim (stays spans p i d lt_p) [
               | stays_before lt e ↦ rw (ap key_is e) (same_tests (key_at spans i d) j i (get_or ends' j 0)
@@ -99,21 +99,20 @@ module _ (spans : List Span) (ends ends' : List ℕ) (ranges : Bool) (col : IsCo
         | stays_later ge e ↦ rw e (col.each (i + 1) d (omega arith))
       ]
 
-  taken_narrow : ranges ≡ false → (i : ℕ) (d : Span) → i < length (remove spans p)
-      → (get_or (remove spans p) i d).from ≡ (get_or (remove spans p) i d).to
-  taken_narrow off i d within =
+  taken_ranges : (i : ℕ) (d : Span) → i < length (remove spans p) → IsFromLevel lowest (get_or (remove spans p) i d)
+  taken_ranges i d within =
       let n : length (remove spans p) + 1 ≡ length spans = length-remove spans p lt_p in
       elim (stays spans p i d lt_p) [
-        | stays_before lt e ↦ rw e (col.narrow off i d (omega arith))
-        | stays_later ge e ↦ rw e (col.narrow off (i + 1) d (omega arith))
+        | stays_before lt e ↦ rw e (col.ranges i d (omega arith))
+        | stays_later ge e ↦ rw e (col.ranges (i + 1) d (omega arith))
       ]
 
-  pub IsColumn-remove : IsColumn (remove spans p) ends' ranges
+  pub IsColumn-remove : IsColumn (remove spans p) ends' lowest
   IsColumn-remove =
       let n : length (remove spans p) + 1 ≡ length spans = length-remove spans p lt_p in
       record {
         size = len ∙ col.size;
-        within = λ (j : ℕ) (in_rows : j ≤ ROWS). elim (beside spans ends ranges col k j (x₀) some small in_rows) [
+        within = λ (j : ℕ) (in_rows : j ≤ ROWS). elim (beside spans ends lowest col k j (x₀) some small in_rows) [
           | inl r ↦ (let down : get_or ends' j 0 + 1 ≡ get_or ends j 0 = lowered_at j in_rows true r.1 in
               omega (arith, col.within j in_rows))
           | inr r ↦ (let down : get_or ends' j 0 + 0 ≡ get_or ends j 0 = lowered_at j in_rows false r.1 in
@@ -122,18 +121,19 @@ module _ (spans : List Span) (ends ends' : List ℕ) (ranges : Bool) (col : IsCo
         placed = taken_placed;
         by_cell = taken_by_cell;
         each = taken_each;
-        narrow = taken_narrow;
+        levels = col.levels;
+        ranges = taken_ranges;
       }
 
 -- a span that is counted stands at the place that was found for it or after it
-pub there_from : (spans : List Span) (ends : List ℕ) (ranges : Bool) → IsColumn spans ends ranges
+pub there_from : (spans : List Span) (ends : List ℕ) (lowest : ℕ) → IsColumn spans ends lowest
     → (x : Span) (k p : ℕ) → k ≡ key_of x.from x.to → 1 ≤ k → k ≤ ROWS
     → ((i : ℕ) (d : Span) → get_or ends (k - 1) 0 ≤ i → i < p → cell_of spans i d < x.cell) → 0 < count_of x spans
     → (i : ℕ) × (d : Span) × (p ≤ i) × (i < length spans) × (get_or spans i d ≡ x)
-there_from spans ends ranges col x k p key some small below counted =
+there_from spans ends lowest col x k p key some small below counted =
     let found : (i : ℕ) × (i < length spans) × ((d : Span) → get_or spans i d ≡ x) = is_there x spans counted in
     let at : (get_or ends (k - 1) 0 ≤ found.0) × (found.0 < get_or ends k 0) =
-    within_key spans ends ranges col k found.0 x some small found.1 (ap key_is (found.2 x) ∙ sym key) in (
+    within_key spans ends lowest col k found.0 x some small found.1 (ap key_is (found.2 x) ∙ sym key) in (
       found.0,
       x,
       elim (cases_lt found.0 p) [
@@ -146,20 +146,20 @@ there_from spans ends ranges col x k p key some small below counted =
     )
 
 -- the place of a span is in its bucket
-pub found_within : (spans : List Span) (ends : List ℕ) (ranges : Bool) → IsColumn spans ends ranges
+pub found_within : (spans : List Span) (ends : List ℕ) (lowest : ℕ) → IsColumn spans ends lowest
     → (x : Span) (k p : ℕ) → k ≡ key_of x.from x.to → 1 ≤ k → k ≤ ROWS → p < length spans
     → ((d : Span) → get_or spans p d ≡ x)
     → (get_or ends (k - 1) 0 ≤ p) × (p < get_or ends k 0)
-found_within spans ends ranges col x k p key some small within found =
-    within_key spans ends ranges col k p x some small within (ap key_is (found x) ∙ sym key)
+found_within spans ends lowest col x k p key some small within found =
+    within_key spans ends lowest col k p x some small within (ap key_is (found x) ∙ sym key)
 
 -- at the row of a span and after it there is one to count
-pub some_counted : (spans : List Span) (ends : List ℕ) (ranges : Bool) → IsColumn spans ends ranges
+pub some_counted : (spans : List Span) (ends : List ℕ) (lowest : ℕ) → IsColumn spans ends lowest
     → (x : Span) (k p : ℕ) → k ≡ key_of x.from x.to → 1 ≤ k → k ≤ ROWS → p < length spans
     → ((d : Span) → get_or spans p d ≡ x) → (j : ℕ) → k ≤ j → j < length ends → 0 < get_or ends j 0
-some_counted spans ends ranges col x k p key some small within found j le lt =
+some_counted spans ends lowest col x k p key some small within found j le lt =
     omega (
       arith,
-      ends_rise spans ends ranges col k j x le (omega (arith, col.size)),
-      (found_within spans ends ranges col x k p key some small within found).1,
+      ends_rise spans ends lowest col k j x le (omega (arith, col.size)),
+      (found_within spans ends lowest col x k p key some small within found).1,
     )

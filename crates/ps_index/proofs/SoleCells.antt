@@ -1,11 +1,12 @@
 -- The one cell of a row, where no span has more than one row.
-use Rattle.std.proofs.Common.{◌≡◌, ℕ, ◌+◌, ◌-◌, ◌<◌, ◌≤◌, inl, inr, sym, ◌∙◌, ap, arith, cond, Bool, true, false, List}
-use Rattle.std.proofs.Common.{length, get_or, set, nat_eq, subst, refl, length-set, replicate, [], ◌∷◌}
+use Rattle.std.proofs.Common.{◌≡◌, ℕ, ◌+◌, ◌-◌, ◌*◌, ◌/◌, ◌<◌, ◌≤◌, inl, inr, sym, ◌∙◌, ap, arith, cond, Bool, true}
+use Rattle.std.proofs.Common.{false, List, length, get_or, set, nat_eq, subst, refl, length-set, replicate, [], ◌∷◌}
 use Rattle.std.specs.List.{insert, remove}
 use Rattle.std.proofs.lemmas.Bool.Decides.{nat_tests}
 use Rattle.std.proofs.lemmas.List.{get_or_read, get_or-set_same, get_or-set_other, get_or-replicate, length-replicate}
 use Rattle.std.proofs.lemmas.List.Sums.{sum_by-insert, sum_by-remove}
 use Rattle.ps_grid.specs.declared.size.TheConstants.{CELLS, ROWS}
+use Rattle.ps_index.specs.declared.nodes.TheConstants.{LEVELS}
 use Rattle.ps_index.specs.declared.span.Span.{Span}
 use Rattle.ps_index.proofs.BoolTests.{bool_same, never_true, true_or_false}
 use Rattle.ps_index.proofs.CellsPassing.{cells_from-first, cells_from-none}
@@ -13,30 +14,39 @@ use Rattle.ps_index.proofs.ColumnsSorted.{key_within, within_key}
 use Rattle.ps_index.proofs.KeysOnTheWay.{key_of_within}
 use Rattle.ps_index.proofs.SpansCounted.{holds_at, holds_both, is_there, one_there, refers_at-some, refers_at-true}
 use Rattle.ps_index.proofs.SpansCounted.{same_span-true}
-use Rattle.ps_index.specs.Inside.Columns.{HasSoles, IsColumn, IsSole, IsSpan, key_at}
+use Rattle.ps_index.specs.Inside.Columns.{HasSoles, IsColumn, IsFromLevel, IsSole, IsSpan, key_at}
 use Rattle.ps_index.specs.Inside.Dues.{one_if}
 use Rattle.ps_index.specs.Inside.Nodes.{key_of}
 use Rattle.ps_index.specs.Spans.{cell_of, cells_from, count_of, holds, refers_at, same_span}
 
+-- where no span of several rows was kept, each has one
+pub one_row : (s : Span) → IsSpan s → IsFromLevel LEVELS s → s.from ≡ s.to
+one_row s is (inl one) = one
+one_row s is (inr divides) =
+    let key = key_of s.from s.to in
+    let whole : key / 2048 * 2048 ≡ key = divides in
+    let within = key_of_within s.from s.to is.ordered in
+    absurd (omega (arith, whole, within.0, within.1, is.first, is.in_rows))
+
 -- ---- the spans of a row
 
-module _ (spans : List Span) (ends : List ℕ) (col : IsColumn spans ends false) (y : ℕ) (some : 1 ≤ y)
+module _ (spans : List Span) (ends : List ℕ) (col : IsColumn spans ends LEVELS) (y : ℕ) (some : 1 ≤ y)
     (small : y ≤ ROWS) where
   having_within : (i : ℕ) (d : Span) → i < length spans → holds (get_or spans i d) y ≡ true
       → (get_or ends (y - 1) 0 ≤ i) × (i < get_or ends y 0)
   having_within i d within has =
-      let one : (get_or spans i d).from ≡ (get_or spans i d).to = col.narrow refl i d within in
+      let one = one_row (get_or spans i d) (col.each i d within) (col.ranges i d within) in
       let at = holds_both (get_or spans i d) y has in
       let key = key_of_within (get_or spans i d).from (get_or spans i d).to (omega arith) in
-      within_key spans ends false col y i d some small within (omega (arith, one, at.0, at.1, key.0, key.1))
+      within_key spans ends LEVELS col y i d some small within (omega (arith, one, at.0, at.1, key.0, key.1))
 
   within_having : (i : ℕ) (d : Span) → get_or ends (y - 1) 0 ≤ i → i < get_or ends y 0
       → holds (get_or spans i d) y ≡ true
   within_having i d from to =
       let within : i < length spans = omega (arith, col.within y small) in
-      let one : (get_or spans i d).from ≡ (get_or spans i d).to = col.narrow refl i d within in
+      let one = one_row (get_or spans i d) (col.each i d within) (col.ranges i d within) in
       let key = key_of_within (get_or spans i d).from (get_or spans i d).to (omega arith) in
-      let at : key_at spans i d ≡ y = key_within spans ends false col y i d some small from to in
+      let at : key_at spans i d ≡ y = key_within spans ends LEVELS col y i d some small from to in
       holds_at (get_or spans i d) y (omega (arith, at, key.0)) (omega (arith, at, key.1, one))
 
   -- no span is kept at the row
@@ -117,15 +127,15 @@ sole_same p q n same is = record {
 }
 
 -- noted anew for the row of the span, the cells are right again
-noted_again : (before after : List Span) (x : Span) (sole : List ℕ) (ranges ranges' : Bool) (k n : ℕ)
-    → HasSoles before sole ranges → IsSpan x → k ≡ key_of x.from x.to → k ≤ ROWS
-    → (ranges' ≡ false → (ranges ≡ false) × (x.from ≡ x.to))
+noted_again : (before after : List Span) (x : Span) (sole : List ℕ) (lowest lowest' : ℕ) (k n : ℕ)
+    → HasSoles before sole lowest → IsSpan x → k ≡ key_of x.from x.to → k ≤ ROWS
+    → (lowest' ≡ LEVELS → (lowest ≡ LEVELS) × (x.from ≡ x.to))
     → ((y : ℕ) → holds x y ≡ false → (c : ℕ) → refers_at after y c ≡ refers_at before y c)
-    → (ranges' ≡ false → IsSole (refers_at after k) n)
-    → HasSoles after (set sole k n) ranges'
-noted_again before after x sole ranges ranges' k n has is key small narrow elsewhere here = record {
+    → (lowest' ≡ LEVELS → IsSole (refers_at after k) n)
+    → HasSoles after (set sole k n) lowest'
+noted_again before after x sole lowest lowest' k n has is key small narrow elsewhere here = record {
   size = length-set sole k n ∙ has.size;
-  noted = λ (off : ranges' ≡ false) (y : ℕ) (some : 1 ≤ y) (in_rows : y ≤ ROWS).
+  noted = λ (off : lowest' ≡ LEVELS) (y : ℕ) (some : 1 ≤ y) (in_rows : y ≤ ROWS).
       let old : IsSole (refers_at before y) (get_or sole y 0) = has.noted (narrow off).0 y some in_rows in
       elim (true_or_false (nat_eq y k)) [
         | inl e ↦ (let at : y ≡ k = grind (arith, nat_tests, e) in
@@ -146,41 +156,41 @@ noted_again before after x sole ranges ranges' k n has is key small narrow elsew
 }
 
 -- what a column without ranges notes, where there are none
-noted_where : (spans : List Span) (ends : List ℕ) (ranges : Bool) (k n : ℕ) → IsColumn spans ends ranges
-    → (IsColumn spans ends false → IsSole (refers_at spans k) n) → ranges ≡ false → IsSole (refers_at spans k) n
-noted_where spans ends ranges k n col noted off = noted (subst (λ (b : Bool). IsColumn spans ends b) off col)
+noted_where : (spans : List Span) (ends : List ℕ) (lowest : ℕ) (k n : ℕ) → IsColumn spans ends lowest
+    → (IsColumn spans ends LEVELS → IsSole (refers_at spans k) n) → lowest ≡ LEVELS → IsSole (refers_at spans k) n
+noted_where spans ends lowest k n col noted off = noted (subst (λ (n : ℕ). IsColumn spans ends n) off col)
 
-pub soles_put_in : (spans : List Span) (x : Span) (p : ℕ) (ends' sole : List ℕ) (ranges ranges' : Bool) (k n : ℕ)
-    → HasSoles spans sole ranges → IsSpan x → k ≡ key_of x.from x.to → k ≤ ROWS
-    → (ranges' ≡ false → (ranges ≡ false) × (x.from ≡ x.to))
-    → IsColumn (insert spans p x) ends' ranges'
-    → (IsColumn (insert spans p x) ends' false → IsSole (refers_at (insert spans p x) k) n)
-    → HasSoles (insert spans p x) (set sole k n) ranges'
-soles_put_in spans x p ends' sole ranges ranges' k n has is key small narrow col noted =
-    noted_again spans (insert spans p x) x sole ranges ranges' k n has is key small narrow
+pub soles_put_in : (spans : List Span) (x : Span) (p : ℕ) (ends' sole : List ℕ) (lowest lowest' : ℕ) (k n : ℕ)
+    → HasSoles spans sole lowest → IsSpan x → k ≡ key_of x.from x.to → k ≤ ROWS
+    → (lowest' ≡ LEVELS → (lowest ≡ LEVELS) × (x.from ≡ x.to))
+    → IsColumn (insert spans p x) ends' lowest'
+    → (IsColumn (insert spans p x) ends' LEVELS → IsSole (refers_at (insert spans p x) k) n)
+    → HasSoles (insert spans p x) (set sole k n) lowest'
+soles_put_in spans x p ends' sole lowest lowest' k n has is key small narrow col noted =
+    noted_again spans (insert spans p x) x sole lowest lowest' k n has is key small narrow
     (λ (y : ℕ) (never : holds x y ≡ false). with_as_without spans (insert spans p x) x y never
     (λ (s : Span). sum_by-insert (λ z. cond (same_span s z) 1 0) spans p x))
-    (noted_where (insert spans p x) ends' ranges' k n col noted)
+    (noted_where (insert spans p x) ends' lowest' k n col noted)
 
-pub soles_taken_out : (spans : List Span) (x : Span) (p : ℕ) (ends' sole : List ℕ) (ranges : Bool) (k n : ℕ)
-    → HasSoles spans sole ranges → IsSpan x → k ≡ key_of x.from x.to → k ≤ ROWS → p < length spans
-    → ((d : Span) → get_or spans p d ≡ x) → (ranges ≡ false → x.from ≡ x.to)
-    → IsColumn (remove spans p) ends' ranges
-    → (IsColumn (remove spans p) ends' false → IsSole (refers_at (remove spans p) k) n)
-    → HasSoles (remove spans p) (set sole k n) ranges
-soles_taken_out spans x p ends' sole ranges k n has is key small within at narrow col noted =
-    noted_again spans (remove spans p) x sole ranges ranges k n has is key small
-    (λ (off : ranges ≡ false). (off, narrow off))
+pub soles_taken_out : (spans : List Span) (x : Span) (p : ℕ) (ends' sole : List ℕ) (lowest : ℕ) (k n : ℕ)
+    → HasSoles spans sole lowest → IsSpan x → k ≡ key_of x.from x.to → k ≤ ROWS → p < length spans
+    → ((d : Span) → get_or spans p d ≡ x) → (lowest ≡ LEVELS → x.from ≡ x.to)
+    → IsColumn (remove spans p) ends' lowest
+    → (IsColumn (remove spans p) ends' LEVELS → IsSole (refers_at (remove spans p) k) n)
+    → HasSoles (remove spans p) (set sole k n) lowest
+soles_taken_out spans x p ends' sole lowest k n has is key small within at narrow col noted =
+    noted_again spans (remove spans p) x sole lowest lowest k n has is key small
+    (λ (off : lowest ≡ LEVELS). (off, narrow off))
     (λ (y : ℕ) (never : holds x y ≡ false) (c : ℕ). sym (with_as_without (remove spans p) spans x y never
     (λ (s : Span). sym (ap (λ z. count_of s (remove spans p) + one_if (same_span s z)) (sym (at x))
     ∙ sum_by-remove (λ z. cond (same_span s z) 1 0) spans p x within)) c))
-    (noted_where (remove spans p) ends' ranges k n col noted)
+    (noted_where (remove spans p) ends' lowest k n col noted)
 
 pub no_soles : (spans : List Span) (sole : List ℕ) → spans ≡ [] → sole ≡ replicate (ROWS + 1) CELLS
-    → HasSoles spans sole false
+    → HasSoles spans sole LEVELS
 no_soles spans sole none filled = record {
   size = rw filled (length-replicate {A = ℕ} (ROWS + 1) CELLS);
-  noted = λ (off : false ≡ false) (y : ℕ) (some : 1 ≤ y) (in_rows : y ≤ ROWS).
+  noted = λ (off : LEVELS ≡ LEVELS) (y : ℕ) (some : 1 ≤ y) (in_rows : y ≤ ROWS).
       rw (none, filled, get_or-replicate (ROWS + 1) y CELLS 0 (omega arith)) (record {
         none = λ (e : CELLS ≡ CELLS) (c : ℕ). refl;
         one = λ (lt : CELLS < CELLS) (c : ℕ). absurd (omega arith);
@@ -207,9 +217,9 @@ one_passes test n is lt =
     apart q ne = grind (arith, nat_tests, ne)
 
 -- what is noted of a row
-pub noted_at : (spans now : List Span) (sole : List ℕ) (ranges : Bool) (y n : ℕ) → HasSoles spans sole ranges
-    → ranges ≡ false → 1 ≤ y → y ≤ ROWS → n ≡ get_or sole y n → spans ≡ now → IsSole (refers_at now y) n
-noted_at spans now sole ranges y n has off some small at is =
+pub noted_at : (spans now : List Span) (sole : List ℕ) (lowest : ℕ) (y n : ℕ) → HasSoles spans sole lowest
+    → lowest ≡ LEVELS → 1 ≤ y → y ≤ ROWS → n ≡ get_or sole y n → spans ≡ now → IsSole (refers_at now y) n
+noted_at spans now sole lowest y n has off some small at is =
     let within : y < length sole = omega (arith, has.size) in
     let read : n ≡ get_or sole y 0 = get_or_read sole y n within at 0 in
     subst (λ (xs : List Span). IsSole (refers_at xs y) n) is

@@ -1,19 +1,19 @@
 -- A walk goes through the cells that refer to a row, in order.
-use Rattle.std.proofs.Common.{◌≡◌, ℕ, ◌+◌, ◌-◌, ◌<◌, ◌≤◌, ◌⊎◌, inl, inr, sym, ◌∙◌, ap, refl, arith, Bool, true, false}
+use Rattle.std.proofs.Common.{◌≡◌, ℕ, ◌+◌, ◌-◌, ◌<◌, ◌≤◌, ◌⊎◌, inl, inr, sym, ◌∙◌, ap, refl, arith, true, false}
 use Rattle.std.proofs.Common.{List, ◌∷◌, length, get_or, set, min, nat_eq, subst}
 use Rattle.std.specs.Prelude.{Option, None, Some, ⊤}
 use Rattle.std.specs.Option.{SomeIff}
 use Rattle.std.specs.Iterator.{YieldsFirst, MakesProgress, item_count}
-use Rattle.std.proofs.lemmas.Bool.{cases_lt}
+use Rattle.std.proofs.lemmas.Bool.{cases_lt, cases_eq}
 use Rattle.std.proofs.lemmas.Bool.Decides.{nat_tests}
 use Rattle.std.proofs.lemmas.List.{get_or-set_same, get_or-set_other}
 use Rattle.ps_grid.specs.declared.size.TheConstants.{CELLS, ROWS}
 use Rattle.ps_index.specs.declared.span.Span.{Span}
 use Rattle.ps_index.proofs.CellsPassing.{cells_from-end, cells_from-first, none_within}
 use Rattle.ps_index.proofs.ColumnsSorted.{by_cell_within, ends_rise, within_key}
-use Rattle.ps_index.proofs.KeysOnTheWay.{OnTheWay, key_of_within, on_the_way}
-use Rattle.ps_index.specs.Inside.Columns.{IsColumn, IsSole, IsSpan, key_at}
-use Rattle.ps_index.specs.Inside.Nodes.{key_of}
+use Rattle.ps_index.proofs.KeysOnTheWay.{OnTheWay, below_node, key_of_within, no_higher, on_the_way}
+use Rattle.ps_index.specs.Inside.Columns.{IsColumn, IsFromLevel, IsSole, IsSpan, key_at}
+use Rattle.ps_index.specs.Inside.Nodes.{key_of, node_of, rounded}
 use Rattle.ps_index.specs.Inside.Walks.{IsAhead, IsHead, IsLooked, IsMoved, IsRuns, IsWalk}
 use Rattle.ps_index.specs.Spans.{cell_of, cells_from, holds, refers_at}
 use Rattle.ps_index.proofs.BoolTests.{never_true, true_or_false}
@@ -349,34 +349,38 @@ walk_goes v w (Some x) e = record { on = λ fin. (tt, fin, omega (arith, ap leng
 
 -- ---- the walk's beginning
 
-pub looked_narrow : (b : Bool) (y key : ℕ) → b ≡ false → IsLooked b y key → key ≡ y
-looked_narrow false y key e looked = looked
-looked_narrow true y key e looked = absurd (cc)
+looked : (lowest : ℕ) (s : Span) (y : ℕ) → IsSpan s → IsFromLevel lowest s → s.from ≤ y → y ≤ s.to
+    → IsLooked lowest y (key_of s.from s.to)
+looked lowest s y is high from to = elim (cases_eq (key_of s.from s.to) y) [
+  | inl e ↦ inl e
+  | inr other ↦ elim high [
+    | inl one ↦ absurd (other (omega (arith, key_of_within s.from s.to (omega arith))))
+    | inr divides ↦ (
+        let way : OnTheWay y (key_of s.from s.to) = on_the_way s.from s.to y is.first from to is.in_rows in
+        let node : rounded (node_of y way.level) lowest ≡ node_of y way.level =
+        subst (λ (n : ℕ). rounded n lowest ≡ n) way.node divides in
+        let apart : node_of y way.level ≡ y → ⊥ = λ (e : node_of y way.level ≡ y). other (way.node ∙ e) in
+        inr (
+          way.level,
+          no_higher y way.level lowest node,
+          omega (arith, way.within),
+          way.node,
+          below_node y way.level way.above apart,
+        ))
+  ]
+]
 
-pub looked_wide : (b : Bool) (y key : ℕ) → b ≡ true → IsLooked b y key → IsLooked true y key
-looked_wide true y key e looked = looked
-looked_wide false y key e looked = absurd (cc)
-
-looked : (b : Bool) (s : Span) (y : ℕ) → IsSpan s → (b ≡ false → s.from ≡ s.to) → s.from ≤ y → y ≤ s.to
-    → IsLooked b y (key_of s.from s.to)
-looked true s y is narrow from to =
-    let way : OnTheWay y (key_of s.from s.to) = on_the_way s.from s.to y is.first from to is.in_rows in
-    (way.level, way.within, way.node, way.above)
-looked false s y is narrow from to =
-    let one : s.from ≡ s.to = narrow refl in
-    omega (arith, key_of_within s.from s.to (omega arith))
-
-pub IsWalk-start : (spans : List Span) (column : List ℕ) (ranges : Bool) (y : ℕ) (starts ends : List ℕ) (runs : ℕ)
-    → IsColumn spans column ranges → IsRuns column (IsLooked ranges y) starts ends runs
+pub IsWalk-start : (spans : List Span) (column : List ℕ) (lowest y : ℕ) (starts ends : List ℕ) (runs : ℕ)
+    → IsColumn spans column lowest → IsRuns column (IsLooked lowest y) starts ends runs
     → IsWalk spans y starts ends runs 0
-IsWalk-start spans column ranges y starts ends runs col is = record {
+IsWalk-start spans column lowest y starts ends runs col is = record {
   few = is.few;
   rising = λ (r : ℕ) (lt : r < runs). let s = is.sound r lt in
-      omega (arith, s.3, s.4, ends_rise spans column ranges col (s.0 - 1) s.0 (any_span spans 0) (omega arith) s.2);
+      omega (arith, s.3, s.4, ends_rise spans column lowest col (s.0 - 1) s.0 (any_span spans 0) (omega arith) s.2);
   within = λ (r : ℕ) (lt : r < runs). let s = is.sound r lt in omega (arith, s.4, col.within s.0 s.2);
   by_cell = λ (r i j : ℕ) (d : Span) (lt : r < runs) (from : get_or starts r 0 ≤ i) (le : i ≤ j)
       (to : j < get_or ends r 0).
-      let s = is.sound r lt in by_cell_within spans column ranges col s.0 s.1 s.2 i j d (omega (arith, s.3)) le
+      let s = is.sound r lt in by_cell_within spans column lowest col s.0 s.1 s.2 i j d (omega (arith, s.3)) le
       (omega (arith, s.4));
   whole = λ (i : ℕ) (d : Span) (within : i < length spans) (has : holds (get_or spans i d) y ≡ true)
       (le : 0 ≤ cell_of spans i d).
@@ -388,9 +392,9 @@ IsWalk-start spans column ranges y starts ends runs col is = record {
       let one : 1 ≤ k = omega (arith, some.0, span.first) in
       let small : k ≤ ROWS = omega (arith, some.1, span.in_rows) in
       let b : (get_or column (k - 1) 0 ≤ i) × (i < get_or column k 0) =
-      within_key spans column ranges col k i d one small within refl in
+      within_key spans column lowest col k i d one small within refl in
       let found = is.complete k
-      (looked ranges (get_or spans i d) y span (λ (off : ranges ≡ false). col.narrow off i d within) at.0 at.1)
+      (looked lowest (get_or spans i d) y span (col.ranges i d within) at.0 at.1)
       small (omega (arith, b.0, b.1)) in
       (found.0, found.1, omega (arith, found.2, b.0), omega (arith, found.3, b.1));
   in_grid = λ (i : ℕ) (d : Span) (within : i < length spans). (col.each i d within).in_grid;

@@ -1,8 +1,9 @@
 -- How a column keeps its spans.
-use Rattle.std.specs.Prelude.{◌≡◌, ℕ, ◌+◌, ◌<◌, ◌≤◌, Bool, false, nat_lt, nat_le, nat_eq, List, length, get_or}
+use Rattle.std.specs.Prelude.{◌≡◌, ℕ, ◌+◌, ◌<◌, ◌≤◌, ◌⊎◌, Bool, false, nat_lt, nat_le, nat_eq, List, length, get_or}
 use Rattle.ps_grid.specs.declared.size.TheConstants.{CELLS, ROWS}
 use Rattle.ps_index.specs.declared.span.Span.{Span}
-use Rattle.ps_index.specs.Inside.Nodes.{key_of}
+use Rattle.ps_index.specs.Inside.Nodes.{key_of, rounded}
+use Rattle.ps_index.specs.declared.nodes.TheConstants.{LEVELS}
 use Rattle.ps_index.specs.Spans.{cell_of, refers_at}
 
 -- at least one row, and none outside the grid
@@ -16,9 +17,13 @@ pub record IsSpan (s : Span) : Type 0 where
 abbrev pub key_at : List Span → ℕ → Span → ℕ
 key_at spans i d = key_of (get_or spans i d).from (get_or spans i d).to
 
+-- it has one row, or is kept at a row of this level or a higher one: a row that 2 divides so many times
+abbrev pub IsFromLevel : ℕ → Span → Type 0
+IsFromLevel level s = (s.from ≡ s.to) ⊎ (rounded (key_of s.from s.to) level ≡ key_of s.from s.to)
+
 -- the spans stand row by row of those at which they are kept, and by their cells at each: those up to row j are the
--- first `ends j` ones; where there are no ranges each has one row
-pub record IsColumn (spans : List Span) (ends : List ℕ) (ranges : Bool) : Type 0 where
+-- first `ends j` ones; those of several rows are kept at no level below the lowest one
+pub record IsColumn (spans : List Span) (ends : List ℕ) (lowest : ℕ) : Type 0 where
   pub size : length ends ≡ ROWS + 1
   pub within : (j : ℕ) → j ≤ ROWS → get_or ends j 0 ≤ length spans
   pub placed : (i j : ℕ) (d : Span) → i < length spans → j ≤ ROWS
@@ -26,8 +31,8 @@ pub record IsColumn (spans : List Span) (ends : List ℕ) (ranges : Bool) : Type
   pub by_cell : (i j : ℕ) (d : Span) → i ≤ j → j < length spans → key_at spans i d ≡ key_at spans j d
       → cell_of spans i d ≤ cell_of spans j d
   pub each : (i : ℕ) (d : Span) → i < length spans → IsSpan (get_or spans i d)
-  pub narrow : ranges ≡ false → (i : ℕ) (d : Span) → i < length spans
-      → (get_or spans i d).from ≡ (get_or spans i d).to
+  pub levels : lowest ≤ LEVELS
+  pub ranges : (i : ℕ) (d : Span) → i < length spans → IsFromLevel lowest (get_or spans i d)
 
 -- the cells that pass a test are n alone; none where n is CELLS, and nothing is said where it is greater
 pub record IsSole (test : ℕ → Bool) (n : ℕ) : Type 0 where
@@ -35,6 +40,6 @@ pub record IsSole (test : ℕ → Bool) (n : ℕ) : Type 0 where
   pub one : n < CELLS → (c : ℕ) → test c ≡ nat_eq c n
 
 -- for each row the one cell with a span there, where each span has one row
-pub record HasSoles (spans : List Span) (sole : List ℕ) (ranges : Bool) : Type 0 where
+pub record HasSoles (spans : List Span) (sole : List ℕ) (lowest : ℕ) : Type 0 where
   pub size : length sole ≡ ROWS + 1
-  pub noted : ranges ≡ false → (y : ℕ) → 1 ≤ y → y ≤ ROWS → IsSole (refers_at spans y) (get_or sole y 0)
+  pub noted : lowest ≡ LEVELS → (y : ℕ) → 1 ≤ y → y ≤ ROWS → IsSole (refers_at spans y) (get_or sole y 0)

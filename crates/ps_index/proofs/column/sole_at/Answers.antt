@@ -1,16 +1,17 @@
-use Rattle.std.proofs.Common.{◌-◌, ◌∙◌, ap, arith, get_or, refl, sym, false}
+use Rattle.std.proofs.Common.{◌-◌, ◌∙◌, ap, arith, get_or, refl, sym}
 use Rattle.std.proofs.lemmas.List.{get_or_read}
 use Rattle.ps_index.specs.Inside.Columns.{IsColumn}
+use Rattle.ps_index.specs.declared.nodes.TheConstants.{LEVELS}
 use Rattle.ps_index.specs.declared.span.Span.{Span}
 use Rattle.ps_index.proofs.SoleCells.{sole_none, sole_one}
 use Rattle.ps_index.proofs.column.sole_at.Goals as goal
 
 pub returns-then-to-from : goal.returns-then-to-from
-returns-then-to-from c = λ (col : IsColumn c.args.spans.now c.args.ends.now false).
+returns-then-to-from c = λ (col : IsColumn c.args.spans.now c.args.ends.now LEVELS).
     sole_none _ _ col c.args.row (omega arith) (omega arith) _ refl (omega arith)
 
 pub returns-then-to-from-eq1 : goal.returns-then-to-from-eq1
-returns-then-to-from-eq1 c = λ (col : IsColumn c.args.spans.now c.args.ends.now false).
+returns-then-to-from-eq1 c = λ (col : IsColumn c.args.spans.now c.args.ends.now LEVELS).
     sole_one _ _ col c.args.row (omega arith) (omega arith) c.index.result (omega arith) (omega arith)
     (λ (d : Span). ap (λ (s : Span). s.cell)
     (sym (get_or_read c.args.spans.now (get_or c.args.ends.now (c.args.row - 1) 0) c.index-spans-from.result
