@@ -1,21 +1,27 @@
 -- What a staged change is once it was listed, and once it was made.
-use Rattle.std.proofs.Common.{◌≡◌, ◌++◌, ◌∷◌, [], ℕ, Bool, true, Option, Some, None, List, map, sym, ap, ◌∙◌, subst}
-use Rattle.std.specs.Prelude.{IsSomeAnd, if◌then◌else◌}
+use Rattle.std.proofs.Common.{◌≡◌, ◌++◌, ◌∷◌, [], ℕ, ◌+◌, ◌⊎◌, Bool, true, false, Option, Some, None, List, map}
+use Rattle.std.proofs.Common.{Result, Ok, Err, refl, sym, ap, ◌∙◌, subst, arith, ⊎_elim}
+use Rattle.std.specs.Prelude.{IsSomeAnd, IsOk, IsOkAnd, IsErrOf, IfOk, IfErr, OnOk, if◌then◌else◌}
+use Rattle.ps_grid.specs.declared.refusal.Refusal.{Refusal}
+use Rattle.ps_grid.specs.declared.refusal.Refusal.TheVariants.{Memory}
 use Rattle.ps_eval.specs.Items.{Assignment}
 use Rattle.ps_shown.specs.declared.kept.Kept.{Kept}
 use Rattle.ps_shown.specs.Shown.{shown_at}
-use Rattle.ps_delta.specs.State.{State, joined_state}
+use Rattle.ps_delta.specs.State.{IsBelow}
 use Rattle.ps_delta.specs.Deltas.{Entries, state_of, joined_history}
-use Rattle.ps_delta.proofs.HistoryLemmas.{joined_history-push}
 use Rattle.ps_cells.specs.Changes.{IsChanged, put_back}
-use Rattle.ps_cells.specs.Recalculated.{IsRecalculated}
 use Rattle.ps_cells.proofs.ChangeLists.{changes_of}
-use Rattle.ps_cells.proofs.IdleChanges.{idle_recalculated}
-use Rattle.ps_sheet.specs.Prepared.{IsOf, IsPrepared, PreparedView, history_after, shown_before}
+use Rattle.ps_sheet.specs.Edits.{delta_of_edit}
+use Rattle.ps_sheet.specs.Prepared.{IsDeltaOf, IsOf, IsPrepared, IsRefusedBy, IsToAppend, PreparedView}
+use Rattle.ps_sheet.specs.Prepared.{history_after, shown_before}
 use Rattle.ps_sheet.specs.Reports.{IsReport}
-use Rattle.ps_sheet.specs.Sheet.{IsSheet, SheetView}
-use Rattle.ps_sheet.specs.Staging.{IsSameChange, IsStagedAs, IsStaging, IsWorkedOut, StagedView, StagingView}
+use Rattle.ps_sheet.specs.Sheet.{IsSheet, SheetView, Takes}
+use Rattle.ps_sheet.specs.Staging.{IsIdle, IsSameChange, IsStagedAs, IsStaging, IsWorkedOut, StagedView, StagingView}
 use Rattle.ps_sheet.specs.Staging.{prepared_of, sheet_of}
+use Rattle.ps_sheet.specs.Inside.Kept.{Makes}
+use Rattle.ps_sheet.specs.declared.edit.Edit.{Edit}
+use Rattle.ps_sheet.specs.declared.edit.Change.{Change}
+use Rattle.ps_sheet.specs.declared.edit.Change.TheVariants.{Edit as ByEdit}
 use Rattle.ps_sheet.specs.declared.sheet.Report.{Report}
 
 -- a sheet in which nothing is staged
@@ -84,29 +90,54 @@ listed_prepared x y z (Some p) (Some q) (Some r) worked h s h2 s2 first second c
       changes = changes_of (shown_before (prepared_of z r)) (shown_at z.shown) r.changed r.changes exact values;
     }
 
--- the history once the change was made
-pub appended_joined : (x y z : StagingView) (v : SheetView) (d : Entries) (o : Option StagedView) → sheet_of x ≡ v
-    → y.history ≡ x.history → IsSomeAnd o (λ p. (p.delta ≡ d) × (p.fresh ≡ true))
+not_fresh : (b : Bool) → ¬ (b ≡ true) → b ≡ false
+not_fresh true h = absurd (h refl)
+not_fresh false h = refl
+
+-- what a staged change makes of a sheet, once it was made
+pub makes : (x y z : StagingView) (v : SheetView) (c : Change) (r q : Report) (o : Option StagedView) → sheet_of x ≡ v
+    → y.history ≡ x.history → IsSomeAnd o (λ p. IsWorkedOut (prepared_of y p))
+    → IsSomeAnd o (λ p. IsDeltaOf x.replica (joined_history x.history) c p.delta)
+    → IsSomeAnd o (λ p. IsToAppend x.replica (joined_history x.history) c → p.fresh ≡ true)
+    → IsSomeAnd o (λ p. p.fresh ≡ false → IsIdle (sheet_of x) (sheet_of y) r) → IsSomeAnd o (λ p. p.report ≡ r)
     → IsSomeAnd o (λ p. IsOf (sheet_of z) y.replica (history_after (prepared_of y p)) (shown_at y.shown))
-    → joined_history z.history ≡ joined_state (joined_history v.history) (state_of d)
-appended_joined x y z v d None is history delta made = absurd delta
-appended_joined x y z v d (Some p) is history delta made =
-    let fresh = ap (λ (b : Bool). if b then (y.history ++ p.delta ∷ []) else y.history) delta.1 in
-    let same = ap (λ (e : Entries). y.history ++ e ∷ []) delta.0 in
-    ap joined_history (made.history ∙ (fresh ∙ same))
-    ∙ (joined_history-push y.history d
-    ∙ ap (λ (h : List Entries). joined_state (joined_history h) (state_of d))
-    (history ∙ ap (λ (w : SheetView). w.history) is))
+    → IsSomeAnd o (λ p. p.fresh ≡ false → sheet_of z ≡ sheet_of y) → IsSomeAnd o (λ p. p.report ≡ q)
+    → Makes v (sheet_of z) c q
+makes x y z v c r q None is history worked delta fresh none staged made same told = absurd worked
+makes x y z v c r q (Some p) is history worked delta fresh none staged made same told =
+    subst (λ (w : SheetView). Makes w (sheet_of z) c q) is
+    (record {
+      delta = p.delta;
+      of = delta;
+      takes = subst (λ (k : List Entries). Takes p.delta x.history k) (sym made.history)
+          (subst (λ (h : List Entries). Takes p.delta h (history_after (prepared_of y p))) history worked.takes);
+      appended = λ new. made.history
+          ∙ (ap (λ (b : Bool). if b then (y.history ++ p.delta ∷ []) else y.history) (fresh new)
+          ∙ ap (λ (h : List Entries). h ++ p.delta ∷ []) history);
+      idle = λ below.
+          let off : p.fresh ≡ false =
+          not_fresh p.fresh
+          (λ on. worked.fresh.0 on
+          (subst (λ (h : List Entries). IsBelow (state_of p.delta) (joined_history h)) (sym history) below)) in
+          let still : IsIdle (sheet_of x) (sheet_of y) r = none off in
+          let reports : q ≡ r = sym told ∙ staged in
+          record {
+            same = same off ∙ still.same;
+            evaluated = ap (λ (t : Report). t.evaluated) reports ∙ still.evaluated;
+            cyclic = ap (λ (t : Report). t.cyclic) reports ∙ still.cyclic;
+            levels = ap (λ (t : Report). t.levels) reports ∙ still.levels;
+          };
+    })
 
 -- its report
-pub appended_report : (x y z : StagingView) (v : SheetView) (q : Report) (o : Option StagedView) → sheet_of x ≡ v
+pub made_report : (x y z : StagingView) (v : SheetView) (q : Report) (o : Option StagedView) → sheet_of x ≡ v
     → y.history ≡ x.history → IsSomeAnd o (λ p. IsWorkedOut (prepared_of y p))
     → IsSomeAnd o (λ p. shown_before (prepared_of y p) ≡ shown_at x.shown)
     → IsSomeAnd o (λ p. IsOf (sheet_of z) y.replica (history_after (prepared_of y p)) (shown_at y.shown))
     → IsSomeAnd o (λ p. p.report ≡ q)
     → IsReport (joined_history v.history) (joined_history z.history) (shown_at v.shown) (shown_at z.shown) q
-appended_report x y z v q None is history worked before made told = absurd worked
-appended_report x y z v q (Some p) is history worked before made told =
+made_report x y z v q None is history worked before made told = absurd worked
+made_report x y z v q (Some p) is history worked before made told =
     let change : PreparedView = prepared_of y p in
     subst (IsReport (joined_history v.history) (joined_history z.history) (shown_at v.shown) (shown_at z.shown)) told
     (subst
@@ -125,10 +156,53 @@ appended_report x y z v q (Some p) is history worked before made told =
     p.report)
     (history ∙ ap (λ (w : SheetView). w.history) is) worked.report))))
 
--- the report of a change that changed nothing
-pub idle_report : (s : State) (v : Assignment) (r : Report) → (r.evaluated ≡ 0) × (r.cyclic ≡ 0) × (r.levels ≡ 0)
-    → IsReport s s v v r
-idle_report s v r none =
-    subst (λ (n : ℕ). IsRecalculated s s v v n r.cyclic r.levels) (sym none.0)
-    (subst (λ (n : ℕ). IsRecalculated s s v v 0 n r.levels) (sym none.1)
-    (subst (λ (n : ℕ). IsRecalculated s s v v 0 0 n) (sym none.2) (idle_recalculated s v)))
+-- of the delta of an edit that was made
+pub edit_made : (x y : SheetView) (e : Edit) (res : Result Report Refusal) (P : Entries → Type 0)
+    → ((r : Report) (m : Makes x y (ByEdit e) r) → P m.delta) → IfOk res (λ r. Makes x y (ByEdit e) r)
+    → OnOk res (IsOkAnd (delta_of_edit x.replica (joined_history x.history) e) P)
+edit_made x y e (Ok r) P f m = subst (λ (o : Result Entries Refusal). IsOkAnd o P) (sym m.of) (f r m)
+edit_made x y e (Err z) P f m = tt
+
+-- of a delta d that was received
+pub delta_made : (x y : SheetView) (c : Change) (d : Entries) (res : Result Report Refusal) (P : Entries → Type 0)
+    → ((e : Entries) → IsDeltaOf x.replica (joined_history x.history) c e → e ≡ d)
+    → ((r : Report) (m : Makes x y c r) → P m.delta) → IfOk res (λ r. Makes x y c r) → OnOk res (P d)
+delta_made x y c d (Ok r) P is f m = subst P (is m.delta m.of) (f r m)
+delta_made x y c d (Err z) P is f m = tt
+
+-- that memory ran out, and that it is the only cause there can be
+pub memory_asked : (res : Result Report Refusal) (A : Type 0) → IfErr res (λ e. e ≡ Memory → A) → IsErrOf res Memory → A
+memory_asked (Ok r) A asked is = absurd (cc)
+memory_asked (Err e) A asked is = asked (cc)
+
+pub memory_alone : (res : Result Report Refusal) → IfErr res (λ e. (e ≡ Memory) ⊎ ⊥) → IfErr res (λ e. e ≡ Memory)
+memory_alone (Ok r) refused = tt
+memory_alone (Err e) refused = ⊎_elim (λ is. is) (λ never. absurd never) refused
+
+-- where it is below the state, it is accepted, and all stays
+pub below_made : (x y : SheetView) (c : Change) (d : Entries) (m n : ℕ) (res : Result Report Refusal)
+    → ((e : Entries) → IsDeltaOf x.replica (joined_history x.history) c e → e ≡ d)
+    → ((e : Refusal) → ¬ IsRefusedBy x.replica (joined_history x.history) c e)
+    → (IsToAppend x.replica (joined_history x.history) c → ¬ IsBelow (state_of d) (joined_history x.history))
+    → IfOk res (λ r. Makes x y c r) → IfOk res (λ r. n ≡ m + r.evaluated)
+    → IfErr res (λ e. (e ≡ Memory) ⊎ IsRefusedBy x.replica (joined_history x.history) c e)
+    → IfErr res (λ e. e ≡ Memory → IsToAppend x.replica (joined_history x.history) c)
+    → IsBelow (state_of d) (joined_history x.history) → IsOk res × (y ≡ x) × (n ≡ m)
+below_made x y c d m n (Ok r) is never new made metered refused asked below =
+    let idle : IsIdle x y r =
+    made.idle (subst (λ (e : Entries). IsBelow (state_of e) (joined_history x.history)) (sym (is made.delta made.of))
+    below) in
+    (refl, idle.same, (let none = idle.evaluated in omega (arith, metered, none)))
+below_made x y c d m n (Err z) is never new made metered refused asked below =
+    absurd (⊎_elim (λ memory. new (asked memory) below) (λ other. never z other) refused)
+
+pub below_idle : (x y : SheetView) (c : Change) (d : Entries) (res : Result Report Refusal)
+    → ((e : Entries) → IsDeltaOf x.replica (joined_history x.history) c e → e ≡ d) → IfOk res (λ r. Makes x y c r)
+    → IsBelow (state_of d) (joined_history x.history)
+    → IfOk res (λ r. (r.evaluated ≡ 0) × (r.cyclic ≡ 0) × (r.levels ≡ 0))
+below_idle x y c d (Ok r) is made below =
+    let idle : IsIdle x y r =
+    made.idle (subst (λ (e : Entries). IsBelow (state_of e) (joined_history x.history)) (sym (is made.delta made.of))
+    below) in
+    (idle.evaluated, idle.cyclic, idle.levels)
+below_idle x y c d (Err z) is made below = tt

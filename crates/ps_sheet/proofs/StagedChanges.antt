@@ -1,7 +1,9 @@
 -- What a sheet keeps once a change is staged, committed or cancelled in it.
 use Rattle.std.proofs.Common.{◌≡◌, ◌++◌, ◌∷◌, [], ℕ, ◌+◌, ◌<◌, ◌≤◌, Bool, true, false, Option, Some, None, List, map}
 use Rattle.std.proofs.Common.{is_some, refl, sym, ap, ◌∙◌, subst, length}
-use Rattle.std.specs.Prelude.{IsSomeAnd, if◌then◌else◌, vec_len, vec_capacity}
+use Rattle.std.proofs.Common.{Result, Ok, Err}
+use Rattle.std.specs.Prelude.{IsSomeAnd, IfOk, OnOk, if◌then◌else◌, vec_len, vec_capacity}
+use Rattle.ps_grid.specs.declared.refusal.Refusal.{Refusal}
 use Rattle.std.specs.Arc.{arc_value}
 use Rattle.ps_grid.specs.declared.parties.TheConstants.{REPLICAS}
 use Rattle.ps_shown.specs.declared.kept.Kept.{Kept}
@@ -15,14 +17,15 @@ use Rattle.ps_cells.specs.Recalculated.{IsRecalculated}
 use Rattle.ps_cells.specs.Settled.{IsSettled}
 use Rattle.ps_cells.proofs.ScreenLemmas.{back_none}
 use Rattle.ps_sheet.specs.Prepared.{IsOf, IsPrepared, PreparedView, history_after, shown_before}
-use Rattle.ps_sheet.specs.Sheet.{IsFresh, IsSheet}
-use Rattle.ps_sheet.specs.Staging.{IsStagedAs, IsWorkedOut, Stages, StagedView, StagingView, prepared_of, sheet_of}
+use Rattle.ps_sheet.specs.Sheet.{IsFresh, IsSheet, SheetView}
+use Rattle.ps_sheet.specs.Staging.{IsIdle, IsStagedAs, IsWorkedOut, Stages, StagedView, StagingView}
+use Rattle.ps_sheet.specs.Staging.{prepared_of, sheet_of}
 use Rattle.ps_sheet.specs.Inside.Kept.{IsKept, IsStagedBy, prepared_by, staged_of, view_of}
 use Rattle.ps_sheet.specs.declared.sheet.Report.{Report}
 use Rattle.ps_sheet.specs.declared.staging.Staged.{Staged}
 use Rattle.ps_sheet.specs.declared.staging.Staging.TheInside.{Inside}
 use Rattle.ps_sheet.proofs.EmptySheets.{sheet_open}
-use Rattle.ps_sheet.proofs.Staged.{idle_before, idle_holds, idle_sheet}
+use Rattle.ps_sheet.proofs.Staged.{idle_before, idle_holds, idle_sheet, of_some}
 use Rattle.ps_sheet.proofs.WorkedOut.{after_fresh, after_joined, worked_idle, worked_made}
 
 abbrev pub history_of : Inside → List Entries
@@ -158,6 +161,22 @@ cancelled_idle x y v is some kept off replica history shown =
       history = history;
       shown = ap shown_at shown ∙ sym (back_none x.cells.olds (shown_at x.cells.shown) (ap length still));
     }
+
+-- making a change that isn't fresh
+pub committed_idle : (x : Inside) (v : StagingView) (z : SheetView) → view_of x ≡ v → is_some v.staged ≡ true
+    → (is_some x.cells.staged ≡ false → z ≡ sheet_of (view_of x))
+    → IsSomeAnd v.staged (λ p. p.fresh ≡ false → z ≡ sheet_of v)
+committed_idle x v z is some same =
+    subst
+    (λ (w : StagingView). is_some w.staged ≡ true → IsSomeAnd w.staged (λ p. p.fresh ≡ false → z ≡ sheet_of w))
+    is
+    (idle_cases x.staged)
+    some
+  where
+    idle_cases : (o : Option Staged) → is_some (staged_of x.cells o) ≡ true
+        → IsSomeAnd (staged_of x.cells o) (λ p. p.fresh ≡ false → z ≡ sheet_of (view_of x))
+    idle_cases None there = absurd (let f : false ≡ true = there in cc)
+    idle_cases (Some s) there = same
 
 -- a sheet in which a change is staged
 kept_staged : (y : Inside) (s : Staged) → y.staged ≡ Some s → IsWorkedOut (change_of y s)
@@ -299,6 +318,19 @@ module _ (x y : Inside) (v : StagingView) (is : view_of x ≡ v) (none : v.stage
     report = subst (λ (o : Option StagedView). IsSomeAnd o (λ p. p.report ≡ s.report))
         (sym (ap (staged_of y.cells) staged)) refl;
   }
+
+-- what is said of a change that is fresh
+pub fresh_on : (A : Type 0) (res : Result Report Refusal) (o : Option StagedView)
+    → OnOk res (IsSomeAnd o (λ p. p.fresh ≡ true)) → OnOk res (IsSomeAnd o (λ p. A → p.fresh ≡ true))
+fresh_on A (Ok r) o fresh = of_some (λ p. p.fresh ≡ true) (λ p. A → p.fresh ≡ true) o (λ p on a. on) fresh
+fresh_on A (Err e) o fresh = tt
+
+pub fresh_idle : (x y : SheetView) (res : Result Report Refusal) (o : Option StagedView)
+    → OnOk res (IsSomeAnd o (λ p. p.fresh ≡ true)) → IfOk res (λ r. IsSomeAnd o (λ p. p.fresh ≡ false → IsIdle x y r))
+fresh_idle x y (Ok r) o fresh =
+    of_some (λ p. p.fresh ≡ true) (λ p. p.fresh ≡ false → IsIdle x y r) o
+    (λ p on off. absurd (let f : true ≡ false = sym on ∙ off in cc)) fresh
+fresh_idle x y (Err e) o fresh = tt
 
 -- what the listed cells show
 pub listed_values : (x y : CellsView) (o : Option Staged) → is_some (staged_of x o) ≡ true

@@ -77,6 +77,13 @@ pub record Stages (x y : StagingView) (r : Report) : Type 0 where
   pub before : IsSomeAnd y.staged (λ p. shown_before (prepared_of y p) ≡ shown_at x.shown)
   pub report : IsSomeAnd y.staged (λ p. p.report ≡ r)
 
+-- IDLE: the sheet y is the sheet x, and the report r tells of no work
+pub record IsIdle (x y : SheetView) (r : Report) : Type 0 where
+  pub same : y ≡ x
+  pub evaluated : r.evaluated ≡ 0
+  pub cyclic : r.cyclic ≡ 0
+  pub levels : r.levels ≡ 0
+
 -- the same change is staged, whichever cells were listed
 pub record IsSameChange (p q : StagedView) : Type 0 where
   pub delta : q.delta ≡ p.delta

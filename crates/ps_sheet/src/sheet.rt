@@ -12,8 +12,10 @@ ghost use Rattle.ps_cells.specs.Settled.{Cyclic};
 ghost use Rattle.ps_sheet.specs.Reports.{IsReport};
 ghost use Rattle.ps_sheet.specs.Edits.{is_clock_full};
 ghost use Rattle.ps_sheet.specs.Own.{has_own};
+ghost use Rattle.ps_sheet.specs.Prepared.{IsRefusedBy, IsToAppend};
+ghost use Rattle.ps_sheet.specs.Inside.Kept.{Makes};
 
-use crate::edit::Edit;
+use crate::edit::{Change, Edit};
 use crate::staging::Staging;
 use ps_content::Content;
 use ps_delta::Delta;
@@ -142,8 +144,7 @@ impl Sheet {
         ensures kept { OnErr result (self.new ≡ self.old) }
         ensures unmetered { OnErr result (meter.new ≡ meter.old) }
     {
-        let delta = self.staging.edit_delta(alloc, edit)?;
-        self.append(rt, alloc, delta, meter)
+        self.change(rt, alloc, Change::Edit(edit), meter)
     }
 
     /// Accepts a delta made elsewhere: appends it to the history, unless it is below the state already.
@@ -176,26 +177,19 @@ impl Sheet {
         ensures kept { OnErr result (self.new ≡ self.old) }
         ensures unmetered { OnErr result (meter.new ≡ meter.old) }
     {
-        if self.staging.covers(&delta) {
-            return Ok(self.report());
-        }
-        self.append(rt, alloc, delta, meter)
+        self.change(rt, alloc, Change::Delta(delta), meter)
     }
 
-    /// Appends a delta that isn't below the state.
+    /// Stages a change, and makes it.
     #[inline(always)]
-    fn append<R: Threads + Sync, L: Ledger>(
+    fn change<R: Threads + Sync, L: Ledger>(
         &mut self,
         rt: &R,
         alloc: Global,
-        delta: Arc<Delta>,
+        change: Change,
         meter: &mut Meter<L>,
     ) -> Result<Report, Refusal>
-        requires fresh { ¬ IsBelow (state_of (arc_value delta)) (joined_history self.old.history) }
-        ensures appended { OnOk result (self.new.history ≡ self.old.history ++ arc_value delta ∷ []) }
-        ensures taken { OnOk result (Takes (arc_value delta) self.old.history self.new.history) }
-        ensures joined { OnOk result (joined_history self.new.history
-            ≡ joined_state (joined_history self.old.history) (state_of (arc_value delta))) }
+        ensures made { IfOk result (λ r. Makes self.old self.new change r) }
         ensures version { IfOk result (λ r. r.version ≡ length self.new.history) }
         ensures report { IfOk result (IsReport (joined_history self.old.history) (joined_history self.new.history)
             (shown_at self.old.shown) (shown_at self.new.shown)) }
@@ -203,28 +197,17 @@ impl Sheet {
         ensures replica { self.new.replica ≡ self.old.replica }
         ensures workers { self.new.workers ≡ self.old.workers }
         ensures sheet { IsSheet self.new }
-        ensures memory { IfErr result (λ e. e ≡ Refusal.Memory) }
+        ensures refused { IfErr result (λ e. (e ≡ Refusal.Memory)
+            ⊎ IsRefusedBy self.old.replica (joined_history self.old.history) change e) }
+        ensures asked { IfErr result (λ e. e ≡ Refusal.Memory
+            → IsToAppend self.old.replica (joined_history self.old.history) change) }
         ensures kept { OnErr result (self.new ≡ self.old) }
         ensures unmetered { OnErr result (meter.new ≡ meter.old) }
     {
         // for the facts of each sheet
         let _ = self.staging.version();
-        self.staging.stage_fresh(rt, &Open, alloc, delta, meter)?;
+        self.staging.stage(rt, &Open, alloc, change, meter)?;
         Ok(self.staging.commit())
-    }
-
-    /// The report of a change that changed nothing.
-    fn report(&self) -> Report
-        ensures version { result.version ≡ length self.now.history }
-        ensures idle { (result.evaluated ≡ 0) × (result.cyclic ≡ 0) × (result.levels ≡ 0) }
-        ensures sheet { IsSheet self.now }
-    {
-        Report {
-            version: self.version(),
-            evaluated: 0,
-            cyclic: 0,
-            levels: 0,
-        }
     }
 
     /// What a cell shows.

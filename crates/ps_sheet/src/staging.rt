@@ -14,7 +14,8 @@ ghost use Rattle.ps_sheet.specs.Edits.{delta_of_edit, is_clock_full};
 ghost use Rattle.ps_sheet.specs.Own.{has_own};
 ghost use Rattle.ps_sheet.specs.Prepared.{IsDeltaOf, IsOf, IsRefusedBy, IsToAppend, history_after, shown_before};
 ghost use Rattle.ps_sheet.specs.Sheet.{IsSheet};
-ghost use Rattle.ps_sheet.specs.Staging.{IsListed, IsStaging, IsWorkedOut, Stages, prepared_of, sheet_of, staging_of};
+ghost use Rattle.ps_sheet.specs.Staging.{IsIdle, IsListed, IsStaging, IsWorkedOut, Stages};
+ghost use Rattle.ps_sheet.specs.Staging.{prepared_of, sheet_of, staging_of};
 
 use crate::edit::{Change, Edit};
 use crate::edit_delta::delta_of;
@@ -127,6 +128,7 @@ impl Staging {
     /// Refused as [`Sheet::edit`] or [`Sheet::receive`] would be, and then nothing is staged.
     ///
     /// Cost: that of [`Sheet::edit`] or [`Sheet::receive`], and of the gate.
+    #[inline(always)]
     pub fn stage<R: Threads + Sync, G: Gate, L: Ledger>(
         &mut self,
         rt: &R,
@@ -139,6 +141,10 @@ impl Staging {
         ensures staged { IfOk result (λ r. Stages self.old self.new r) }
         ensures delta { OnOk result (IsSomeAnd self.new.staged
             (λ p. IsDeltaOf self.old.replica (joined_history self.old.history) change p.delta)) }
+        ensures fresh { OnOk result (IsSomeAnd self.new.staged
+            (λ p. IsToAppend self.old.replica (joined_history self.old.history) change → p.fresh ≡ true)) }
+        ensures idle { IfOk result (λ r. IsSomeAnd self.new.staged
+            (λ p. p.fresh ≡ false → IsIdle (sheet_of self.old) (sheet_of self.new) r)) }
         ensures metered { IfOk result (λ r. meter.new ≡ meter.old + r.evaluated) }
         ensures kept { OnErr result (self.new ≡ self.old) }
         ensures refused { IfErr result (λ e. (e ≡ Refusal.Memory)
@@ -168,6 +174,10 @@ impl Staging {
         requires none { self.old.staged ≡ None }
         ensures staged { IfOk result (λ r. Stages self.old self.new r) }
         ensures delta { OnOk result (IsSomeAnd self.new.staged (λ p. p.delta ≡ arc_value delta)) }
+        ensures fresh { OnOk result (IsSomeAnd self.new.staged
+            (λ p. ¬ IsBelow (state_of (arc_value delta)) (joined_history self.old.history) → p.fresh ≡ true)) }
+        ensures idle { IfOk result (λ r. IsSomeAnd self.new.staged
+            (λ p. p.fresh ≡ false → IsIdle (sheet_of self.old) (sheet_of self.new) r)) }
         ensures metered { IfOk result (λ r. meter.new ≡ meter.old + r.evaluated) }
         ensures kept { OnErr result (self.new ≡ self.old) }
         ensures memory { IfErr result (λ e. e ≡ Refusal.Memory) }
@@ -181,7 +191,7 @@ impl Staging {
     }
 
     /// Stages a delta that isn't below the state.
-    pub(crate) fn stage_fresh<R: Threads + Sync, G: Gate, L: Ledger>(
+    fn stage_fresh<R: Threads + Sync, G: Gate, L: Ledger>(
         &mut self,
         rt: &R,
         gate: &G,
@@ -192,8 +202,8 @@ impl Staging {
         requires none { self.old.staged ≡ None }
         requires fresh { ¬ IsBelow (state_of (arc_value delta)) (joined_history self.old.history) }
         ensures staged { IfOk result (λ r. Stages self.old self.new r) }
-        ensures delta { OnOk result (IsSomeAnd self.new.staged
-            (λ p. (p.delta ≡ arc_value delta) × (p.fresh ≡ true))) }
+        ensures delta { OnOk result (IsSomeAnd self.new.staged (λ p. p.delta ≡ arc_value delta)) }
+        ensures fresh { OnOk result (IsSomeAnd self.new.staged (λ p. p.fresh ≡ true)) }
         ensures metered { IfOk result (λ r. meter.new ≡ meter.old + r.evaluated) }
         ensures kept { OnErr result (self.new ≡ self.old) }
         ensures memory { IfErr result (λ e. e ≡ Refusal.Memory) }
@@ -217,7 +227,7 @@ impl Staging {
         requires below { IsBelow (state_of (arc_value delta)) (joined_history self.old.history) }
         ensures staged { Stages self.old self.new result }
         ensures delta { IsSomeAnd self.new.staged (λ p. p.delta ≡ arc_value delta) }
-        ensures idle { result.evaluated ≡ 0 }
+        ensures idle { IsIdle (sheet_of self.old) (sheet_of self.new) result }
     {
         let report = Report {
             version: self.history.len() as u64,
@@ -230,7 +240,7 @@ impl Staging {
     }
 
     /// The delta of an edit over the sheet.
-    pub(crate) fn edit_delta(&self, alloc: Global, edit: Edit) -> Result<Arc<Delta>, Refusal>
+    fn edit_delta(&self, alloc: Global, edit: Edit) -> Result<Arc<Delta>, Refusal>
         requires none { self.now.staged ≡ None }
         ensures made { IfOk result (λ d. delta_of_edit self.now.replica (joined_history self.now.history) edit
             ≡ Ok (arc_value d)) }
@@ -247,7 +257,7 @@ impl Staging {
     }
 
     /// Whether a delta is below the state.
-    pub(crate) fn covers(&self, delta: &Delta) -> bool
+    fn covers(&self, delta: &Delta) -> bool
         requires none { self.now.staged ≡ None }
         ensures { IsTrue result ↔ IsBelow (state_of delta.now) (joined_history self.now.history) }
     {
@@ -296,6 +306,7 @@ impl Staging {
         ensures of { IsSomeAnd self.old.staged (λ p. IsOf (sheet_of self.new) self.old.replica
             (history_after (prepared_of self.old p)) (shown_at self.old.shown)) }
         ensures report { IsSomeAnd self.old.staged (λ p. p.report ≡ result) }
+        ensures idle { IsSomeAnd self.old.staged (λ p. p.fresh ≡ false → sheet_of self.new ≡ sheet_of self.old) }
         ensures none { self.new.staged ≡ None }
         ensures workers { self.new.workers ≡ self.old.workers }
         ensures sheet { IsSheet (sheet_of self.new) }

@@ -1,15 +1,17 @@
 -- What a sheet with a staged change keeps beside what contracts see, and what the sheet and the prepared change make of
 -- it.
-use Rattle.std.specs.Prelude.{◌≡◌, ◌≤◌, ◌<◌, true, false, Option, Some, None, is_some, [], map}
+use Rattle.std.specs.Prelude.{◌≡◌, ◌≤◌, ◌<◌, true, false, Option, Some, None, is_some, [], ◌∷◌, ◌++◌, map}
 use Rattle.std.specs.Prelude.{IsSomeAnd, vec_len, vec_capacity}
 use Rattle.std.specs.Arc.{arc_value}
 use Rattle.ps_grid.specs.declared.parties.TheConstants.{REPLICAS}
-use Rattle.ps_delta.specs.State.{IsInGrid}
-use Rattle.ps_delta.specs.Deltas.{joined_history}
+use Rattle.ps_delta.specs.State.{IsBelow, IsInGrid}
+use Rattle.ps_delta.specs.Deltas.{Entries, joined_history, state_of}
 use Rattle.ps_cells.specs.Cells.{CellsView, state_before, state_now}
-use Rattle.ps_sheet.specs.Prepared.{PreparedView, IsPrepared, history_after}
-use Rattle.ps_sheet.specs.Sheet.{IsFresh}
-use Rattle.ps_sheet.specs.Staging.{StagedView, StagingView, IsStaging, prepared_of}
+use Rattle.ps_sheet.specs.Prepared.{PreparedView, IsDeltaOf, IsPrepared, IsToAppend, history_after}
+use Rattle.ps_sheet.specs.Sheet.{SheetView, IsFresh, Takes}
+use Rattle.ps_sheet.specs.Staging.{StagedView, StagingView, IsIdle, IsStaging, prepared_of}
+use Rattle.ps_sheet.specs.declared.edit.Change.{Change}
+use Rattle.ps_sheet.specs.declared.sheet.Report.{Report}
 use Rattle.ps_sheet.specs.declared.staging.Staged.{Staged}
 use Rattle.ps_sheet.specs.declared.staging.Staging.TheInside.{Inside}
 
@@ -74,3 +76,12 @@ pub record Prepares (p q : PreparedView) : Type 0 where
   pub olds : q.olds ≡ p.olds
   pub report : q.report ≡ p.report
   pub workers : q.workers ≡ p.workers
+
+-- MAKES: of the sheet x the change c makes the sheet y, with the report r: its delta is appended to the history, unless
+-- it is below the state; then all stays
+pub record Makes (x y : SheetView) (c : Change) (r : Report) : Type 0 where
+  pub delta : Entries
+  pub of : IsDeltaOf x.replica (joined_history x.history) c delta
+  pub takes : Takes delta x.history y.history
+  pub appended : IsToAppend x.replica (joined_history x.history) c → y.history ≡ x.history ++ delta ∷ []
+  pub idle : IsBelow (state_of delta) (joined_history x.history) → IsIdle x y r

@@ -1,5 +1,7 @@
-use Rattle.std.proofs.Common.{refl, sym, ◌∙◌}
-use Rattle.ps_sheet.proofs.StagedChanges.{kept_committed, committed_sheet}
+use Rattle.std.proofs.Common.{◌≡◌, true, false, refl, sym, ◌∙◌}
+use Rattle.ps_sheet.specs.Staging.{sheet_of}
+use Rattle.ps_sheet.specs.Inside.Kept.{view_of}
+use Rattle.ps_sheet.proofs.StagedChanges.{committed_idle, committed_sheet, kept_committed}
 use Rattle.ps_sheet.proofs.staging.Staging.commit.Goals as goal
 
 pub invariant_of-self : goal.invariant_of-self
@@ -25,3 +27,20 @@ returns-then-is_staged-clause-sheet c =
     })
     c.in-Some.staged (sym c.replace.ensures.value ∙ c.in-Some.is) c.if-is_staged.ensures.staged c.self.invariant refl
     c.put.ensures c.commit.ensures.kept.0 c.commit.ensures.kept.1
+
+pub returns-then-is_staged-clause-idle : goal.returns-then-is_staged-clause-idle
+returns-then-is_staged-clause-idle c =
+    committed_idle c.self.inside c.args.self.now
+    (sheet_of (view_of (record {
+      replica = c.self.inside.replica;
+      history = c.put.new.history;
+      cells = c.commit.new.self;
+      staged = c.replace.new.dest;
+    })))
+    c.self.view_is c.requires.staged
+    (λ off. absurd (let on = c.if-is_staged.ensures.staged in let f : true ≡ false = on ∙ off in cc))
+
+pub returns-else-is_staged-clause-idle : goal.returns-else-is_staged-clause-idle
+returns-else-is_staged-clause-idle c =
+    committed_idle c.self.inside c.args.self.now (sheet_of (view_of c.self.inside)) c.self.view_is c.requires.staged
+    (λ off. refl)
