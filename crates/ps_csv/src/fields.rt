@@ -8,6 +8,7 @@ ghost use Rattle.ps_delta.specs.Deltas.{joined_history};
 ghost use Rattle.ps_csv.specs.Faults.{EntryFault, RecordFault};
 ghost use Rattle.ps_csv.specs.Records.{Cells, FieldSays, FieldsSay, place};
 
+use crate::watcher::TableWatcher;
 use csv::ByteRecord;
 use ps_content::{Content, read_entry};
 use ps_grid::{COLUMNS, Cell, Refusal};
@@ -15,11 +16,12 @@ use ps_sheet::Sheet;
 use std::alloc::Global;
 
 /// The contents that the fields of record n say for their cells, in order.
-pub(crate) fn read_record(
+pub(crate) fn read_record<W: TableWatcher>(
     alloc: Global,
     sheet: &Sheet,
     n: usize,
     fields: &ByteRecord,
+    watcher: &mut W,
 ) -> Result<Vec<(Cell, Content)>, Refusal>
     requires { n < ROWS }
     ensures said { IfOk result (λ cells.
@@ -30,21 +32,23 @@ pub(crate) fn read_record(
     let mut cells = Vec::new(alloc);
     for j in 0..fields.len() {
         let Some(cell) = cell_of(n, j) else {
+            watcher.saw_past(n as u64 + 1);
             return Err(Refusal::Csv);
         };
         let field = fields.get(j).unwrap();
-        take_field(alloc, sheet, cell, field, &mut cells)?;
+        take_field(alloc, sheet, cell, field, &mut cells, watcher)?;
     }
     Ok(cells)
 }
 
 /// Appends the content that a field says for its cell, if it isn't empty.
-fn take_field(
+fn take_field<W: TableWatcher>(
     alloc: Global,
     sheet: &Sheet,
     cell: Cell,
     field: &[u8],
     cells: &mut Vec<(Cell, Content)>,
+    watcher: &mut W,
 ) -> Result<(), Refusal>
     ensures said { OnOk result ((here : Cells) × FieldSays (joined_history sheet.now.history) cell field.now here
         × (cells.new.items ≡ cells.old.items ++ here)) }
@@ -54,7 +58,14 @@ fn take_field(
     if field.is_empty() {
         return Ok(());
     }
-    let content = read_entry(alloc, field)?;
+    let content = match read_entry(alloc, field) {
+        Ok(content) => content,
+        Err(refusal) => {
+            watcher.saw_field(cell, field, Some(refusal));
+            return Err(refusal);
+        }
+    };
+    watcher.saw_field(cell, field, None);
     if sheet.is_clock_full(cell) {
         return Err(Refusal::ClockFull);
     }

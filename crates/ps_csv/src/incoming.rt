@@ -15,6 +15,7 @@ use crate::apply::apply;
 use crate::bytes::read_all;
 use crate::fault::ImportFault;
 use crate::table::{Table, read_table};
+use crate::watcher::{TableWatcher, UnwatchedTable};
 use ps_device::Source;
 use ps_eval::Meter;
 use ps_grid::Refusal;
@@ -77,7 +78,45 @@ pub fn import<R: Threads + Sync, S: Source, L: Ledger>(
     ensures workers { sheet.new.workers ≡ sheet.old.workers }
     ensures sheet { IsSheet sheet.new }
 {
-    let table = match checked(alloc, source, sheet) {
+    import_watched(rt, alloc, source, sheet, meter, &mut UnwatchedTable)
+}
+
+/// Takes a table of entries into the sheet as [`import`] does, while a watcher sees each field that isn't empty as it
+/// is read, up to the first that is refused, and a record past the last row or with a field past the last column.
+///
+/// Cost: that of [`import`], and the watcher's own.
+pub fn import_watched<R: Threads + Sync, S: Source, L: Ledger, W: TableWatcher>(
+    rt: &R,
+    alloc: Global,
+    source: &mut S,
+    sheet: &mut Sheet,
+    meter: &mut Meter<L>,
+    watcher: &mut W,
+) -> Result<Imported, ImportFault>
+    ensures imported { IfOk result (λ i. (bytes : List ℕ)
+        × Consumes (S.remaining source.old) (S.remaining source.new) bytes × IsAtEnd (S.remaining source.new)
+        × ImportsTable bytes i.records i.fields sheet.old sheet.new) }
+    // the records and their fields lie in the grid, and each record has a field
+    ensures extent { IfOk result (λ i. (i.records ≤ ROWS) × (i.fields ≤ COLUMNS) × (0 < i.records → 0 < i.fields)) }
+    ensures calm { OnOk result (S.failures source.new ≡ S.failures source.old) }
+    ensures refused { IfErr result (λ f. IfNone f.reader_error
+        (TableFault (joined_history sheet.old.history) (S.remaining source.old) (S.remaining source.new) f.refusal)) }
+    ensures reader { IfErr result (λ f. IfSome f.reader_error
+        (TableReaderFails (joined_history sheet.old.history) (S.remaining source.old) (S.remaining source.new)
+        f.refusal)) }
+    ensures device { IfErr result (λ f. f.refusal ≡ Refusal.Device → S.failures source.old < S.failures source.new) }
+    ensures steady { IfErr result (λ f. f.refusal ≢ Refusal.Device
+        → S.failures source.new ≡ S.failures source.old) }
+    ensures none { IfErr result (λ f. f.refusal ≢ Refusal.Memory → f.applied ≡ 0) }
+    ensures kept { IfErr result (λ f. f.applied ≡ 0 → (sheet.new ≡ sheet.old) × (meter.new ≡ meter.old)) }
+    ensures stopped { IfErr result (λ f. 0 < f.applied → (bytes : List ℕ)
+        × Consumes (S.remaining source.old) (S.remaining source.new) bytes × IsAtEnd (S.remaining source.new)
+        × StopsAfter bytes f.applied sheet.old sheet.new) }
+    ensures replica { sheet.new.replica ≡ sheet.old.replica }
+    ensures workers { sheet.new.workers ≡ sheet.old.workers }
+    ensures sheet { IsSheet sheet.new }
+{
+    let table = match checked(alloc, source, sheet, watcher) {
         Ok(table) => table,
         Err(fault) => return Err(fault),
     };
@@ -90,7 +129,12 @@ pub fn import<R: Threads + Sync, S: Source, L: Ledger>(
 }
 
 /// What the source's table says, where nothing of it is at fault.
-fn checked<S: Source>(alloc: Global, source: &mut S, sheet: &Sheet) -> Result<Table, ImportFault>
+fn checked<S: Source, W: TableWatcher>(
+    alloc: Global,
+    source: &mut S,
+    sheet: &Sheet,
+    watcher: &mut W,
+) -> Result<Table, ImportFault>
     ensures read { IfOk result (λ t. (bytes : List ℕ) × (table : List Record)
         × Consumes (S.remaining source.old) (S.remaining source.new) bytes × IsAtEnd (S.remaining source.new)
         × (length bytes ≤ LONGEST_TABLE) × IsTable bytes table
@@ -113,5 +157,5 @@ fn checked<S: Source>(alloc: Global, source: &mut S, sheet: &Sheet) -> Result<Ta
         Ok(bytes) => bytes,
         Err(refusal) => return Err(refusal.into()),
     };
-    read_table(alloc, sheet, &bytes)
+    read_table(alloc, sheet, &bytes, watcher)
 }

@@ -27,11 +27,13 @@ mod laws;
 mod rows;
 mod shown;
 mod table;
+mod watcher;
 
 pub use bytes::LONGEST_TABLE;
 pub use entries::{entries_text, entry_of, export_entries};
 pub use fault::ImportFault;
 pub use holds::Holds;
-pub use incoming::{Imported, import};
+pub use incoming::{Imported, import, import_watched};
 pub use laws::entries_come_back;
 pub use shown::{export, exported_text};
+pub use watcher::{TableWatcher, UnwatchedTable};

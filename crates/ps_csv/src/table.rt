@@ -9,6 +9,7 @@ ghost use Rattle.ps_csv.specs.Inside.{HasRead, HasReadNothing};
 
 use crate::fault::{ImportFault, fault_of};
 use crate::fields::read_record;
+use crate::watcher::TableWatcher;
 use csv::{ByteRecord, Reader, ReaderBuilder};
 use ps_content::Content;
 use ps_grid::{Cell, ROWS, Refusal};
@@ -25,7 +26,12 @@ pub(crate) struct Table {
 }
 
 /// What the records of a text say for the cells of the sheet.
-pub(crate) fn read_table(alloc: Global, sheet: &Sheet, bytes: &[u8]) -> Result<Table, ImportFault>
+pub(crate) fn read_table<W: TableWatcher>(
+    alloc: Global,
+    sheet: &Sheet,
+    bytes: &[u8],
+    watcher: &mut W,
+) -> Result<Table, ImportFault>
     ensures read { IfOk result (λ t. (table : List Record) × IsTable bytes.now table
         × HasRead (joined_history sheet.now.history) table t) }
     ensures fault { IfErr result (λ f. IfNone f.reader_error
@@ -40,7 +46,7 @@ pub(crate) fn read_table(alloc: Global, sheet: &Sheet, bytes: &[u8]) -> Result<T
     };
     for row in new_reader(alloc, bytes).into_byte_records() {
         match row {
-            Ok(row) => take_record(alloc, sheet, &row, &mut table)?,
+            Ok(row) => take_record(alloc, sheet, &row, &mut table, watcher)?,
             Err(error) => return Err(fault_of(error)),
         }
     }
@@ -58,11 +64,12 @@ fn new_reader(alloc: Global, bytes: &[u8]) -> Reader<&[u8]>
 }
 
 /// Takes one more record into the table.
-fn take_record(
+fn take_record<W: TableWatcher>(
     alloc: Global,
     sheet: &Sheet,
     fields: &ByteRecord,
     table: &mut Table,
+    watcher: &mut W,
 ) -> Result<(), Refusal>
     ensures read { OnOk result ((before : List Record)
         → HasRead (joined_history sheet.now.history) before table.old
@@ -73,9 +80,10 @@ fn take_record(
 {
     let n = table.batches.len();
     if n >= ROWS {
+        watcher.saw_past((n as u64).saturating_add(1));
         return Err(Refusal::Csv);
     }
-    let cells = read_record(alloc, sheet, n, fields)?;
+    let cells = read_record(alloc, sheet, n, fields, watcher)?;
     table.batches.push(cells)?;
     table.fields = table.fields.max(fields.len());
     Ok(())

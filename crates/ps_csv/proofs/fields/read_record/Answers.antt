@@ -9,12 +9,12 @@ use Rattle.ps_csv.proofs.RecordLemmas.{more_said, record_fault}
 use Rattle.ps_csv.proofs.fields.read_record.Goals as goal
 
 pub loop-j-init : goal.loop-j-init
-loop-j-init c =
+loop-j-init g c =
     let s = joined_history c.args.sheet.now.history in
     fields_say-none s c.args.n (fields_of c.args.fields.now) _ c.new-cells.ensures.items
 
 pub returns-in_default-clause-fault : goal.returns-in_default-clause-fault
-returns-in_default-clause-fault c =
+returns-in_default-clause-fault g c =
     let s = joined_history c.args.sheet.now.history in
     let past : COLUMNS ≤ c.loop-j.j = omega (arith, c.in_default.ensures) in
     let there : c.loop-j.j < length (fields_of c.args.fields.now) = omega arith in
@@ -22,12 +22,12 @@ returns-in_default-clause-fault c =
     c.loop-j.invariant (inl (past, refl)))
 
 pub unwrap-field-requires : goal.unwrap-field-requires
-unwrap-field-requires c =
+unwrap-field-requires g c =
     let there : c.loop-j.j < length (fields_of c.args.fields.now) = omega arith in
     field_is_there (fields_of c.args.fields.now) c.loop-j.j c.get.result c.get.ensures.value there
 
 pub returns-in_err-take_field-clause-fault : goal.returns-in_err-take_field-clause-fault
-returns-in_err-take_field-clause-fault c =
+returns-in_err-take_field-clause-fault g c =
     let s = joined_history c.args.sheet.now.history in
     let p = err_from_is_err_and c.from_residual.result c.from_residual.ensures.1 in
     let there : c.loop-j.j < length (fields_of c.args.fields.now) = omega arith in
@@ -39,7 +39,7 @@ returns-in_err-take_field-clause-fault c =
     c.in_err-take_field.ensures.fault)
 
 pub loop-j-preserved : goal.loop-j-preserved
-loop-j-preserved c =
+loop-j-preserved g c =
     let s = joined_history c.args.sheet.now.history in
     let there : c.loop-j.j < length (fields_of c.args.fields.now) = omega arith in
     let given = field_given (fields_of c.args.fields.now) c.loop-j.j c.get.result _ c.get.ensures.value
@@ -49,7 +49,7 @@ loop-j-preserved c =
     c.loop-j.invariant c.in-Some.ensures.0 c.in-Some.ensures.1 c.in_ok-take_field.ensures.said
 
 pub returns-clause-said : goal.returns-clause-said
-returns-clause-said c =
+returns-clause-said g c =
     let s = joined_history c.args.sheet.now.history in
     let all : length (fields_of c.args.fields.now) ≤ c.loop-j.j = omega arith in
     fields_say-all s c.args.n c.loop-j.j (fields_of c.args.fields.now) _ all

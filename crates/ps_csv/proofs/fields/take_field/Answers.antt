@@ -1,12 +1,11 @@
 use Rattle.std.proofs.Common.{◌≡◌, ◌<◌, ◌∷◌, [], ◌∙◌, sym, length, rules, inr}
 use Rattle.std.proofs.lemmas.List.{append-nil}
-use Rattle.std.proofs.lemmas.Result.{err_from_is_err_and}
 use Rattle.ps_delta.specs.Deltas.{joined_history}
 use Rattle.ps_csv.proofs.RecordLemmas.{fault-entry, fault-full, says-empty, says-entry}
 use Rattle.ps_csv.proofs.fields.take_field.Goals as goal
 
 pub returns-then-is_empty-clause-said : goal.returns-then-is_empty-clause-said
-returns-then-is_empty-clause-said c =
+returns-then-is_empty-clause-said g c =
     let s = joined_history c.args.sheet.now.history in
     let none : length c.args.field.now ≡ 0 = search rules in (
       [],
@@ -14,28 +13,25 @@ returns-then-is_empty-clause-said c =
       sym (append-nil c.args.cells.now.items),
     )
 
-pub returns-in_err-content-clause-fault : goal.returns-in_err-content-clause-fault
-returns-in_err-content-clause-fault c =
+pub returns-in-Err-clause-fault : goal.returns-in-Err-clause-fault
+returns-in-Err-clause-fault g c =
     let s = joined_history c.args.sheet.now.history in
     let some : 0 < length c.args.field.now = search rules in
-    let p = err_from_is_err_and c.from_residual.result c.from_residual.ensures.1 in
-    rw (p.1, p.2)
-    (fault-entry s c.args.cell c.args.field.now c.in_err-content.field-0.0 some
-    c.in_err-content.ensures)
+    fault-entry s c.args.cell c.args.field.now c.in-Err.refusal some c.in-Err.ensures
 
 pub returns-then-is_clock_full-clause-fault : goal.returns-then-is_clock_full-clause-fault
-returns-then-is_clock_full-clause-fault c =
+returns-then-is_clock_full-clause-fault g c =
     let s = joined_history c.args.sheet.now.history in
     let some : 0 < length c.args.field.now = search rules in
-    inr (fault-full s c.args.cell c.args.field.now c.in_ok-content.content some
-    c.in_ok-content.ensures
+    inr (fault-full s c.args.cell c.args.field.now c.in-Ok.content some
+    c.in-Ok.ensures
     (sym c.is_clock_full.ensures.full ∙ c.if-is_clock_full.true))
 
 pub returns-clause-said : goal.returns-clause-said
-returns-clause-said c =
+returns-clause-said g c =
     let s = joined_history c.args.sheet.now.history in
     let some : 0 < length c.args.field.now = search rules in
-    let says = says-entry s c.args.cell c.args.field.now c.in_ok-content.content some
-    c.in_ok-content.ensures
+    let says = says-entry s c.args.cell c.args.field.now c.in-Ok.content some
+    c.in-Ok.ensures
     (sym c.is_clock_full.ensures.full ∙ c.if-is_clock_full.false) in
-    ((c.args.cell, c.in_ok-content.content) ∷ [], says, c.in_ok-push.ensures.items)
+    ((c.args.cell, c.in-Ok.content) ∷ [], says, c.in_ok-push.ensures.items)

@@ -3,4 +3,4 @@ use Rattle.ps_csv.proofs.TableLemmas.{IsReading}
 use Rattle.ps_csv.proofs.table.read_table.Given as goal
 
 abbrev pub invariant-loop-row : goal.invariant-loop-row
-invariant-loop-row l = IsReading (joined_history l.sheet.history) l.fn.bytes l.row-iterator l.table
+invariant-loop-row g l = IsReading (joined_history l.sheet.history) l.fn.bytes l.row-iterator l.table

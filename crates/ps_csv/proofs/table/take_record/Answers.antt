@@ -10,7 +10,7 @@ use Rattle.ps_csv.proofs.TableLemmas.{fault_past, fault_within, has_read-more}
 use Rattle.ps_csv.proofs.table.take_record.Goals as goal
 
 pub returns-then-n-ge-ROWS-clause-fault : goal.returns-then-n-ge-ROWS-clause-fault
-returns-then-n-ge-ROWS-clause-fault c =
+returns-then-n-ge-ROWS-clause-fault g c =
     let s = joined_history c.args.sheet.now.history in
     λ before has.
     let size : c.len-n.result ≡ length c.args.table.now.batches.items = search rules in
@@ -18,7 +18,7 @@ returns-then-n-ge-ROWS-clause-fault c =
     fault_past s before (fields_of c.args.fields.now) c.args.table.now has past
 
 pub returns-in_err-cells-clause-fault : goal.returns-in_err-cells-clause-fault
-returns-in_err-cells-clause-fault c =
+returns-in_err-cells-clause-fault g c =
     let s = joined_history c.args.sheet.now.history in
     let p = err_from_is_err_and c.from_residual.result c.from_residual.ensures.1 in
     rw (p.1, p.2) (λ before has.
@@ -31,7 +31,7 @@ returns-in_err-cells-clause-fault c =
     fault_within s before fields c.args.table.now e has within fault)
 
 pub returns-clause-read : goal.returns-clause-read
-returns-clause-read c =
+returns-clause-read g c =
     let s = joined_history c.args.sheet.now.history in
     λ before has.
     let size : c.len-n.result ≡ length c.args.table.now.batches.items = search rules in

@@ -2,7 +2,7 @@ use Rattle.std.proofs.Common.{◌≡◌, length, refl, rules}
 use Rattle.ps_delta.specs.Deltas.{joined_history}
 use Rattle.ps_csv.proofs.ExtentLemmas.{extent}
 use Rattle.ps_csv.proofs.TableLemmas.{imports_table}
-use Rattle.ps_csv.proofs.incoming.import.Goals as goal
+use Rattle.ps_csv.proofs.incoming.import_watched.Goals as goal
 
 pub returns-in-Ok-apply-clause-imported : goal.returns-in-Ok-apply-clause-imported
 returns-in-Ok-apply-clause-imported g c =
