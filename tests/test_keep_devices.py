@@ -198,12 +198,16 @@ class Syncs(Spoilt):
             self.assertLess(counted().syncs, 1_000)
         self.assertEqual(self.count_in_file(), 20_000)
 
-    def test_the_folder_is_synced_after_a_file_is_made(self):
-        """So that the file is there after a crash; and what a start has cut is synced."""
-        with self.spoiling() as (how, counted):
-            self.run_kept(b"", **how)
-            # of the folder, and of the first line
-            self.assertGreaterEqual(counted().syncs, 2)
+    def test_a_start_takes_one_of_the_folder_and_one_of_the_file(self):
+        """So that a file that was made is there after a crash, and what is shown of one that was found."""
+        whole = text_of(*EDITS)
+        # .. and one of the first line, where there was none yet
+        for content, wanted in ((None, 3), (b"", 3), (whole, 2), (whole + b"push [[", 2)):
+            with self.subTest(content=content), self.spoiling() as (how, counted):
+                if content is not None:
+                    self.file.write_bytes(content)
+                self.run_kept(b"", **how)
+                self.assertEqual((counted().syncs, counted().folder), (wanted, self.place.stat().st_ino))
 
 
 class Killed(KeepingTest):

@@ -5,8 +5,9 @@
    FAULT_CALL is a letter of the calls that are meant: m for memory, r for what reads, w for what writes, f for what
    writes to a file that has a name, s for what syncs, a for what accepts. They are counted from 1 on, and FAULT_FIRST
    and FAULT_LAST tell the first and the last one that fails by the error with the number FAULT_ERROR; where that is 0
-   it is cut to one byte. FAULT_COUNTS is an open file of four numbers of eight bytes: how many such calls there were so
-   far, how many bytes were read and written, and how many syncs there were. */
+   it is cut to one byte. FAULT_COUNTS is an open file of five numbers of eight bytes: how many such calls there were so
+   far, how many bytes were read and written, how many syncs there were, and the number of the folder that was synced
+   last. */
 #define _GNU_SOURCE
 #include <errno.h>
 #include <stdatomic.h>
@@ -23,7 +24,7 @@ void *__libc_calloc(size_t number, size_t size);
 void *__libc_realloc(void *old, size_t size);
 
 struct counts {
-    atomic_ullong calls, read, written, syncs;
+    atomic_ullong calls, read, written, syncs, folder;
 };
 
 static struct counts before_start;
@@ -148,7 +149,10 @@ ssize_t send(int file, const void *bytes, size_t length, int flags)
 /* Has a sync done, or fail. */
 static int synced(long call, int file)
 {
+    struct stat about;
     atomic_fetch_add(&counts->syncs, 1);
+    if (fstat(file, &about) == 0 && S_ISDIR(about.st_mode))
+        counts->folder = about.st_ino;
     if (is_spoilt('s')) {
         errno = error;
         return -1;

@@ -55,17 +55,19 @@ def fault(chance, calls):
 
 
 class Counts(NamedTuple):
-    """How many calls of the kind that is meant a program has made, the bytes it has read and written, and syncs."""
+    """How many calls of the kind that is meant a program has made, the bytes it has read and written, its syncs, and
+    the number of the folder that it has synced last."""
 
     calls: int
     read: int
     written: int
     syncs: int
+    folder: int
 
 
 def counted(counts):
     """What this file has counted so far."""
-    return Counts(*struct.unpack("QQQQ", os.pread(counts.fileno(), 32, 0)))
+    return Counts(*struct.unpack("QQQQQ", os.pread(counts.fileno(), 40, 0)))
 
 
 @contextlib.contextmanager
@@ -73,7 +75,7 @@ def spoiling(path, fault):
     """How a program with a fault is started, and the file that counts its calls."""
     call, first, last, error = fault
     with open(os.memfd_create("calls"), "r+b") as counts:
-        counts.truncate(32)
+        counts.truncate(40)
         told = {"FAULT_CALL": call, "FAULT_FIRST": first, "FAULT_LAST": last, "FAULT_ERROR": error,
                 "FAULT_COUNTS": counts.fileno()}
         env = preloaded.before(path, **{name: str(it) for name, it in told.items()})
