@@ -14,7 +14,22 @@ sed -n 's/^delta [0-9]* /push /p' one two > lines
 (cat lines; printf 'get A1\nget B1\n') | ./sheet run --replica 1 | tail -n 2
 (tac lines; cat lines; printf 'get A1\nget B1\n') | ./sheet run --replica 2 | tail -n 2
 """
-COMMANDS = ("run", "table", "serve", "sync", "follow", "page", "squash")
+# The commands and the options, each with a word of what the help says of it; of an option by its command, where that
+# makes a difference.
+COMMANDS = {
+    "run": "each line of standard input", "table": "CSV", "serve": "several sessions",
+    "sync": "one replica has to another", "follow": "lines to push", "page": "browser", "squash": "few push lines",
+}
+WITHOUT_NUMBER = ("--keep", "--explain", "--strict", "--entries", "--until-now")
+WHY_NO_PORT = dict.fromkeys(("serve", "sync", "follow", "page"), "why a port")
+OPTIONS = {
+    "--workers": "threads", "--replica": "of this replica", "--strict": "status 3", "--keep": "kept in",
+    "--entries": "entries", "--port": "listen", "--sessions": "before it ends", "--seats": "to serve at a time",
+    "--wait": "wait for a seat", "--idle": "sends nothing", "--until-now": "ends once", "--every": "milliseconds",
+    "--browsers": "browsers", "--to": "takes them in",
+    "--from": {"sync": "are pulled", "follow": "is followed", "page": "is shown"},
+    "--explain": {"run": "with a hint", "table": "with a hint", **WHY_NO_PORT},
+}
 TABLE_EXAMPLE = r"""printf '2,=[.A1]*3\n"x,y",@tally\n' | ./sheet table"""
 
 
@@ -53,14 +68,6 @@ class Examples(ProgramTest):
                 shown = shown.removeprefix("text\n").encode()
                 self.assertEqual(shell(command.removeprefix("sh\n")), Ended(0, shown))
 
-    def test_the_lines_of_the_help_have_the_replies_that_it_tells(self):
-        given = lines(
-            "set A1 5", "set B1 =[.A1]*2", "get B1", "set C1 @tally", "add C1 4", "sub C1 1", "set D1 @choice",
-            "choose D1 7", "unchoose D1 7", "rows A1:B1",
-        )
-        replies = lines("ok 1", "ok 2", "val 10", "ok 3", "ok 4", "ok 5", "ok 6", "ok 7", "ok 8", "rows 1", "5,10")
-        self.assert_session(given, replies)
-
 
 class Launcher(ProgramTest):
     def test_it_can_be_started_from_another_folder(self):
@@ -97,6 +104,40 @@ class Help(ProgramTest):
     def test_help_of_table_names_its_options(self):
         self.assert_tells(["table", "--help"], "Usage: sheet table", "--workers", "--entries", "--explain")
 
+    def options(self, command):
+        """The options that the help of a command lists, each with what it says of it."""
+        told = run(command, "--help").output.decode()
+        listed = re.findall(r"^ +(--[a-z-]+)(?: <[a-z]+>)?(?:  +(\S.*))?$", told, flags=re.MULTILINE)
+        self.assertEqual(len(listed), len(re.findall(r"^ +--", told, flags=re.MULTILINE)))
+        return dict(listed)
+
+    def test_each_command_is_told_by_a_text_of_its_own(self):
+        told = run("--help").output.decode()
+        for command, phrase in COMMANDS.items():
+            with self.subTest(command=command):
+                text, = re.findall(rf"^  {command}  +(\S.*)$", told, flags=re.MULTILINE)
+                self.assertIn(phrase, text)
+                self.assertEqual(run(command, "--help").output.decode().split("\n")[0], text)
+
+    def test_each_option_is_told_by_a_text_of_its_own(self):
+        for command in COMMANDS:
+            texts = self.options(command)
+            for option, text in texts.items():
+                with self.subTest(command=command, option=option):
+                    phrase = OPTIONS[option]
+                    self.assertIn(phrase if type(phrase) is str else phrase[command], text)
+
+    def test_the_numbers_that_an_option_takes_are_those_of_its_text(self):
+        for command in COMMANDS:
+            for option, text in self.options(command).items():
+                if option in WITHOUT_NUMBER:
+                    continue
+                (least, most), = re.findall(r", ([0-9]+) to ([0-9]+)\b", text)
+                for number, status in ((int(least) - 1, 2), (least, 0), (most, 0), (int(most) + 1, 2)):
+                    with self.subTest(command=command, option=option, number=number):
+                        # (what comes before the word for help is read first)
+                        self.assertEqual(run(command, f"{option}={number}", "--help").status, status)
+
     def examples(self, *words):
         """The words of each example of the help after these, from the name of the program on."""
         told = run(*words, "--help").output.decode()
@@ -116,6 +157,31 @@ class Help(ProgramTest):
                 own = [words for words in examples if words[0] == command]
                 self.assertEqual({word for words in own for word in words if word.startswith("--")}, options)
                 self.assertTrue(own)
+
+    def test_the_lines_of_the_help_of_run_have_the_replies_that_it_tells(self):
+        told = run("run", "--help").output.decode()
+        # columns for lines, for what they do and for their replies
+        table = told.split("has a reply on standard output:\n\n")[1].split("\n\n")[0].split("\n")
+        pushed, = [row for row in table if row.startswith("  push ")]
+        table.remove(pushed)
+        asked = [line for row in table for line in re.split("  +", row[2:24].strip())]
+        due = [reply for row in table for reply in re.split(", then |, (?=ok )", row[53:])]
+        replies = run("run", given=lines(*asked)).output.decode().splitlines()
+        for reply, wanted in zip(replies, due, strict=True):
+            shown = wanted.removesuffix(" ..")
+            self.assertEqual(reply if shown == wanted else reply[:len(shown)], shown)
+        # what a pull told, at another replica
+        delta, = [reply.split(" ", 2)[2] for reply in replies if reply.startswith("delta ")]
+        self.assertEqual(run("run", "--replica", "2", given=lines(f"push {delta}")), Ended(0, lines(pushed[53:])))
+
+    def test_the_examples_of_the_help_write_what_it_tells(self):
+        told = run("table", "--help").output.decode()
+        command, shown = re.search(r"\n  (printf .*)\n\nwrites\n\n((?:  .*\n)+)", told).groups()
+        self.assertEqual(shell(command.replace("sheet", SHEET)), Ended(0, re.sub("(?m)^  ", "", shown).encode()))
+        told = run("squash", "--help").output.decode()
+        given, shown = re.search(r"\nFrom\n\n((?:  .*\n)+)\nit writes\n\n((?:  .*\n)+)", told).groups()
+        self.assertEqual(run("squash", given=re.sub("(?m)^  ", "", given).encode()),
+                         Ended(0, re.sub("(?m)^  ", "", shown).encode()))
 
     def test_the_words_of_each_example_are_taken(self):
         for command in ([], *([command] for command in COMMANDS)):
