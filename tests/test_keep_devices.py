@@ -119,6 +119,11 @@ class Failing(Spoilt):
                     self.assertEqual(ended, Ended(0, replies_to(*EDITS), self.opened(0)))
                     self.assertEqual(self.file.read_bytes(), text_of(*EDITS))
 
+    def test_writes_that_are_interrupted_are_made_again(self):
+        for ended, _ in self.each_way(EDITS, ("f", 1, 5, errno.EINTR)):
+            self.assertEqual(ended, Ended(0, replies_to(*EDITS), self.opened(0)))
+            self.assertEqual(self.file.read_bytes(), text_of(*EDITS))
+
     def test_a_file_that_cannot_be_read(self):
         self.file.write_bytes(text_of(*EDITS))
         with self.spoiling("r", 1, ALL, errno.EIO) as (how, _):
