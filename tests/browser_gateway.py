@@ -15,8 +15,16 @@ class Gateway:
 
     def memory(self):
         """How many bytes it holds in memory."""
+        return self.told("VmRSS:")
+
+    def room(self):
+        """How many bytes it has places for."""
+        return self.told("VmSize:")
+
+    def told(self, name):
+        """What the system tells of it by this name, in bytes."""
         with open(f"/proc/{self.session.pid}/status") as status:
-            return next(int(row.split()[1]) for row in status if row.startswith("VmRSS:")) * 1024
+            return next(int(row.split()[1]) for row in status if row.startswith(name)) * 1024
 
 
 @contextlib.contextmanager

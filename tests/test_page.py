@@ -1,6 +1,8 @@
 """`sheet page` with real sockets: what it answers, whom it refuses, and browsers that misbehave or come and go."""
 import contextlib
+import errno
 import re
+import resource
 import socket
 import struct
 import subprocess
@@ -16,6 +18,7 @@ from browser_gateway import paging
 from browser_socket import (
     BINARY, HERE, PING, PONG, TEXT, WebSocket, accept_of, answer, connection_to, frame, request, upgrade,
 )
+from hunt import shortages
 from preloaded import PROGRAM
 from program import DEVICE_FAILED, LIMIT, TOP, Ended, ProgramTest, run
 from servers import free_port, serving
@@ -458,6 +461,55 @@ class Ends(ProgramTest):
                 client.leave()
                 with WebSocket(gateway.port) as opened:
                     self.assertEqual(opened.ask("get A1"), "val 5\n")
+
+    def test_a_connection_that_cannot_be_accepted(self):
+        """One that was interrupted or broken off harms no other; where no more can be accepted, the gateway ends."""
+        library = shortages.library(self.folder())
+        for error, last, is_served in ((errno.EINTR, 3, True), (errno.ECONNABORTED, 3, True),
+                                       (errno.ENOBUFS, 1, False)):
+            with self.subTest(error=error), shortages.spoiling(library, ("a", 1, last, error)) as (how, _):
+                with paging(free_port(), program=PROGRAM, **how) as gateway:
+                    if is_served:
+                        self.assertEqual(answer(gateway.port, request(gateway.port))[0], 200)
+                        continue
+                    output, told = gateway.session.communicate(timeout=LIMIT)
+                    self.assertEqual(Ended(gateway.session.returncode, output, told), Ended(1, b"", DEVICE_FAILED))
+
+    def test_memory_that_is_refused(self):
+        """Each request for it in turn: whatever becomes of the browser that wanted it, the next one has its place."""
+        library = shortages.library(self.folder())
+        with serving(None) as server:
+
+            def look(refused):
+                """How many requests there were before the page was asked for, and once a second browser was served."""
+                with contextlib.ExitStack() as stack:
+                    how, counts = stack.enter_context(shortages.spoiling(library, ("m", refused, refused, errno.ENOMEM)))
+                    gateway = stack.enter_context(paging(server.port, "--browsers", "1", program=PROGRAM, **how))
+                    before = shortages.counted(counts).calls
+                    with contextlib.suppress(browser_socket.Ended, OSError, IndexError):
+                        answer(gateway.port, request(gateway.port))
+                        with WebSocket(gateway.port) as opened:
+                            opened.ask("rows A1:B2")
+                    seated(gateway.port).connection.close()
+                    return before, shortages.counted(counts).calls
+
+            before, after = look(0)
+            self.assertGreater(after, before)
+            for refused in range(before + 1, after + 1):
+                with self.subTest(refused=refused):
+                    look(refused)
+
+    def test_connections_for_which_no_thread_can_be_started_take_no_place(self):
+        with paging(free_port(), program=PROGRAM) as gateway:
+            process, kind = gateway.session.pid, resource.RLIMIT_AS
+            most = resource.prlimit(process, kind)
+            # (no thread's stack has room)
+            resource.prlimit(process, kind, (gateway.room() + (1 << 20), most[1]))
+            for _ in range(MOST_CONNECTIONS):
+                with connection_to(gateway.port) as connection:
+                    self.assertEqual(browser_socket.read_all(connection), b"")
+            resource.prlimit(process, kind, most)
+            self.assertEqual(answer(gateway.port, request(gateway.port))[0], 200)
 
     def test_a_port_that_is_taken(self):
         with serving(1) as server:
