@@ -6,7 +6,7 @@ ghost use Rattle.ps_grid.specs.Blanks.{IsBlankOf};
 use ps_device::{Failed, MemorySource, Reading, Source, Writing};
 use ps_eval::Meter;
 use ps_grid::Refusal;
-use ps_session::{HeldOutput, Keeper, RunFault, Unwatched, run_kept};
+use ps_session::{HeldOutput, Keeper, Resources, RunFault, Unwatched, run_kept};
 use ps_sheet::Sheet;
 use std::alloc::Global;
 use std::io;
@@ -136,8 +136,7 @@ fn kept_run<R: Threads + Sync, S: Source, K: Ledger, N: Ledger, L: Ledger>(
         kept: 0,
     };
     let ended = run_kept(
-        rt,
-        alloc,
+        Resources { threads: rt, alloc },
         source,
         &mut sink,
         &mut sheet,

@@ -13,7 +13,7 @@ use ps_device::{Sink, Source};
 use ps_eval::Meter;
 use ps_keep::Device;
 use ps_kept_desk::{DeskKeeper, Kept, SeatKeeper};
-use ps_session::{HeldOutput, RunFault, Watcher, talk, talk_kept};
+use ps_session::{HeldOutput, Resources, RunFault, Watcher, talk, talk_kept};
 use std::alloc::Global;
 use std::sync::Wait;
 use std::sync::ledger::Ledger;
@@ -131,7 +131,8 @@ pub fn attend_kept<
     let KeptSeat { desk, keeper, pass } = at;
     let mut seat = Seat::new(desk, rt, pass);
     let mut own = SeatKeeper::new(keeper, desk, rt);
-    let ended = talk_kept(rt, alloc, source, sink, &mut seat, meter, watcher, &mut own);
+    let resources = Resources { threads: rt, alloc };
+    let ended = talk_kept(resources, source, sink, &mut seat, meter, watcher, &mut own);
     Attended {
         pass: seat.leave(),
         kept: own.leave(),

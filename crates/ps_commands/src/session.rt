@@ -16,7 +16,7 @@ use ps_eval::Meter;
 use ps_grid::Refusal;
 use ps_keep::Device;
 use ps_kept::{SheetKeeper, longer_histories_fit};
-use ps_session::{HeldOutput, RunFault, Watcher, run_kept, run_watched};
+use ps_session::{HeldOutput, Resources, RunFault, Watcher, run_kept, run_watched};
 use ps_sheet::Sheet;
 use ps_words::RunOptions;
 use std::alloc::Global;
@@ -108,8 +108,7 @@ pub fn answer_kept<
     W: Watcher,
     D: Device + Drop,
 >(
-    rt: &R,
-    alloc: Global,
+    resources: Resources<'_, R>,
     source: &mut S,
     sink: &mut HeldOutput<K, N>,
     sheet: Sheet,
@@ -137,7 +136,7 @@ pub fn answer_kept<
 {
     longer_histories_fit();
     let mut sheet = sheet;
-    let done = run_kept(rt, alloc, source, sink, &mut sheet, meter, watcher, keeper);
+    let done = run_kept(resources, source, sink, &mut sheet, meter, watcher, keeper);
     // The program ends after this, and the system takes back at once what would be freed piece by piece.
     mem::forget(sheet);
     match done {

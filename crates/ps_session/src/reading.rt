@@ -10,6 +10,7 @@ ghost use Rattle.ps_session.specs.Inside.Stands.{Breaks, GoesOn, IsUnderWay, Sta
 use crate::board::Board;
 use crate::delivery::Delivery;
 use crate::keeper::Keeper;
+use crate::resources::Resources;
 use crate::session::Session;
 use crate::transcript::{Conversation, RunFault};
 use crate::watcher::Watcher;
@@ -91,7 +92,7 @@ fn read_piece<R: Threads + Sync, B: Board<M>, M, W: Watcher, K, D: Delivery<K>, 
             Ok(taken) => start += taken,
             Err(_) => return Err(RunFault::Sink),
         }
-        release::<B, K, D, Q>(conversation.alloc, keeper, board, sink)?;
+        release::<B, K, D, Q>(conversation.resources.alloc, keeper, board, sink)?;
     }
     Ok(())
 }
@@ -146,7 +147,7 @@ fn read_on<
     ensures sink_failed { result ≡ Err RunFault.Sink → D.failures sink.old < D.failures sink.new }
     ensures source_failed { result ≡ Err RunFault.Source → S.failures source.old < S.failures source.new }
 {
-    release::<B, K, D, Q>(conversation.alloc, keeper, board, sink)?;
+    release::<B, K, D, Q>(conversation.resources.alloc, keeper, board, sink)?;
     let mut piece = [0u8; PIECE_BYTES];
     'pieces: loop {
         let count = match source.take(&mut piece) {
@@ -179,8 +180,7 @@ pub(crate) fn converse<
     D: Delivery<K>,
     Q: Keeper<B>,
 >(
-    rt: &R,
-    alloc: Global,
+    resources: Resources<'_, R>,
     source: &mut S,
     sink: &mut K,
     board: &mut B,
@@ -223,13 +223,12 @@ pub(crate) fn converse<
     ensures sink_failed { result ≡ Err RunFault.Sink → D.failures sink.old < D.failures sink.new }
     ensures source_failed { result ≡ Err RunFault.Source → S.failures source.old < S.failures source.new }
 {
-    let session = match Session::new(alloc) {
+    let session = match Session::new(resources.alloc) {
         Ok(session) => session,
         Err(_) => return Err(RunFault::Memory),
     };
     let mut conversation = Conversation {
-        rt,
-        alloc,
+        resources,
         session,
         answered: 0,
     };
@@ -246,6 +245,6 @@ pub(crate) fn converse<
         Ok(()) => {}
         Err(_) => return Err(RunFault::Sink),
     }
-    release::<B, K, D, Q>(alloc, keeper, board, sink)?;
+    release::<B, K, D, Q>(resources.alloc, keeper, board, sink)?;
     Ok(conversation.answered)
 }

@@ -11,6 +11,7 @@ ghost use Rattle.ps_session.specs.Keeping.{Halted, IsCovered, IsLater};
 
 use crate::held_output::HeldOutput;
 use crate::keeper::Keeper;
+use crate::resources::Resources;
 use crate::transcript::{RunFault, talk_kept, talk_watched};
 use crate::watcher::{Unwatched, Watcher};
 use ps_device::{Sink, Source};
@@ -124,8 +125,7 @@ pub fn run_kept<
     W: Watcher,
     Q: Keeper<Sheet>,
 >(
-    rt: &R,
-    alloc: Global,
+    resources: Resources<'_, R>,
     source: &mut S,
     sink: &mut HeldOutput<K, N>,
     sheet: &mut Sheet,
@@ -172,7 +172,7 @@ pub fn run_kept<
     ensures sink_failed { result ≡ Err RunFault.Sink → held_failures sink.old < held_failures sink.new }
     ensures source_failed { result ≡ Err RunFault.Source → S.failures source.old < S.failures source.new }
 {
-    let answered = talk_kept(rt, alloc, source, sink, sheet, meter, watcher, keeper);
+    let answered = talk_kept(resources, source, sink, sheet, meter, watcher, keeper);
     // The call brings that the sheet is one still (`IsSheet`).
     let _ = sheet.version();
     answered

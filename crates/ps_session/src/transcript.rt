@@ -21,6 +21,7 @@ use crate::keeper::{Keeper, Unkept};
 use crate::obey::answer;
 use crate::reading::converse;
 use crate::reply::Reply;
+use crate::resources::Resources;
 use crate::session::{Line, Session, trimmed};
 use crate::watcher::{Seen, Unwatched, Watcher};
 use ps_device::{Failed, PIECE_BYTES, Sink, Source};
@@ -32,10 +33,8 @@ use std::thread::Threads;
 /// A session under way, without its board and its devices: the line that is being read, and how many lines had a reply.
 #[derive(Drop)]
 pub(crate) struct Conversation<'a, R> {
-    /// What a board starts threads by.
-    pub(crate) rt: &'a R,
-    /// What memory is taken from.
-    pub(crate) alloc: Global,
+    /// What it works by.
+    pub(crate) resources: Resources<'a, R>,
     /// The line that is being read.
     pub(crate) session: Session,
     /// How many lines had a reply; 2^64 - 1 stands for more.
@@ -44,8 +43,7 @@ pub(crate) struct Conversation<'a, R> {
 
 /// Answers a line that isn't too long, and counts its reply; an empty one has none.
 fn answer_line<R: Threads + Sync, B: Board<M>, M, W: Watcher, K, D: Delivery<K>>(
-    rt: &R,
-    alloc: Global,
+    resources: Resources<'_, R>,
     line: &[u8],
     answered: &mut u64,
     board: &mut B,
@@ -66,7 +64,7 @@ fn answer_line<R: Threads + Sync, B: Board<M>, M, W: Watcher, K, D: Delivery<K>>
         watcher.saw(line, Seen::Answered);
         return Ok(());
     }
-    let reply = answer(rt, alloc, line, board, meter);
+    let reply = answer(resources.threads, resources.alloc, line, board, meter);
     watcher.saw(line, reply.outcome());
     match D::put_reply(&reply, sink) {
         Ok(()) => {}
@@ -96,8 +94,7 @@ impl<R: Threads + Sync> Conversation<'_, R> {
         ensures session { self.new.session ≡ self.old.session }
     {
         answer_line::<R, B, M, W, K, D>(
-            self.rt,
-            self.alloc,
+            self.resources,
             self.session.line(),
             &mut self.answered,
             board,
@@ -212,8 +209,7 @@ impl<R: Threads + Sync> Conversation<'_, R> {
             return self.turn_in_parts::<B, M, W, K, D>(piece, board, meter, watcher, sink);
         };
         answer_line::<R, B, M, W, K, D>(
-            self.rt,
-            self.alloc,
+            self.resources,
             trimmed(&piece[..place]),
             &mut self.answered,
             board,
@@ -337,9 +333,9 @@ pub fn talk_watched<R: Threads + Sync, S: Source, B: Board<M>, M, K: Sink, W: Wa
     ensures sink_failed { result ≡ Err RunFault.Sink → K.failures sink.old < K.failures sink.new }
     ensures source_failed { result ≡ Err RunFault.Source → S.failures source.old < S.failures source.new }
 {
+    let resources = Resources { threads: rt, alloc };
     converse::<R, S, B, M, W, K, AtOnce, Unkept>(
-        rt,
-        alloc,
+        resources,
         source,
         sink,
         board,
@@ -408,8 +404,7 @@ pub fn talk_kept<
     W: Watcher,
     Q: Keeper<B>,
 >(
-    rt: &R,
-    alloc: Global,
+    resources: Resources<'_, R>,
     source: &mut S,
     sink: &mut HeldOutput<K, L>,
     board: &mut B,
@@ -454,6 +449,6 @@ pub fn talk_kept<
     ensures source_failed { result ≡ Err RunFault.Source → S.failures source.old < S.failures source.new }
 {
     converse::<R, S, B, M, W, HeldOutput<K, L>, HeldBack, Q>(
-        rt, alloc, source, sink, board, meter, watcher, keeper,
+        resources, source, sink, board, meter, watcher, keeper,
     )
 }

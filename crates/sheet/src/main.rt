@@ -30,7 +30,7 @@ use ps_commands::{
 use ps_device::{ConsoleOutput, Reading, Sink, Writing};
 use ps_eval::Meter;
 use ps_grid::Refusal;
-use ps_session::HeldOutput;
+use ps_session::{HeldOutput, Resources};
 use ps_words::{LineOptions, Options, ServeOptions, TableOptions, read_words};
 use std::cell::RefCell;
 use std::fs::File;
@@ -276,8 +276,10 @@ fn run_kept<R: Files<File = File> + Threads + Sync, I: Ledger, O: Ledger, H: Led
     );
     let mut onlooker = KeptOnlooker::new(Onlooker::new(rt.alloc(), told), warner);
     answer_kept(
-        threads,
-        rt.alloc(),
+        Resources {
+            threads,
+            alloc: rt.alloc(),
+        },
         &mut source,
         &mut sink,
         sheet,
