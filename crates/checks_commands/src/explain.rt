@@ -2,7 +2,7 @@
 
 use ps_commands::{Onlooker, ProgramFault, explain_table};
 use ps_grid::Refusal;
-use ps_session::{Seen, Watcher};
+use ps_session::{Outcome, Watcher};
 use std::test::Fail;
 
 /// Tables, with what is told of them: nothing after the first field that is refused.
@@ -37,9 +37,9 @@ fn fields_are_told(rt: HostRuntime) -> Result<(), Fail> {
 #[test]
 fn refused_lines_are_counted(rt: HostRuntime) -> Result<(), Fail> {
     let mut onlooker = Onlooker::<Vec<u8>>::new(rt.alloc(), None);
-    onlooker.saw(b"get A1", Seen::Answered);
+    onlooker.saw(b"get A1", Outcome::Answered);
     assert!(rt; onlooker.end(true).is_ok());
-    onlooker.saw(b"walk", Seen::Refused(Refusal::Command));
+    onlooker.saw(b"walk", Outcome::Refused(Refusal::Command));
     assert!(rt; onlooker.end(false).is_ok());
     match onlooker.end(true) {
         Err(ProgramFault::LinesRefused(count)) => assert!(rt; count == 1),

@@ -4,7 +4,7 @@
 use crate::explain::Onlooker;
 use crate::fault::ProgramFault;
 use crate::notice::tell_line;
-use ps_session::{Seen, Watcher};
+use ps_session::{Outcome, Watcher};
 use std::alloc::Global;
 use std::fmt;
 use std::io::Write;
@@ -81,9 +81,9 @@ impl<'a, W: Write + Drop> KeptOnlooker<'a, W> {
 }
 
 impl<W: Write + Drop> Watcher for KeptOnlooker<'_, W> {
-    fn saw(&mut self, line: &[u8], seen: Seen) {
-        self.onlooker.saw(line, seen);
-        if let Seen::Elsewhere = seen {
+    fn saw(&mut self, line: &[u8], outcome: Outcome) {
+        self.onlooker.saw(line, outcome);
+        if let Outcome::Elsewhere = outcome {
             self.warner.warn();
         }
     }
@@ -98,8 +98,8 @@ pub(crate) struct Marker<'a> {
 }
 
 impl Watcher for Marker<'_> {
-    fn saw(&mut self, _line: &[u8], seen: Seen) {
-        if let Seen::Elsewhere = seen {
+    fn saw(&mut self, _line: &[u8], outcome: Outcome) {
+        if let Outcome::Elsewhere = outcome {
             self.mark.store(true, Ordering::SeqCst);
         }
     }

@@ -8,7 +8,7 @@ use csv::{ByteRecord, Reader, ReaderBuilder};
 use ps_content::read_entry;
 use ps_grid::{COLUMNS, Cell, ROWS};
 use ps_hints::{field_note, line_note, record_note};
-use ps_session::{Seen, Watcher};
+use ps_session::{Outcome, Watcher};
 use std::alloc::Global;
 use std::cell::RefCell;
 use std::io;
@@ -51,11 +51,11 @@ impl<W: Write + Drop> Onlooker<W> {
 }
 
 impl<W: Write + Drop> Watcher for Onlooker<W> {
-    fn saw(&mut self, line: &[u8], seen: Seen) {
+    fn saw(&mut self, line: &[u8], outcome: Outcome) {
         self.lines = self.lines.saturating_add(1);
-        let refusal = match seen {
-            Seen::Refused(refusal) => Some(refusal),
-            Seen::Answered | Seen::Elsewhere => None,
+        let refusal = match outcome {
+            Outcome::Refused(refusal) => Some(refusal),
+            Outcome::Answered | Outcome::Elsewhere => None,
         };
         if refusal.is_some() {
             self.refused = self.refused.saturating_add(1);

@@ -68,4 +68,4 @@ pub use sheet_session::{run, run_kept, run_watched};
 pub use syncing::sync;
 pub use taken::Taken;
 pub use transcript::{RunFault, talk, talk_kept, talk_watched};
-pub use watcher::{Seen, Unwatched, Watcher};
+pub use watcher::{Outcome, Unwatched, Watcher};

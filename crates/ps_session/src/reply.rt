@@ -6,7 +6,7 @@ ghost use Rattle.ps_device.specs.Device.{Sends};
 ghost use Rattle.ps_value.specs.Shown.{shown_text};
 ghost use Rattle.ps_session.specs.Replies.{entry_reply, reply_text};
 
-use crate::watcher::Seen;
+use crate::watcher::Outcome;
 use itoa::{Buffer, write_digits};
 use ps_device::{Failed, Sink, put_all};
 use ps_grid::Refusal;
@@ -39,11 +39,11 @@ pub enum Reply {
 
 impl Reply {
     /// What became of the line, for who looks on.
-    pub(crate) fn outcome(&self) -> Seen {
+    pub(crate) fn outcome(&self) -> Outcome {
         match self {
-            Reply::Refused(refusal) => Seen::Refused(*refusal),
-            Reply::DoneElsewhere(_) => Seen::Elsewhere,
-            _ => Seen::Answered,
+            Reply::Refused(refusal) => Outcome::Refused(*refusal),
+            Reply::DoneElsewhere(_) => Outcome::Elsewhere,
+            _ => Outcome::Answered,
         }
     }
 }

@@ -23,7 +23,7 @@ use crate::reading::converse;
 use crate::reply::Reply;
 use crate::resources::Resources;
 use crate::session::{Line, Session, trimmed};
-use crate::watcher::{Seen, Unwatched, Watcher};
+use crate::watcher::{Outcome, Unwatched, Watcher};
 use ps_device::{Failed, PIECE_BYTES, Sink, Source};
 use ps_grid::Refusal;
 use std::alloc::Global;
@@ -61,7 +61,7 @@ fn answer_line<R: Threads + Sync, B: Board<M>, M, W: Watcher, K, D: Delivery<K>>
 {
     let count = *answered;
     if line.is_empty() {
-        watcher.saw(line, Seen::Answered);
+        watcher.saw(line, Outcome::Answered);
         return Ok(());
     }
     let reply = answer(resources.threads, resources.alloc, line, board, meter);
@@ -119,7 +119,7 @@ impl<R: Threads + Sync> Conversation<'_, R> {
         ensures session { self.new.session ≡ self.old.session }
     {
         let count = self.answered;
-        watcher.saw(b"", Seen::Refused(Refusal::Line));
+        watcher.saw(b"", Outcome::Refused(Refusal::Line));
         D::put_reply(&Reply::Refused(Refusal::Line), sink)?;
         self.answered = count.saturating_add(1);
         Ok(())

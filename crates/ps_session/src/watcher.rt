@@ -4,7 +4,7 @@ use ps_grid::Refusal;
 
 /// What became of a line.
 #[derive(Clone, Copy)]
-pub enum Seen {
+pub enum Outcome {
     /// It was answered, or it is empty.
     Answered,
     /// It was refused.
@@ -20,7 +20,7 @@ pub trait Watcher {
     /// line is one, too. Of one that is too long nothing is left to see.
     ///
     /// Cost: the watcher's own.
-    fn saw(&mut self, line: &[u8], seen: Seen);
+    fn saw(&mut self, line: &[u8], outcome: Outcome);
 }
 
 /// A watcher that looks away.
@@ -28,5 +28,5 @@ pub trait Watcher {
 pub struct Unwatched;
 
 impl Watcher for Unwatched {
-    fn saw(&mut self, _line: &[u8], _seen: Seen) {}
+    fn saw(&mut self, _line: &[u8], _outcome: Outcome) {}
 }
