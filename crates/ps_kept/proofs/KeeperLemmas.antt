@@ -1,7 +1,7 @@
 -- A journal into which what a history has more is noted.
 use Rattle.std.proofs.Common.{◌≡◌, ◌+◌, ◌-◌, ◌≤◌, ℕ, List, [], ◌∷◌, ◌++◌, length, take, drop, map, refl, sym, ap, ◌∙◌}
 use Rattle.std.proofs.Common.{append_assoc, arith, subst, length-append, zero, suc, Bool, false, Result, Ok, Err}
-use Rattle.std.specs.Prelude.{OnOk, is_err}
+use Rattle.std.specs.Prelude.{OnErr, OnOk, is_err}
 use Rattle.std.proofs.lemmas.List.{append-nil, length-drop, take-append-drop, take_all}
 use mathlib.Core.List.{IsPrefix}
 use Rattle.ps_delta.specs.Deltas.{Entries}
@@ -153,6 +153,10 @@ noted_again replica history mid new journal same told = record {
 pub on_ok : {T E : Type 0} (r : Result T E) (P Q : Type 0) → (P → Q) → OnOk r P → OnOk r Q
 on_ok (Ok x) P Q f p = f p
 on_ok (Err x) P Q f p = tt
+
+pub on_err : {T E : Type 0} (r : Result T E) (P Q : Type 0) → (P → Q) → OnErr r P → OnErr r Q
+on_err (Ok x) P Q f p = tt
+on_err (Err x) P Q f p = f p
 
 pub ok_fits : {T E : Type 0} (r : Result T E) (b : Bool) (P : Type 0) → b ≡ is_err r → P → OnOk r (P × (b ≡ false))
 ok_fits (Ok x) b P is p = (p, is)

@@ -23,7 +23,7 @@ use std::sync::Arc;
 pub struct SheetKeeper<D: Device + Drop> {
     journal: Journal<D>,
     /// how many changes of the history are noted
-    noted: usize,
+    noted: u64,
 }
 
 impl<D: Device + Drop> Model for SheetKeeper<D> {
@@ -40,7 +40,7 @@ impl<D: Device + Drop> Model for SheetKeeper<D> {
 
 impl<D: Device + Drop> SheetKeeper<D> {
     /// A keeper that goes on with this journal, in which so many changes are noted.
-    pub(crate) fn new(journal: Journal<D>, noted: usize) -> SheetKeeper<D>
+    pub(crate) fn new(journal: Journal<D>, noted: u64) -> SheetKeeper<D>
         requires { length journal.lines ≡ noted + 1 }
         ensures { result ≡ journal }
     {
@@ -54,17 +54,8 @@ impl<D: Device + Drop> SheetKeeper<D> {
         ensures part { OnErr result ((n : ℕ)
             × Notes self.old (take n (later self.old.lines (map arc_value history.now))) self.new) }
     {
-        let later = &history[self.noted..];
-        match note_deltas(alloc, &mut self.journal, later) {
-            Ok(()) => {
-                self.noted += later.len();
-                Ok(())
-            }
-            Err((count, _)) => {
-                self.noted += count;
-                Err(Failed)
-            }
-        }
+        let later = &history[self.noted as usize..];
+        note_deltas(alloc, &mut self.journal, later, &mut self.noted)
     }
 
     /// The journal.

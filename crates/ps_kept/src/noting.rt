@@ -1,10 +1,11 @@
 //! The lines of deltas, noted in a journal.
-ghost use Rattle.std.specs.Prelude.{◌≡◌, ◌≤◌, ◌++◌, ◌∷◌, [], IfErr, OnOk, OnErr, length, map, take};
+ghost use Rattle.std.specs.Prelude.{◌≡◌, ◌+◌, ◌<◌, ◌≤◌, ◌^◌, ◌++◌, ◌∷◌, ℕ, [], OnOk, OnErr, length, map, take};
 ghost use Rattle.std.specs.Arc.{arc_value};
 ghost use Rattle.ps_keep.specs.Journals.{IsJournal};
 ghost use Rattle.ps_kept.specs.Kept.{Notes, Pushes, push_line};
 
 use ps_delta::Delta;
+use ps_device::Failed;
 use ps_grid::Refusal;
 use ps_keep::{Device, Journal};
 use ps_session::PUSH;
@@ -40,28 +41,30 @@ fn note_delta<D: Device + Drop>(
     Ok(())
 }
 
-/// Notes the lines of these deltas, in order. They aren't acknowledged yet.
+/// Notes the lines of these deltas, in order, and counts each to those that were noted before. They aren't acknowledged
+/// yet.
 ///
-/// Refused at the first delta whose line is too long (`TooLong`), or out of memory; with how many were noted before.
+/// Fails at the first delta whose line is too long, and out of memory; those before it are noted.
 ///
 /// Cost: linear in the lines; the device isn't called.
 pub fn note_deltas<D: Device + Drop>(
     alloc: Global,
     journal: &mut Journal<D>,
     deltas: &[Arc<Delta>],
-) -> Result<(), (usize, Refusal)>
-    ensures noted { OnOk result (Notes journal.old (map arc_value deltas.now) journal.new) }
-    ensures part { IfErr result (λ e. (e.0 ≤ length deltas.now)
-        × Notes journal.old (take e.0 (map arc_value deltas.now)) journal.new) }
+    noted: &mut u64,
+) -> Result<(), Failed>
+    requires room { noted.old + length deltas.now < 2 ^ 64 }
+    ensures noted { OnOk result (Notes journal.old (map arc_value deltas.now) journal.new
+        × (noted.new ≡ noted.old + length deltas.now)) }
+    ensures part { OnErr result ((n : ℕ) × (n ≤ length deltas.now) × (noted.new ≡ noted.old + n)
+        × Notes journal.old (take n (map arc_value deltas.now)) journal.new) }
 {
     let mut line = Vec::new(alloc);
-    let mut count = 0;
-    'deltas: while count < deltas.len() {
-        match note_delta(alloc, journal, &deltas[count], &mut line) {
-            Ok(()) => {}
-            Err(refusal) => return Err((count, refusal)),
+    'deltas: for delta in deltas {
+        match note_delta(alloc, journal, delta, &mut line) {
+            Ok(()) => *noted += 1,
+            Err(_) => return Err(Failed),
         }
-        count += 1;
     }
     Ok(())
 }

@@ -63,7 +63,7 @@ fn keep_on<F: Found + Drop>(
         Err(_) => return Err(KeepFault::Device),
     };
     if is_begun {
-        return Ok(SheetKeeper::new(journal, changes));
+        return Ok(SheetKeeper::new(journal, changes as u64));
     }
     match begin(alloc, journal, replica) {
         Ok(journal) => Ok(SheetKeeper::new(journal, 0)),

@@ -71,6 +71,27 @@ module _ (r : ℕ) (h : List Entries) (v : RecordView) (is : IsRecord r h v) whe
       (subst (λ (ds : List Entries). Notes v.journal ds j) (sym (take_all k deltas (omega (arith, all)))) notes)
       (omega (arith, all))
 
+  -- what of them was noted is counted, whatever it came to
+  pub noted_some : {A E : Type 0} (result : Result A E) (j : JournalView) (deltas : List Entries) (k count : ℕ)
+      → deltas ≡ drop v.noted (history_of h v.seen) → length deltas ≡ k
+      → OnOk result (Notes v.journal deltas j × (count ≡ v.noted + k))
+      → OnErr result ((n : ℕ) × (n ≤ k) × (count ≡ v.noted + n) × Notes v.journal (take n deltas) j)
+      → IsRecord r h (record v { journal = j; noted = count })
+  noted_some (Ok a) j deltas k count rest all told part =
+      subst (λ (n : ℕ). IsRecord r h (record v { journal = j; noted = n })) (sym told.1)
+      (all_noted j deltas k rest told.0 (sym all))
+  noted_some (Err e) j deltas k count rest all told part =
+      subst (λ (n : ℕ). IsRecord r h (record v { journal = j; noted = n })) (sym part.2)
+      (more_noted j deltas part.0 rest part.3 (omega (arith, part.1, all)))
+
+  -- .. and the device isn't called
+  pub stays_calm : {A E : Type 0} (result : Result A E) (j : JournalView) (deltas : List Entries) (k count : ℕ)
+      → OnOk result (Notes v.journal deltas j × (count ≡ v.noted + k))
+      → OnErr result ((n : ℕ) × (n ≤ k) × (count ≡ v.noted + n) × Notes v.journal (take n deltas) j)
+      → j.has_failed ≡ v.journal.has_failed
+  stays_calm (Ok a) j deltas k count told part = ap (λ (w : JournalView). w.has_failed) told.0.lines
+  stays_calm (Err e) j deltas k count told part = ap (λ (w : JournalView). w.has_failed) part.3.lines
+
   -- what was noted is all that was seen, and was settled
   pub settled : (j : JournalView) → v.noted ≡ length (history_of h v.seen) → j.kept ≡ v.journal.lines
       → j.lines ≡ v.journal.lines → IsJournal j → IsRecord r h (record v { journal = j; kept = v.seen })

@@ -208,16 +208,7 @@ impl<L: DeskName, D: Device + Drop> Record<L, D> {
         ensures calm { self.new.journal.has_failed ≡ self.old.journal.has_failed }
         ensures all { OnOk result (self.new.noted ≡ length (history_of L.opening self.old.seen)) }
     {
-        match note_deltas(alloc, &mut self.journal, deltas) {
-            Ok(()) => {
-                self.noted += deltas.len() as u64;
-                Ok(())
-            }
-            Err((count, _)) => {
-                self.noted += count as u64;
-                Err(Failed)
-            }
-        }
+        note_deltas(alloc, &mut self.journal, deltas, &mut self.noted)
     }
 
     /// Has all on the disk that was seen, once it is noted.

@@ -6,9 +6,9 @@ use Rattle.ps_kept.proofs.noting.note_deltas.Goals as goal
 
 pub deltas-preserved : goal.deltas-preserved
 deltas-preserved g c = record {
-  within = omega (arith, c.deltas-test.true);
-  noted = next_noted arc_value _ _ _ c.args.deltas.now c.deltas.count c.index-deltas-count.result c.deltas-test.true
-      c.index-deltas-count.is c.deltas.invariant.noted (subst
+  counted = omega (arith, c.deltas.invariant.counted);
+  noted = next_noted arc_value _ _ _ c.args.deltas.now c.deltas.delta-index c.delta-item.result c.deltas-test.true
+      c.delta-item.is c.deltas.invariant.noted (subst
       (λ d. Notes c.deltas.journal (d ∷ []) c.note_delta.new.journal)
       c.deref.ensures c.in-Ok.ensures.noted);
 }
