@@ -3,7 +3,7 @@
 use crate::desks::enter;
 use ps_desk::{Desk, DeskName, Pass, Seat, desk_crosses};
 use ps_keep::Device;
-use ps_kept_desk::{DeskKeeper, Ended, Kept, SeatKeeper, keeper_crosses};
+use ps_kept_desk::{DeskKeeper, Ended, KeptPlace, SeatKeeper, keeper_crosses};
 use ps_session::Keeper;
 use std::alloc::Global;
 use std::process::Abort;
@@ -27,7 +27,7 @@ pub(crate) enum Job<'a> {
 #[derive(Drop)]
 pub(crate) struct Left<L: DeskName> {
     pass: Pass<L>,
-    kept: Kept<L>,
+    kept: KeptPlace<L>,
     acknowledged: Vec<(u64, u64, u16)>,
 }
 

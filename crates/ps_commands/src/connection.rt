@@ -12,7 +12,7 @@ use ps_desk::{Desk, DeskName, Pass, Seat};
 use ps_device::{Sink, Source};
 use ps_eval::Meter;
 use ps_keep::Device;
-use ps_kept_desk::{DeskKeeper, Kept, SeatKeeper};
+use ps_kept_desk::{DeskKeeper, KeptPlace, SeatKeeper};
 use ps_session::{HeldOutput, Resources, RunFault, Watcher, talk, talk_kept};
 use std::alloc::Global;
 use std::sync::Wait;
@@ -119,7 +119,7 @@ pub fn attend_kept<
     at: KeptSeat<'_, L, W, D>,
     meter: &mut Meter<M>,
     watcher: &mut V,
-) -> Attended<L, Kept<L>>
+) -> Attended<L, KeptPlace<L>>
     ensures covered { (read : List ℕ) × Consumes (S.remaining source.old) (S.remaining source.new) read
         × IsCovered (SeatLines L.replica L.opening) (λ seen. IsPrefix seen.list result.kept)
         (IsAtEnd (S.remaining source.new)) at.entry.pass (held_contents K.contents sink.old) read

@@ -5,7 +5,7 @@ ghost use denote.Param.Send.{IsSend, IsSync};
 ghost use Rattle.ps_kept_desk.specs.contracts.keeper.DeskKeeper as keeper;
 ghost use Rattle.ps_kept_desk.specs.contracts.record.Record as record_row;
 
-use crate::record::Kept;
+use crate::record::KeptPlace;
 use ps_desk::{DeskName, Place};
 use ps_keep::{Device, Journal};
 
@@ -21,7 +21,7 @@ fn record_crosses<L: DeskName + Send, D: Device + Drop + Send>()
         (record { written = D.written; synced = D.synced; has_failed = D.has_failed })) }
 {
     goes::<Journal<D>>();
-    goes::<Kept<L>>();
+    goes::<KeptPlace<L>>();
     goes::<Place<L>>();
 }
 

@@ -9,7 +9,7 @@ ghost use Rattle.ps_keep.specs.Journals.{IsJournal};
 ghost use Rattle.ps_kept.specs.Kept.{Tells};
 ghost use Rattle.ps_kept_desk.specs.Records.{EndsKept};
 
-use crate::record::{Ended, Kept, Record};
+use crate::record::{Ended, KeptPlace, Record};
 use ps_desk::{Desk, DeskName, Pass, Place, Seat};
 use ps_device::Failed;
 use ps_keep::{Device, Journal};
@@ -56,7 +56,7 @@ impl<L: DeskName, D: Device + Drop> DeskKeeper<L, D> {
         alloc: Global,
         desk: &Desk<L, W>,
         place: &Place<L>,
-    ) -> Result<Kept<L>, Failed>
+    ) -> Result<KeptPlace<L>, Failed>
         ensures { IfOk result (λ k. IsPrefix place.now k × (length place.now ≤ length k)) }
     {
         let mut guard = self.record.lock(wait);
@@ -86,7 +86,7 @@ impl<L: DeskName, D: Device + Drop> DeskKeeper<L, D> {
         alloc: Global,
         desk: Desk<L, W>,
         passes: Vec<Pass<L>>,
-        told: &[Kept<L>],
+        told: &[KeptPlace<L>],
     ) -> Ended<D>
         requires passes { vec_len passes ≡ desk }
         ensures replica { result.sheet.replica ≡ L.replica }
@@ -110,7 +110,7 @@ pub struct SeatKeeper<'a, L: DeskName, W: Wait + Drop, D: Device + Drop, V: Wait
     desk: &'a Desk<L, W>,
     /// by which it waits for the locks
     wait: &'a V,
-    kept: Kept<L>,
+    kept: KeptPlace<L>,
 }
 
 impl<'a, L: DeskName, W: Wait + Drop, D: Device + Drop, V: Wait> Model
@@ -148,7 +148,7 @@ impl<'a, L: DeskName, W: Wait + Drop, D: Device + Drop, V: Wait> SeatKeeper<'a, 
     /// What was told as kept.
     ///
     /// Cost: constant.
-    pub fn leave(self) -> Kept<L>
+    pub fn leave(self) -> KeptPlace<L>
         ensures { result ≡ self.entry }
     {
         let SeatKeeper { kept, .. } = self;

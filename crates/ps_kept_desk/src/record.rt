@@ -24,11 +24,11 @@ use std::sync::{Arc, Wait};
 /// A beginning of a desk's list that is kept, as a token. Nothing makes one but a record, of what it keeps. A contract
 /// sees it as that list.
 #[derive(Drop)]
-pub struct Kept<L: DeskName> {
+pub struct KeptPlace<L: DeskName> {
     place: Place<L>,
 }
 
-impl<L: DeskName> Model for Kept<L> {
+impl<L: DeskName> Model for KeptPlace<L> {
     ghost use Rattle.std.specs.Prelude.{List};
     ghost use Rattle.std.specs.Coded.{codes};
     ghost use Rattle.ps_face.specs.declared.patch.Note.{Note};
@@ -41,14 +41,14 @@ impl<L: DeskName> Model for Kept<L> {
     ghost view = { λ k. k.place };
 }
 
-impl<L: DeskName> Kept<L> {
+impl<L: DeskName> KeptPlace<L> {
     /// The same once more.
     ///
     /// Cost: constant, no memory.
-    pub fn again(&self) -> Kept<L>
+    pub fn again(&self) -> KeptPlace<L>
         ensures { result ≡ self.now }
     {
-        Kept {
+        KeptPlace {
             place: self.place.again(),
         }
     }
@@ -67,7 +67,7 @@ impl<L: DeskName> Kept<L> {
     /// Whether what this one has is kept by the other one too.
     ///
     /// Cost: constant.
-    pub fn begins(&self, other: &Kept<L>) -> bool
+    pub fn begins(&self, other: &KeptPlace<L>) -> bool
         ensures { MatchBool result
             (IsPrefix self.now other.now × (length self.now ≤ length other.now))
             (length other.now < length self.now) }
@@ -92,7 +92,7 @@ pub struct Ended<D: Device + Drop> {
 pub(crate) struct Record<L: DeskName, D: Device + Drop> {
     journal: Journal<D>,
     /// what is kept
-    kept: Kept<L>,
+    kept: KeptPlace<L>,
     /// up to where the list was seen
     seen: Place<L>,
     /// how many deltas of the history are noted
@@ -140,7 +140,7 @@ impl<L: DeskName, D: Device + Drop> Record<L, D> {
     {
         Record {
             journal,
-            kept: Kept {
+            kept: KeptPlace {
                 place: place.again(),
             },
             seen: place,
@@ -150,7 +150,7 @@ impl<L: DeskName, D: Device + Drop> Record<L, D> {
     }
 
     /// What is kept.
-    pub(crate) fn kept(&self) -> Kept<L>
+    pub(crate) fn kept(&self) -> KeptPlace<L>
         ensures kept { result ≡ self.now.kept }
         ensures record { IsRecord L.replica L.opening self.now }
     {
@@ -221,7 +221,7 @@ impl<L: DeskName, D: Device + Drop> Record<L, D> {
     {
         match self.journal.settle() {
             Ok(()) => {
-                self.kept = Kept {
+                self.kept = KeptPlace {
                     place: self.seen.again(),
                 };
                 Ok(())
@@ -240,7 +240,7 @@ impl<L: DeskName, D: Device + Drop> Record<L, D> {
         alloc: Global,
         desk: Desk<L, W>,
         passes: Vec<Pass<L>>,
-        told: &[Kept<L>],
+        told: &[KeptPlace<L>],
     ) -> Ended<D>
         requires passes { vec_len passes ≡ desk }
         ensures replica { result.sheet.replica ≡ L.replica }
@@ -278,7 +278,7 @@ impl<L: DeskName, D: Device + Drop> Record<L, D> {
     }
 
     /// Finds all kept that was told as kept. No run meets more, for which it would wait for ever.
-    fn audit<V: Wait>(&self, wait: &V, told: &[Kept<L>])
+    fn audit<V: Wait>(&self, wait: &V, told: &[KeptPlace<L>])
         ensures { All (λ list. IsPrefix list self.now.kept) told.now }
     {
         for kept in told {
