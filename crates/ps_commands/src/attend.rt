@@ -3,6 +3,7 @@ ghost use Rattle.ps_grid.specs.Blanks.{IsBlankOf};
 ghost use Rattle.ps_commands.specs.Sessions.{IsAttended};
 
 use crate::connection::{KeptSeat, attend_kept, attend_lines};
+use crate::counts::Counts;
 use crate::host::Host;
 use ps_desk::{Desk, DeskName, Pass};
 use ps_device::{ConsoleOutput, Reading, Writing};
@@ -15,16 +16,6 @@ use std::net::{Shutdown, TcpStream};
 use std::sync::Wait;
 use std::sync::ledger::{Blank, Ledger};
 use std::thread::Threads;
-
-/// What counts a connection's failures, and a session's evaluations.
-#[derive(Drop)]
-struct Counts {
-    input: Blank,
-    output: Blank,
-    /// those of replies that are held back
-    held: Blank,
-    evaluations: Blank,
-}
 
 /// Answers each line of a connection at a seat of a desk, to the end of its input, and gives the pass back. Where the
 /// host has a keeper nothing is handed on but what is kept.

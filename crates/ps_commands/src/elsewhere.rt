@@ -1,10 +1,12 @@
-//! What is told where a kept sheet is pushed changes of its own replica that it hasn't got.
+//! What is told of a kept sheet: what was opened, and that it is pushed changes of its own replica that it hasn't got.
 //!
 //! Nothing that is done or replied hangs on it. What can't be written, or has no memory, is lost.
 use crate::explain::Onlooker;
 use crate::fault::ProgramFault;
+use crate::kept::OpenedFile;
 use crate::notice::tell_line;
 use ps_session::{Outcome, Watcher};
+use ps_sheet::Sheet;
 use std::alloc::Global;
 use std::fmt;
 use std::io::Write;
@@ -54,6 +56,22 @@ impl<'a, W: Write + Drop> Warner<'a, W> {
             tell_line(self.alloc, &number, &mut out);
         }
     }
+}
+
+/// Tells what was opened from the file of this path, and gives who warns the same writer.
+///
+/// Cost: constant, and what the writer takes.
+pub fn tell_opened<'a, W: Write + Drop>(
+    alloc: Global,
+    path: &'a str,
+    sheet: &Sheet,
+    out: W,
+) -> Warner<'a, W> {
+    let mut out = out;
+    let changes = sheet.version();
+    tell_line(alloc, &OpenedFile { path, changes }, &mut out);
+    let replica = sheet.replica();
+    Warner::new(alloc, Some((NumberElsewhere { replica, path }, out)))
 }
 
 /// Looks on at a session of a kept sheet as an [`Onlooker`] does, and warns at once where the session is pushed changes

@@ -8,10 +8,11 @@ ghost use Rattle.ps_commands.specs.declared.fault.ProgramFault.TheVariants.{Refu
 
 use crate::fault::ProgramFault;
 use crate::notice::tell;
+use crate::peers::peer_of;
 use crate::port::connect;
-use ps_device::{ConsoleOutput, Reading, Sink};
+use ps_device::Sink;
 use ps_grid::Refusal;
-use ps_session::{Peer, sync};
+use ps_session::sync;
 use std::alloc::Global;
 use std::marker::Brand;
 use std::net::{Net, TcpStream};
@@ -33,12 +34,8 @@ fn sync_between<I: Ledger, O: Ledger, J: Ledger, P: Ledger>(
     requires second_input { IsBlankOf second_input J.name J.parts }
     requires second_output { IsBlankOf second_output P.name P.parts }
 {
-    let source = Reading::<&TcpStream, I>::new(first, first_input);
-    let sink = ConsoleOutput::<&TcpStream, O>::new(alloc, first, first_output)?;
-    let mut from = Peer::new(alloc, source, sink)?;
-    let source = Reading::<&TcpStream, J>::new(second, second_input);
-    let sink = ConsoleOutput::<&TcpStream, P>::new(alloc, second, second_output)?;
-    let mut to = Peer::new(alloc, source, sink)?;
+    let mut from = peer_of::<I, O>(alloc, first, first_input, first_output)?;
+    let mut to = peer_of::<J, P>(alloc, second, second_input, second_output)?;
     Ok(sync(alloc, &mut from, &mut to)?)
 }
 

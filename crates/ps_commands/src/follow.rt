@@ -5,9 +5,10 @@ ghost use Rattle.ps_session.specs.Exchange.{IsAll, IsHalted, IsLeft};
 ghost use Rattle.ps_session.specs.Peers.{PeerView};
 
 use crate::fault::ProgramFault;
+use crate::peers::peer_of;
 use crate::port::connect;
-use ps_device::{ConsoleOutput, Reading, Sink};
-use ps_session::{Following, Peer, follow};
+use ps_device::Sink;
+use ps_session::{Following, follow};
 use ps_words::FollowOptions;
 use std::alloc::Global;
 use std::marker::Brand;
@@ -80,14 +81,9 @@ fn follow_stream<C: Clock, K: Sink, I: Ledger, O: Ledger>(
         → (K.waiting out.new ≡ []) ⊎ (K.failures out.old < K.failures out.new) }
     ensures calm { OnOk result (K.failures out.new ≡ K.failures out.old) }
 {
-    let source = Reading::<&TcpStream, I>::new(stream, input);
-    let sink = match ConsoleOutput::<&TcpStream, O>::new(alloc, stream, output) {
-        Ok(sink) => sink,
-        Err(refusal) => return Err(ProgramFault::Refused(refusal)),
-    };
-    let mut from = match Peer::new(alloc, source, sink) {
+    let mut from = match peer_of::<I, O>(alloc, stream, input, output) {
         Ok(peer) => peer,
-        Err(error) => return Err(error.into()),
+        Err(fault) => return Err(fault),
     };
     match follow(clock, alloc, &mut from, out, following) {
         Ok(()) => Ok(()),

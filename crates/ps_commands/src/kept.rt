@@ -153,14 +153,14 @@ pub fn keep_sheet<R: Threads + Sync, F: Found + Drop, L: Ledger>(
 
 /// What was opened: a line for standard error, without its line feed.
 #[derive(Clone, Copy, Debug)]
-pub struct Opened<'a> {
+pub struct OpenedFile<'a> {
     /// The path of the file, as it was given.
     pub path: &'a str,
     /// How many changes it has.
     pub changes: u64,
 }
 
-impl fmt::Display for Opened<'_> {
+impl fmt::Display for OpenedFile<'_> {
     fn fmt<W: fmt::Write>(&self, f: &mut fmt::Formatter<W>) -> fmt::Result {
         write!(f, "opened {}, {} changes", self.path, self.changes)
     }

@@ -10,10 +10,10 @@ ghost use Rattle.ps_commands.specs.Sessions.{IsServed};
 ghost use Rattle.ps_commands.specs.Status.{HasNoPort};
 ghost use Rattle.ps_commands.specs.declared.fault.ProgramFault.TheVariants.{Refused};
 
-use crate::elsewhere::{NumberElsewhere, Warner};
+use crate::elsewhere::tell_opened;
 use crate::fault::ProgramFault;
-use crate::kept::{Opened, keep_sheet, open_file};
-use crate::notice::{tell, tell_line};
+use crate::kept::{keep_sheet, open_file};
+use crate::notice::tell;
 use crate::port::listen;
 use crate::server::{Closed, serve_kept_on, serve_on};
 use crate::serving::{Entrance, Serving};
@@ -161,11 +161,7 @@ pub fn serve_kept<
         Ok(()) => {}
         Err(_) => return Err(ProgramFault::Refused(Refusal::Device)),
     }
-    let changes = sheet.version();
-    let mut told = told;
-    tell_line(alloc, &Opened { path, changes }, &mut told);
-    let replica = options.replica;
-    let mut warner = Warner::new(alloc, Some((NumberElsewhere { replica, path }, told)));
+    let mut warner = tell_opened(alloc, path, &sheet, told);
     let entrance = Entrance {
         listener: &listener,
         serving: serving_of(options),

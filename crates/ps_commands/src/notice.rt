@@ -1,5 +1,5 @@
 //! The lines that a command writes of itself.
-ghost use Rattle.std.specs.Prelude.{◌≡◌, ◌<◌, [], OnErr, OnOk};
+ghost use Rattle.std.specs.Prelude.{◌≡◌, ◌<◌, ◌++◌, [], OnErr, OnOk, decimal};
 ghost use Rattle.std.specs.Io.KnownBytes.{Appends};
 ghost use Rattle.ps_commands.specs.Commands.{notice};
 
@@ -16,10 +16,26 @@ pub(crate) fn tell<K: Sink>(word: &[u8], number: u64, out: &mut K) -> Result<(),
     ensures calm { OnOk result (K.failures out.new ≡ K.failures out.old) }
     ensures failed { OnErr result (K.failures out.old < K.failures out.new) }
 {
+    tell_between(word, number, b"\n", out)
+}
+
+/// Writes a number between two texts, and hands all of it on.
+pub(crate) fn tell_between<K: Sink>(
+    first: &[u8],
+    number: u64,
+    last: &[u8],
+    out: &mut K,
+) -> Result<(), Failed>
+    ensures told { OnOk result (Appends (K.contents out.old) (K.contents out.new)
+        (first.now ++ decimal number ++ last.now)) }
+    ensures settled { OnOk result (K.waiting out.new ≡ []) }
+    ensures calm { OnOk result (K.failures out.new ≡ K.failures out.old) }
+    ensures failed { OnErr result (K.failures out.old < K.failures out.new) }
+{
     let mut digits = Buffer::new();
-    put_all(out, word)?;
+    put_all(out, first)?;
     put_all(out, digits.format(number).as_bytes())?;
-    put_all(out, b"\n")?;
+    put_all(out, last)?;
     hand_on(out)?;
     Ok(())
 }

@@ -1,5 +1,5 @@
 //! The command `page`: the sheet of a running `serve`, in a browser.
-ghost use Rattle.std.specs.Prelude.{◌≡◌, ◌<◌, ◌⊎◌, ◌++◌, [], IsErrAnd, OnErr, OnOk, decimal};
+ghost use Rattle.std.specs.Prelude.{◌≡◌, ◌<◌, ◌⊎◌, [], IsErrAnd};
 ghost use Rattle.std.specs.Io.KnownBytes.{Appends};
 ghost use Rattle.ps_grid.specs.declared.refusal.Refusal.TheVariants as Refusal;
 ghost use Rattle.ps_commands.specs.Commands.{page_text};
@@ -7,9 +7,9 @@ ghost use Rattle.ps_commands.specs.Status.{HasNoPort};
 ghost use Rattle.ps_commands.specs.declared.fault.ProgramFault.TheVariants.{Refused};
 
 use crate::fault::ProgramFault;
+use crate::notice::tell_between;
 use crate::port::listen;
-use itoa::Buffer;
-use ps_device::{Failed, Sink, hand_on, put_all};
+use ps_device::Sink;
 use ps_grid::Refusal;
 use ps_page::{Gateway, serve_page};
 use ps_session::LINE_LIMIT;
@@ -19,22 +19,6 @@ use std::net::{Net, TcpListener, TcpStream};
 use std::sync::Wait;
 use std::thread::Threads;
 use std::time::Clock;
-
-/// Writes a number between two texts, and hands all of it on.
-fn tell_between<K: Sink>(first: &[u8], number: u16, last: &[u8], out: &mut K) -> Result<(), Failed>
-    ensures told { OnOk result (Appends (K.contents out.old) (K.contents out.new)
-        (first.now ++ decimal number ++ last.now)) }
-    ensures settled { OnOk result (K.waiting out.new ≡ []) }
-    ensures calm { OnOk result (K.failures out.new ≡ K.failures out.old) }
-    ensures failed { OnErr result (K.failures out.old < K.failures out.new) }
-{
-    let mut digits = Buffer::new();
-    put_all(out, first)?;
-    put_all(out, digits.format(number).as_bytes())?;
-    put_all(out, last)?;
-    hand_on(out)?;
-    Ok(())
-}
 
 /// Listens on a port of this machine, writes `page` and the address of the page, and shows the sheet of the server on
 /// another port to the browsers that ask for it, each with a session of its own, up to the number that was asked for.
@@ -58,7 +42,8 @@ pub fn open_page<
         Ok(listener) => listener,
         Err(fault) => return Err(fault),
     };
-    if tell_between(b"page http://127.0.0.1:", options.port, b"/\n", out).is_err() {
+    let port = u64::from(options.port);
+    if tell_between(b"page http://127.0.0.1:", port, b"/\n", out).is_err() {
         return Err(ProgramFault::Refused(Refusal::Device));
     }
     let gateway = Gateway {

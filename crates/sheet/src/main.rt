@@ -23,9 +23,9 @@ ghost use Rattle.ps_grid.specs.Blanks.{IsBlankOf};
 use clap::Error;
 use clap::error::ErrorKind;
 use ps_commands::{
-    KeptOnlooker, KeptReader, NumberElsewhere, Onlooker, Opened, ProgramFault, Warner, answer_kept,
-    answer_lines, explain_table, follow_on, keep_sheet, open_file, open_page, port_fault, serve,
-    serve_kept, squash_on, status_of, sync_on, table_on,
+    Counts, KeptOnlooker, KeptReader, Onlooker, ProgramFault, answer_kept, answer_lines,
+    explain_table, follow_on, keep_sheet, open_file, open_page, port_fault, serve, serve_kept,
+    squash_on, status_of, sync_on, table_on, tell_opened,
 };
 use ps_device::{ConsoleOutput, Reading, Sink, Writing};
 use ps_eval::Meter;
@@ -107,15 +107,13 @@ fn run_command<
         + Clock
         + Sync,
 >(rt: &HostRuntime, threads: &R, options: Options<'_>) -> Result<ExitCode, ProgramFault> {
-    let done = on_standard::<R, Brand, Brand, Brand, Brand>(
-        rt,
-        threads,
-        Blank::new(1),
-        Blank::new(1),
-        Blank::new(1),
-        Blank::new(1),
-        options,
-    );
+    let counts = Counts {
+        input: Blank::new(1),
+        output: Blank::new(1),
+        held: Blank::new(1),
+        evaluations: Blank::new(1),
+    };
+    let done = on_standard::<R, Brand, Brand, Brand, Brand>(rt, threads, counts, options);
     match done {
         Ok(()) => Ok(ExitCode::SUCCESS),
         Err(fault) => Ok(report(rt, &fault, wants_words(options))),
@@ -159,50 +157,38 @@ fn on_standard<
     O: Ledger,
     H: Ledger,
     M: Ledger,
->(
-    rt: &HostRuntime,
-    threads: &R,
-    input: Blank,
-    output: Blank,
-    held: Blank,
-    count: Blank,
-    options: Options<'_>,
-) -> Result<(), ProgramFault>
-    requires input { IsBlankOf input I.name I.parts }
-    requires output { IsBlankOf output O.name O.parts }
-    requires held { IsBlankOf held H.name H.parts }
-    requires count { IsBlankOf count M.name M.parts }
+>(rt: &HostRuntime, threads: &R, counts: Counts, options: Options<'_>) -> Result<(), ProgramFault>
+    requires input { IsBlankOf counts.input I.name I.parts }
+    requires output { IsBlankOf counts.output O.name O.parts }
+    requires held { IsBlankOf counts.held H.name H.parts }
+    requires evaluations { IsBlankOf counts.evaluations M.name M.parts }
 {
-    let mut meter = Meter::<M>::new(count);
     match options {
         Options::Run(options) => match options.keep {
-            Some(path) => run_kept::<R, I, O, H, M>(
-                rt, threads, input, output, held, &mut meter, options, path,
-            ),
-            None => run_lines::<R, I, O, M>(rt, threads, input, output, &mut meter, options),
+            Some(path) => run_kept::<R, I, O, H, M>(rt, threads, counts, options, path),
+            None => run_lines::<R, I, O, M>(rt, threads, counts, options),
         },
-        Options::Table(options) => {
-            put_table::<R, I, O, M>(rt, threads, input, output, &mut meter, options)
-        }
+        Options::Table(options) => put_table::<R, I, O, M>(rt, threads, counts, options),
         Options::Serve(options) => {
-            let mut sink = ConsoleOutput::<_, O>::new(rt.alloc(), rt.stdout(), output)?;
+            let mut sink = ConsoleOutput::<_, O>::new(rt.alloc(), rt.stdout(), counts.output)?;
+            let mut meter = Meter::<M>::new(counts.evaluations);
             serve_sessions(rt, threads, &mut sink, &mut meter, options)
         }
         Options::Sync(options) => {
-            let mut sink = ConsoleOutput::<_, O>::new(rt.alloc(), rt.stdout(), output)?;
+            let mut sink = ConsoleOutput::<_, O>::new(rt.alloc(), rt.stdout(), counts.output)?;
             sync_on(threads, rt.alloc(), options.from, options.to, &mut sink)
         }
         Options::Follow(options) => {
-            let mut sink = ConsoleOutput::<_, O>::new(rt.alloc(), rt.stdout(), output)?;
+            let mut sink = ConsoleOutput::<_, O>::new(rt.alloc(), rt.stdout(), counts.output)?;
             follow_on(threads, rt, rt.alloc(), options, &mut sink)
         }
         Options::Page(options) => {
-            let mut sink = ConsoleOutput::<_, O>::new(rt.alloc(), rt.stdout(), output)?;
+            let mut sink = ConsoleOutput::<_, O>::new(rt.alloc(), rt.stdout(), counts.output)?;
             open_page(threads, rt.alloc(), options, &mut sink)
         }
         Options::Squash => {
-            let mut source = Reading::<_, I>::new(rt.reader(), input);
-            let mut sink = Writing::<_, O>::new(rt.stdout(), output);
+            let mut source = Reading::<_, I>::new(rt.reader(), counts.input);
+            let mut sink = Writing::<_, O>::new(rt.stdout(), counts.output);
             squash_on(rt.alloc(), &mut source, &mut sink)
         }
     }
@@ -217,16 +203,16 @@ fn is_explained(rt: &HostRuntime, asked: bool) -> bool {
 fn run_lines<R: Threads + Sync, I: Ledger, O: Ledger, M: Ledger>(
     rt: &HostRuntime,
     threads: &R,
-    input: Blank,
-    output: Blank,
-    meter: &mut Meter<M>,
+    counts: Counts,
     options: LineOptions<'_>,
 ) -> Result<(), ProgramFault>
-    requires input { IsBlankOf input I.name I.parts }
-    requires output { IsBlankOf output O.name O.parts }
+    requires input { IsBlankOf counts.input I.name I.parts }
+    requires output { IsBlankOf counts.output O.name O.parts }
+    requires evaluations { IsBlankOf counts.evaluations M.name M.parts }
 {
-    let mut source = Reading::<_, I>::new(rt.reader(), input);
-    let mut sink = ConsoleOutput::<_, O>::new(rt.alloc(), rt.stdout(), output)?;
+    let mut meter = Meter::<M>::new(counts.evaluations);
+    let mut source = Reading::<_, I>::new(rt.reader(), counts.input);
+    let mut sink = ConsoleOutput::<_, O>::new(rt.alloc(), rt.stdout(), counts.output)?;
     let told = is_explained(rt, options.explain).then_some(rt.stderr());
     let mut onlooker = Onlooker::new(rt.alloc(), told);
     answer_lines(
@@ -234,7 +220,7 @@ fn run_lines<R: Threads + Sync, I: Ledger, O: Ledger, M: Ledger>(
         rt.alloc(),
         &mut source,
         &mut sink,
-        meter,
+        &mut meter,
         options.sheet,
         &mut onlooker,
     )?;
@@ -246,34 +232,27 @@ fn run_lines<R: Threads + Sync, I: Ledger, O: Ledger, M: Ledger>(
 fn run_kept<R: Files<File = File> + Threads + Sync, I: Ledger, O: Ledger, H: Ledger, M: Ledger>(
     rt: &HostRuntime,
     threads: &R,
-    input: Blank,
-    output: Blank,
-    held: Blank,
-    meter: &mut Meter<M>,
+    counts: Counts,
     options: LineOptions<'_>,
     path: &str,
 ) -> Result<(), ProgramFault>
-    requires input { IsBlankOf input I.name I.parts }
-    requires output { IsBlankOf output O.name O.parts }
-    requires held { IsBlankOf held H.name H.parts }
+    requires input { IsBlankOf counts.input I.name I.parts }
+    requires output { IsBlankOf counts.output O.name O.parts }
+    requires held { IsBlankOf counts.held H.name H.parts }
+    requires evaluations { IsBlankOf counts.evaluations M.name M.parts }
 {
+    let mut meter = Meter::<M>::new(counts.evaluations);
     let found = open_file(threads, rt.alloc(), path)?;
-    let kept = keep_sheet(threads, rt.alloc(), found, path, options.sheet, meter);
+    let kept = keep_sheet(threads, rt.alloc(), found, path, options.sheet, &mut meter);
     let (sheet, mut keeper) = match kept {
         Ok(kept) => kept,
         Err(fault) => return Err(fault),
     };
-    let changes = sheet.version();
-    let _ = eprintln!(rt; "{}", Opened { path, changes });
-    let mut source = Reading::<_, I>::new(rt.reader(), input);
-    let writing = Writing::<_, O>::new(rt.stdout(), output);
-    let mut sink = HeldOutput::<_, H>::new(rt.alloc(), writing, held);
+    let warner = tell_opened(rt.alloc(), path, &sheet, rt.stderr());
+    let mut source = Reading::<_, I>::new(rt.reader(), counts.input);
+    let writing = Writing::<_, O>::new(rt.stdout(), counts.output);
+    let mut sink = HeldOutput::<_, H>::new(rt.alloc(), writing, counts.held);
     let told = is_explained(rt, options.explain).then_some(rt.stderr());
-    let replica = options.sheet.replica;
-    let warner = Warner::new(
-        rt.alloc(),
-        Some((NumberElsewhere { replica, path }, rt.stderr())),
-    );
     let mut onlooker = KeptOnlooker::new(Onlooker::new(rt.alloc(), told), warner);
     answer_kept(
         Resources {
@@ -284,7 +263,7 @@ fn run_kept<R: Files<File = File> + Threads + Sync, I: Ledger, O: Ledger, H: Led
         &mut sink,
         sheet,
         &mut keeper,
-        meter,
+        &mut meter,
         &mut onlooker,
     )?;
     onlooker.end(options.strict)
@@ -323,19 +302,19 @@ fn serve_sessions<
 fn put_table<R: Threads + Sync, I: Ledger, O: Ledger, M: Ledger>(
     rt: &HostRuntime,
     threads: &R,
-    input: Blank,
-    output: Blank,
-    meter: &mut Meter<M>,
+    counts: Counts,
     options: TableOptions,
 ) -> Result<(), ProgramFault>
-    requires input { IsBlankOf input I.name I.parts }
-    requires output { IsBlankOf output O.name O.parts }
+    requires input { IsBlankOf counts.input I.name I.parts }
+    requires output { IsBlankOf counts.output O.name O.parts }
+    requires evaluations { IsBlankOf counts.evaluations M.name M.parts }
 {
+    let mut meter = Meter::<M>::new(counts.evaluations);
     let kept = RefCell::new(is_explained(rt, options.explain).then_some(Vec::new(rt.alloc())));
     let reader = KeptReader::new(rt.reader(), &kept);
-    let mut source = Reading::<_, I>::new(reader, input);
-    let mut sink = Writing::<_, O>::new(rt.stdout(), output);
-    let done = table_on(threads, rt.alloc(), &mut source, &mut sink, meter, options);
+    let mut source = Reading::<_, I>::new(reader, counts.input);
+    let mut sink = Writing::<_, O>::new(rt.stdout(), counts.output);
+    let done = table_on(threads, rt.alloc(), &mut source, &mut sink, &mut meter, options);
     drop(source);
     if let Some(bytes) = kept.into_inner() {
         explain_table(rt.alloc(), &bytes, &mut rt.stderr());
