@@ -6,7 +6,7 @@ use crate::fault::ProgramFault;
 use crate::notice::tell_line;
 use csv::{ByteRecord, Reader, ReaderBuilder};
 use ps_content::read_entry;
-use ps_grid::{COLUMNS, Cell, ROWS};
+use ps_grid::{COLUMNS, Cell, ROWS, Refusal};
 use ps_hints::{field_note, line_note, record_note};
 use ps_session::{Outcome, Watcher};
 use std::alloc::Global;
@@ -51,6 +51,7 @@ impl<W: Write + Drop> Onlooker<W> {
 }
 
 impl<W: Write + Drop> Watcher for Onlooker<W> {
+    #[inline]
     fn saw(&mut self, line: &[u8], outcome: Outcome) {
         self.lines = self.lines.saturating_add(1);
         let refusal = match outcome {
@@ -61,10 +62,23 @@ impl<W: Write + Drop> Watcher for Onlooker<W> {
             self.refused = self.refused.saturating_add(1);
         }
         if let Some(out) = &mut self.out {
-            if let Some(note) = line_note(self.lines, line, refusal) {
-                tell_line(self.alloc, &note, out);
-            }
+            tell_hint(self.alloc, self.lines, line, refusal, out);
         }
+    }
+}
+
+/// Tells of a line that has a hint.
+// Not inlined, so that its room isn't made where nobody is told.
+#[inline(never)]
+fn tell_hint<W: Write>(
+    alloc: Global,
+    number: u64,
+    line: &[u8],
+    refusal: Option<Refusal>,
+    out: &mut W,
+) {
+    if let Some(note) = line_note(number, line, refusal) {
+        tell_line(alloc, &note, out);
     }
 }
 
