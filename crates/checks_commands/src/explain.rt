@@ -1,9 +1,18 @@
 //! What is told of lines and of the fields of a table while they are taken in.
+ghost use Rattle.std.specs.Prelude.{◌≡◌};
+ghost use Rattle.ps_grid.specs.Blanks.{IsBlankOf};
 
-use ps_commands::{Onlooker, ProgramFault, explain_table};
+use ps_commands::{Counts, Onlooker, ProgramFault, table_on};
+use ps_device::{MemorySink, Reading};
+use ps_eval::Meter;
 use ps_grid::Refusal;
 use ps_session::{Outcome, Watcher};
+use ps_words::TableOptions;
+use std::alloc::Global;
+use std::marker::Brand;
+use std::sync::ledger::{Blank, Ledger};
 use std::test::Fail;
+use std::thread::Threads;
 
 /// Tables, with what is told of them: nothing after the first field that is refused.
 const TABLES: [(&str, &str); 4] = [
@@ -22,12 +31,54 @@ const TABLES: [(&str, &str); 4] = [
     ),
 ];
 
+/// What an onlooker tells while a table is taken in.
+fn told_of<R: Threads + Sync>(rt: &R, alloc: Global, table: &[u8]) -> Vec<u8> {
+    let counts = Counts {
+        input: Blank::new(1),
+        output: Blank::new(1),
+        held: Blank::new(1),
+        evaluations: Blank::new(1),
+    };
+    told_counted::<R, Brand, Brand, Brand>(rt, alloc, table, counts)
+}
+
+/// The same, where these blanks count.
+fn told_counted<R: Threads + Sync, I: Ledger, O: Ledger, M: Ledger>(
+    rt: &R,
+    alloc: Global,
+    table: &[u8],
+    counts: Counts,
+) -> Vec<u8>
+    requires input { IsBlankOf counts.input I.name I.parts }
+    requires output { IsBlankOf counts.output O.name O.parts }
+    requires evaluations { IsBlankOf counts.evaluations M.name M.parts }
+{
+    let mut source = Reading::<&[u8], I>::new(table, counts.input);
+    let mut sink = MemorySink::<O>::new(alloc, counts.output);
+    let mut meter = Meter::<M>::new(counts.evaluations);
+    let mut onlooker = Onlooker::new(alloc, Some(Vec::new(alloc)));
+    let options = TableOptions {
+        workers: 1,
+        entries: false,
+        explain: true,
+    };
+    let _ = table_on(
+        rt,
+        alloc,
+        &mut source,
+        &mut sink,
+        &mut meter,
+        options,
+        &mut onlooker,
+    );
+    onlooker.into_out().unwrap_or(Vec::new(alloc))
+}
+
 /// Each field that has a hint is told with its place.
 #[test]
 fn fields_are_told(rt: HostRuntime) -> Result<(), Fail> {
     for (table, told) in TABLES {
-        let mut out = Vec::new(rt.alloc());
-        explain_table(rt.alloc(), table.as_bytes(), &mut out);
+        let out = told_of(&rt, rt.alloc(), table.as_bytes());
         assert!(rt; out.as_slice() == told.as_bytes(), "of {table}");
     }
     Ok(())

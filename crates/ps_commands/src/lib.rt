@@ -53,7 +53,7 @@ pub use connection::{Attended, KeptSeat, attend_kept, attend_lines};
 pub use counts::Counts;
 pub use elsewhere::{KeptOnlooker, NumberElsewhere, Warner, tell_opened};
 pub use exchange::sync_on;
-pub use explain::{KeptReader, Onlooker, explain_table};
+pub use explain::Onlooker;
 pub use fault::{ProgramFault, status_of};
 pub use follow::follow_on;
 pub use kept::{KeptFault, KeptTrouble, OpenedFile, keep_sheet, open_file};

@@ -7,7 +7,7 @@ ghost use Rattle.ps_commands.specs.Commands.{IsCauseOf, IsTableOf, cells_text, f
 ghost use Rattle.ps_commands.specs.declared.fault.ProgramFault.TheVariants.{Refused};
 
 use crate::fault::{ProgramFault, fault_of_import};
-use ps_csv::{Imported, export, export_entries, import};
+use ps_csv::{Imported, TableWatcher, export, export_entries, import_watched};
 use ps_device::{Sink, Source, hand_on};
 use ps_eval::Meter;
 use ps_grid::{Cell, Rect, Refusal};
@@ -26,14 +26,17 @@ use std::thread::Threads;
 /// reader failed is a fault of its own. Nothing is written before the whole table is taken in: where the source failed
 /// nothing was written, where the sink failed a beginning of the due text.
 ///
-/// Cost: that of an import and an export.
-pub fn table_on<R: Threads + Sync, S: Source, K: Sink, L: Ledger>(
+/// A watcher sees the fields as they are read; it changes nothing.
+///
+/// Cost: that of an import and an export, and the watcher's own.
+pub fn table_on<R: Threads + Sync, S: Source, K: Sink, L: Ledger, W: TableWatcher>(
     rt: &R,
     alloc: Global,
     source: &mut S,
     sink: &mut K,
     meter: &mut Meter<L>,
     options: TableOptions,
+    watcher: &mut W,
 ) -> Result<(), ProgramFault>
     ensures done { OnOk result ((bytes : List ℕ) × (text : List ℕ)
         × Consumes (S.remaining source.old) (S.remaining source.new) bytes × IsAtEnd (S.remaining source.new)
@@ -50,7 +53,7 @@ pub fn table_on<R: Threads + Sync, S: Source, K: Sink, L: Ledger>(
         × Appends (K.contents sink.old) (K.contents sink.new) (take count text)) }
     ensures unwritten { IfErr result (λ f. f ≢ Refused Refusal.Device → sink.new ≡ sink.old) }
 {
-    let (sheet, imported) = match taken_in(rt, alloc, source, meter, options) {
+    let (sheet, imported) = match taken_in(rt, alloc, source, meter, options, watcher) {
         Ok(taken) => taken,
         Err(fault) => return Err(fault),
     };
@@ -62,12 +65,13 @@ pub fn table_on<R: Threads + Sync, S: Source, K: Sink, L: Ledger>(
 
 /// An empty sheet of replica 1 with so many workers that took in a table of entries, with the table's records and
 /// fields.
-fn taken_in<R: Threads + Sync, S: Source, L: Ledger>(
+fn taken_in<R: Threads + Sync, S: Source, L: Ledger, W: TableWatcher>(
     rt: &R,
     alloc: Global,
     source: &mut S,
     meter: &mut Meter<L>,
     options: TableOptions,
+    watcher: &mut W,
 ) -> Result<(Sheet, Imported), ProgramFault>
     ensures taken { IfOk result (λ t. (bytes : List ℕ)
         × Consumes (S.remaining source.old) (S.remaining source.new) bytes × IsAtEnd (S.remaining source.new)
@@ -83,7 +87,7 @@ fn taken_in<R: Threads + Sync, S: Source, L: Ledger>(
         Ok(sheet) => sheet,
         Err(refusal) => return Err(ProgramFault::Refused(refusal)),
     };
-    match import(rt, alloc, source, &mut sheet, meter) {
+    match import_watched(rt, alloc, source, &mut sheet, meter, watcher) {
         Ok(imported) => Ok((sheet, imported)),
         Err(fault) => Err(fault_of_import(fault)),
     }

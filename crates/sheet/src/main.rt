@@ -23,19 +23,18 @@ ghost use Rattle.ps_grid.specs.Blanks.{IsBlankOf};
 use clap::Error;
 use clap::error::ErrorKind;
 use ps_commands::{
-    Counts, KeptOnlooker, KeptReader, Onlooker, ProgramFault, answer_kept, answer_lines,
-    explain_table, follow_on, keep_sheet, open_file, open_page, port_fault, serve, serve_kept,
-    squash_on, status_of, sync_on, table_on, tell_opened,
+    Counts, KeptOnlooker, Onlooker, ProgramFault, answer_kept, answer_lines, follow_on, keep_sheet,
+    open_file, open_page, port_fault, serve, serve_kept, squash_on, status_of, sync_on, table_on,
+    tell_opened,
 };
 use ps_device::{ConsoleOutput, Reading, Sink, Writing};
 use ps_eval::Meter;
 use ps_grid::Refusal;
 use ps_session::{HeldOutput, Resources};
 use ps_words::{LineOptions, Options, ServeOptions, TableOptions, read_words};
-use std::cell::RefCell;
 use std::fs::File;
 use std::io;
-use std::io::IsTerminal;
+use std::io::{IsTerminal, Write};
 use std::marker::Brand;
 use std::net::{Net, TcpListener, TcpStream};
 use std::process::ExitCode;
@@ -310,14 +309,21 @@ fn put_table<R: Threads + Sync, I: Ledger, O: Ledger, M: Ledger>(
     requires evaluations { IsBlankOf counts.evaluations M.name M.parts }
 {
     let mut meter = Meter::<M>::new(counts.evaluations);
-    let kept = RefCell::new(is_explained(rt, options.explain).then_some(Vec::new(rt.alloc())));
-    let reader = KeptReader::new(rt.reader(), &kept);
-    let mut source = Reading::<_, I>::new(reader, counts.input);
+    let told = is_explained(rt, options.explain).then_some(Vec::new(rt.alloc()));
+    let mut onlooker = Onlooker::new(rt.alloc(), told);
+    let mut source = Reading::<_, I>::new(rt.reader(), counts.input);
     let mut sink = Writing::<_, O>::new(rt.stdout(), counts.output);
-    let done = table_on(threads, rt.alloc(), &mut source, &mut sink, &mut meter, options);
-    drop(source);
-    if let Some(bytes) = kept.into_inner() {
-        explain_table(rt.alloc(), &bytes, &mut rt.stderr());
+    let done = table_on(
+        threads,
+        rt.alloc(),
+        &mut source,
+        &mut sink,
+        &mut meter,
+        options,
+        &mut onlooker,
+    );
+    if let Some(text) = onlooker.into_out() {
+        let _ = rt.stderr().write_all(&text);
     }
     done
 }
