@@ -10,7 +10,8 @@ use Rattle.ps_keep.specs.Crash.{SurvivesCrashes}
 use Rattle.ps_keep.specs.Journals.{IsJournal, JournalView}
 use Rattle.ps_keep.proofs.CrashLemmas.{journal_survives, prefix_trans}
 use Rattle.ps_kept.specs.Inside.{later}
-use Rattle.ps_kept.specs.Kept.{IsKept, IsNoted, Notes, PushAll, Tells, push_line}
+use Rattle.ps_session.specs.PushLine.{push_line}
+use Rattle.ps_kept.specs.Kept.{IsKept, IsNoted, Notes, PushAll, Tells}
 use Rattle.ps_kept.specs.Starts.{Outlives}
 use Rattle.ps_kept.proofs.NoteLemmas.{PushAll-both}
 use Rattle.ps_kept.proofs.StartLemmas.{PushAll-length}

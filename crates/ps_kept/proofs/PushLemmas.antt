@@ -16,7 +16,7 @@ use Rattle.ps_wire.specs.Line.{IsLine}
 use Rattle.ps_sheet.specs.Sheet.{IsFresh, Takes}
 use Rattle.ps_keep.specs.Lines.{whole_lines}
 use Rattle.ps_kept.specs.Inside.{IsFaultyPush, IsPushFault, ReadSoFar}
-use Rattle.ps_session.specs.Exchange.{push_word}
+use Rattle.ps_session.specs.PushLine.{push_word}
 use Rattle.ps_session.specs.ReplicaLine.{replica_line}
 use Rattle.ps_kept.specs.Kept.{PushAll, Pushes, Tells}
 use Rattle.ps_kept.specs.Starts.{Follows, HasNoFirst, IsFaultOf, IsUnbegun, Reads}

@@ -2,14 +2,10 @@
 use Rattle.std.specs.Prelude.{◌≡◌, ℕ, List, [], ◌∷◌, ◌++◌, map, ⊤}
 use mathlib.Core.List.{IsPrefix}
 use Rattle.ps_delta.specs.Deltas.{Entries}
-use Rattle.ps_wire.specs.Line.{IsLine, delta_text}
-use Rattle.ps_session.specs.Exchange.{push_word}
+use Rattle.ps_wire.specs.Line.{IsLine}
+use Rattle.ps_session.specs.PushLine.{push_line, push_word}
 use Rattle.ps_session.specs.ReplicaLine.{replica_line}
 use Rattle.ps_keep.specs.Journals.{IsJournal, JournalView}
-
--- the line that is written for a delta
-abbrev pub push_line : Entries → List ℕ
-push_line delta = push_word ++ delta_text delta
 
 -- the line pushes the delta, in whatever spelling
 abbrev pub Pushes : List ℕ → Entries → Type 0

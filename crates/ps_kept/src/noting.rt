@@ -2,14 +2,14 @@
 ghost use Rattle.std.specs.Prelude.{◌≡◌, ◌+◌, ◌<◌, ◌≤◌, ◌^◌, ◌++◌, ◌∷◌, ℕ, [], OnOk, OnErr, length, map, take};
 ghost use Rattle.std.specs.Arc.{arc_value};
 ghost use Rattle.ps_keep.specs.Journals.{IsJournal};
-ghost use Rattle.ps_kept.specs.Kept.{Notes, Pushes, push_line};
+ghost use Rattle.ps_session.specs.PushLine.{push_line};
+ghost use Rattle.ps_kept.specs.Kept.{Notes, Pushes};
 
 use ps_delta::Delta;
 use ps_device::Failed;
 use ps_grid::Refusal;
 use ps_keep::{Device, Journal};
-use ps_session::PUSH;
-use ps_wire::encode;
+use ps_session::put_push_line;
 use std::alloc::Global;
 use std::sync::Arc;
 
@@ -19,8 +19,7 @@ fn write_line(alloc: Global, delta: &Delta, line: &mut Vec<u8>) -> Result<(), Re
     ensures pushes { OnOk result (Pushes (push_line delta.now) delta.now) }
 {
     line.clear();
-    line.extend_from_slice(PUSH)?;
-    encode(alloc, delta, line)
+    put_push_line(alloc, delta, line)
 }
 
 /// Notes the line of a delta.

@@ -14,7 +14,7 @@ use crate::fault::KeepFault;
 use ps_eval::Meter;
 use ps_grid::Refusal;
 use ps_keep::first_line;
-use ps_session::{PUSH, line_of_replica, told_replica};
+use ps_session::{line_of_replica, pushed, told_replica};
 use ps_sheet::Sheet;
 use ps_wire::decode;
 use std::alloc::Global;
@@ -62,10 +62,10 @@ fn take_in<R: Threads + Sync, L: Ledger>(
     ensures workers { sheet.new.workers ≡ sheet.old.workers }
     ensures sheet { IsSheet sheet.old → IsSheet sheet.new }
 {
-    if !line.starts_with(PUSH) {
+    let Some(text) = pushed(line) else {
         return Ok(false);
-    }
-    let delta = match decode(alloc, &line[PUSH.len()..]) {
+    };
+    let delta = match decode(alloc, text) {
         Ok(delta) => delta,
         Err(Refusal::Delta) => return Ok(false),
         Err(_) => return Err(Refusal::Memory),

@@ -13,20 +13,13 @@ use Rattle.ps_session.specs.declared.pulling.SyncFault.{SyncFault}
 use Rattle.ps_session.specs.declared.pulling.SyncFault.TheVariants.{PeerRefused, Refused}
 use Rattle.ps_session.specs.Feeding.{HasNoFeed, without_return}
 use Rattle.ps_session.specs.Peers.{IsClosed, IsReplied, PeerView, PutsSome, TakesLine}
+use Rattle.ps_session.specs.PushLine.{push_text}
 use Rattle.ps_session.specs.Transcript.{Answering, Run, stream_of}
 use Rattle.ps_session.specs.Words.{whole_number}
 
 -- what asks for the deltas after a version, as many at once as a reply may join
 abbrev pub pull_text : ℕ → List ℕ
 pull_text version = codes "pull " ++ decimal version ++ (codes " " ++ decimal LARGEST_GROUP) ++ 10 ∷ []
-
--- the word of a line that is to be pushed, with its space
-abbrev pub push_word : List ℕ
-push_word = codes "push "
-
--- the line that hands on a delta line
-abbrev pub push_text : List ℕ → List ℕ
-push_text delta = push_word ++ (delta ++ 10 ∷ [])
 
 -- the reply `delta`, with a version and a delta line
 pub record TellsDelta (reply : List ℕ) (last : ℕ) (delta : List ℕ) : Type 0 where

@@ -3,6 +3,7 @@ pub mod Transcript
 pub mod Replies
 pub mod Inside
 pub mod Peers
+pub mod PushLine
 pub mod Exchange
 pub mod ReplicaLine
 pub mod Words

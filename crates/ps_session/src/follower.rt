@@ -2,14 +2,15 @@
 ghost use Rattle.std.specs.Prelude.{◌≡◌, ◌⊎◌, ◌<◌, [], Err, IfErr, OnErr, OnOk, false, true};
 ghost use Rattle.std.specs.Io.KnownBytes.{Appends};
 ghost use Rattle.ps_grid.specs.declared.refusal.Refusal.TheVariants as Refusal;
-ghost use Rattle.ps_session.specs.Exchange.{IsAll, IsHalted, IsLeft, IsOwn, push_text};
+ghost use Rattle.ps_session.specs.Exchange.{IsAll, IsHalted, IsLeft, IsOwn};
 ghost use Rattle.ps_session.specs.Feeding.{without_return};
 ghost use Rattle.ps_session.specs.Peers.{PutsSome};
+ghost use Rattle.ps_session.specs.PushLine.{push_text};
 ghost use Rattle.ps_session.specs.declared.pulling.SyncFault.TheVariants.{Refused};
 
 use crate::peer::Peer;
-use crate::pulling::{Due, PUSH, SyncFault, next_due};
-use crate::reply::send_pieces;
+use crate::pulling::{Due, SyncFault, next_due};
+use crate::push_line::send_push;
 use ps_device::{Failed, Sink, Source, hand_on};
 use ps_grid::Refusal;
 use std::alloc::Global;
@@ -33,8 +34,7 @@ fn write_push<O: Sink>(delta: &[u8], out: &mut O) -> Result<(), Failed>
     ensures calm { OnOk result (O.failures out.new ≡ O.failures out.old) }
     ensures failed { OnErr result (O.failures out.old < O.failures out.new) }
 {
-    let pieces: [&[u8]; 3] = [PUSH, delta, b"\n"];
-    send_pieces(pieces.as_slice(), out)?;
+    send_push(delta, out)?;
     hand_on(out)?;
     Ok(())
 }

@@ -14,9 +14,6 @@ use ps_device::{Sink, Source};
 use ps_grid::Refusal;
 use std::alloc::Global;
 
-/// The first word of a line that hands on a delta, with its space.
-pub const PUSH: &[u8] = b"push ";
-
 /// What ends an exchange between replicas early.
 #[derive(Debug, Drop)]
 pub enum SyncFault {

@@ -1,12 +1,14 @@
 //! What one replica has, pulled group by group and handed to another.
 ghost use Rattle.std.specs.Prelude.{◌≡◌, ◌⊎◌, ◌<◌, ⊤, Err, OnErr, OnOk};
 ghost use Rattle.ps_grid.specs.declared.refusal.Refusal.TheVariants as Refusal;
-ghost use Rattle.ps_session.specs.Exchange.{IsAll, IsHalted, push_text};
+ghost use Rattle.ps_session.specs.Exchange.{IsAll, IsHalted};
 ghost use Rattle.ps_session.specs.Peers.{IsReplied, PutsSome};
+ghost use Rattle.ps_session.specs.PushLine.{push_text};
 ghost use Rattle.ps_session.specs.declared.pulling.SyncFault.TheVariants.{Refused};
 
 use crate::peer::Peer;
-use crate::pulling::{Due, PUSH, SyncFault, fault_of, next_due, refused};
+use crate::pulling::{Due, SyncFault, fault_of, next_due, refused};
+use crate::push_line::push_pieces;
 use crate::replies::{PeerReply, read_reply};
 use ps_device::{Sink, Source};
 use ps_grid::Refusal;
@@ -22,7 +24,7 @@ fn push<S: Source + Drop, K: Sink + Drop>(
     ensures put { PutsSome to.old.asked to.new.asked (push_text delta.now) }
     ensures failed { result ≡ Err (Refused Refusal.Device) → to.old.failures < to.new.failures }
 {
-    let request: [&[u8]; 3] = [PUSH, delta, b"\n"];
+    let request = push_pieces(delta);
     match to.ask(request.as_slice()) {
         Ok(()) => {}
         Err(fault) => return Err(fault_of(fault)),

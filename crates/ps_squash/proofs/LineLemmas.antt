@@ -12,7 +12,7 @@ use Rattle.ps_delta.specs.Deltas.{Entries}
 use Rattle.ps_wire.specs.Line.{IsLine}
 use Rattle.ps_session.specs.declared.session.TheConstants.{LINE_LIMIT}
 use Rattle.ps_session.specs.Feeding.{kept, without_return}
-use Rattle.ps_session.specs.Exchange.{push_word}
+use Rattle.ps_session.specs.PushLine.{push_word}
 use Rattle.ps_session.specs.ReplicaLine.{TellsNone, replica_line}
 use Rattle.ps_squash.specs.Squashed.{Says, after_push}
 

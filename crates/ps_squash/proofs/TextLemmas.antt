@@ -10,7 +10,7 @@ use Rattle.ps_delta.specs.Order.{Rising}
 use Rattle.ps_delta.proofs.EntryLemmas.{state_of-at}
 use Rattle.ps_wire.specs.Fits.{FitsLine}
 use Rattle.ps_wire.specs.Line.{IsLine, delta_text}
-use Rattle.ps_squash.specs.Squashed.{AreFull, Divide, HasNoRoomFor, cells_in, push_line, push_lines}
+use Rattle.ps_squash.specs.Squashed.{AreFull, Divide, HasNoRoomFor, cells_in, ended_line, push_lines}
 use Rattle.ps_squash.specs.Squashed.{told_line}
 use Rattle.ps_squash.specs.Inside.{AreWritten, HasWide, IsText}
 use Rattle.ps_squash.proofs.CellLemmas.{divided_history, front_is_delta, rising_of, rising_right}
@@ -38,16 +38,16 @@ front_delta es left before text n w some =
 pub written_more : (es left : Entries) (before text : List ℕ) (n : ℕ) → (w : AreWritten es left before text)
     → 0 < length (take n left) → IsLine (delta_text (take n left)) (take n left)
     → HasNoRoomFor (take n left) (drop n left)
-    → AreWritten es (drop n left) before (text ++ push_line (take n left))
+    → AreWritten es (drop n left) before (text ++ ended_line (take n left))
 written_more es left before text n w some line full =
     let front = take n left in
     let rest = drop n left in
     let parts : front ++ rest ≡ left = take-append-drop n left in record {
       deltas = w.deltas ++ front ∷ [];
-      spelled = ap (λ t. t ++ push_line front) w.spelled
-          ∙ append_assoc before (push_lines w.deltas) (push_line front)
-          ∙ ap (λ t. before ++ (push_lines w.deltas ++ t)) (sym (append-nil (push_line front)))
-          ∙ ap (λ t. before ++ t) (sym (flat_map-append push_line w.deltas (front ∷ [])));
+      spelled = ap (λ t. t ++ ended_line front) w.spelled
+          ∙ append_assoc before (push_lines w.deltas) (ended_line front)
+          ∙ ap (λ t. before ++ (push_lines w.deltas ++ t)) (sym (append-nil (ended_line front)))
+          ∙ ap (λ t. before ++ t) (sym (flat_map-append ended_line w.deltas (front ∷ [])));
       whole = ap (λ t. t ++ rest) (flat_map-append (λ d. d) w.deltas (front ∷ []))
           ∙ append_assoc (cells_in w.deltas) (front ++ []) rest
           ∙ ap (λ t. cells_in w.deltas ++ (t ++ rest)) (append-nil front)
@@ -75,7 +75,7 @@ written_all es left before text w none = (
 -- one line more, as the code writes it
 pub written_step : (es left : Entries) (before text : List ℕ) (n : ℕ) (front rest : Entries) (new : List ℕ)
     → AreWritten es left before text → IsCount n left → front ≡ take n left → rest ≡ drop n left
-    → new ≡ text ++ push_line front → IsLine (delta_text front) front → AreWritten es rest before new
+    → new ≡ text ++ ended_line front → IsLine (delta_text front) front → AreWritten es rest before new
 written_step es left before text n front rest new w k is_front is_rest is_new line =
     let more = written_more es left before text n w k.front
     (subst (λ f. IsLine (delta_text f) f) is_front line) k.full in

@@ -6,8 +6,8 @@ use Rattle.ps_delta.specs.State.{State}
 use Rattle.ps_delta.specs.Deltas.{AreEntries, Entries, IsDelta, joined_history}
 use Rattle.ps_wire.specs.Fits.{FitsLine}
 use Rattle.ps_wire.specs.Line.{IsLine, delta_text}
-use Rattle.ps_session.specs.Exchange.{push_word}
 use Rattle.ps_session.specs.Feeding.{HasNoFeed, without_return}
+use Rattle.ps_session.specs.PushLine.{push_line, push_word}
 use Rattle.ps_session.specs.ReplicaLine.{Tells, TellsNone, replica_line}
 use Rattle.ps_session.specs.Transcript.{IsAfterLine, Splits, stream_of, with_last}
 
@@ -73,13 +73,13 @@ abbrev pub told_line : Option ℕ → List ℕ
 told_line None = []
 told_line (Some n) = replica_line n ++ 10 ∷ []
 
--- the line that pushes a delta
-abbrev pub push_line : Entries → List ℕ
-push_line delta = push_word ++ delta_text delta ++ 10 ∷ []
+-- the line that pushes a delta, with its line feed
+abbrev pub ended_line : Entries → List ℕ
+ended_line delta = push_line delta ++ 10 ∷ []
 
--- the lines, one after another
+-- these lines, one after another
 abbrev pub push_lines : List Entries → List ℕ
-push_lines deltas = flat_map push_line deltas
+push_lines deltas = flat_map ended_line deltas
 
 -- all their cells, one delta after another
 abbrev pub cells_in : List Entries → Entries

@@ -15,7 +15,7 @@ use crate::fault::SquashFault;
 use ps_delta::Grid;
 use ps_device::{PIECE_BYTES, Source};
 use ps_grid::Refusal;
-use ps_session::{Line, PUSH, Session, told_replica};
+use ps_session::{Line, Session, pushed, told_replica};
 use ps_wire::decode;
 use std::alloc::Global;
 
@@ -38,10 +38,9 @@ struct Intake {
 fn delta_part(line: &[u8]) -> &[u8]
     ensures { result.now ≡ after_push line.now }
 {
-    if line.starts_with(PUSH) {
-        &line[PUSH.len()..]
-    } else {
-        line
+    match pushed(line) {
+        Some(delta) => delta,
+        None => line,
     }
 }
 

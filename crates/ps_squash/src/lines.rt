@@ -8,12 +8,12 @@ ghost use Rattle.ps_delta.specs.State.{empty_cell};
 ghost use Rattle.ps_wire.specs.Fits.{FitsLine};
 ghost use Rattle.ps_wire.specs.Line.{IsLine, delta_text};
 ghost use Rattle.ps_wire.specs.declared.TheConstants.{DELTA_LINE_LIMIT};
-ghost use Rattle.ps_squash.specs.Squashed.{Divide, push_line, push_lines};
+ghost use Rattle.ps_squash.specs.Squashed.{Divide, ended_line, push_lines};
 ghost use Rattle.ps_squash.specs.Inside.{HasWide, cell_size, ended_size};
 
 use ps_delta::{CellState, Delta};
 use ps_grid::{Cell, Refusal, Twin};
-use ps_session::PUSH;
+use ps_session::put_push_line;
 use ps_wire::{DELTA_LINE_LIMIT, encode};
 use std::alloc::Global;
 
@@ -144,13 +144,12 @@ fn count_with_room(sizes: &[usize]) -> usize
 fn put_line(alloc: Global, cells: &[(Cell, CellState)], text: &mut Vec<u8>) -> Result<(), Refusal>
     requires delta { IsDelta cells.now }
     requires fits { FitsLine cells.now }
-    ensures line { OnOk result (text.new.items ≡ text.old.items ++ push_line cells.now) }
+    ensures line { OnOk result (text.new.items ≡ text.old.items ++ ended_line cells.now) }
     ensures is_line { OnOk result (IsLine (delta_text cells.now) cells.now) }
     ensures memory { IfErr result (λ e. e ≡ refusals.Memory) }
 {
     let delta = delta_of(alloc, cells)?;
-    text.extend_from_slice(PUSH)?;
-    encode(alloc, &delta, text)?;
+    put_push_line(alloc, &delta, text)?;
     text.push(b'\n')?;
     Ok(())
 }

@@ -1,9 +1,9 @@
 use Rattle.std.proofs.Common.{◌∙◌, ◌<◌, drop, inl, refl, subst}
 use Rattle.std.specs.Io.KnownBytes.{Appends}
 use Rattle.ps_device.proofs.DeviceLemmas.{rest-range}
-use Rattle.ps_session.specs.Exchange.{push_text}
 use Rattle.ps_session.specs.Feeding.{without_return}
 use Rattle.ps_session.specs.Peers.{PutsSome}
+use Rattle.ps_session.specs.PushLine.{push_text}
 use Rattle.ps_session.proofs.ExchangeLemmas.{followed_end, followed_more, halted_cut}
 use Rattle.ps_session.proofs.follower.follow.Goals as goal
 

@@ -1,0 +1,16 @@
+-- The line that pushes a delta.
+use Rattle.std.specs.Prelude.{ℕ, List, [], ◌∷◌, ◌++◌, codes}
+use Rattle.ps_delta.specs.Deltas.{Entries}
+use Rattle.ps_wire.specs.Line.{delta_text}
+
+-- its first word, with its space
+abbrev pub push_word : List ℕ
+push_word = codes "push "
+
+-- the line that pushes a delta in its compact spelling, without a line feed
+abbrev pub push_line : Entries → List ℕ
+push_line delta = push_word ++ delta_text delta
+
+-- the line that hands on a delta line, with its line feed
+abbrev pub push_text : List ℕ → List ℕ
+push_text delta = push_word ++ (delta ++ 10 ∷ [])

@@ -1,0 +1,66 @@
+//! The line that pushes a delta: how it is written, and what of it is the delta's.
+ghost use Rattle.std.specs.Prelude.{◌≡◌, ◌⊎◌, ◌<◌, ◌++◌, Err, IfErr, MatchOption, OnErr, OnOk, false, flat_map, length};
+ghost use Rattle.std.specs.Prelude.{nat_eq};
+ghost use Rattle.std.specs.List.{starts_with};
+ghost use Rattle.ps_device.specs.Device.{Sends};
+ghost use Rattle.ps_grid.specs.declared.refusal.Refusal.TheVariants as refusals;
+ghost use Rattle.ps_wire.specs.Line.{IsLine, delta_text};
+ghost use Rattle.ps_wire.specs.declared.TheConstants.{DELTA_LINE_LIMIT};
+ghost use Rattle.ps_session.specs.PushLine.{push_line, push_text, push_word};
+
+use crate::reply::send_pieces;
+use ps_delta::Delta;
+use ps_device::{Failed, Sink};
+use ps_grid::Refusal;
+use ps_wire::encode;
+use std::alloc::Global;
+
+/// The first word of the line, with its space.
+const PUSH: &[u8] = b"push ";
+
+/// Appends the line that pushes a delta, without a line feed.
+///
+/// Refused as `TooLong` only where the delta has no line, and out of memory. Then a beginning of the line may stand
+/// there.
+///
+/// Cost: that of [`encode`].
+pub fn put_push_line(alloc: Global, delta: &Delta, text: &mut Vec<u8>) -> Result<(), Refusal>
+    ensures appended { OnOk result (text.new.items ≡ text.old.items ++ push_line delta.now) }
+    ensures is_line { OnOk result (IsLine (delta_text delta.now) delta.now) }
+    ensures too_long { result ≡ Err refusals.TooLong → DELTA_LINE_LIMIT < length (delta_text delta.now) }
+    ensures refused { IfErr result (λ e. (e ≡ refusals.TooLong) ⊎ (e ≡ refusals.Memory)) }
+{
+    text.extend_from_slice(PUSH)?;
+    encode(alloc, delta, text)
+}
+
+/// What a line pushes: all after its first word, where that is `push`.
+///
+/// Cost: constant.
+pub fn pushed(line: &[u8]) -> Option<&[u8]>
+    ensures { MatchOption result (starts_with nat_eq line.now push_word ≡ false)
+        (λ delta. line.now ≡ push_word ++ delta.now) }
+{
+    if line.starts_with(PUSH) {
+        Some(&line[PUSH.len()..])
+    } else {
+        None
+    }
+}
+
+/// The pieces of the line that pushes a delta's line, with its line feed.
+pub(crate) fn push_pieces(delta: &[u8]) -> [&[u8]; 3]
+    ensures { flat_map (λ piece. piece.now) result ≡ push_text delta.now }
+{
+    [PUSH, delta, b"\n"]
+}
+
+/// Writes the line that pushes a delta's line, with its line feed.
+pub(crate) fn send_push<K: Sink>(delta: &[u8], sink: &mut K) -> Result<(), Failed>
+    ensures sent { Sends (K.contents sink.old) (K.contents sink.new) result (push_text delta.now) }
+    ensures calm { OnOk result (K.failures sink.new ≡ K.failures sink.old) }
+    ensures failed { OnErr result (K.failures sink.old < K.failures sink.new) }
+{
+    let pieces = push_pieces(delta);
+    send_pieces(pieces.as_slice(), sink)
+}
