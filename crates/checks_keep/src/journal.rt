@@ -60,6 +60,32 @@ fn the_torn_end_is_cut(rt: HostRuntime) -> Result<(), Fail> {
     Ok(())
 }
 
+/// A crash amid a settle leaves none, a part or all of what was written: the next start reads the line where all is
+/// there, and no line else.
+#[test]
+fn a_crash_leaves_a_beginning(rt: HostRuntime) -> Result<(), Fail> {
+    let alloc = rt.alloc();
+    for left in 0..3usize {
+        match opened(alloc, b"", 2)? {
+            Some(mut journal) => {
+                journal.note(b"a")?;
+                assert!(rt; journal.settle().is_err());
+                let device = journal.into_device();
+                assert_eq!(rt; device.bytes.len(), 2);
+                if device.synced <= left && left <= device.bytes.len() {
+                    let file = device.crash(left);
+                    assert_eq!(rt; file.bytes.len(), left);
+                    assert!(rt; first_line(&file.bytes).is_some() == (left == 2));
+                } else {
+                    assert!(rt; false);
+                }
+            }
+            None => assert!(rt; false),
+        }
+    }
+    Ok(())
+}
+
 /// The third call fails, a sync; from then on each settle does.
 #[test]
 fn a_failed_sync_stops_the_journal(rt: HostRuntime) -> Result<(), Fail> {
