@@ -118,12 +118,29 @@ class Memory(ProgramTest):
             self.assertEqual(peer.ask(""), "err 15 line")
             self.assertLess(self.most_kb(peer) - before, ENDLESS_KB)
 
+    def test_replies_to_lines_that_come_at_once(self):
+        """A hundred lines that are read at once have 10 MB of replies, which never wait all together."""
+        for words in ([], ["--keep", str(self.folder() / "plan.lines")]):
+            with self.subTest(words=words), peers.on_pipes("run", *words) as peer:
+                self.read_tables(peer, 1)
+                before = self.most_kb(peer)
+                self.read_tables(peer, 100)
+                self.assertLess(self.most_kb(peer) - before, ENDLESS_KB)
+
     def test_a_table_of_commas(self):
         for kb, refusal in ((TABLE_KB, "18 csv"), (TABLE_KB // 2, "19 memory")):
             with self.subTest(kb=kb):
                 given = self.file_of(b"," * LARGEST_TABLE)
                 ended = run_within(f"-v {kb}", "table", stdin=given)
                 self.assertEqual(ended, Ended(3, b"", lines(f"err {refusal}")))
+
+    def read_tables(self, peer, count):
+        """Asks for the whole sheet so often, all at once, and reads the replies."""
+        peer.send(b"rows A1:CZ1024\n" * count)
+        for _ in range(count):
+            self.assertEqual(peer.reply(), "rows 1024")
+            for _ in range(1024):
+                self.assertEqual(peer.reply(), "," * (COLUMNS - 1))
 
     def most_kb(self, peer):
         """The most memory that the session had so far, in KB."""

@@ -1,6 +1,7 @@
 """`sheet sync` between peers that speak the lines of a session: what it sends, and what ends it early."""
 import contextlib
 import socket
+import struct
 import threading
 
 from program import DEVICE_FAILED, LIMIT, Ended, ProgramTest, lines, run
@@ -195,6 +196,21 @@ class Connections(Syncing):
             thread.start()
             ended = run("sync", "--from", str(listener.getsockname()[1]), "--to", str(peer.port))
             thread.join(LIMIT)
+            self.assertEqual(ended, Ended(1, b"", DEVICE_FAILED))
+
+    def test_a_peer_that_was_reset_before_it_is_pushed_to(self):
+        """So that it isn't the reply that fails, but what is sent."""
+        with socket.create_server(("127.0.0.1", 0)) as listener:
+            listener.settimeout(LIMIT)
+
+            def delta(_):
+                connection, _ = listener.accept()
+                connection.setsockopt(socket.SOL_SOCKET, socket.SO_LINGER, struct.pack("ii", 1, 0))
+                connection.close()
+                return b"delta 1 []\n"
+
+            peer = self.peer(delta)
+            ended = run("sync", "--from", str(peer.port), "--to", str(listener.getsockname()[1]))
             self.assertEqual(ended, Ended(1, b"", DEVICE_FAILED))
 
     def test_an_output_that_fails(self):
