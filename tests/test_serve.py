@@ -4,10 +4,12 @@ import signal
 import socket
 import subprocess
 import threading
+import time
 
 from preloaded import PROGRAM
 from program import DEVICE_FAILED, LIMIT, Ended, ProgramTest, lines, run
 from servers import HERE, PAUSE, comes_to, free_port, serving, sync
+from sizes import COLUMNS, name, pushes
 
 
 class Sessions(ProgramTest):
@@ -102,6 +104,29 @@ class Sessions(ProgramTest):
             self.assertEqual(numbers[-1], changes)
             reader.leave()
             self.assertEqual(server.ended(), Ended(0, lines(f"closed {changes + 1}")))
+
+    def test_get_rows_and_replica_wait_for_no_change_of_another_session(self):
+        # an edit of A2 has hundreds of formulas sum most of the sheet 19 times over, which takes a second
+        summing = f"=SUM({';'.join(['[.A2:.CZ963]'] * 19)})"
+        cells = (f'["{name(number % COLUMNS, 1000 + number // COLUMNS)}",[1,2,"{summing}"],[],[]]'
+                 for number in range(300))
+        with serving(2) as server:
+            writer, reader = server.client(), server.client()
+            for line in (*pushes(lambda column, row: column * row, range(2, 964)), f"push [{','.join(cells)}]"):
+                self.assertRegex(writer.ask(line), "^ok ")
+            writer.send(b"set A2 7\n")
+            begun, longest = time.monotonic(), 0
+            while not writer.is_answered_within(0):
+                asked = time.monotonic()
+                self.assertEqual(reader.ask("get B2"), "val 2")
+                self.assertEqual((reader.ask("rows B2:C2"), reader.reply()), ("rows 1", "2,4"))
+                self.assertEqual(reader.ask("replica"), "replica 1")
+                longest = max(longest, time.monotonic() - asked)
+            # the replies to three questions come long before the change is made
+            self.assertLess(longest, (time.monotonic() - begun) / 2)
+            writer.leave()
+            reader.leave()
+            self.assertEqual(server.ended(), Ended(0, lines("closed 964")))
 
     def test_sessions_that_edit_at_the_same_time_lose_nothing(self):
         edits = 200
