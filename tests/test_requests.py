@@ -7,6 +7,7 @@ there is no other.
 """
 from program import Ended, ProgramTest, lines
 from shortage import ALL, build, each, run_short, serve_short
+from sizes import pushes
 
 REFUSED = "err 19 memory"
 # Cells of each kind, one at its last time, a counter at its limit, and a set whose sequences are used up.
@@ -82,17 +83,26 @@ class Requests(ProgramTest):
                     self.assertEqual(replies, [*opening, *[reply] * TIMES])
                     self.assertEqual(found - requests, 0)
 
+    def assert_requests_come_first(self, how, opening, changes, looks):
+        """Each request of one of these changes comes before anything changes, and none after one that is refused."""
+        before, known = how((*opening, *looks))()
+        for line in changes:
+            start = how((*opening, line, *looks))
+            after, requests = start()
+            self.assertEqual(after[len(opening)], f"ok {len(opening) + 1}")
+            self.assertGreater(requests, known)
+            # the looks take none
+            spans = [(number, last) for number in range(known + 1, requests + 1) for last in (number, ALL)]
+            for span, (replies, found) in zip(spans, each(start, spans)):
+                with self.subTest(line=line, span=span):
+                    self.assertEqual(replies, [*before[:len(opening)], REFUSED, *before[len(opening):]])
+                    self.assertEqual(found, span[0])
+
     def test_each_request_of_an_edit_comes_before_anything_changes_and_none_after_one_that_is_refused(self):
         for how in self.each_way():
-            before, opening = how((*OPENING, *LOOKS))()
-            for line in CHANGES:
-                start = how((*OPENING, line, *LOOKS))
-                after, requests = start()
-                self.assertEqual(after[len(OPENING)], f"ok {len(OPENING) + 1}")
-                self.assertGreater(requests, opening)
-                # the looks take none
-                spans = [(number, last) for number in range(opening + 1, requests + 1) for last in (number, ALL)]
-                for span, (replies, found) in zip(spans, each(start, spans)):
-                    with self.subTest(line=line, span=span):
-                        self.assertEqual(replies, [*before[:len(OPENING)], REFUSED, *before[len(OPENING):]])
-                        self.assertEqual(found, span[0])
+            self.assert_requests_come_first(how, OPENING, CHANGES, LOOKS)
+
+    def test_the_same_of_an_edit_after_which_2_000_cells_show_other_values(self):
+        opening = ("set A1 5", *pushes(lambda column, row: f"=[.A1]+{row}", range(2, 22)))
+        for how in self.each_way():
+            self.assert_requests_come_first(how, opening, ("set A1 6",), ("get A1", "get A2", "get CZ21"))
