@@ -66,11 +66,11 @@ def talk(port, given):
     return b""
 
 
-def serve_short(library, scripts, first, last):
+def serve_short(library, scripts, first, last, *further):
     """Has a server answer each of these bytes in a session of its own, one after another, and refuses the requests from
-    the first to the last. The output is what comes after `listening`."""
+    the first to the last. The output is what comes after `listening`; it may have further words."""
     port = free_port()
-    words = ["serve", "--port", str(port), "--sessions", str(len(scripts))]
+    words = ["serve", "--port", str(port), "--sessions", str(len(scripts)), *further]
     with refusing(library, first, last) as (how, count):
         files = {"stdin": subprocess.DEVNULL, "stdout": subprocess.PIPE}
         with started(*words, program=PROGRAM, **files, **how) as server:

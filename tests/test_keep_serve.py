@@ -12,6 +12,7 @@ from keeping import KeepingTest, Spoilt, text_of
 from preloaded import PROGRAM
 from program import DEVICE_FAILED, LIMIT, Ended, lines, run
 from servers import Client, free_port, serving, sync
+from shortage import ALL, build, each, serve_short
 
 
 class Serve(KeepingTest):
@@ -171,6 +172,34 @@ class Failing(Spoilt):
                 edits = [f"set A1 {number}" for number in range(answered + 1)]
                 self.assertTrue(text_of(*edits).startswith(content))
                 self.assertGreaterEqual(kept.changes_in(content), answered)
+
+    def test_memory_that_is_refused(self):
+        """What was answered is in the file, and so is all that is there when it closes; no session waits for memory."""
+        library = build(self.place)
+        scripts = [("set A1 5", "set B1 =[.A1]*2"), ("set A2 text", "get A1"), ("set C1 =[.B1]+1", "rows A1:C2")]
+
+        def start(scripts, *span):
+            file = self.place / f"plan{len(scripts)}-{span[0]}-{span[1]}.lines"
+            words = ("--keep", str(file))
+            return file, serve_short(library, [lines(*script) for script in scripts], *span, *words)
+
+        opening, most = (start(asked, ALL, ALL)[1].requests for asked in ([()], scripts))
+        spans = [(first, last) for first in range(opening, most + 1, 3) for last in (first, ALL)]
+        ends = set()
+        for span, (file, short) in zip(spans, each(lambda *span: start(scripts, *span), spans)):
+            with self.subTest(span=span):
+                self.file = file
+                content, count, told = file.read_text().split("\n"), self.count_in_file(), self.opened(0)
+                closed, failed = Ended(0, lines(f"closed {count}"), told), Ended(1, b"", told + DEVICE_FAILED)
+                self.assertIn(short.ended, (closed, failed, Ended(3, b"", told + lines("err 19 memory"))))
+                ends.add(short.ended.status)
+                for script, replies in zip(scripts, short.replies):
+                    for line, reply in zip(script, replies.decode().split("\n")):
+                        if reply.startswith("ok "):
+                            self.assertIn(f'push [["{line[4:6]}",', content[int(reply[3:])])
+                self.assertEqual(self.run_kept(), Ended(0, b"", self.opened(count)))
+        # some go on, and some end where there is none for a line of the file
+        self.assertLessEqual({0, 1}, ends)
 
     def test_sessions_that_wait_at_the_same_time_share_syncs(self):
         clients, each = 8, 100
