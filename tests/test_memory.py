@@ -292,6 +292,12 @@ class Refused(ProgramTest):
         self.assertEqual((shown.status, shown.output.splitlines()[3]), (0, b",,,1"))
         self.check_each(lambda _, last, ended: self.assertIn(ended, (shown, FAILED)), ["table"], TABLE)
 
+    def test_a_squash(self):
+        given = lines("replica 1", *list(deltas())[:5])
+        said = self.ample(["squash"], given).ended
+        self.assertEqual((said.status, said.output.count(b"\n")), (0, 2))
+        self.check_each(lambda _, last, ended: self.assertIn(ended, (said, FAILED)), ["squash"], given)
+
     def test_a_command_line(self):
         for words in (["--help"], ["run", "--help"], ["run", "--workers", "17"], ["walk"]):
             said = self.ample(words, b"").ended
