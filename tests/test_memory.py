@@ -287,6 +287,23 @@ class Refused(ProgramTest):
                     done = len(deltas) if short.ended == said else len(pushed[span])
                     self.assertEqual(pushed[span], [f"push {delta}" for delta in deltas[:done]])
 
+    def test_a_follow(self):
+        deltas = [f'[["A{row}",[{row},1,"{row}"],[],[]]]' for row in (1, 2)]
+        pulled = [lines(f"delta {version} {delta}") for version, delta in enumerate(deltas, 1)]
+        written = lines(*(f"push {delta}" for delta in deltas))
+        ends = {b"end 2\n": Ended(0, written), b"err 17 version\n": Ended(3, written, b"err 17 version\n")}
+        for last_reply, said in ends.items():
+
+            def start(*span):
+                peer = FakePeer(in_turn(*pulled, last_reply))
+                short = run_short(self.library, ["follow", "--from", str(peer.port), "--until-now"], os.devnull, *span)
+                peer.close()
+                return short
+
+            for span, short in self.each(start):
+                with self.subTest(said=said, span=span):
+                    self.assertIn(short.ended, (said, FAILED, FAILED._replace(output=written)))
+
     def test_a_table(self):
         shown = self.ample(["table"], TABLE).ended
         self.assertEqual((shown.status, shown.output.splitlines()[3]), (0, b",,,1"))
