@@ -106,7 +106,7 @@ class Sessions(ProgramTest):
             self.assertEqual(server.ended(), Ended(0, lines(f"closed {changes + 1}")))
 
     def test_get_rows_and_replica_wait_for_no_change_of_another_session(self):
-        # an edit of A2 has hundreds of formulas sum most of the sheet 19 times over, which takes a second
+        # an edit of A2 has hundreds of formulas sum most of the sheet 19 times over, which takes a third of a second
         summing = f"=SUM({';'.join(['[.A2:.CZ963]'] * 19)})"
         cells = (f'["{name(number % COLUMNS, 1000 + number // COLUMNS)}",[1,2,"{summing}"],[],[]]'
                  for number in range(300))
