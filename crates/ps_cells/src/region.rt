@@ -20,11 +20,11 @@ use ps_region::{After, Region};
 
 /// The formulas that the cells hold.
 #[derive(Drop)]
-struct Formulas<'a> {
+struct FormulasAfter<'a> {
     grid: &'a Grid,
 }
 
-impl After for Formulas<'_> {
+impl After for FormulasAfter<'_> {
     ghost use Rattle.ps_delta.specs.State.{state_at};
     ghost use Rattle.ps_cells.specs.Settled.{refers_to};
     ghost use Rattle.ps_cells.specs.Inside.Walk.{formula_at};
@@ -111,6 +111,6 @@ pub(crate) fn find_region(
     if stays(grid, region, *source, touched) {
         return;
     }
-    region.mark(index, &Formulas { grid }, touched, cyclic);
+    region.mark(index, &FormulasAfter { grid }, touched, cyclic);
     *source = sole(touched);
 }

@@ -3,7 +3,7 @@ ghost use Rattle.std.specs.Prelude.{◌≡◌, Some, [], length};
 ghost use Rattle.ps_grid.specs.Blanks.{IsBlankOf};
 
 use crate::device::{Failed, Sink, Source};
-use ps_grid::Count;
+use ps_grid::GhostCount;
 use std::alloc::Global;
 use std::sync::ledger::{Blank, Ledger};
 
@@ -48,7 +48,7 @@ pub struct MemorySink<L: Ledger> {
     /// The bytes put so far.
     pub bytes: Vec<u8>,
     /// How many calls failed.
-    pub failed: Count<L>,
+    pub failed: GhostCount<L>,
 }
 
 impl<L: Ledger> MemorySink<L> {
@@ -62,7 +62,7 @@ impl<L: Ledger> MemorySink<L> {
     {
         MemorySink {
             bytes: Vec::new(alloc),
-            failed: Count::new(blank),
+            failed: GhostCount::new(blank),
         }
     }
 }

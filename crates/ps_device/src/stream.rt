@@ -4,7 +4,7 @@ ghost use Rattle.ps_device.specs.Writers.{writer_of};
 ghost use Rattle.ps_grid.specs.Blanks.{IsBlankOf};
 
 use crate::device::{Failed, Sink, Source};
-use ps_grid::Count;
+use ps_grid::GhostCount;
 use std::io::{ErrorKind, Read, Write};
 use std::sync::ledger::{Blank, Ledger};
 
@@ -14,7 +14,7 @@ pub struct Reading<R: Read + Drop, L: Ledger> {
     reader: R,
     /// how many more reads are made before the source fails for good
     tries: u64,
-    failed: Count<L>,
+    failed: GhostCount<L>,
 }
 
 impl<R: Read + Drop, L: Ledger> Reading<R, L> {
@@ -29,7 +29,7 @@ impl<R: Read + Drop, L: Ledger> Reading<R, L> {
         Reading {
             reader,
             tries: u64::MAX,
-            failed: Count::new(blank),
+            failed: GhostCount::new(blank),
         }
     }
 }
@@ -62,7 +62,7 @@ pub struct Writing<W: Write + Drop, L: Ledger> {
     writer: W,
     /// how many more writes and flushes are made before the sink fails for good
     tries: u64,
-    failed: Count<L>,
+    failed: GhostCount<L>,
 }
 
 impl<W: Write + Drop, L: Ledger> Writing<W, L> {
@@ -78,7 +78,7 @@ impl<W: Write + Drop, L: Ledger> Writing<W, L> {
         Writing {
             writer,
             tries: u64::MAX,
-            failed: Count::new(blank),
+            failed: GhostCount::new(blank),
         }
     }
 

@@ -3,7 +3,7 @@
 ghost use Rattle.std.specs.Prelude.{◌≡◌, ◌+◌, ◌^◌, ◌<◌};
 ghost use Rattle.ps_grid.specs.Blanks.{IsBlankOf};
 
-use ps_grid::Count;
+use ps_grid::GhostCount;
 use std::marker::Model;
 use std::sync::ledger::{Blank, Ledger};
 
@@ -12,7 +12,7 @@ use std::sync::ledger::{Blank, Ledger};
 /// It rises by evaluations alone: no crate but this one can tick it.
 #[derive(Drop)]
 pub struct Meter<L: Ledger> {
-    ticks: Count<L>,
+    ticks: GhostCount<L>,
 }
 
 impl<L: Ledger> Model for Meter<L> {
@@ -46,7 +46,7 @@ impl<L: Ledger> Meter<L> {
         ensures { result ≡ 0 }
     {
         Meter {
-            ticks: Count::new(blank),
+            ticks: GhostCount::new(blank),
         }
     }
 

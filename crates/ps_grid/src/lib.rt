@@ -13,7 +13,7 @@
 #![tactic(auto)]
 
 mod cell;
-mod count;
+mod ghost_count;
 mod laws;
 mod parties;
 mod rect;
@@ -22,10 +22,10 @@ mod size;
 mod twin;
 
 pub use cell::Cell;
-pub use count::Count;
+pub use ghost_count::GhostCount;
 pub use laws::{long_chains_repeat, refusal_numbers_differ};
 pub use parties::{REPLICAS, SEATS, WORKERS};
-pub use rect::{Cells, Rect};
+pub use rect::{Rect, RectCells};
 pub use refusal::Refusal;
 pub use size::{CELLS, COLUMNS, NAME_BYTES, ROWS};
 pub use twin::Twin;

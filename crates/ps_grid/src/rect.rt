@@ -120,13 +120,13 @@ impl Rect {
     /// The cells of the rectangle, row by row: just those that it contains, each once.
     ///
     /// Cost: constant, and constant for each cell that the walk gives, without a division.
-    pub fn cells(self) -> Cells
+    pub fn cells(self) -> RectCells
         ensures cells { result ≡ cells_of self }
         ensures inside { (c : ℕ) → list_any (nat_eq c) result ≡ is_inside self c }
         ensures once { IsDistinct nat_eq result }
         ensures in_grid { LiesInGrid self }
     {
-        Cells {
+        RectCells {
             rect: self,
             left: self.area(),
             place: self.top_left().index(),
@@ -148,7 +148,7 @@ impl Rect {
 
 /// A walk of a rectangle, row by row. A contract sees it as the list of the cells that are still to come.
 #[derive(Drop)]
-pub struct Cells {
+pub struct RectCells {
     rect: Rect,
     /// how many cells are still to come
     left: usize,
@@ -157,7 +157,7 @@ pub struct Cells {
     across: usize,
 }
 
-impl Model for Cells {
+impl Model for RectCells {
     ghost use Rattle.std.specs.Prelude.{List, ℕ};
     ghost use Rattle.ps_grid.specs.Inside.Walking.{IsAt, last_cells};
 
@@ -168,7 +168,7 @@ impl Model for Cells {
     ghost invariant = { λ w. IsAt w.rect w.left w.place w.across };
 }
 
-impl Iterator for Cells {
+impl Iterator for RectCells {
     type Item = Cell;
 
     ghost next_gives = { YieldsFirst (λ rest. rest) };

@@ -35,4 +35,4 @@ pub use habit::Habit;
 pub use hint::Hint;
 pub use line::hint_of_line;
 pub use line_hint::{LineHint, VERBS};
-pub use note::{Note, Place, field_note, line_note, record_note};
+pub use note::{HintNote, HintPlace, field_note, line_note, record_note};

@@ -9,7 +9,7 @@ use std::fmt;
 
 /// Where a line or an entry stands.
 #[derive(Clone, Copy, Debug)]
-pub enum Place {
+pub enum HintPlace {
     /// In a line, counted from 1.
     Line(u64),
     /// In the field of a table that is for this cell.
@@ -21,9 +21,9 @@ pub enum Place {
 /// Where a line or an entry stands, why it was refused, if it was, and what to do about it. Its text is one line,
 /// without its line feed.
 #[derive(Clone, Copy, Debug)]
-pub struct Note<'a> {
+pub struct HintNote<'a> {
     /// Where.
-    pub place: Place,
+    pub place: HintPlace,
     /// Why it was refused, where it was.
     pub refusal: Option<Refusal>,
     /// What to do.
@@ -34,9 +34,9 @@ pub struct Note<'a> {
 /// sets looks like a number or a formula and is a text.
 ///
 /// Cost: that of [`hint_of_line`].
-pub fn line_note(number: u64, line: &[u8], refusal: Option<Refusal>) -> Option<Note<'_>> {
-    Some(Note {
-        place: Place::Line(number),
+pub fn line_note(number: u64, line: &[u8], refusal: Option<Refusal>) -> Option<HintNote<'_>> {
+    Some(HintNote {
+        place: HintPlace::Line(number),
         refusal,
         hint: hint_of_line(line, refusal)?,
     })
@@ -46,9 +46,9 @@ pub fn line_note(number: u64, line: &[u8], refusal: Option<Refusal>) -> Option<N
 /// number or a formula and is a text.
 ///
 /// Cost: that of [`hint_of_entry`].
-pub fn field_note(cell: Cell, field: &[u8], refusal: Option<Refusal>) -> Option<Note<'_>> {
-    Some(Note {
-        place: Place::Field(cell),
+pub fn field_note(cell: Cell, field: &[u8], refusal: Option<Refusal>) -> Option<HintNote<'_>> {
+    Some(HintNote {
+        place: HintPlace::Field(cell),
         refusal,
         hint: hint_of_entry(field, refusal)?,
     })
@@ -57,28 +57,28 @@ pub fn field_note(cell: Cell, field: &[u8], refusal: Option<Refusal>) -> Option<
 /// The note about a record of this number, counted from 1, that lies outside of the grid or has too many fields.
 ///
 /// Cost: constant.
-pub fn record_note<'a>(number: u64) -> Note<'a> {
+pub fn record_note<'a>(number: u64) -> HintNote<'a> {
     let hint = if number > ROWS as u64 {
         LineHint::Records(ROWS)
     } else {
         LineHint::Fields(COLUMNS)
     };
-    Note {
-        place: Place::Record(number),
+    HintNote {
+        place: HintPlace::Record(number),
         refusal: Some(Refusal::Csv),
         hint: Hint::Line(hint),
     }
 }
 
-impl fmt::Display for Place {
+impl fmt::Display for HintPlace {
     fn fmt<W: fmt::Write>(&self, f: &mut fmt::Formatter<W>) -> fmt::Result {
         match self {
-            Place::Line(number) => write!(f, "line {number}"),
-            Place::Field(cell) => {
+            HintPlace::Line(number) => write!(f, "line {number}"),
+            HintPlace::Field(cell) => {
                 write!(f, "row {}, column ", cell.row())?;
                 write_column(*cell, f)
             }
-            Place::Record(number) => write!(f, "row {number}"),
+            HintPlace::Record(number) => write!(f, "row {number}"),
         }
     }
 }
@@ -95,7 +95,7 @@ fn write_column<W: fmt::Write>(cell: Cell, f: &mut fmt::Formatter<W>) -> fmt::Re
     Ok(())
 }
 
-impl fmt::Display for Note<'_> {
+impl fmt::Display for HintNote<'_> {
     fn fmt<W: fmt::Write>(&self, f: &mut fmt::Formatter<W>) -> fmt::Result {
         write!(f, "{}: ", self.place)?;
         if let Some(refusal) = self.refusal {

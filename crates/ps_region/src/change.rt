@@ -9,7 +9,7 @@ use ps_index::Index;
 
 /// A change, and what is noted of its touched cells.
 #[derive_where(Clone, Copy)]
-pub(crate) struct Change<'a, A> {
+pub(crate) struct MarkedChange<'a, A> {
     /// lists the formulas after the change, and at most those that touched cells had before
     pub index: &'a Index,
     pub after: &'a A,
@@ -23,7 +23,7 @@ pub(crate) struct Change<'a, A> {
 }
 
 /// Whether a cell that is listed refers there after the change: the formula is asked only where the cell is touched.
-pub(crate) fn still_refers<A: After>(change: &Change<'_, A>, e: Cell, d: Cell) -> bool
+pub(crate) fn still_refers<A: After>(change: &MarkedChange<'_, A>, e: Cell, d: Cell) -> bool
     requires length { length change.now.fresh.now ≡ ALL }
     requires known { slice_index_or change.now.fresh.now e false ≡ false
         → A.refers change.now.after.now e d ≡ true }

@@ -11,7 +11,7 @@ ghost use Rattle.ps_region.specs.Inside.Touched.{IsPlain};
 ghost use Rattle.ps_region.specs.Listed.{listed};
 
 use crate::after::After;
-use crate::change::{Change, still_refers};
+use crate::change::{MarkedChange, still_refers};
 use crate::members::{enter, enter_all, has_formula};
 use ps_grid::{CELLS, Cell};
 use ps_index::Readers;
@@ -32,7 +32,7 @@ pub(crate) fn add_one(left: &mut [u32], e: Cell)
 }
 
 /// Whether the reference of a listed cell is counted.
-fn is_counted<A: After>(change: &Change<'_, A>, counted: bool, e: Cell, d: Cell) -> bool
+fn is_counted<A: After>(change: &MarkedChange<'_, A>, counted: bool, e: Cell, d: Cell) -> bool
     requires length { length change.now.fresh.now ≡ ALL }
     requires known { slice_index_or change.now.fresh.now e false ≡ false
         → A.refers change.now.after.now e d ≡ true }
@@ -53,7 +53,7 @@ fn noted_with(noted: u32, e: Cell) -> u32
 
 /// Puts the cell `e`, which refers to the cell `d`, into the region, and counts its reference if `d` is a formula cell.
 fn enter_one<A: After>(
-    change: &Change<'_, A>,
+    change: &MarkedChange<'_, A>,
     marks: &mut [bool],
     left: &mut [u32],
     members: &mut Vec<Cell>,
@@ -86,7 +86,7 @@ fn enter_one<A: After>(
 /// Puts each cell that refers to the cell `d` into the region, counts its reference if `d` is a formula cell, and notes
 /// the one such cell where there is just one. They are walked only where there may be several.
 fn enter_dependents<A: After>(
-    change: &Change<'_, A>,
+    change: &MarkedChange<'_, A>,
     marks: &mut [bool],
     left: &mut [u32],
     members: &mut Vec<Cell>,
@@ -139,7 +139,7 @@ fn enter_dependents<A: After>(
 /// Grows the region from the touched cells, counts for each member its references to formula cells of the region, and
 /// notes for each the one cell that refers to it, where there is just one.
 pub(crate) fn grow<A: After>(
-    change: &Change<'_, A>,
+    change: &MarkedChange<'_, A>,
     marks: &mut [bool],
     left: &mut [u32],
     members: &mut Vec<Cell>,

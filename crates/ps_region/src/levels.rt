@@ -11,7 +11,7 @@ ghost use Rattle.ps_region.specs.Inside.Touched.{not_plain};
 ghost use Rattle.ps_region.specs.Listed.{listed};
 
 use crate::after::After;
-use crate::change::{Change, still_refers};
+use crate::change::{MarkedChange, still_refers};
 use crate::members::{has_formula, put};
 use ps_grid::{CELLS, Cell};
 
@@ -73,7 +73,7 @@ fn lower(left: &mut [u32], level: &mut [u32], order: &mut Vec<Cell>, e: Cell, k:
 
 /// Counts the reference of the one cell that is listed for the cell `d` as settled.
 fn release_sole<A: After>(
-    change: &Change<'_, A>,
+    change: &MarkedChange<'_, A>,
     left: &mut [u32],
     level: &mut [u32],
     order: &mut Vec<Cell>,
@@ -102,7 +102,7 @@ fn release_sole<A: After>(
 /// Counts each reference to the cell `d` as settled: by what is noted where at most one cell refers there, and else by
 /// a walk of the index.
 fn release<A: After>(
-    change: &Change<'_, A>,
+    change: &MarkedChange<'_, A>,
     sole: &[u32],
     left: &mut [u32],
     level: &mut [u32],
@@ -151,7 +151,7 @@ fn put_start(starts: &mut Vec<u32>, place: usize)
 
 /// Gives the cells of the queue and those that they release their levels, level after level.
 pub(crate) fn settle<A: After>(
-    change: &Change<'_, A>,
+    change: &MarkedChange<'_, A>,
     marks: &[bool],
     sole: &[u32],
     left: &mut [u32],

@@ -12,14 +12,14 @@ ghost use Rattle.ps_region.specs.Inside.Touched.{not_plain};
 ghost use Rattle.ps_region.specs.Listed.{listed};
 
 use crate::after::After;
-use crate::change::{Change, still_refers};
+use crate::change::{MarkedChange, still_refers};
 use crate::grow::add_one;
 use crate::members::has_formula;
 use ps_grid::Cell;
 use ps_index::Readers;
 
 /// Whether a listed cell is of the region and refers to the cell `d`.
-fn is_reference<A: After>(change: &Change<'_, A>, marks: &[bool], e: Cell, d: Cell) -> bool
+fn is_reference<A: After>(change: &MarkedChange<'_, A>, marks: &[bool], e: Cell, d: Cell) -> bool
     requires fresh_length { length change.now.fresh.now ≡ ALL }
     requires marks_length { length marks.now ≡ ALL }
     requires known { slice_index_or change.now.fresh.now e false ≡ false → A.refers change.now.after.now e d ≡ true }
@@ -29,7 +29,13 @@ fn is_reference<A: After>(change: &Change<'_, A>, marks: &[bool], e: Cell, d: Ce
 }
 
 /// Counts the reference of the cell `e` to the cell `d`, if it is of the region and refers there.
-fn raise_one<A: After>(change: &Change<'_, A>, marks: &[bool], left: &mut [u32], e: Cell, d: Cell)
+fn raise_one<A: After>(
+    change: &MarkedChange<'_, A>,
+    marks: &[bool],
+    left: &mut [u32],
+    e: Cell,
+    d: Cell,
+)
     requires fresh_length { length change.now.fresh.now ≡ ALL }
     requires marks_length { length marks.now ≡ ALL }
     requires left_length { length left.old ≡ ALL }
@@ -47,7 +53,7 @@ fn raise_one<A: After>(change: &Change<'_, A>, marks: &[bool], left: &mut [u32],
 }
 
 /// Counts the references of the region's cells to the cell `d`, by a walk of the cells that refer there.
-fn raise_each<A: After>(change: &Change<'_, A>, marks: &[bool], left: &mut [u32], d: Cell)
+fn raise_each<A: After>(change: &MarkedChange<'_, A>, marks: &[bool], left: &mut [u32], d: Cell)
     requires fresh_length { length change.now.fresh.now ≡ ALL }
     requires marks_length { length marks.now ≡ ALL }
     requires left_length { length left.old ≡ ALL }
@@ -66,7 +72,7 @@ fn raise_each<A: After>(change: &Change<'_, A>, marks: &[bool], left: &mut [u32]
 
 /// Counts the references of the region's cells to the cell `d`. The cells that refer there are walked only where there
 /// may be several.
-fn raise<A: After>(change: &Change<'_, A>, marks: &[bool], left: &mut [u32], d: Cell)
+fn raise<A: After>(change: &MarkedChange<'_, A>, marks: &[bool], left: &mut [u32], d: Cell)
     requires fresh_length { length change.now.fresh.now ≡ ALL }
     requires marks_length { length marks.now ≡ ALL }
     requires left_length { length left.old ≡ ALL }
@@ -86,7 +92,7 @@ fn raise<A: After>(change: &Change<'_, A>, marks: &[bool], left: &mut [u32], d: 
 }
 
 /// Counts for each cell of the region its references to the cyclic cells outside, by a walk of these.
-fn raise_all<A: After>(change: &Change<'_, A>, marks: &[bool], left: &mut [u32])
+fn raise_all<A: After>(change: &MarkedChange<'_, A>, marks: &[bool], left: &mut [u32])
     requires fresh_length { length change.now.fresh.now ≡ ALL }
     requires marks_length { length marks.now ≡ ALL }
     requires left_length { length left.old ≡ ALL }
@@ -118,7 +124,7 @@ fn has_formulas(plain: &[bool], members: &[Cell]) -> bool
 }
 
 /// Whether a member may refer to a cyclic cell outside: there are such cells, and a member has a formula.
-fn may_refer_outside<A>(change: &Change<'_, A>, members: &[Cell]) -> bool
+fn may_refer_outside<A>(change: &MarkedChange<'_, A>, members: &[Cell]) -> bool
     requires { length change.now.plain.now ≡ ALL }
     ensures { result ≡ (not (length change.now.outside.now == 0)
         && list_any (not_plain change.now.plain.now) members.now) }
@@ -129,7 +135,7 @@ fn may_refer_outside<A>(change: &Change<'_, A>, members: &[Cell]) -> bool
 /// Counts for each cell of the region its references to the cyclic cells outside. These are gone through only where a
 /// member has a formula: mostly a number is set, in a cell that no formula refers to, and then there is nothing to count.
 pub(crate) fn count_outside<A: After>(
-    change: &Change<'_, A>,
+    change: &MarkedChange<'_, A>,
     marks: &[bool],
     members: &[Cell],
     left: &mut [u32],

@@ -10,7 +10,7 @@ ghost use Rattle.ps_region.specs.Found.{IsFound, has_left, level_cells, level_co
 ghost use Rattle.ps_region.specs.Listed.{listed};
 
 use crate::after::After;
-use crate::change::Change;
+use crate::change::MarkedChange;
 use crate::grow::grow;
 use crate::levels::{first_level, list_held, settle};
 use crate::members::{clear, note_touched};
@@ -122,7 +122,7 @@ impl Region {
         let starts = &mut self.starts;
         clear(marks, fresh, plain, members);
         note_touched(after, touched, fresh, plain);
-        let change = Change {
+        let change = MarkedChange {
             index,
             after,
             touched,

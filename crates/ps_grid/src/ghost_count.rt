@@ -7,14 +7,14 @@ use std::sync::ledger::{Blank, Book, Ledger, Share};
 
 /// A count that contracts see. It takes no bytes, has no greatest value and never falls.
 #[derive(Drop)]
-pub struct Count<L: Ledger> {
+pub struct GhostCount<L: Ledger> {
     /// the count, as the total of a ledger
     book: Book<L>,
     /// the right to add to the book
     share: Share<L>,
 }
 
-impl<L: Ledger> Model for Count<L> {
+impl<L: Ledger> Model for GhostCount<L> {
     ghost use Rattle.std.specs.Prelude.{ℕ, ◌<◌};
 
     ghost Value = { ℕ };
@@ -24,16 +24,16 @@ impl<L: Ledger> Model for Count<L> {
     ghost invariant = { λ count. 0 < count.share.parts };
 }
 
-impl<L: Ledger> Count<L> {
+impl<L: Ledger> GhostCount<L> {
     /// A count of nothing yet, over a new ledger.
     ///
     /// Cost: none.
-    pub fn new(blank: Blank) -> Count<L>
+    pub fn new(blank: Blank) -> GhostCount<L>
         requires { IsBlankOf blank L.name L.parts }
         ensures { result ≡ 0 }
     {
         let (book, share) = blank.open();
-        Count { book, share }
+        GhostCount { book, share }
     }
 
     /// Counts one more.

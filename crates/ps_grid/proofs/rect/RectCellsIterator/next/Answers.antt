@@ -2,7 +2,7 @@ use Rattle.std.proofs.Common.{◌+◌, ◌-◌, subst, sym, ◌∙◌, arith}
 use Rattle.ps_grid.specs.declared.size.TheConstants.{COLUMNS}
 use Rattle.ps_grid.specs.Inside.Walking.{IsAt}
 use Rattle.ps_grid.proofs.WalkLemmas.{along_row, to_next_row}
-use Rattle.ps_grid.proofs.rect.CellsIterator.next.Goals as goal
+use Rattle.ps_grid.proofs.rect.RectCellsIterator.next.Goals as goal
 
 pub invariant_of-self : goal.invariant_of-self
 invariant_of-self c =
