@@ -9,9 +9,9 @@ use ps_value::{Fault, Operand};
 /// and the first fault. A contract says by `Summarizes` of which items.
 #[derive(Drop)]
 pub struct Summary {
-    /// how many numbers there are, and their sum
-    pub(crate) count: u64,
+    /// the sum of the numbers, which is first since it needs sixteen bytes' alignment, and how many there are
     pub(crate) sum: i128,
+    pub(crate) count: u64,
     /// the least and the greatest number; where there is none, the greatest and the least that there are
     pub(crate) least: i64,
     pub(crate) greatest: i64,
@@ -32,8 +32,8 @@ impl Summary {
         ensures { Summarizes [] result }
     {
         Summary {
-            count: 0,
             sum: 0,
+            count: 0,
             least: i64::MAX,
             greatest: i64::MIN,
             fault: None,
