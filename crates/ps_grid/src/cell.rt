@@ -113,7 +113,7 @@ impl Cell {
     {
         let column = column_named(letters)?;
         let row = row_named(digits)?;
-        Cell::new(column, row)
+        Some(Cell::at(usize::from(column), usize::from(row) - 1))
     }
 
     /// Writes the name of the cell at the front of `out`, leaves the bytes after it as they are, and returns how
@@ -204,8 +204,11 @@ fn letter_number(letter: u8) -> Option<usize>
     ensures number { (number : ℕ) → (result ≡ Some number) ↔ ((number < LETTERS) × (letter ≡ letter_of number)) }
     ensures below { IfSome result (λ number. number < LETTERS) }
 {
-    let number = usize::from(letter.checked_sub(b'A')?);
-    if number < LETTERS { Some(number) } else { None }
+    if letter.is_ascii_uppercase() {
+        Some(usize::from(letter - b'A'))
+    } else {
+        None
+    }
 }
 
 /// The row that digits write, if the grid has it.
