@@ -46,6 +46,8 @@ pub struct Imported {
 /// What `csv` leaves open: its own reader may fail, even over bytes in memory. That is `Csv` too, with the error as
 /// `reader_error`, which no other fault has.
 ///
+/// It is part of the public interface. The program takes tables in by [`import_watched`], whose watcher tells hints.
+///
 /// Cost: b + e, for b bytes of the source and the cost e of an edit for each record with a field that isn't empty;
 /// memory for b bytes and their contents.
 pub fn import<R: Threads + Sync, S: Source, L: Ledger>(

@@ -183,7 +183,8 @@ impl<L: DeskName> Pass<L> {
         Place::new(self.reader.as_ref().unwrap().front().again())
     }
 
-    /// Has seen the list up to a place too, or further where it had.
+    /// Has seen the list up to a place too, or further where it had. It is part of the public interface, for who
+    /// hands places from one pass to another.
     ///
     /// Cost: constant, no memory.
     pub fn learn(&mut self, place: &Place<L>)

@@ -118,7 +118,7 @@ impl<D: Device + Drop> Journal<D> {
         Ok(())
     }
     /// Gives the file back as it is: without the lines that weren't settled, but for what a failed settle wrote of
-    /// them.
+    /// them. It is part of the public interface: a program that keeps its file to the end has no need of it.
     ///
     /// Cost: constant.
     pub fn into_device(self) -> D

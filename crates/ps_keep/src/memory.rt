@@ -20,7 +20,7 @@ pub struct MemoryDevice {
 }
 
 impl MemoryDevice {
-    /// A crash, that leaves so many of the bytes.
+    /// A crash, that leaves so many of the bytes. It is there for tests.
     ///
     /// Cost: constant.
     pub fn crash(self, count: usize) -> MemoryFile

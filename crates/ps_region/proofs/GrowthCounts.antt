@@ -10,7 +10,8 @@ use Rattle.ps_region.specs.Inside.Cells.{Marked, with_all}
 use Rattle.ps_region.specs.Inside.Counts.{as_one, count_below, waiting, cells_left, is_in, is_walked, counted_in}
 use Rattle.ps_region.specs.Inside.Settles.{is_pending}
 use Rattle.ps_region.specs.Inside.Touched.{not_plain}
-use Rattle.ps_region.proofs.CellListLemmas.{bool_cases, or_cases, in-push_same, in-push_other, in-take_apart, with_all-prefix}
+use Rattle.ps_region.proofs.CellListLemmas.{bool_cases, or_cases, in-push_same, in-push_other, in-take_apart}
+use Rattle.ps_region.proofs.CellListLemmas.{with_all-prefix}
 use Rattle.ps_region.proofs.CountLemmas.{count_below-same, count_below-clear, and_false}
 
 pub count_below-zero : (p : ℕ → Bool) (n : ℕ) → ((k : ℕ) → p k ≡ false) → count_below p n ≡ 0

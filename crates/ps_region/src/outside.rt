@@ -133,7 +133,7 @@ fn may_refer_outside<A>(change: &MarkedChange<'_, A>, members: &[Cell]) -> bool
 }
 
 /// Counts for each cell of the region its references to the cyclic cells outside. These are gone through only where a
-/// member has a formula: mostly a number is set, in a cell that no formula refers to, and then there is nothing to count.
+/// member has a formula: mostly a number is set, in a cell that no formula refers to, and there is nothing to count.
 pub(crate) fn count_outside<A: After>(
     change: &MarkedChange<'_, A>,
     marks: &[bool],

@@ -28,6 +28,9 @@ use std::thread::Threads;
 /// A change of a sheet that is worked out, and not yet made. It has the sheet, and is ended by [`Prepared::commit`] or
 /// [`Prepared::cancel`].
 ///
+/// It is part of the public interface, for who has a sheet of their own and gives it away meanwhile. A sheet that many
+/// share, under a lock, is changed in place, by `Staging`.
+///
 /// A contract sees it as its `PreparedView`.
 pub struct Prepared {
     /// in which the change is staged
