@@ -28,6 +28,7 @@ pub mod SettledChanges
 pub mod SettledExists
 pub mod SettledValues
 pub mod TakenIn
+pub mod UnmetCircles
 pub mod WalkEnds
 pub mod WalkLevels
 pub mod WalkSteps

@@ -76,7 +76,8 @@ impl Cells {
     /// Refused only when out of memory, and then the cells hold and show what they did.
     ///
     /// Cost: that of the join, and of the region: its cells, their references, and the evaluations, which the workers
-    /// of a wide level share; and one look at each cell that shows `#CYCLE!`.
+    /// of a wide level share; and one look at each cell that shows `#CYCLE!`, where a cell of the region has a formula
+    /// or showed it.
     pub fn stage<R: Threads + Sync, G: Gate, L: Ledger>(
         &mut self,
         rt: &R,

@@ -9,7 +9,7 @@ ghost use Rattle.ps_delta.specs.State.{State, empty_state, joined_state, state_a
 ghost use Rattle.ps_delta.specs.Deltas.{Entries, state_of};
 ghost use Rattle.ps_cells.specs.Recalculated.{IsRecalculated};
 ghost use Rattle.ps_cells.specs.Inside.Steps.{flag_at};
-ghost use Rattle.ps_cells.specs.Inside.Screens.{before_of};
+ghost use Rattle.ps_cells.specs.Inside.Screens.{before_of, ShowCycle};
 ghost use Rattle.ps_cells.specs.Inside.Kept.{IsWhole, MayRecalculate, Recalculates};
 ghost use Rattle.ps_cells.specs.Inside.Pending.{IsPending};
 ghost use Rattle.ps_cells.specs.Inside.Alone.{is_alone, is_empty};
@@ -238,6 +238,7 @@ impl Tables {
             &mut self.region,
             &mut self.source,
         );
+        let met = meets_cyclic(&self.region, &self.shown, &self.cyclic);
         show_all_first(
             &self.grid,
             &self.index,
@@ -265,7 +266,7 @@ impl Tables {
             meter,
         );
         clear(self.region.members(), &mut self.flags);
-        renew(&self.region, &mut self.cyclic);
+        renew(&self.region, met, &mut self.cyclic);
         Work {
             evaluated,
             cyclic: self.region.cyclic().len() as u64,
@@ -305,16 +306,47 @@ pub(crate) fn no_flags(alloc: Global, n: usize) -> Result<Vec<bool>, Refusal>
     Ok(flags)
 }
 
+/// Whether a cell of the region is among those that are cyclic, which are listed.
+fn meets_cyclic(region: &Region, shown: &Screen, cyclic: &[Cell]) -> bool
+    requires listed { ShowCycle (shown_at shown.now.kept) (shown_at shown.now.kept) cyclic.now }
+    ensures { result ≡ false
+        → filter (λ c. not (list_any (nat_eq c) region.now.members)) cyclic.now ≡ cyclic.now }
+{
+    !cyclic.is_empty() && any_cyclic(shown, region.members())
+}
+
+/// Whether one of these cells shows `#CYCLE!`.
+fn any_cyclic(shown: &Screen, cells: &[Cell]) -> bool
+    ensures { result ≡ list_any (λ c. is_waiting (shown_at shown.now.kept c)) cells.now }
+{
+    cells.iter().any(|c| shown.is_cyclic(*c))
+}
+
 /// Brings the list of the cyclic cells up to date: those outside the region stay, and those of the region come after.
-fn renew(region: &Region, cyclic: &mut Vec<Cell>)
+/// Where the region met none of the list, it costs what the region's do.
+fn renew(region: &Region, met: bool, cyclic: &mut Vec<Cell>)
+    requires unmet { met ≡ false → filter (λ c. not (list_any (nat_eq c) region.now.members)) cyclic.old.items
+        ≡ cyclic.old.items }
     requires room { length (filter (λ c. not (list_any (nat_eq c) region.now.members)) cyclic.old.items)
         + length region.now.cyclic ≤ vec_capacity cyclic.old }
     ensures items { cyclic.new.items ≡ filter (λ c. not (list_any (nat_eq c) region.now.members)) cyclic.old.items
         ++ region.now.cyclic }
     ensures room { vec_capacity cyclic.old ≤ vec_capacity cyclic.new }
 {
-    cyclic.retain(|c| !region.contains(*c));
+    leave_outside(region, met, cyclic);
     let _ = cyclic.extend_from_slice(region.cyclic());
+}
+
+/// Leaves the cells of a list that lie outside the region, which are all where it met none of them.
+fn leave_outside(region: &Region, met: bool, cyclic: &mut Vec<Cell>)
+    requires unmet { met ≡ false → filter (λ c. not (list_any (nat_eq c) region.now.members)) cyclic.old.items
+        ≡ cyclic.old.items }
+    ensures items { cyclic.new.items ≡ filter (λ c. not (list_any (nat_eq c) region.now.members)) cyclic.old.items }
+    ensures room { vec_capacity cyclic.new ≡ vec_capacity cyclic.old }
+{
+    if met {
+        cyclic.retain(|c| !region.contains(*c));
+    }
 }
 
 /// Leaves the cells in a list that show `#CYCLE!`.

@@ -37,8 +37,9 @@
 //!
 //! Cost: a sheet keeps its deltas, and for each cell of the grid what it shows and some numbers for recalculating. A
 //! change costs its delta and its region: the cells that it reaches, the references to them, and the evaluations, which
-//! the workers of a wide level share; and it looks once at each cell that shows `#CYCLE!`. Preparing it puts the cells
-//! that changed in order as well, and taking it back costs what was put. A look at a cell costs a constant.
+//! the workers of a wide level share; and it looks once at each cell that shows `#CYCLE!`, where a cell of the region
+//! has a formula or showed it. Preparing it puts the cells that changed in order as well, and taking it back costs what
+//! was put. A look at a cell costs a constant.
 #![tactic(auto)]
 
 mod contents;

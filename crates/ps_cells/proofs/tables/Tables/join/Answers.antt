@@ -19,13 +19,21 @@ pub returns-in_err-raised-clause-whole : goal.returns-in_err-raised-clause-whole
 returns-in_err-raised-clause-whole g c =
     let w = c.requires.whole in
     let same = sym c.begin.ensures.same in
-    let whole : IsWhole (record c.args.self.now { grid = c.begin.new.grid; index = c.begin.new.index; lists = c.begin.new.lists }) = record {
+    let whole : IsWhole (record c.args.self.now {
+      grid = c.begin.new.grid;
+      index = c.begin.new.index;
+      lists = c.begin.new.lists;
+    }) = record {
       in_grid = subst IsInGrid same w.in_grid;
       settled = subst (λ (s : State). IsSettled s (shown_at c.args.self.now.shown.kept)) same w.settled;
       stands = subst (λ (s : State). Stands c.begin.new.index (forms_of s)) same
           (c.in_err-raised.ensures.undone (forms_of (state_at c.args.self.now.grid)) w.stands);
       tidy = subst
-          (λ (s : State). IsTidy s (record c.args.self.now { grid = c.begin.new.grid; index = c.begin.new.index; lists = c.begin.new.lists })) same
+          (λ (s : State). IsTidy s (record c.args.self.now {
+            grid = c.begin.new.grid;
+            index = c.begin.new.index;
+            lists = c.begin.new.lists;
+          })) same
           (tidy_with (state_at c.args.self.now.grid) c.args.self.now c.begin.new.grid c.begin.new.index
           c.args.self.now.shown c.begin.new.lists w.tidy);
       still = w.still;
@@ -45,7 +53,8 @@ recalculate-work-requires-clause-may g c κs within =
     (given_of (state_at c.args.self.now.grid) (state_at c.begin.new.grid) (state_at c.exchange.new.self)
     c.in_ok-raised.raised.items c.deref_mut.result.now c.exchange.ensures.given c.begin.ensures.same
     c.deref_mut.ensures.value)
-    (c.deref.ensures.value ∙ (ap (λ (l : Lists). l.touched.items) c.replace-lists.ensures.value ∙ c.in_ok-raised.ensures.touched))
+    (c.deref.ensures.value ∙ (ap (λ (l : Lists). l.touched.items) c.replace-lists.ensures.value
+    ∙ c.in_ok-raised.ensures.touched))
     (ap shown_firsts (c.deref_mut-2.ensures.value
     ∙ ap (λ (l : Lists). l.first.items) c.replace-lists.ensures.value) ∙ c.in_ok-raised.ensures.first)
 
@@ -91,5 +100,6 @@ returns-clause-work g c =
     (given_of (state_at c.args.self.now.grid) (state_at c.begin.new.grid) (state_at c.exchange.new.self)
     c.in_ok-raised.raised.items c.deref_mut.result.now c.exchange.ensures.given c.begin.ensures.same
     c.deref_mut.ensures.value)
-    (c.deref.ensures.value ∙ (ap (λ (l : Lists). l.touched.items) c.replace-lists.ensures.value ∙ c.in_ok-raised.ensures.touched))
+    (c.deref.ensures.value ∙ (ap (λ (l : Lists). l.touched.items) c.replace-lists.ensures.value
+    ∙ c.in_ok-raised.ensures.touched))
     c.recalculate-work.ensures.done

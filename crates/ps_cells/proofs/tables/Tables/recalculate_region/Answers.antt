@@ -1,4 +1,7 @@
 use Rattle.std.proofs.Common.{◌≡◌, ◌⊎◌, ◌≤◌, ◌+◌, ℕ, Bool, List, [], true, map, length, refl, sym, ap, ◌∙◌, subst}
+use Rattle.std.proofs.Common.{not, filter}
+use Rattle.std.specs.Prelude.{nat_eq}
+use Rattle.std.specs.List.{list_any}
 use Rattle.std.proofs.Common.{arith}
 use Rattle.std.specs.Vec.{with_items}
 use Rattle.std.proofs.lemmas.List.{with_items_is}
@@ -11,6 +14,8 @@ use Rattle.ps_shown.specs.Shown.{shown_at}
 use Rattle.ps_cells.specs.Settled.{refers_to, Cyclic}
 use Rattle.ps_cells.specs.Inside.Steps.{flag_at}
 use Rattle.ps_cells.specs.Inside.Walk.{formula_at, Begun, ListsCyclic, IsCount, InFrame, IsPassed, Walked}
+use Rattle.ps_cells.specs.Inside.Screens.{ShowCycle}
+use Rattle.ps_cells.proofs.CyclicOlds.{listed_cycle}
 use Rattle.ps_cells.proofs.FirstValues.{begun_start}
 use Rattle.ps_cells.proofs.FoundLevels.{walked_flags, walked_settled, walked_counted, cyclic_counted}
 use Rattle.ps_cells.proofs.Recalculations.{may_walk, levels_found}
@@ -28,6 +33,15 @@ find_region-requires-clause-change g c = (
   subst (ListsCyclic c.requires.before) (sym c.deref.ensures.value) c.requires.tidy.cyclic,
   c.requires.tidy.region,
 )
+
+pub meets_cyclic-met-requires : goal.meets_cyclic-met-requires
+meets_cyclic-met-requires g c =
+    let v = shown_at c.args.self.now.shown.kept in
+    record {
+      listed = subst (λ (xs : List ℕ). ShowCycle v v xs) (sym c.deref-2.ensures.value)
+          (listed_cycle c.requires.before v c.args.self.now.cyclic.items c.requires.change.settled
+          c.requires.tidy.cyclic);
+    }
 
 -- what is known of the region
 found : (g : Over) (c : After-settle_frame-arg-4-1 g)
@@ -127,7 +141,11 @@ renew-requires g c =
     let few = cyclic_room c.requires.before t v touched c.requires.change c.requires.inside f now
     c.args.self.now.cyclic.items c.requires.tidy.cyclic in
     let room = c.requires.tidy.room in
-    record { room = omega (arith, few, room) }
+    record {
+      unmet = λ off. subst (λ (xs : List ℕ). filter (λ q. not (list_any (nat_eq q) f.members)) xs ≡ xs)
+          c.deref-2.ensures.value (c.meets_cyclic-met.ensures off);
+      room = omega (arith, few, room);
+    }
 
 pub returns-clause-done : goal.returns-clause-done
 returns-clause-done g c =
