@@ -1,6 +1,7 @@
 mod Adding
 pub mod Beginnings
 mod Decided
+mod FewChanges
 mod Followed
 mod Kept
 pub mod Noted

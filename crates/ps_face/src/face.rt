@@ -1,6 +1,6 @@
 //! One copy of the shown values.
 
-ghost use Rattle.std.specs.Prelude.{◌≡◌, [], map, slice_index_or, IfOk, IfErr, MatchResult};
+ghost use Rattle.std.specs.Prelude.{◌≡◌, ◌≤◌, [], length, map, slice_index_or, vec_capacity, IfOk, IfErr, MatchResult};
 ghost use Rattle.ps_grid.specs.declared.refusal.Refusal.TheVariants.{Memory};
 ghost use Rattle.ps_value.specs.declared.value.Value.TheVariants.{Empty};
 ghost use Rattle.ps_shown.specs.Shown.{shown_at};
@@ -22,12 +22,14 @@ pub struct Face {
     version: u64,
     shown: Shown,
     front: Front,
-    /// what the cells of a patch are to show, while it is applied
+    /// what the cells of a patch are to show, while it is applied; there is room for all cells
     room: Vec<(Cell, Kept)>,
     alloc: Global,
 }
 
 impl Model for Face {
+    ghost use Rattle.std.specs.Prelude.{◌≤◌, vec_capacity};
+    ghost use Rattle.ps_grid.specs.declared.size.TheConstants.{CELLS};
     ghost use Rattle.ps_face.specs.Seen.{Copy};
     ghost use Rattle.ps_face.specs.Values.{in_order};
     ghost use Rattle.ps_shown.specs.Shown.{shown_at};
@@ -44,9 +46,12 @@ impl Model for Face {
       version = f.version;
       values = in_order (shown_at f.shown);
     } };
+
+    ghost invariant = { λ f. CELLS ≤ vec_capacity f.room };
 }
 
-/// What a patch does to a copy, with the beginning of the list that ends with the patch.
+/// What a patch does to a copy, with the beginning of the list that ends with the patch. It changes no more cells than
+/// there are.
 #[derive(Drop)]
 pub struct Operation {
     version: u64,
@@ -55,7 +60,8 @@ pub struct Operation {
 }
 
 impl Model for Operation {
-    ghost use Rattle.std.specs.Prelude.{map};
+    ghost use Rattle.std.specs.Prelude.{◌≤◌, length, map};
+    ghost use Rattle.ps_grid.specs.declared.size.TheConstants.{CELLS};
     ghost use Rattle.ps_face.specs.Seen.{Turn};
     ghost use Rattle.ps_face.specs.Values.{valued};
     ghost use Rattle.std.specs.Coded.{codes};
@@ -71,11 +77,14 @@ impl Model for Operation {
       version = o.version;
       changes = map valued o.changes.items;
     } };
+
+    ghost invariant = { λ o. length o.changes.items ≤ CELLS };
 }
 
 impl Operation {
     /// What a patch does, which ends the list of the front.
     pub(crate) fn new(patch: Patch, front: Front) -> Operation
+        requires few { length patch.changes ≤ CELLS }
         ensures { result ≡ record {
           book = front.book;
           list = front.list;
@@ -171,9 +180,10 @@ impl Face {
     }
 }
 
-/// Puts what the cells show from now on, and leaves nothing in the list.
+/// Puts what the cells show from now on, and leaves nothing in the list but its room.
 fn put_all(shown: &mut Shown, changes: &mut Vec<(Cell, Kept)>)
-    ensures { shown_at shown.new ≡ overlaid (shown_at shown.old) (map valued changes.old.items) }
+    ensures shown { shown_at shown.new ≡ overlaid (shown_at shown.old) (map valued changes.old.items) }
+    ensures room { vec_capacity changes.new ≡ vec_capacity changes.old }
 {
     for (cell, kept) in changes.drain(..) {
         shown.put(cell, kept);

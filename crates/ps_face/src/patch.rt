@@ -1,6 +1,6 @@
 //! A patch: what one delta changes.
 
-ghost use Rattle.std.specs.Prelude.{◌≡◌, ◌++◌, map, IfOk, IfErr};
+ghost use Rattle.std.specs.Prelude.{◌≡◌, ◌≤◌, ◌++◌, [], length, map, vec_capacity, IfOk, IfErr};
 ghost use Rattle.std.specs.Arc.{arc_value};
 ghost use Rattle.ps_grid.specs.declared.refusal.Refusal.TheVariants.{Memory};
 ghost use Rattle.ps_delta.specs.Deltas.{AreInGrid};
@@ -116,18 +116,21 @@ impl Patch {
     }
 }
 
-/// Appends copies of changes, where a text gets one more owner.
+/// Lists copies of changes, where a text gets one more owner. The list has room for them.
 pub(crate) fn copy_all(
     alloc: Global,
     changes: &[(Cell, Kept)],
     to: &mut Vec<(Cell, Kept)>,
 ) -> Result<(), Refusal>
-    ensures copied { IfOk result (λ _. to.new.items ≡ to.old.items ++ changes.now) }
+    requires none { to.old.items ≡ [] }
+    requires room { length changes.now ≤ vec_capacity to.old }
+    ensures copied { IfOk result (λ _. to.new.items ≡ changes.now) }
+    ensures room { vec_capacity to.new ≡ vec_capacity to.old }
     ensures memory { IfErr result (λ e. e ≡ Memory) }
 {
     for (cell, kept) in changes {
         let kept = kept.twin(alloc)?;
-        to.push((*cell, kept))?;
+        to.push_reserved((*cell, kept));
     }
     Ok(())
 }

@@ -1,4 +1,4 @@
-use Rattle.std.proofs.Common.{◌≡◌, ap, ◌∙◌, ◌++◌, map}
+use Rattle.std.proofs.Common.{◌≡◌, ap, ◌∙◌, map}
 use Rattle.ps_grid.specs.declared.size.TheConstants.{CELLS}
 use Rattle.ps_shown.specs.Shown.{shown_at}
 use Rattle.ps_face.specs.Values.{in_order, overlaid, valued}
@@ -11,10 +11,9 @@ returns c =
     let x = c.self.inside in
     let o = c.operation.inside in
     let items : c.copy_all.new.to.items ≡ o.changes.items =
-    c.in_ok-copy_all.ensures.copied ∙ ap (λ es. es ++ c.deref.result.now) c.clear.ensures.items
-    ∙ c.deref.ensures.value in
+    c.in_ok-copy_all.ensures.copied ∙ c.deref.ensures.value in
     let shown : shown_at c.put_all.new.shown ≡ overlaid (shown_at x.shown) (map valued o.changes.items) =
-    c.put_all.ensures ∙ ap (λ es. overlaid (shown_at x.shown) (map valued es)) items in
+    c.put_all.ensures.shown ∙ ap (λ es. overlaid (shown_at x.shown) (map valued es)) items in
     let values = ap in_order shown ∙ listed-overlaid (shown_at x.shown) CELLS (map valued o.changes.items) in
     let now : Copy = record {
       book = c.again.result.book;

@@ -1,13 +1,32 @@
 use Rattle.std.proofs.Common.{List, [], sym, ap, ◌∙◌, subst, length, fold, All, arith}
 use Rattle.std.proofs.lemmas.List.Elements.{All-head}
 use Rattle.logbook.specs.Pages.{Book}
-use Rattle.ps_delta.specs.Deltas.{Entries}
+use Rattle.ps_delta.specs.State.{IsInGrid}
+use Rattle.ps_delta.specs.Deltas.{Entries, joined_history}
 use Rattle.ps_face.specs.declared.patch.Note.{Note}
 use Rattle.ps_face.specs.Legal.{Follows, history_of}
 use Rattle.ps_face.specs.Seen.{Copy, Told, Turn, turned}
 use Rattle.ps_face.specs.Published.{Published}
+use Rattle.ps_face.proofs.FewChanges.{few_changes}
 use Rattle.ps_face.proofs.Turned.{may_show, only_one}
 use Rattle.ps_face.proofs.writer.FaceWriter.publish.Goals as goal
+
+pub new-operation-requires : goal.new-operation-requires
+new-operation-requires g c =
+    let h : List Entries = g.L.Named.opening in
+    let w = c.self.inside in
+    let i = c.self.invariant in
+    let patch : Note = c.unwrap-patch.result in
+    let one = only_one w.staged.items c.pop.new.self.items c.pop.result patch
+    (ap (λ (p : Published). length p.pending) c.self.view_is ∙ c.requires.one) c.pop.ensures.items
+    c.unwrap-patch.ensures in
+    record {
+      few = few_changes (history_of h w.front.list) patch
+          (subst (λ (l : List Note). IsInGrid (joined_history (history_of h l))) i.same i.stands.in_grid)
+          c.delta.ensures.in_grid
+          (All-head (Follows (history_of h w.front.list)) patch []
+          (subst (All (Follows (history_of h w.front.list))) one.1 i.follows));
+    }
 
 pub show-requires : goal.show-requires
 show-requires g c =
