@@ -13,7 +13,7 @@ use ps_grid::Refusal;
 use ps_keep::{FileFault, Found, FoundFile};
 use ps_kept::{KeepFault, SheetKeeper, open_kept};
 use ps_sheet::Sheet;
-use ps_words::RunOptions;
+use ps_words::SheetOptions;
 use std::alloc::Global;
 use std::fmt;
 use std::fs::File;
@@ -120,7 +120,7 @@ pub fn keep_sheet<R: Threads + Sync, F: Found + Drop, L: Ledger>(
     alloc: Global,
     found: F,
     path: &str,
-    options: RunOptions,
+    options: SheetOptions,
     meter: &mut Meter<L>,
 ) -> Result<(Sheet, SheetKeeper<F::Device>), ProgramFault>
     ensures read { IfOk result (λ r. Reads options.replica (F.bytes found) r.0.history) }

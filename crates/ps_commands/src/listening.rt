@@ -22,7 +22,7 @@ use ps_device::Sink;
 use ps_eval::Meter;
 use ps_grid::Refusal;
 use ps_keep::{Journal, KeptFile};
-use ps_words::{RunOptions, ServeOptions};
+use ps_words::ServeOptions;
 use std::alloc::Global;
 use std::fs::File;
 use std::io::Write;
@@ -59,17 +59,6 @@ fn widened(number: Option<u32>) -> Option<u64>
     }
 }
 
-/// The sheet that the words ask for.
-fn sheet_of(options: ServeOptions<'_>) -> RunOptions
-    ensures workers { result.workers ≡ options.entry.workers }
-    ensures replica { result.replica ≡ options.entry.replica }
-{
-    RunOptions {
-        workers: options.workers,
-        replica: options.replica,
-    }
-}
-
 /// Listens on a port of this machine, opens an empty sheet of the replica that was asked for, writes `listening` and
 /// the port, and serves sessions on the sheet as [`serve_on`] does. Returns the sheet that it closed.
 ///
@@ -82,7 +71,7 @@ pub fn serve<
     K: Sink,
 >(rt: &R, alloc: Global, options: ServeOptions<'_>, out: &mut K) -> Result<Closed, ProgramFault>
     ensures asked { IfOk result (λ closed. options.entry.sessions ≡ Some closed.sessions) }
-    ensures served { IfOk result (λ closed. (first : SheetView) × IsOpened options.entry.replica first
+    ensures served { IfOk result (λ closed. (first : SheetView) × IsOpened options.entry.sheet.replica first
         × IsServed options.entry.seats closed.sessions first closed.sheet) }
     ensures told { IfOk result (λ closed. Appends (K.contents out.old) (K.contents out.new)
         (listening_text options.entry.port ++ closed_text (length closed.sheet.history))) }
@@ -100,7 +89,7 @@ pub fn serve<
         Ok(listener) => listener,
         Err(fault) => return Err(fault),
     };
-    let sheet = match open_sheet(alloc, sheet_of(options)) {
+    let sheet = match open_sheet(alloc, options.sheet) {
         Ok(sheet) => sheet,
         Err(refusal) => return Err(ProgramFault::Refused(refusal)),
     };
@@ -153,7 +142,7 @@ pub fn serve_kept<
         Ok(found) => found,
         Err(fault) => return Err(fault),
     };
-    let (sheet, keeper) = match keep_sheet(rt, alloc, found, path, sheet_of(options), meter) {
+    let (sheet, keeper) = match keep_sheet(rt, alloc, found, path, options.sheet, meter) {
         Ok(kept) => kept,
         Err(fault) => return Err(fault),
     };

@@ -18,7 +18,7 @@ use ps_keep::Device;
 use ps_kept::{SheetKeeper, longer_histories_fit};
 use ps_session::{HeldOutput, Resources, RunFault, Watcher, run_kept, run_watched};
 use ps_sheet::Sheet;
-use ps_words::RunOptions;
+use ps_words::SheetOptions;
 use std::alloc::Global;
 use std::mem;
 use std::sync::ledger::Ledger;
@@ -29,7 +29,7 @@ use std::thread::Threads;
 /// Refused only out of memory.
 ///
 /// Cost: that of [`Sheet::open`].
-pub fn open_sheet(alloc: Global, options: RunOptions) -> Result<Sheet, Refusal>
+pub fn open_sheet(alloc: Global, options: SheetOptions) -> Result<Sheet, Refusal>
     ensures opened { IfOk result (IsOpened options.replica) }
     ensures workers { IfOk result (λ sheet. sheet.workers ≡ options.workers) }
     ensures memory { IfErr result (λ e. e ≡ Refusal.Memory) }
@@ -52,7 +52,7 @@ pub fn answer_lines<R: Threads + Sync, S: Source, K: Sink, L: Ledger, W: Watcher
     source: &mut S,
     sink: &mut K,
     meter: &mut Meter<L>,
-    options: RunOptions,
+    options: SheetOptions,
     watcher: &mut W,
 ) -> Result<(), ProgramFault>
     ensures done { OnOk result ((first : SheetView) × (last : SheetView) × (read : List ℕ) × (answered : ℕ)

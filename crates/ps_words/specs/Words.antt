@@ -134,7 +134,7 @@ GivesNumbers rows (Serve o) = GivesNumber rows (codes "port") o.port × GivesCou
     × GivesNumber rows (codes "seats") o.seats × GivesNumber rows (codes "wait") o.wait
     × GivesCount rows (codes "idle") o.idle × GivesFlag rows (codes "explain") o.explain
     × GivesText rows (codes "keep") o.keep
-    × GivesNumber rows (codes "workers") o.workers × GivesNumber rows (codes "replica") o.replica
+    × GivesNumber rows (codes "workers") o.sheet.workers × GivesNumber rows (codes "replica") o.sheet.replica
 GivesNumbers rows (Sync o) = GivesNumber rows (codes "from") o.from × GivesNumber rows (codes "to") o.to
     × GivesFlag rows (codes "explain") o.explain
 GivesNumbers rows (Follow o) = GivesNumber rows (codes "from") o.from × GivesFlag rows (codes "until-now") o.until_now

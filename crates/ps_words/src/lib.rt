@@ -22,7 +22,7 @@ pub use help::{
     WAIT_HELP, WORKERS_HELP,
 };
 pub use options::{
-    FollowOptions, LONGEST_IDLE, LONGEST_PAUSE, LONGEST_WAIT, LineOptions, MOST_SESSIONS, Options,
-    PageOptions, RunOptions, ServeOptions, SyncOptions, TableOptions,
+    FollowOptions, LONGEST_IDLE, LONGEST_PAUSE, LONGEST_WAIT, MOST_SESSIONS, Options, PageOptions,
+    RunOptions, ServeOptions, SheetOptions, SyncOptions, TableOptions,
 };
 pub use words::read_words;

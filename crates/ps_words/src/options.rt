@@ -19,7 +19,7 @@ pub const LONGEST_PAUSE: u16 = 60_000;
 
 /// What a sheet is opened with.
 #[derive(Clone, Copy, PartialEq, Eq)]
-pub struct RunOptions {
+pub struct SheetOptions {
     /// How many workers may evaluate a level, 1 to `WORKERS`.
     pub workers: u8,
     /// The replica's number, 1 to `REPLICAS`.
@@ -30,9 +30,9 @@ pub struct RunOptions {
 
 /// What `sheet run` is asked for.
 #[derive(Clone, Copy, PartialEq, Eq)]
-pub struct LineOptions<'a> {
+pub struct RunOptions<'a> {
     /// What its sheet is opened with.
-    pub sheet: RunOptions,
+    pub sheet: SheetOptions,
     /// The path of the file that the sheet is kept in, where it is to be kept.
     pub keep: Option<&'a str>,
     /// Whether standard error is told of lines, with hints.
@@ -58,6 +58,8 @@ pub struct TableOptions {
 pub struct ServeOptions<'a> {
     /// The port to listen on, 1 or more.
     pub port: u16,
+    /// What its sheet is opened with.
+    pub sheet: SheetOptions,
     /// The path of the file that the sheet is kept in, where it is to be kept.
     pub keep: Option<&'a str>,
     /// How many sessions to serve, 1 to `MOST_SESSIONS`; none where it serves until it is stopped.
@@ -70,17 +72,11 @@ pub struct ServeOptions<'a> {
     pub idle: Option<u32>,
     /// Whether standard error is told why a port can't be had.
     pub explain: bool,
-    /// How many workers may evaluate a level, 1 to `WORKERS`.
-    pub workers: u8,
-    /// The replica's number, 1 to `REPLICAS`.
-    pub replica: u8,
     ghost port_in_range: { 1 ≤ port },
     ghost sessions_in_range: { ForSome sessions (λ n. (1 ≤ n) × (n ≤ MOST_SESSIONS)) },
     ghost seats_in_range: { (1 ≤ seats) × (seats ≤ SEATS) },
     ghost wait_in_range: { wait ≤ LONGEST_WAIT },
     ghost idle_in_range: { ForSome idle (λ n. (1 ≤ n) × (n ≤ LONGEST_IDLE)) },
-    ghost workers_in_range: { (1 ≤ workers) × (workers ≤ WORKERS) },
-    ghost replica_in_range: { (1 ≤ replica) × (replica ≤ REPLICAS) },
 }
 
 /// What `sheet sync` is asked for.
@@ -131,7 +127,7 @@ pub struct PageOptions {
 #[derive(Clone, Copy)]
 pub enum Options<'a> {
     /// Answers standard input line by line.
-    Run(LineOptions<'a>),
+    Run(RunOptions<'a>),
     /// Reads a table and writes its settled values.
     Table(TableOptions),
     /// Answers the lines of several sessions over TCP.

@@ -6,8 +6,8 @@ ghost use Rattle.ps_words.specs.Words.{name_of, sheet_app};
 
 use crate::commands::sheet_command;
 use crate::options::{
-    FollowOptions, LONGEST_IDLE, LONGEST_PAUSE, LONGEST_WAIT, LineOptions, MOST_SESSIONS, Options,
-    PageOptions, RunOptions, ServeOptions, SyncOptions, TableOptions,
+    FollowOptions, LONGEST_IDLE, LONGEST_PAUSE, LONGEST_WAIT, MOST_SESSIONS, Options, PageOptions,
+    RunOptions, ServeOptions, SheetOptions, SyncOptions, TableOptions,
 };
 use clap::{ArgMatches, Error};
 use ps_grid::{REPLICAS, SEATS, WORKERS};
@@ -85,15 +85,25 @@ fn port_of(matches: &ArgMatches<'_>, id: &str) -> Option<u16>
     }
 }
 
-/// The numbers of `run`, its file and its flags.
+/// What the sheet of `run` or `serve` is opened with.
+fn sheet_options(matches: &ArgMatches<'_>) -> Option<SheetOptions>
+    ensures workers { IfSome result (λ sheet. GivesNumber (rows_of (found_of matches.now)) (codes "workers")
+        sheet.workers) }
+    ensures replica { IfSome result (λ sheet. GivesNumber (rows_of (found_of matches.now)) (codes "replica")
+        sheet.replica) }
+{
+    let workers = number_of(matches, "workers", WORKERS as u8)?;
+    let replica = number_of(matches, "replica", REPLICAS)?;
+    Some(SheetOptions { workers, replica })
+}
+
+/// What the sheet of `run` is opened with, its file and its flags.
 fn run_options<'a>(matches: &ArgMatches<'a>) -> Option<Options<'a>>
     ensures { IfSome result (λ options. (name_of options ≡ codes "run")
         × GivesNumbers (rows_of (found_of matches.now)) options) }
 {
-    let workers = number_of(matches, "workers", WORKERS as u8)?;
-    let replica = number_of(matches, "replica", REPLICAS)?;
-    Some(Options::Run(LineOptions {
-        sheet: RunOptions { workers, replica },
+    Some(Options::Run(RunOptions {
+        sheet: sheet_options(matches)?,
         keep: text_of(matches, "keep"),
         explain: flag_of(matches, "explain"),
         strict: flag_of(matches, "strict"),
@@ -113,30 +123,28 @@ fn table_options<'a>(matches: &ArgMatches<'a>) -> Option<Options<'a>>
     }))
 }
 
-/// The numbers of `serve`, its file and its flag.
+/// The numbers of `serve`, what its sheet is opened with, its file and its flag.
 fn serve_options<'a>(matches: &ArgMatches<'a>) -> Option<Options<'a>>
     ensures { IfSome result (λ options. (name_of options ≡ codes "serve")
         × GivesNumbers (rows_of (found_of matches.now)) options) }
 {
     let port = port_of(matches, "port")?;
+    let sheet = sheet_options(matches)?;
     let keep = text_of(matches, "keep");
     let sessions = count_of(matches, "sessions", MOST_SESSIONS)?;
     let seats = number_of(matches, "seats", SEATS as u8)?;
     let wait = number_to(matches, "wait", LONGEST_WAIT)?;
     let idle = count_of(matches, "idle", LONGEST_IDLE)?;
     let explain = flag_of(matches, "explain");
-    let workers = number_of(matches, "workers", WORKERS as u8)?;
-    let replica = number_of(matches, "replica", REPLICAS)?;
     Some(Options::Serve(ServeOptions {
         port,
+        sheet,
         keep,
         sessions,
         seats,
         wait,
         idle,
         explain,
-        workers,
-        replica,
     }))
 }
 

@@ -31,7 +31,7 @@ use ps_device::{ConsoleOutput, Reading, Sink, Writing};
 use ps_eval::Meter;
 use ps_grid::Refusal;
 use ps_session::{HeldOutput, Resources};
-use ps_words::{LineOptions, Options, ServeOptions, TableOptions, read_words};
+use ps_words::{Options, RunOptions, ServeOptions, TableOptions, read_words};
 use std::fs::File;
 use std::io;
 use std::io::{IsTerminal, Write};
@@ -203,7 +203,7 @@ fn run_lines<R: Threads + Sync, I: Ledger, O: Ledger, M: Ledger>(
     rt: &HostRuntime,
     threads: &R,
     counts: Counts,
-    options: LineOptions<'_>,
+    options: RunOptions<'_>,
 ) -> Result<(), ProgramFault>
     requires input { IsBlankOf counts.input I.name I.parts }
     requires output { IsBlankOf counts.output O.name O.parts }
@@ -232,7 +232,7 @@ fn run_kept<R: Files<File = File> + Threads + Sync, I: Ledger, O: Ledger, H: Led
     rt: &HostRuntime,
     threads: &R,
     counts: Counts,
-    options: LineOptions<'_>,
+    options: RunOptions<'_>,
     path: &str,
 ) -> Result<(), ProgramFault>
     requires input { IsBlankOf counts.input I.name I.parts }

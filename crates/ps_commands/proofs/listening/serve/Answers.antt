@@ -11,7 +11,7 @@ pub returns-clause-served : goal.returns-clause-served
 returns-clause-served g c = IfOk-weaker c.serve_on.result _ _
     (λ closed served. (
       c.in-Ok-open_sheet.sheet,
-      rw c.sheet_of.ensures.replica at c.in-Ok-open_sheet.ensures.opened,
+      c.in-Ok-open_sheet.ensures.opened,
       rw c.serving_of.ensures.seats at served,
     ))
     c.serve_on.ensures.served
