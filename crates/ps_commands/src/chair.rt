@@ -28,15 +28,15 @@ impl<L: DeskName> Promise<Pass<L>> for ComesBack<L> {
 
 /// Where a session shows that it is over, so that nobody has to wait for it: a bit of a word that all share.
 #[derive(Clone, Copy)]
-pub(crate) struct Sign<'s> {
+pub(crate) struct EndFlag<'s> {
     word: &'s AtomicU64,
     bit: u64,
 }
 
-impl<'s> Sign<'s> {
-    /// The sign of this bit.
-    pub(crate) fn new(word: &'s AtomicU64, bit: u64) -> Sign<'s> {
-        Sign { word, bit }
+impl<'s> EndFlag<'s> {
+    /// The flag of this bit.
+    pub(crate) fn new(word: &'s AtomicU64, bit: u64) -> EndFlag<'s> {
+        EndFlag { word, bit }
     }
 
     fn is_up(self) -> bool {
@@ -58,7 +58,7 @@ impl<'s> Sign<'s> {
 pub(crate) struct Chair<'s, L: DeskName> {
     first: Snapshot<Pass<L>>,
     begun: u64,
-    sign: Sign<'s>,
+    flag: EndFlag<'s>,
     /// the connection of the last session once more, where the host keeps it
     second: Option<TcpStream>,
     /// out while it changes
@@ -84,13 +84,13 @@ impl<'s, L: DeskName> Model for Chair<'s, L> {
 
 impl<'s, L: DeskName> Chair<'s, L> {
     /// A seat that nobody has had.
-    pub(crate) fn new(pass: Pass<L>, sign: Sign<'s>) -> Chair<'s, L>
+    pub(crate) fn new(pass: Pass<L>, flag: EndFlag<'s>) -> Chair<'s, L>
         ensures { result ≡ record { first = pass; begun = 0 } }
     {
         Chair {
             first: Snapshot::of(&pass),
             begun: 0,
-            sign,
+            flag,
             second: None,
             state: Some(Err(pass)),
         }
@@ -114,7 +114,7 @@ impl<'s, L: DeskName> Chair<'s, L> {
     fn take_back<R: Threads>(&mut self, rt: &R)
         ensures { self.new ≡ self.old }
     {
-        if self.sign.is_up() {
+        if self.flag.is_up() {
             let pass = match self.state.take().unwrap() {
                 Ok(handle) => handle.join(rt),
                 Err(pass) => pass,
@@ -190,9 +190,9 @@ impl<'s, L: DeskName> Chair<'s, L> {
             Ok(handle) => handle.join(rt),
             Err(pass) => pass,
         };
-        self.sign.lower();
+        self.flag.lower();
         self.second = at.host.second(&stream);
-        self.state = Some(begin(scope, rt, alloc, at, pass, stream, self.sign));
+        self.state = Some(begin(scope, rt, alloc, at, pass, stream, self.flag));
         self.begun += 1;
     }
 }
@@ -212,7 +212,7 @@ fn begin<
     at: &Hosted<'s, L, W, D>,
     pass: Pass<L>,
     stream: TcpStream,
-    sign: Sign<'s>,
+    flag: EndFlag<'s>,
 ) -> Result<PromisedHandle<Pass<L>, ComesBack<L>>, Pass<L>>
     ensures { MatchResult result (λ h. h.promise.0.value ≡ pass) (λ p. IsAttended L.replica L.opening pass p) }
 {
@@ -228,7 +228,7 @@ fn begin<
         {
             let back = attend(rt, alloc, desk, host, pass, &stream);
             drop(stream);
-            sign.raise();
+            flag.raise();
             back
         },
     );

@@ -3,7 +3,7 @@ ghost use Rattle.std.specs.Prelude.{◌≡◌, ◌≤◌, ◌⊎◌, [], Some, I
 ghost use Rattle.ps_grid.specs.declared.refusal.Refusal.TheVariants.{Device, Memory};
 ghost use Rattle.ps_commands.specs.Sessions.{AreBack, Back};
 
-use crate::chair::{Chair, Sign};
+use crate::chair::{Chair, EndFlag};
 use crate::door::Door;
 use crate::elsewhere::Warner;
 use crate::host::{Host, Hosted};
@@ -31,7 +31,7 @@ fn set_up<'s, L: DeskName>(
 {
     let mut bit = 1u64;
     for pass in passes {
-        chairs.push_reserved(Chair::new(pass, Sign::new(word, bit)));
+        chairs.push_reserved(Chair::new(pass, EndFlag::new(word, bit)));
         bit = bit.rotate_left(1);
     }
 }
@@ -171,7 +171,7 @@ pub(crate) fn serve_all<
     ensures refused { IfErr result (λ e. (e ≡ Memory) ⊎ (e ≡ Device)) }
 {
     let word = AtomicU64::new(0);
-    let signs = &word;
+    let flags = &word;
     thread::scope(
         thread::scope_env(),
         rt,
@@ -184,7 +184,7 @@ pub(crate) fn serve_all<
             let mut chairs = Vec::with_capacity(alloc, passes.len())?;
             let mut back = Vec::with_capacity(alloc, passes.len())?;
             let mut door = Door::new(alloc, entrance, host.is_watchful())?;
-            set_up(passes, signs, &mut chairs);
+            set_up(passes, flags, &mut chairs);
             let asked = entrance.serving.sessions;
             let at = Hosted { desk, host, asked };
             let given = give_seats(scope, rt, alloc, &at, &mut door, &mut chairs, warner);
