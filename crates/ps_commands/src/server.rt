@@ -105,10 +105,11 @@ pub fn serve_on<R: Threads + Wait + Clock + Sync, K: Sink>(
 /// Serves sessions on a sheet as [`serve_on`] does, and keeps it in this journal: nothing that a session is told, or
 /// that a reply shows, is handed on before it is on the disk.
 ///
-/// At the end the journal's kept lines tell all of the closed sheet's history. Refused as `serve_on` is; as `Device`,
-/// too, where the journal's device fails, or there is no memory for a line: then nothing is handed on any more that
-/// isn't kept, the sessions are ended, and `closed` isn't written. The warner warns soon after a session was pushed
-/// changes that are the sheet's replica's own, and new.
+/// At the end the journal's kept lines tell all of the closed sheet's history. Where the journal's device fails, or
+/// there is no memory for a line, nothing is handed on any more that isn't kept, and the sessions are ended. Then it is
+/// refused as `Device`, without `closed`; but where memory alone lacked, no session was left to be begun, and the last
+/// settle, at the close, goes well, the end is as if it had been there. Else it is refused as `serve_on` is. The warner
+/// warns soon after a session was pushed changes that are the sheet's replica's own, and new.
 ///
 /// Cost: that of `serve_on`, and of the settles, one for all sessions that wait at a time.
 pub fn serve_kept_on<

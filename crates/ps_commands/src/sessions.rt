@@ -148,8 +148,9 @@ fn end_all<L: DeskName, R: Threads>(rt: &R, chairs: Vec<Chair<'_, L>>, back: &mu
 /// Serves the connections that come, as many at a time as there are passes, and gives the passes back with the number
 /// of sessions once as many as were asked for have ended.
 ///
-/// Refused as `Device` where a connection can't be accepted, or what the sessions have seen can't be kept, once the
-/// sessions that were begun have ended, and out of memory before the first is accepted.
+/// Refused as `Device` where a connection can't be accepted, or what the sessions have seen can't be kept while some
+/// are still to be begun, once those that were begun have ended, and out of memory before the first is accepted. Where
+/// none is still to be begun, the last settle tells whether all is kept.
 pub(crate) fn serve_all<
     L: DeskName + Send + Sync,
     W: Wait + Drop + Send,
