@@ -7,7 +7,7 @@ ghost use Rattle.ps_kept.specs.Starts.{Reads};
 ghost use Rattle.ps_commands.specs.Kept.{IsFileRefusal, TellsTrouble};
 ghost use Rattle.ps_commands.specs.Status.{kept_status};
 
-use crate::fault::ProgramFault;
+use crate::fault::{ProgramFault, RefusalLine};
 use ps_eval::Meter;
 use ps_grid::Refusal;
 use ps_keep::{FileFault, Found, FoundFile};
@@ -61,24 +61,19 @@ impl fmt::Display for KeptFault {
         let path = self.path.as_str();
         match self.trouble {
             KeptTrouble::Line(number) => {
-                write_refusal(Refusal::Delta, f)?;
-                write!(f, "line {number} of {path}")
+                let refusal = RefusalLine(Refusal::Delta);
+                write!(f, "{refusal}\nline {number} of {path}")
             }
             KeptTrouble::Replica(number) => {
-                write_refusal(Refusal::Replica, f)?;
-                write!(f, "{path} is of replica {number}")
+                let refusal = RefusalLine(Refusal::Replica);
+                write!(f, "{refusal}\n{path} is of replica {number}")
             }
             KeptTrouble::Busy => {
-                write_refusal(Refusal::Device, f)?;
-                write!(f, "{path} is kept by another program")
+                let refusal = RefusalLine(Refusal::Device);
+                write!(f, "{refusal}\n{path} is kept by another program")
             }
         }
     }
-}
-
-/// Writes the line of a refusal.
-fn write_refusal<W: fmt::Write>(refusal: Refusal, f: &mut fmt::Formatter<W>) -> fmt::Result {
-    writeln!(f, "err {} {}", refusal.number(), refusal.name())
 }
 
 /// The fault of a file that isn't taken; out of memory another one.
