@@ -1,5 +1,5 @@
 use Rattle.std.proofs.Common.{rules, inl, inr}
-use Rattle.ps_commands.proofs.session.answer_lines.Goals as goal
+use Rattle.ps_commands.proofs.run.answer_lines.Goals as goal
 
 pub returns-in-Err-Source-clause-device : goal.returns-in-Err-Source-clause-device
 returns-in-Err-Source-clause-device g c asked =

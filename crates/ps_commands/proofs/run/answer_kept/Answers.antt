@@ -1,6 +1,6 @@
 use Rattle.std.proofs.Common.{subst, sym}
 use Rattle.ps_kept.specs.Kept.{IsNoted}
-use Rattle.ps_commands.proofs.session.answer_kept.Goals as goal
+use Rattle.ps_commands.proofs.run.answer_kept.Goals as goal
 
 pub run_kept-done-requires-clause-stays : goal.run_kept-done-requires-clause-stays
 run_kept-done-requires-clause-stays g c lifetimes within = λ keeper old new later fits. (
