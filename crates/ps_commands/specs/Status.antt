@@ -2,7 +2,9 @@
 use Rattle.std.specs.Prelude.{◌≡◌, ℕ, Option, Some, None}
 use Rattle.csv.specs.declared.error.Error.{Error}
 use Rattle.ps_grid.specs.declared.refusal.Refusal.{Refusal}
-use Rattle.ps_grid.specs.declared.refusal.Refusal.TheVariants.{Device}
+use Rattle.ps_grid.specs.declared.refusal.Refusal.TheVariants.{Device, Memory}
+use Rattle.ps_session.specs.declared.transcript.RunFault.{RunFault}
+use Rattle.ps_session.specs.declared.transcript.RunFault.TheVariants as sessions
 use Rattle.ps_commands.specs.declared.fault.ProgramFault.{ProgramFault}
 use Rattle.ps_commands.specs.declared.fault.ProgramFault.TheVariants.{KeptFailed, PortFailed, ReaderFailed, Refused}
 use Rattle.ps_commands.specs.declared.kept.KeptTrouble.{KeptTrouble}
@@ -25,6 +27,11 @@ exit_status _ = 3
 abbrev pub program_fault : Option Error → Refusal → ProgramFault
 program_fault None refusal = Refused refusal
 program_fault (Some error) refusal = ReaderFailed error
+
+-- the fault of a session that ended before its input: memory, or else that a device failed
+abbrev pub session_fault : RunFault → ProgramFault
+session_fault sessions.Memory = Refused Memory
+session_fault _ = Refused Device
 
 -- the port that a fault tells of
 abbrev pub port_fault_of : ProgramFault → Option PortFault

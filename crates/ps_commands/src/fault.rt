@@ -1,12 +1,12 @@
 //! How the program ends before its work is done.
 ghost use Rattle.std.specs.Prelude.{◌≡◌};
-ghost use Rattle.ps_commands.specs.Status.{exit_status, program_fault};
+ghost use Rattle.ps_commands.specs.Status.{exit_status, program_fault, session_fault};
 
 use crate::kept::KeptFault;
 use crate::port::PortFault;
 use ps_csv::ImportFault;
 use ps_grid::Refusal;
-use ps_session::SyncFault;
+use ps_session::{RunFault, SyncFault};
 use std::alloc::AllocError;
 use std::fmt;
 use thiserror::Error;
@@ -65,6 +65,19 @@ impl From<SyncFault> for ProgramFault {
         match fault {
             SyncFault::Refused(refusal) => ProgramFault::Refused(refusal),
             SyncFault::PeerRefused(reply) => ProgramFault::PeerRefused(reply),
+        }
+    }
+}
+
+impl From<RunFault> for ProgramFault {
+    ghost from_gives = { λ fault e. e ≡ session_fault fault };
+
+    fn from(fault: RunFault) -> ProgramFault {
+        match fault {
+            RunFault::Memory => ProgramFault::Refused(Refusal::Memory),
+            RunFault::Source | RunFault::Sink | RunFault::Keep => {
+                ProgramFault::Refused(Refusal::Device)
+            }
         }
     }
 }

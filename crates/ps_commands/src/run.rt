@@ -16,7 +16,7 @@ use ps_eval::Meter;
 use ps_grid::Refusal;
 use ps_keep::Device;
 use ps_kept::{SheetKeeper, longer_histories_fit};
-use ps_session::{HeldOutput, Resources, RunFault, Watcher, run_kept, run_watched};
+use ps_session::{HeldOutput, Resources, Watcher, run_kept, run_watched};
 use ps_sheet::Sheet;
 use ps_words::SheetOptions;
 use std::alloc::Global;
@@ -78,14 +78,9 @@ pub fn answer_lines<R: Threads + Sync, S: Source, K: Sink, L: Ledger, W: Watcher
         Err(refusal) => return Err(ProgramFault::Refused(refusal)),
     };
     let done = run_watched(rt, alloc, source, sink, &mut sheet, meter, watcher);
-    // The program ends after this, and the system takes back at once what would be freed piece by piece.
-    mem::forget(sheet);
-    match done {
-        Ok(_) => Ok(()),
-        Err(RunFault::Memory) => Err(ProgramFault::Refused(Refusal::Memory)),
-        Err(RunFault::Source) => Err(ProgramFault::Refused(Refusal::Device)),
-        Err(RunFault::Sink | RunFault::Keep) => Err(ProgramFault::Refused(Refusal::Device)),
-    }
+    leave_unfreed(sheet);
+    done?;
+    Ok(())
 }
 
 /// Answers each line of the source on the output by a kept sheet, to the end of the input, while a watcher looks on.
@@ -137,13 +132,13 @@ pub fn answer_kept<
     longer_histories_fit();
     let mut sheet = sheet;
     let done = run_kept(resources, source, sink, &mut sheet, meter, watcher, keeper);
-    // The program ends after this, and the system takes back at once what would be freed piece by piece.
+    leave_unfreed(sheet);
+    done?;
+    Ok(())
+}
+
+/// Leaves a sheet as it is: the program ends next, and the system takes back at once what would be freed piece by
+/// piece.
+fn leave_unfreed(sheet: Sheet) {
     mem::forget(sheet);
-    match done {
-        Ok(_) => Ok(()),
-        Err(RunFault::Memory) => Err(ProgramFault::Refused(Refusal::Memory)),
-        Err(RunFault::Source) => Err(ProgramFault::Refused(Refusal::Device)),
-        Err(RunFault::Sink) => Err(ProgramFault::Refused(Refusal::Device)),
-        Err(RunFault::Keep) => Err(ProgramFault::Refused(Refusal::Device)),
-    }
 }
