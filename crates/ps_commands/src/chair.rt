@@ -26,6 +26,9 @@ impl<L: DeskName> Promise<Pass<L>> for ComesBack<L> {
     ghost kept_by = { λ p r. IsAttended L.replica L.opening p.0.value r };
 }
 
+/// Who has the pass of a seat: a session, in a thread of its own, or nobody, and here it is.
+type Holder<L> = Result<PromisedHandle<Pass<L>, ComesBack<L>>, Pass<L>>;
+
 /// Where a session shows that it is over, so that nobody has to wait for it: a bit of a word that all share.
 #[derive(Clone, Copy)]
 pub(crate) struct EndFlag<'s> {
@@ -62,7 +65,7 @@ pub(crate) struct Chair<'s, L: DeskName> {
     /// the connection of the last session once more, where the host keeps it
     second: Option<TcpStream>,
     /// out while it changes
-    state: Option<Result<PromisedHandle<Pass<L>, ComesBack<L>>, Pass<L>>>,
+    state: Option<Holder<L>>,
 }
 
 impl<'s, L: DeskName> Model for Chair<'s, L> {
@@ -115,10 +118,7 @@ impl<'s, L: DeskName> Chair<'s, L> {
         ensures { self.new ≡ self.old }
     {
         if self.flag.is_up() {
-            let pass = match self.state.take().unwrap() {
-                Ok(handle) => handle.join(rt),
-                Err(pass) => pass,
-            };
+            let pass = given_back(rt, self.state.take().unwrap());
             self.state = Some(Err(pass));
         }
     }
@@ -138,10 +138,7 @@ impl<'s, L: DeskName> Chair<'s, L> {
         ensures { Attended L.replica L.opening self.entry.begun self.entry.first result }
     {
         let Chair { state, .. } = self;
-        match state.unwrap() {
-            Ok(handle) => handle.join(rt),
-            Err(pass) => pass,
-        }
+        given_back(rt, state.unwrap())
     }
 
     /// Takes the pass back, if the session that has it is over, and gives it to the connection that waits first, if
@@ -186,10 +183,7 @@ impl<'s, L: DeskName> Chair<'s, L> {
         ensures first { self.new.first ≡ self.old.first }
         ensures begun { self.new.begun ≡ self.old.begun + 1 }
     {
-        let pass = match self.state.take().unwrap() {
-            Ok(handle) => handle.join(rt),
-            Err(pass) => pass,
-        };
+        let pass = given_back(rt, self.state.take().unwrap());
         self.flag.lower();
         self.second = at.host.second(&stream);
         self.state = Some(begin(scope, rt, alloc, at, pass, stream, self.flag));
@@ -213,7 +207,7 @@ fn begin<
     pass: Pass<L>,
     stream: TcpStream,
     flag: EndFlag<'s>,
-) -> Result<PromisedHandle<Pass<L>, ComesBack<L>>, Pass<L>>
+) -> Holder<L>
     ensures { MatchResult result (λ h. h.promise.0.value ≡ pass) (λ p. IsAttended L.replica L.opening pass p) }
 {
     desk_crosses::<L, W>();
@@ -235,5 +229,17 @@ fn begin<
     match begun {
         Ok(handle) => Ok(handle),
         Err(refused) => Err((refused.value)()),
+    }
+}
+
+/// The pass, once the session that has it is over.
+fn given_back<L: DeskName, R: Threads>(rt: &R, holder: Holder<L>) -> Pass<L>
+    ensures { MatchResult holder
+        (λ h. IsAttended L.replica L.opening h.promise.0.value result)
+        (λ p. result ≡ p) }
+{
+    match holder {
+        Ok(handle) => handle.join(rt),
+        Err(pass) => pass,
     }
 }
