@@ -10,8 +10,8 @@ use Rattle.std.proofs.Math.ListN.{get_or}
 use Rattle.memchr.specs.Find.{is_byte, Nowhere, Passes}
 use Rattle.ps_session.specs.Feeding.{Feeds, HasNoFeed, Reading, held, kept, kept_after}
 use Rattle.ps_session.specs.Inside.Holds.{with_line}
-use Rattle.ps_session.specs.declared.session.TheConstants.{LINE_LIMIT}
-use Rattle.ps_session.specs.declared.session.Line.TheVariants as lines
+use Rattle.ps_session.specs.declared.line_reader.TheConstants.{LINE_LIMIT}
+use Rattle.ps_session.specs.declared.line_reader.Line.TheVariants as lines
 
 pub no_feed : (piece : List ℕ) (n : ℕ) → n ≤ length piece → Nowhere (Passes (is_byte 10) piece) 0 n
     → HasNoFeed (take n piece)

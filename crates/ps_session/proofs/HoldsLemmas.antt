@@ -3,7 +3,7 @@ use Rattle.std.proofs.Common.{◌≡◌, ◌^◌, ◌+◌, ◌-◌, ℕ, min, Bo
 use Rattle.std.proofs.Common.{[], ◌∷◌, ◌<◌, arith, Option, Some, None, Result, Ok, Err, subst, nat_le}
 use Rattle.std.specs.Prelude.{if◌then◌else◌, MatchBool, OnOk}
 use Rattle.ps_device.specs.Device.{Sends}
-use Rattle.ps_session.specs.declared.session.TheConstants.{LINE_LIMIT}
+use Rattle.ps_session.specs.declared.line_reader.TheConstants.{LINE_LIMIT}
 use Rattle.ps_session.specs.Feeding.{kept, without_return}
 use Rattle.ps_session.specs.Transcript.{Answering, Handles, Replies, has_reply, is_filled}
 use Rattle.ps_session.specs.Inside.Holds.{Replied, as_one}

@@ -6,7 +6,7 @@ use Rattle.std.proofs.lemmas.List.{drop-drop, drop-take, take-append-drop}
 use Rattle.std.proofs.lemmas.List.Elements.{All-append}
 use Rattle.ps_device.specs.declared.device.Source.{Ghosts}
 use Rattle.ps_session.specs.declared.incoming.Incoming.{Incoming}
-use Rattle.ps_session.specs.declared.session.Line.TheVariants as lines
+use Rattle.ps_session.specs.declared.line_reader.Line.TheVariants as lines
 use Rattle.ps_session.specs.Feeding.{EndsLine, Feeds, HasNoFeed, Reading, kept, kept_after}
 use Rattle.ps_session.specs.Inside.Incomings.{IsReading, due, lines_left}
 use Rattle.ps_session.specs.Peers.{TakesLine}

@@ -13,8 +13,8 @@ use Rattle.ps_session.specs.Transcript.{answered_count}
 use Rattle.ps_session.specs.Transcript.{has_reply, stream_of, with_last}
 use Rattle.ps_session.specs.Inside.Stands.{Stands}
 use Rattle.ps_session.specs.Inside.Holds.{Holds, as_one}
-use Rattle.ps_session.specs.declared.session.Line.{Line}
-use Rattle.ps_session.specs.declared.session.Line.TheVariants as lines
+use Rattle.ps_session.specs.declared.line_reader.Line.{Line}
+use Rattle.ps_session.specs.declared.line_reader.Line.TheVariants as lines
 use Rattle.ps_session.proofs.HoldsLemmas.{fits_kept}
 use Rattle.ps_session.proofs.OneLineMore.{Run-push, counted-push, counted_from_none}
 

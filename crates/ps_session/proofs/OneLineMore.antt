@@ -9,7 +9,7 @@ use Rattle.std.proofs.lemmas.List.Elements.{All-append, All-push}
 use Rattle.std.proofs.lemmas.List.Sums.{fold-append}
 use Rattle.std.proofs.lemmas.Bool.Decides.{nat_tests}
 use Rattle.ps_device.proofs.DeviceLemmas.{Appends-append}
-use Rattle.ps_session.specs.declared.session.TheConstants.{LINE_LIMIT}
+use Rattle.ps_session.specs.declared.line_reader.TheConstants.{LINE_LIMIT}
 use Rattle.ps_session.specs.Feeding.{HasNoFeed, kept, kept_after}
 use Rattle.ps_session.specs.Transcript.{Answering, Run, stream_of, has_reply, answered_count}
 use Rattle.ps_session.specs.Transcript.{Cut}

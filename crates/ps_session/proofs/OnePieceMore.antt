@@ -8,8 +8,8 @@ use Rattle.ps_session.specs.Feeding.{EndsLine, Feeds, HasNoFeed, Reading, kept, 
 use Rattle.ps_session.specs.Transcript.{Answering, Cut, has_reply}
 use Rattle.ps_session.specs.Inside.Stands.{Stands}
 use Rattle.ps_session.specs.Inside.Holds.{Holds, as_one, with_line}
-use Rattle.ps_session.specs.declared.session.Line.{Line}
-use Rattle.ps_session.specs.declared.session.Line.TheVariants as lines
+use Rattle.ps_session.specs.declared.line_reader.Line.{Line}
+use Rattle.ps_session.specs.declared.line_reader.Line.TheVariants as lines
 use Rattle.ps_session.proofs.OneLineMore.{cut_line, kept_cut, stands_line, stands_part}
 
 -- the part of a line that ended, and what is kept of the whole line

@@ -24,7 +24,7 @@ use Rattle.ps_session.specs.Replies.{done_text, rows_text, value_text}
 use Rattle.ps_session.specs.Transcript.{Replies, Run, answered_count, with_last}
 use Rattle.ps_session.specs.declared.command.Command.{Command}
 use Rattle.ps_session.specs.declared.command.Command.TheVariants as commands
-use Rattle.ps_session.specs.declared.session.TheConstants.{LINE_LIMIT}
+use Rattle.ps_session.specs.declared.line_reader.TheConstants.{LINE_LIMIT}
 use Rattle.ps_session.proofs.AskedInRange.{AsksInRange, line_in_range, made_in_grid}
 use Rattle.ps_session.proofs.GreatestGroup.{hands_once}
 use Rattle.ps_session.proofs.ReadingLaws.{reads_once}

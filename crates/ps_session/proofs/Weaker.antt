@@ -3,7 +3,7 @@
 use Rattle.std.proofs.Common.{◌≡◌, inl, inr, ℕ, Bool, true, false, List, [], ◌∷◌, Option, length, nat_le}
 use Rattle.std.proofs.Common.{Result, Ok, Err}
 use Rattle.std.specs.Prelude.{IfOk, MatchBool}
-use Rattle.ps_session.specs.declared.session.TheConstants.{LINE_LIMIT}
+use Rattle.ps_session.specs.declared.line_reader.TheConstants.{LINE_LIMIT}
 use Rattle.ps_session.specs.Feeding.{without_return}
 use Rattle.ps_session.specs.Keeping.{Halted, IsCovered}
 use Rattle.ps_session.specs.Transcript.{Answered, Answering, Cut, Lines, Replies, Run, Stopped, Transcribed}

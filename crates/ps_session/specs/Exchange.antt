@@ -5,12 +5,12 @@ use Rattle.std.specs.Prelude.{drop, length, string_bytes}
 use Rattle.std.specs.Io.KnownBytes.{Appends, Consumes}
 use Rattle.std.specs.List.{All}
 use Rattle.ps_session.specs.declared.command.TheConstants.{LARGEST_GROUP}
-use Rattle.ps_session.specs.declared.replies.PeerReply.{PeerReply}
-use Rattle.ps_session.specs.declared.replies.PeerReply.TheVariants as replies
-use Rattle.ps_session.specs.declared.pulling.Due.{Due}
-use Rattle.ps_session.specs.declared.pulling.Due.TheVariants as dues
-use Rattle.ps_session.specs.declared.pulling.SyncFault.{SyncFault}
-use Rattle.ps_session.specs.declared.pulling.SyncFault.TheVariants.{PeerRefused, Refused}
+use Rattle.ps_session.specs.declared.peer_reply.PeerReply.{PeerReply}
+use Rattle.ps_session.specs.declared.peer_reply.PeerReply.TheVariants as replies
+use Rattle.ps_session.specs.declared.peer_pull.Due.{Due}
+use Rattle.ps_session.specs.declared.peer_pull.Due.TheVariants as dues
+use Rattle.ps_session.specs.declared.peer_pull.SyncFault.{SyncFault}
+use Rattle.ps_session.specs.declared.peer_pull.SyncFault.TheVariants.{PeerRefused, Refused}
 use Rattle.ps_session.specs.Feeding.{HasNoFeed, without_return}
 use Rattle.ps_session.specs.Peers.{IsClosed, IsReplied, PeerView, PutsSome, TakesLine}
 use Rattle.ps_session.specs.PushLine.{push_text}

@@ -3,9 +3,9 @@
 use Rattle.std.specs.Prelude.{◌≡◌, ◌≢◌, ◌-◌, ◌<◌, ℕ, Bool, List, [], ◌∷◌, ◌++◌, length, take, Option, Some, None}
 use Rattle.std.specs.Prelude.{if◌then◌else◌, nat_eq, nat_le}
 use Rattle.std.specs.List.{All, ends_with}
-use Rattle.ps_session.specs.declared.session.TheConstants.{LINE_LIMIT}
-use Rattle.ps_session.specs.declared.session.Line.{Line}
-use Rattle.ps_session.specs.declared.session.Line.TheVariants as lines
+use Rattle.ps_session.specs.declared.line_reader.TheConstants.{LINE_LIMIT}
+use Rattle.ps_session.specs.declared.line_reader.Line.{Line}
+use Rattle.ps_session.specs.declared.line_reader.Line.TheVariants as lines
 
 -- the bytes of a line that hasn't ended, or None where they are too many
 abbrev pub held : Bool → List ℕ → Option (List ℕ)

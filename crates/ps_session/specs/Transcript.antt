@@ -4,7 +4,7 @@ use Rattle.std.specs.Prelude.{◌≡◌, ◌⊎◌, ◌<◌, ◌^◌, ◌-◌, �
 use Rattle.std.specs.Prelude.{Option, if◌then◌else◌, nat_le, MatchBool, count_by, flat_map}
 use Rattle.std.specs.List.{All}
 use Rattle.std.specs.Io.KnownBytes.{Appends}
-use Rattle.ps_session.specs.declared.session.TheConstants.{LINE_LIMIT}
+use Rattle.ps_session.specs.declared.line_reader.TheConstants.{LINE_LIMIT}
 use Rattle.ps_session.specs.Feeding.{HasNoFeed, without_return}
 use Rattle.ps_session.specs.Replies.{refusal_text}
 use Rattle.ps_grid.specs.declared.refusal.Refusal.TheVariants as refusals

@@ -6,10 +6,10 @@ ghost use Rattle.ps_session.specs.Exchange.{IsAll, IsHalted, IsLeft, IsOwn};
 ghost use Rattle.ps_session.specs.Feeding.{without_return};
 ghost use Rattle.ps_session.specs.Peers.{PutsSome};
 ghost use Rattle.ps_session.specs.PushLine.{push_text};
-ghost use Rattle.ps_session.specs.declared.pulling.SyncFault.TheVariants.{Refused};
+ghost use Rattle.ps_session.specs.declared.peer_pull.SyncFault.TheVariants.{Refused};
 
 use crate::peer::Peer;
-use crate::pulling::{Due, SyncFault, next_due};
+use crate::peer_pull::{Due, SyncFault, next_due};
 use crate::push_line::send_push;
 use ps_device::{Failed, Sink, Source, hand_on};
 use ps_grid::Refusal;

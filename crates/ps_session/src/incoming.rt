@@ -2,7 +2,7 @@
 ghost use Rattle.std.specs.Prelude.{◌≡◌, ◌≤◌, length};
 ghost use Rattle.ps_device.specs.declared.TheConstants.{PIECE_BYTES};
 
-use crate::session::{Line, Session};
+use crate::line_reader::{Line, Session};
 use ps_device::{Failed, PIECE_BYTES, Source};
 use std::alloc::{AllocError, Global};
 

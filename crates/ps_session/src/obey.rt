@@ -8,7 +8,7 @@ ghost use Rattle.ps_session.specs.Replies.{done_text, entries_reply, refusal_tex
 
 use crate::board::Board;
 use crate::command::Command;
-use crate::pull::greatest_group;
+use crate::group::greatest_group;
 use crate::reply::Reply;
 use ps_delta::Delta;
 use ps_grid::{Rect, Refusal};

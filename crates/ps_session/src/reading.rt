@@ -10,8 +10,8 @@ ghost use Rattle.ps_session.specs.Inside.Stands.{Breaks, GoesOn, IsUnderWay, Sta
 use crate::board::Board;
 use crate::delivery::Delivery;
 use crate::keeper::Keeper;
+use crate::line_reader::Session;
 use crate::resources::Resources;
-use crate::session::Session;
 use crate::transcript::{Conversation, RunFault};
 use crate::watcher::Watcher;
 use ps_device::{PIECE_BYTES, Source};

@@ -4,12 +4,12 @@ ghost use Rattle.ps_grid.specs.declared.refusal.Refusal.TheVariants as Refusal;
 ghost use Rattle.ps_session.specs.Exchange.{IsAll, IsHalted};
 ghost use Rattle.ps_session.specs.Peers.{IsReplied, PutsSome};
 ghost use Rattle.ps_session.specs.PushLine.{push_text};
-ghost use Rattle.ps_session.specs.declared.pulling.SyncFault.TheVariants.{Refused};
+ghost use Rattle.ps_session.specs.declared.peer_pull.SyncFault.TheVariants.{Refused};
 
 use crate::peer::Peer;
-use crate::pulling::{Due, SyncFault, fault_of, next_due, refused};
+use crate::peer_pull::{Due, SyncFault, fault_of, next_due, refused};
+use crate::peer_reply::{PeerReply, read_reply};
 use crate::push_line::push_pieces;
-use crate::replies::{PeerReply, read_reply};
 use ps_device::{Sink, Source};
 use ps_grid::Refusal;
 use std::alloc::Global;

@@ -10,7 +10,7 @@ use Rattle.std.specs.Prelude.{if◌then◌else◌, nat_eq}
 use Rattle.std.specs.List.{ends_with, starts_with}
 use Rattle.ps_delta.specs.Deltas.{Entries}
 use Rattle.ps_wire.specs.Line.{IsLine}
-use Rattle.ps_session.specs.declared.session.TheConstants.{LINE_LIMIT}
+use Rattle.ps_session.specs.declared.line_reader.TheConstants.{LINE_LIMIT}
 use Rattle.ps_session.specs.Feeding.{kept, without_return}
 use Rattle.ps_session.specs.PushLine.{push_word}
 use Rattle.ps_session.specs.ReplicaLine.{TellsNone, replica_line}

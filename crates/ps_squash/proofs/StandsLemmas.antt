@@ -13,9 +13,9 @@ use Rattle.ps_device.proofs.DeviceLemmas.{rest-range}
 use Rattle.ps_delta.specs.State.{State, empty_state, joined_state}
 use Rattle.ps_delta.specs.Deltas.{Entries, joined_history}
 use Rattle.ps_delta.proofs.HistoryLemmas.{joined_history-append, joined_history-nil}
-use Rattle.ps_session.specs.declared.session.TheConstants.{LINE_LIMIT}
-use Rattle.ps_session.specs.declared.session.Line.{Line}
-use Rattle.ps_session.specs.declared.session.Line.TheVariants as lines
+use Rattle.ps_session.specs.declared.line_reader.TheConstants.{LINE_LIMIT}
+use Rattle.ps_session.specs.declared.line_reader.Line.{Line}
+use Rattle.ps_session.specs.declared.line_reader.Line.TheVariants as lines
 use Rattle.ps_session.specs.Feeding.{Ends, EndsLine, Feeds, HasNoFeed, Reading, kept, kept_after, without_return}
 use Rattle.ps_session.specs.Transcript.{IsAfterLine, stream_of, with_last}
 use Rattle.ps_session.specs.ReplicaLine.{TellsNone}

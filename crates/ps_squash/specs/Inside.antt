@@ -11,8 +11,8 @@ use Rattle.ps_wire.specs.Length.{size}
 use Rattle.ps_wire.specs.Value.{cell_value}
 use Rattle.ps_session.specs.Feeding.{Reading, kept}
 use Rattle.ps_session.specs.Transcript.{Splits}
-use Rattle.ps_session.specs.declared.session.Line.{Line}
-use Rattle.ps_session.specs.declared.session.Line.TheVariants as lines
+use Rattle.ps_session.specs.declared.line_reader.Line.{Line}
+use Rattle.ps_session.specs.declared.line_reader.Line.TheVariants as lines
 use Rattle.ps_wire.specs.Line.{IsLine, delta_text}
 use Rattle.ps_squash.specs.Squashed.{AreFull, Divide, FirstFault, FirstSays, SayAll, Says, cells_in, push_lines}
 use Rattle.ps_squash.specs.Squashed.{told_line}

@@ -3,8 +3,8 @@ use Rattle.std.specs.Prelude.{◌≡◌, ◌+◌, ◌-◌, ◌<◌, ◌^◌, ℕ
 use Rattle.std.specs.Prelude.{length, take, min, if◌then◌else◌}
 use Rattle.std.specs.Io.KnownBytes.{Appends}
 use Rattle.ps_session.specs.Feeding.{Reading, kept}
-use Rattle.ps_session.specs.declared.session.Line.{Line}
-use Rattle.ps_session.specs.declared.session.Line.TheVariants as lines
+use Rattle.ps_session.specs.declared.line_reader.Line.{Line}
+use Rattle.ps_session.specs.declared.line_reader.Line.TheVariants as lines
 
 -- a reader that holds this line, and nothing of another
 abbrev pub with_line : List ℕ → Reading

@@ -2,7 +2,7 @@ use Rattle.std.proofs.Common.{List, ℕ, Option, Some, None, Bor}
 use Rattle.std.specs.Prelude.{IfSome, MatchOption}
 use Rattle.std.proofs.lemmas.Bool.Decides.{Decides-eqb}
 use Rattle.std.proofs.lemmas.Slice.Eq.{strip_prefix_is}
-use Rattle.ps_session.proofs.replies.after.Goals as goal
+use Rattle.ps_session.proofs.peer_reply.after.Goals as goal
 
 pub returns : goal.returns
 returns c =

@@ -4,11 +4,11 @@ ghost use Rattle.ps_grid.specs.declared.refusal.Refusal.TheVariants as Refusal;
 ghost use Rattle.ps_session.specs.Exchange.{IsDue, IsNext, IsOwn, pull_text};
 ghost use Rattle.ps_session.specs.Feeding.{without_return};
 ghost use Rattle.ps_session.specs.Peers.{IsClosed, IsReplied, TakesLine};
-ghost use Rattle.ps_session.specs.declared.pulling.SyncFault.TheVariants.{Refused};
+ghost use Rattle.ps_session.specs.declared.peer_pull.SyncFault.TheVariants.{Refused};
 
 use crate::command::LARGEST_GROUP;
 use crate::peer::{Peer, PeerFault};
-use crate::replies::{PeerReply, read_reply};
+use crate::peer_reply::{PeerReply, read_reply};
 use itoa::Buffer;
 use ps_device::{Sink, Source};
 use ps_grid::Refusal;

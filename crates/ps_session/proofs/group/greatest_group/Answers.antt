@@ -7,8 +7,8 @@ use Rattle.ps_session.proofs.GreatestGroup.{greatest_found, greatest_whole, none
 use Rattle.ps_session.proofs.GreatestGroup.{none_found, none_of_one, one_item}
 use Rattle.ps_session.proofs.JointLemmas.{joint_at}
 use Rattle.ps_session.proofs.ReadLemmas.{same_fault}
-use Rattle.ps_session.proofs.pull.greatest_group.Goals as goal
-use Rattle.ps_session.proofs.pull.greatest_group.Goals.{in-Ok, in-Err}
+use Rattle.ps_session.proofs.group.greatest_group.Goals as goal
+use Rattle.ps_session.proofs.group.greatest_group.Goals.{in-Ok, in-Err}
 
 pub counts-init : goal.counts-init
 counts-init c =

@@ -4,7 +4,7 @@ use Rattle.std.specs.Prelude.{IfOk}
 use Rattle.ps_delta.specs.Deltas.{IsDelta}
 use Rattle.ps_session.specs.Handing.{HasNone, IsGreatest}
 use Rattle.ps_session.proofs.GreatestGroup.{alone_line, alone_none}
-use Rattle.ps_session.proofs.pull.line_alone.Goals as goal
+use Rattle.ps_session.proofs.group.line_alone.Goals as goal
 
 pub returns-clause-line : goal.returns-clause-line
 returns-clause-line c =

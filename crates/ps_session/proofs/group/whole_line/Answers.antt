@@ -2,7 +2,7 @@ use Rattle.std.proofs.Common.{◌∙◌, ap, sym, subst, arith, rules}
 use Rattle.std.specs.Arc.{arc_value}
 use Rattle.std.proofs.lemmas.List.{length-map, take-map}
 use Rattle.ps_delta.specs.Deltas.{IsDelta, joined_history}
-use Rattle.ps_session.proofs.pull.whole_line.Goals as goal
+use Rattle.ps_session.proofs.group.whole_line.Goals as goal
 
 pub returns : goal.returns
 returns c = record {

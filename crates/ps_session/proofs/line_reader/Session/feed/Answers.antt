@@ -2,7 +2,7 @@ use Rattle.std.proofs.Common.{refl, sym, ap, ◌∙◌, arith, take}
 use Rattle.std.proofs.Math.Seq.{take-length}
 use Rattle.ps_session.specs.Feeding.{Reading, kept_after}
 use Rattle.ps_session.proofs.FeedLemmas.{ends_line, no_feed}
-use Rattle.ps_session.proofs.session.Session.feed.Goals as goal
+use Rattle.ps_session.proofs.line_reader.Session.feed.Goals as goal
 
 pub returns-in-None-clause-fed : goal.returns-in-None-clause-fed
 returns-in-None-clause-fed c =

@@ -3,7 +3,7 @@ use Rattle.std.proofs.lemmas.List.{length-map, length_push}
 use Rattle.std.specs.Arc.{arc_value}
 use Rattle.ps_wire.specs.Length.{OutgrowsLine}
 use Rattle.ps_session.proofs.JointLemmas.{joints_end, more_joints}
-use Rattle.ps_session.proofs.pull.joined_upward.Goals as goal
+use Rattle.ps_session.proofs.group.joined_upward.Goals as goal
 
 pub returns-then-outgrows_line-clause-joints : goal.returns-then-outgrows_line-clause-joints
 returns-then-outgrows_line-clause-joints c =

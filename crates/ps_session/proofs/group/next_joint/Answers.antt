@@ -2,7 +2,7 @@ use Rattle.std.proofs.Common.{◌∙◌, subst, arith}
 use Rattle.std.specs.Arc.{arc_value}
 use Rattle.ps_delta.specs.Deltas.{IsDelta}
 use Rattle.ps_session.proofs.JointLemmas.{both_ok, first_joint, later_joint}
-use Rattle.ps_session.proofs.pull.next_joint.Goals as goal
+use Rattle.ps_session.proofs.group.next_joint.Goals as goal
 
 pub returns-then-count-eq0-clause-joint : goal.returns-then-count-eq0-clause-joint
 returns-then-count-eq0-clause-joint c =

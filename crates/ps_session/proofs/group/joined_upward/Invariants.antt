@@ -1,7 +1,7 @@
 use Rattle.std.proofs.Common.{◌-◌, ◌≤◌, length, map}
 use Rattle.std.specs.Arc.{arc_value}
 use Rattle.ps_session.specs.Inside.Joints.{AreFirstJoints}
-use Rattle.ps_session.proofs.pull.joined_upward.Given as goal
+use Rattle.ps_session.proofs.group.joined_upward.Given as goal
 
 abbrev pub invariant-joints : goal.invariant-joints
 invariant-joints l = record {

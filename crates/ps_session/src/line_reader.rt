@@ -2,7 +2,7 @@
 ghost use Rattle.std.specs.Prelude.{◌≡◌, ◌+◌, ◌<◌, ◌≤◌, Some, None, [], IfOk, IfSome, length, take, vec_len};
 ghost use Rattle.std.specs.Prelude.{if◌then◌else◌, vec_capacity};
 ghost use Rattle.std.specs.Bool.{OnTrue};
-ghost use Rattle.ps_session.specs.declared.session.TheConstants.{LINE_LIMIT};
+ghost use Rattle.ps_session.specs.declared.line_reader.TheConstants.{LINE_LIMIT};
 ghost use Rattle.ps_session.specs.Feeding.{held, kept_after, without_return};
 
 use memchr::memchr;
@@ -45,7 +45,7 @@ pub struct Session {
 
 impl Model for Session {
     ghost use Rattle.std.specs.Prelude.{◌≤◌, Some, None, [], if◌then◌else◌, vec_len, vec_capacity};
-    ghost use Rattle.ps_session.specs.declared.session.TheConstants.{LINE_LIMIT};
+    ghost use Rattle.ps_session.specs.declared.line_reader.TheConstants.{LINE_LIMIT};
     ghost use Rattle.ps_session.specs.Feeding.{Reading};
 
     ghost Value = { Reading };

@@ -1,5 +1,5 @@
 use Rattle.ps_session.proofs.FeedLemmas.{whole_line_feeds}
-use Rattle.ps_session.proofs.session.Session.whole_line.Goals as goal
+use Rattle.ps_session.proofs.line_reader.Session.whole_line.Goals as goal
 
 pub returns-in-Some-clause-fed : goal.returns-in-Some-clause-fed
 returns-in-Some-clause-fed c = λ none.
