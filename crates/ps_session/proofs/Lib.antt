@@ -15,6 +15,7 @@ pub mod AnswerLemmas
 mod ReplicaAndLinesStay
 mod WordLemmas
 mod WordCounts
+mod NamesAreWords
 pub mod ReadingLaws
 mod SplitLemmas
 mod AskedInRange

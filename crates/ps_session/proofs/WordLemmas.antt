@@ -1,6 +1,6 @@
 -- How a line is divided into words, and what a word of digits writes.
 use Rattle.std.proofs.Common.{◌≡◌, ◌+◌, ◌-◌, ◌<◌, ◌≤◌, ◌^◌, ◌==◌, ℕ, Bool, true, false, cond, ◌&&◌}
-use Rattle.std.proofs.Common.{List, [], ◌∷◌, length}
+use Rattle.std.proofs.Common.{List, [], ◌∷◌, ◌++◌, get_or, length, subst}
 use Rattle.std.proofs.Common.{take, drop, nat_lt, Some, None, Result, Ok, Err, refl, sym, ap, ◌∙◌, arith, rules}
 use Rattle.std.specs.Prelude.{IsUtf8, position}
 use Rattle.std.specs.Char.{is_ascii_digit}
@@ -8,10 +8,10 @@ use Rattle.std.specs.List.{list_all, onto_first, position_or_len}
 use Rattle.std.specs.Result.{OkIff, result_ok}
 use Rattle.std.specs.Str.{IsAscii}
 use Rattle.std.specs.Str.Parse.{AllDigits, ParsesUnsigned, digits_value}
-use Rattle.std.proofs.lemmas.Bool.{ltb-true, ltb-false, lt-ltb}
+use Rattle.std.proofs.lemmas.Bool.{eqb-true, ltb-true, ltb-false, lt-ltb}
 use Rattle.std.proofs.lemmas.List.{take_rest}
 use Rattle.std.proofs.lemmas.List.Splits.{slice_split_first, slice_split_none}
-use Rattle.std.proofs.lemmas.List.Sums.{fails_before_first}
+use Rattle.std.proofs.lemmas.List.Sums.{fails_before_first, passes_at_first, split_at_first}
 use Rattle.std.proofs.lemmas.Str.Ascii.{IsAscii-cons, IsAscii-nil}
 use Rattle.std.proofs.lemmas.Str.{IsUtf8-from_ascii}
 use Rattle.std.proofs.lemmas.Str.Parse.{digit_from_value, parse_digits, IsNumeralModel, numerals_by_value}
@@ -38,6 +38,21 @@ parts_at separator text place e =
     let there : parts separator text ≡ take place text ∷ parts separator (drop (place + 1) text)
     = rw cases.1 at split in
     rw (take_rest text (place + 1)) there
+
+-- .. and it is what stands before the first separator, the separator, and what stands after it
+pub divided_at : (separator : ℕ) (text : List ℕ) (place : ℕ) → position (λ b. b == separator) text ≡ Some place
+    → text ≡ take place text ++ separator ∷ take (length text - (place + 1)) (drop (place + 1) text)
+divided_at separator text place e =
+    let is_separator : ℕ → Bool = λ b. b == separator in
+    let n = position_or_len is_separator text in
+    let cases = position_cases (nat_lt n (length text)) n place e in
+    let within = ltb-true n (length text) cases.0 in
+    let there : text ≡ take n text ++ separator ∷ drop (n + 1) text =
+    split_at_first is_separator text 0 within
+    ∙ ap (λ b. take n text ++ b ∷ drop (n + 1) text)
+    (eqb-true (get_or text n 0) separator (passes_at_first is_separator text 0 within)) in
+    subst (λ k. text ≡ take k text ++ separator ∷ take (length text - (k + 1)) (drop (k + 1) text)) cases.1
+    (there ∙ ap (λ rest. take n text ++ separator ∷ rest) (sym (take_rest text (n + 1))))
 
 -- a text without a separator is one part
 pub one_part : (separator : ℕ) (text : List ℕ) → position (λ b. b == separator) text ≡ None

@@ -144,9 +144,13 @@ fn read_cell(word: &[u8]) -> Result<Cell, Refusal>
 fn read_one_cell(rest: &[u8]) -> Result<Cell, Refusal>
     ensures { ReadsOneCell (words rest.now) result }
 {
-    match split_word(rest) {
-        (word, None) => read_cell(word),
-        (_, Some(_)) => Err(Refusal::Command),
+    // no name of a cell has a space: one is looked for only where no cell is named
+    match Cell::read(rest) {
+        Some(cell) => Ok(cell),
+        None => match split_word(rest) {
+            (_, None) => Err(Refusal::Cell),
+            (_, Some(_)) => Err(Refusal::Command),
+        },
     }
 }
 

@@ -1,5 +1,5 @@
 //! The words of a line.
-ghost use Rattle.std.specs.Prelude.{◌≡◌, ◌==◌, ◌∷◌, [], position};
+ghost use Rattle.std.specs.Prelude.{◌≡◌, ◌==◌, ◌++◌, ◌∷◌, [], MatchOption, position};
 ghost use Rattle.std.specs.Char.{is_ascii_digit};
 ghost use Rattle.std.specs.List.{list_all};
 ghost use Rattle.std.specs.Option.{option_map_or};
@@ -11,6 +11,8 @@ pub(crate) fn split_word(text: &[u8]) -> (&[u8], Option<&[u8]>)
     ensures word { result.0.now ≡ first_word text.now }
     ensures words { words text.now ≡ result.0.now ∷ option_map_or (λ rest. words rest.now) result.1 [] }
     ensures after { after_word text.now ≡ option_map_or (λ rest. rest.now) result.1 [] }
+    ensures whole { MatchOption result.1 (text.now ≡ result.0.now)
+        (λ rest. text.now ≡ result.0.now ++ 32 ∷ rest.now) }
 {
     split_part(text, b' ')
 }
@@ -21,6 +23,8 @@ pub(crate) fn split_part(text: &[u8], separator: u8) -> (&[u8], Option<&[u8]>)
     ensures parts { parts separator text.now
         ≡ result.0.now ∷ option_map_or (λ rest. parts separator rest.now) result.1 [] }
     ensures after { after_part separator text.now ≡ option_map_or (λ rest. rest.now) result.1 [] }
+    ensures whole { MatchOption result.1 (text.now ≡ result.0.now)
+        (λ rest. text.now ≡ result.0.now ++ separator ∷ rest.now) }
 {
     match first_place(text, separator) {
         Some(place) => (&text[..place], Some(&text[place + 1..])),
