@@ -1,8 +1,8 @@
 //! What a peer replied.
-ghost use Rattle.std.specs.Prelude.{◌≡◌, ◌++◌, ◌∷◌, IfSome};
+ghost use Rattle.std.specs.Prelude.{◌≡◌, ◌++◌, IfSome};
 ghost use Rattle.ps_session.specs.Exchange.{IsTold};
 
-use crate::words::read_whole;
+use crate::words::{read_whole, split_word};
 
 /// What a peer replied to a `pull` or a `push`.
 #[derive(Clone, Copy)]
@@ -23,8 +23,8 @@ pub(crate) fn read_reply(line: &[u8]) -> Option<PeerReply<'_>>
 {
     let text = str::from_utf8(line).ok()?;
     if let Some(rest) = after(line, b"delta ") {
-        let (digits, delta) = split_space(rest)?;
-        return Some(PeerReply::Delta(read_whole(digits)?, delta));
+        let (digits, delta) = split_word(rest);
+        return Some(PeerReply::Delta(read_whole(digits)?, delta?));
     }
     if let Some(digits) = after(line, b"end ") {
         return Some(PeerReply::End(read_whole(digits)?));
@@ -44,12 +44,4 @@ fn after<'a>(line: &'a [u8], word: &[u8]) -> Option<&'a [u8]>
     ensures { IfSome result (λ rest. line.now ≡ word.now ++ rest.now) }
 {
     line.strip_prefix(word)
-}
-
-/// What stands before the first space, and what after it; none where there is no space.
-fn split_space(text: &[u8]) -> Option<(&[u8], &[u8])>
-    ensures { IfSome result (λ halves. text.now ≡ halves.0.now ++ 32 ∷ halves.1.now) }
-{
-    let place = text.iter().position(|b| *b == b' ')?;
-    Some((&text[..place], &text[place + 1..]))
 }
