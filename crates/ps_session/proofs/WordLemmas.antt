@@ -4,11 +4,13 @@ use Rattle.std.proofs.Common.{List, [], ◌∷◌, ◌++◌, get_or, length, sub
 use Rattle.std.proofs.Common.{take, drop, nat_lt, Some, None, Result, Ok, Err, refl, sym, ap, ◌∙◌, arith, rules}
 use Rattle.std.specs.Prelude.{IsUtf8, position}
 use Rattle.std.specs.Char.{is_ascii_digit}
+use Rattle.std.specs.Fmt.{decimal}
 use Rattle.std.specs.List.{list_all, onto_first, position_or_len}
 use Rattle.std.specs.Result.{OkIff, result_ok}
 use Rattle.std.specs.Str.{IsAscii}
 use Rattle.std.specs.Str.Parse.{AllDigits, ParsesUnsigned, digits_value}
 use Rattle.std.proofs.lemmas.Bool.{eqb-true, ltb-true, ltb-false, lt-ltb}
+use Rattle.std.proofs.lemmas.Fmt.{decimal_nonempty, digits_decimal, digits_value-decimal}
 use Rattle.std.proofs.lemmas.List.{take_rest}
 use Rattle.std.proofs.lemmas.List.Splits.{slice_split_first, slice_split_none}
 use Rattle.std.proofs.lemmas.List.Sums.{fails_before_first, passes_at_first, split_at_first}
@@ -128,3 +130,11 @@ parsed E word (Err e) all refuted = sym (whole_number-none word all refuted)
 pub whole_number-parsed : (E : Type 0) (word : List ℕ) (r : Result ℕ E) → list_all is_ascii_digit word ≡ true
     → ParsesUnsigned 64 10 word r → result_ok r ≡ whole_number word
 whole_number-parsed E word r all parses = parsed E word r all (parse_digits digits 64 word r parses all)
+
+-- the number whose decimal digits a word is
+pub whole_number-decimal : (n : ℕ) → n < 2 ^ 64 → whole_number (decimal n) ≡ Some n
+whole_number-decimal n fits =
+    let value = digits_value-decimal digits n fits in
+    whole_number-fits (decimal n) (digits_decimal digits n fits) (decimal_nonempty n fits)
+    (subst (λ v. v < 2 ^ 64) (sym value) fits)
+    ∙ ap Some value

@@ -1,10 +1,14 @@
 //! The line that tells a replica: the first one of a kept file, which tells whose the lines after it are.
-ghost use Rattle.std.specs.Prelude.{◌≡◌, ◌++◌, IfOk, MatchOption, OnOk};
+ghost use Rattle.std.specs.Prelude.{◌≡◌, ◌≤◌, ◌++◌, ℕ, Some, IfOk, IfSome, MatchOption, OnOk};
+ghost use Rattle.ps_grid.specs.declared.parties.TheConstants.{REPLICAS};
 ghost use Rattle.ps_session.specs.ReplicaLine.{Tells, TellsNone, replica_line};
 
+use crate::command::read_number;
 use itoa::Buffer;
-use ps_grid::REPLICAS;
 use std::alloc::{AllocError, Global};
+
+/// The first word of the line, with its space.
+const REPLICA: &[u8] = b"replica ";
 
 /// Appends the line of a replica, without a line feed. Refused out of memory.
 ///
@@ -12,7 +16,7 @@ use std::alloc::{AllocError, Global};
 pub fn put_replica_line(replica: u8, text: &mut Vec<u8>) -> Result<(), AllocError>
     ensures { OnOk result (text.new.items ≡ text.old.items ++ replica_line replica) }
 {
-    text.extend_from_slice(b"replica ")?;
+    text.extend_from_slice(REPLICA)?;
     let mut digits = Buffer::new();
     text.extend_from_slice(digits.format(replica).as_bytes())?;
     Ok(())
@@ -31,16 +35,26 @@ pub fn line_of_replica(alloc: Global, replica: u8) -> Result<Vec<u8>, AllocError
 
 /// The replica that a line tells, where it tells one, in just the spelling of a kept file. Refused out of memory.
 ///
-/// Cost: that of the lines of all replicas.
+/// Cost: O(n) in the n bytes of the line.
 pub fn told_replica(alloc: Global, line: &[u8]) -> Result<Option<u8>, AllocError>
     ensures told { IfOk result (λ found. MatchOption found (TellsNone line.now) (Tells line.now)) }
 {
-    let mut replica = 1;
-    'replicas: while replica <= REPLICAS {
-        if line_of_replica(alloc, replica)?.as_slice() == line {
-            return Ok(Some(replica));
-        }
-        replica += 1;
+    let Some(replica) = named_replica(line) else {
+        return Ok(None);
+    };
+    // a number has more than one spelling, as 7 and 07
+    if line_of_replica(alloc, replica)?.as_slice() == line {
+        Ok(Some(replica))
+    } else {
+        Ok(None)
     }
-    Ok(None)
+}
+
+/// The replica that the line may tell: the one whose number stands after the word, in whatever spelling.
+fn named_replica(line: &[u8]) -> Option<u8>
+    ensures replica { IfSome result (λ n. (1 ≤ n) × (n ≤ REPLICAS)) }
+    ensures told { (n : ℕ) → Tells line.now n → result ≡ Some n }
+{
+    let digits = line.strip_prefix(REPLICA)?;
+    read_number(digits).ok()
 }
