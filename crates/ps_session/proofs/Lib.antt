@@ -16,6 +16,7 @@ mod ReplicaAndLinesStay
 mod WordLemmas
 mod WordCounts
 mod NamesAreWords
+mod PushedLines
 pub mod ReadingLaws
 mod SplitLemmas
 mod AskedInRange

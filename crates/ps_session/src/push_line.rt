@@ -9,13 +9,15 @@ ghost use Rattle.ps_wire.specs.declared.TheConstants.{DELTA_LINE_LIMIT};
 ghost use Rattle.ps_session.specs.PushLine.{push_line, push_text, push_word};
 
 use crate::reply::send_pieces;
+use crate::verb::Verb;
+use crate::words::split_word;
 use ps_delta::Delta;
 use ps_device::{Failed, Sink};
 use ps_grid::Refusal;
 use ps_wire::encode;
 use std::alloc::Global;
 
-/// The first word of the line, with its space.
+/// The first word of the line, that of [`Verb::Push`], with its space.
 const PUSH: &[u8] = b"push ";
 
 /// Appends the line that pushes a delta, without a line feed.
@@ -36,15 +38,15 @@ pub fn put_push_line(alloc: Global, delta: &Delta, text: &mut Vec<u8>) -> Result
 
 /// What a line pushes: all after its first word, where that is `push`.
 ///
-/// Cost: constant.
+/// Cost: O(n) in the n bytes of its first word.
 pub fn pushed(line: &[u8]) -> Option<&[u8]>
     ensures { MatchOption result (starts_with nat_eq line.now push_word ≡ false)
         (λ delta. line.now ≡ push_word ++ delta.now) }
 {
-    if line.starts_with(PUSH) {
-        Some(&line[PUSH.len()..])
-    } else {
-        None
+    let (word, rest) = split_word(line);
+    match Verb::read(word)? {
+        Verb::Push => rest,
+        _ => None,
     }
 }
 

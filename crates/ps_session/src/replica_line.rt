@@ -7,7 +7,7 @@ use crate::command::read_number;
 use itoa::Buffer;
 use std::alloc::{AllocError, Global};
 
-/// The first word of the line, with its space.
+/// The first word of the line, that of `Verb::Replica`, with its space.
 const REPLICA: &[u8] = b"replica ";
 
 /// Appends the line of a replica, without a line feed. Refused out of memory.
