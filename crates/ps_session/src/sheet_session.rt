@@ -72,6 +72,9 @@ pub fn run_watched<R: Threads + Sync, S: Source, K: Sink, L: Ledger, W: Watcher>
 ///
 /// Where each delta of the history has a line, as in an empty one, it stays so, and no pull is refused as too long.
 ///
+/// Nothing in the program calls it, whose sessions have somebody look on ([`run_watched`]) or keep what they see
+/// ([`run_kept`]). It is part of the public interface: a session where nobody does either.
+///
 /// Cost: that of the lines, and the room of one line.
 pub fn run<R: Threads + Sync, S: Source, K: Sink, L: Ledger>(
     rt: &R,
