@@ -11,20 +11,6 @@ use Rattle.ps_session.specs.Exchange.{Asks, HandsOver, IsFollowed, IsHalted, Tel
 use Rattle.ps_session.proofs.OneLineMore.{Run-push, stream-push, stream-rest}
 use Rattle.ps_session.proofs.ReadLemmas.{Consumes-append, Consumes-nil}
 
--- nothing was asked yet
-pub followed_none : (peer : PeerView) (contents : Option (List ℕ)) → IsFollowed peer peer contents contents 0
-followed_none peer contents = record {
-  replies = [];
-  each = λ k d lt. absurd (omega (arith, lt));
-  read = Consumes-nil peer.to_come;
-  requests = [];
-  asks = (refl, refl);
-  asked = Appends-nil peer.asked;
-  text = [];
-  hands = (refl, refl);
-  sent = Appends-nil contents;
-}
-
 -- nothing was read
 pub takes_none : (old new : Option (List ℕ)) → old ≡ new → TakesLine old new
 takes_none old new same = record {

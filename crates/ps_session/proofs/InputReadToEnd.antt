@@ -73,18 +73,6 @@ end_ran Handles old new before after line some ends replied rest is =
           (r.0, new, [], r.1, sym (append-nil r.0), (refl, refl)),
     )
 
--- .. and nothing where there is none
-pub none_ran : {State : Type 0} (Handles : Answering State) (board : State) (before after : Reading)
-    → Ends before after lines.None → (rest : List ℕ) → before.pending ≡ kept rest
-    → (text : List ℕ) × Run Handles board (with_last [] rest) text board
-none_ran Handles board before after ends rest is = (
-  [],
-  subst (λ r. Run Handles board (with_last [] r) [] board) (sym (nothing_kept rest (sym is ∙ ends.0))) (
-    refl,
-    refl,
-  ),
-)
-
 module _ {State : Type 0} (Handles : Answering State) (first : State) (written : Option (List ℕ)) (base : ℕ)
     (read : List ℕ)
   where

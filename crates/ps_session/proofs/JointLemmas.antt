@@ -41,9 +41,6 @@ joint_next ds n d j new within is joint so lawful = record {
       ∙ ap joined_history (ap (λ x. take n ds ++ x ∷ []) is ∙ sym (take_more ds n d within));
 }
 
-pub first_none : (ds : List Entries) → AreFirstJoints ds []
-first_none ds k d within = absurd (omega (arith, within))
-
 pub first_more : (ds js : List Entries) (j : Entries) → AreFirstJoints ds js → IsJoint (take (length js + 1) ds) j
     → AreFirstJoints ds (js ++ j ∷ [])
 first_more ds js j first joint k d within = elim (cases_lt k (length js)) [

@@ -1,20 +1,12 @@
 -- Pieces that are sent one after another.
 use Rattle.std.proofs.Common.{◌≡◌, ◌+◌, ◌<◌, ℕ, suc, List, [], ◌∷◌, ◌++◌, length, take, drop, flat_map, Option}
-use Rattle.std.proofs.Common.{Result, Ok, Err, sym, ap, subst, ◌∙◌, arith, append_assoc, append-nil, length-append}
+use Rattle.std.proofs.Common.{sym, ap, subst, ◌∙◌, arith, append_assoc, append-nil, length-append}
 use Rattle.std.specs.Io.KnownBytes.{Appends}
 use Rattle.std.proofs.lemmas.List.{take-append-le, take-append-drop}
 use Rattle.std.proofs.lemmas.Grind.{flat_map-append}
 use Rattle.std.proofs.Math.Seq.{take-suc}
 use Rattle.std.proofs.Math.ListN.{get_or}
-use Rattle.ps_device.proofs.DeviceLemmas.{Appends-append, cut_after}
-use Rattle.ps_device.specs.Device.{Sends}
-
--- a second piece after one that was sent whole
-pub Sends-after : (E : Type 0) (old middle new : Option (List ℕ)) (first second : List ℕ) (result : Result (Unit
-    {0}) E)
-    → Appends old middle first → Sends middle new result second → Sends old new result (first ++ second)
-Sends-after E old middle new first second (Ok x) p q = Appends-append old middle new first second p q
-Sends-after E old middle new first second (Err e) p q = cut_after old middle new first second p q
+use Rattle.ps_device.proofs.DeviceLemmas.{cut_after}
 
 -- a cut in the first piece is a cut in both
 pub cut_first : (old new : Option (List ℕ)) (first second : List ℕ) → (count : ℕ) × (count < length first)
@@ -38,14 +30,7 @@ flat_map-split f xs i d lt =
     ∙ ap (λ t. t ++ flat_map f (drop (i + 1) xs)) (flat_map-take f xs i d lt)
     ∙ append_assoc (flat_map f (take i xs)) (f (get_or xs i d)) (flat_map f (drop (i + 1) xs))
 
--- one more piece, sent whole or cut
-pub pieces_step : {X : Type 0} (f : X → List ℕ) (xs : List X) (i : ℕ) (d : X) (old middle new : Option (List ℕ))
-    → i < length xs
-    → Appends old middle (flat_map f (take i xs)) → Appends middle new (f (get_or xs i d))
-    → Appends old new (flat_map f (take (i + 1) xs))
-pieces_step f xs i d old middle new lt p q =
-    rw (flat_map-take f xs i d lt) (Appends-append old middle new (flat_map f (take i xs)) (f (get_or xs i d)) p q)
-
+-- one more piece, cut
 pub pieces_cut : {X : Type 0} (f : X → List ℕ) (xs : List X) (i : ℕ) (d : X) (old middle new : Option (List ℕ))
     → i < length xs
     → Appends old middle (flat_map f (take i xs))

@@ -1,5 +1,5 @@
 -- Lines with a word too few or too many.
-use Rattle.std.proofs.Common.{◌≡◌, ◌≢◌, ℕ, List, [], ◌∷◌, Some, Err, refl}
+use Rattle.std.proofs.Common.{◌≡◌, ℕ, List, [], ◌∷◌, Some, Err, refl}
 use Rattle.ps_grid.specs.declared.refusal.Refusal.{Refusal}
 use Rattle.ps_grid.specs.declared.refusal.Refusal.TheVariants as refusals
 use Rattle.ps_session.specs.Commands.{verb_of, ReadsCorners, ReadsLine, ReadsOneCell, ReadsPair, ReadsPull}
@@ -7,8 +7,6 @@ use Rattle.ps_session.specs.Commands.{Read, ReadsPush, ReadsRectangle, ReadsRepl
 use Rattle.ps_session.specs.declared.command.Command.{Command}
 use Rattle.ps_session.specs.Words.{after_word, first_word, parts, words}
 use Rattle.ps_session.specs.declared.verb.Verb.{Verb}
-use Rattle.ps_session.specs.declared.verb.Verb.TheVariants.{Add, Choose, Entries as AllEntries, Entry, Get, Pull, Push}
-use Rattle.ps_session.specs.declared.verb.Verb.TheVariants.{Replica, Rows, Set, Sub, Unchoose}
 use Rattle.ps_session.proofs.WordLemmas.{parts_are_some}
 
 pub cell_more : (word rest : List ℕ) → ReadsOneCell (word ∷ words rest) (Err refusals.Command)
@@ -33,21 +31,6 @@ push_reads line read reads = rw (parts_are_some 32 line).are reads
 
 pub replica_more : (number rest : List ℕ) → ReadsReplica (number ∷ words rest) (Err refusals.Command)
 replica_more number rest = rw (parts_are_some 32 rest).are refl
-
--- `replica` may stand alone, and no other verb
-pub verb_alone : (verb : Verb) (rest : List ℕ) → verb ≢ Replica → ReadsVerb (Some verb) [] rest (Err refusals.Command)
-verb_alone Get rest other = (Err refusals.Command, refl, refl)
-verb_alone Set rest other = refl
-verb_alone Add rest other = (Err refusals.Command, refl, refl)
-verb_alone Sub rest other = (Err refusals.Command, refl, refl)
-verb_alone Choose rest other = (Err refusals.Command, refl, refl)
-verb_alone Unchoose rest other = (Err refusals.Command, refl, refl)
-verb_alone Rows rest other = (Err refusals.Command, refl, refl)
-verb_alone Entry rest other = (Err refusals.Command, refl, refl)
-verb_alone AllEntries rest other = (Err refusals.Command, refl, refl)
-verb_alone Push rest other = refl
-verb_alone Pull rest other = refl
-verb_alone Replica rest other = absurd (other refl)
 
 -- a verb and no space
 pub line_alone : (line word : List ℕ) (verb : Verb) (read : Read Command)
