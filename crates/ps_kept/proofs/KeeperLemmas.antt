@@ -8,7 +8,7 @@ use Rattle.ps_delta.specs.Deltas.{Entries}
 use Rattle.ps_sheet.specs.Sheet.{IsFresh}
 use Rattle.ps_keep.specs.Crash.{SurvivesCrashes}
 use Rattle.ps_keep.specs.Journals.{IsJournal, JournalView}
-use Rattle.ps_keep.proofs.CrashLemmas.{journal_survives, prefix_trans}
+use Rattle.ps_keep.proofs.CrashLemmas.{journal_survives}
 use Rattle.ps_kept.specs.Inside.{later}
 use Rattle.ps_session.specs.PushLine.{push_line}
 use Rattle.ps_kept.specs.Kept.{IsKept, IsNoted, Notes, PushAll, Tells}
@@ -90,18 +90,7 @@ module _ (replica : ℕ) (history : List Entries) (old : JournalView) (fits : Is
     begins = ([], append-nil history);
   }
 
--- what was kept stays so where more is
-pub stays_kept : (replica : ℕ) (history : List Entries) (old new : JournalView) → IsKept replica history old
-    → IsJournal new → IsPrefix old.kept new.kept → IsKept replica history new
-stays_kept replica history old new is journal more = record {
-  journal = journal;
-  all = (is.all.0, prefix_trans is.all.0 old.kept new.kept is.all.1 more, is.all.2);
-}
-
-pub same_kept : (a b : JournalView) → b.kept ≡ a.kept → IsPrefix a.kept b.kept
-same_kept a b same = ([], append-nil a.kept ∙ sym same)
-
--- .. and outlives a crash
+-- what was kept outlives a crash
 pub kept_outlives : (replica : ℕ) (history kept : List Entries) (old mid : JournalView) (written : List ℕ)
     → IsKept replica kept old → IsNoted replica history mid → mid.kept ≡ old.kept → mid.synced ≡ old.synced
     → IsFresh history → SurvivesCrashes written mid.synced mid.kept mid.lines

@@ -1,7 +1,6 @@
 -- The lines of deltas, noted one after another.
 use Rattle.std.proofs.Common.{◌≡◌, ◌+◌, ◌<◌, ℕ, zero, suc, List, [], ◌∷◌, ◌++◌, length, map, refl, sym, ap, ◌∙◌, take}
 use Rattle.std.proofs.Common.{append_assoc, arith, subst, get_or}
-use Rattle.std.proofs.lemmas.List.{append-nil}
 use Rattle.ps_delta.specs.Deltas.{Entries}
 use Rattle.ps_wire.specs.Line.{IsOneLine, delta_text}
 use Rattle.ps_wire.proofs.NoFeedLemmas.{delta_line}
@@ -29,13 +28,6 @@ PushAll-both (l ∷ a) b (d ∷ h) k all more = (all.0, PushAll-both a b h k all
 map-both : (ds es : List Entries) → map push_line (ds ++ es) ≡ map push_line ds ++ map push_line es
 map-both [] es = refl
 map-both (d ∷ ds) es = ap (λ ls. push_line d ∷ ls) (map-both ds es)
-
-pub none_noted : (j : JournalView) → Notes j [] j
-none_noted j = record {
-  lines = ap (λ (ls : List (List ℕ)). record j { lines = ls }) (sym (append-nil j.lines));
-  each = tt;
-  journal = λ is. is;
-}
 
 pub more_noted : (j k l : JournalView) (ds es : List Entries) → Notes j ds k → Notes k es l → Notes j (ds ++ es) l
 more_noted j k l ds es first second = record {

@@ -16,7 +16,7 @@ use Rattle.ps_keep.specs.Journals.{IsJournal, JournalView}
 use Rattle.ps_keep.specs.Lines.{IsLine, whole_lines}
 use Rattle.ps_kept.specs.Inside.{IsDue}
 use Rattle.ps_session.specs.ReplicaLine.{replica_line}
-use Rattle.ps_kept.specs.Kept.{IsKept, IsNoted, PushAll, Tells, started}
+use Rattle.ps_kept.specs.Kept.{IsNoted, PushAll, Tells, started}
 use Rattle.ps_kept.specs.Starts.{Reads}
 
 pub PushAll-length : (lines : List (List ℕ)) (h : List Entries) → PushAll lines h → length lines ≡ length h
@@ -58,13 +58,6 @@ noted_then replica bytes h j read is lines = record {
   noted = h;
   told = subst (λ ls. Tells replica ls h) (sym lines) (told_then replica bytes h read);
   begins = whole h;
-}
-
-pub kept_then : (replica : ℕ) (bytes : List ℕ) (h : List Entries) (j : JournalView) → Reads replica bytes h
-    → IsJournal j → j.kept ≡ started replica (whole_lines bytes) → IsKept replica h j
-kept_then replica bytes h j read is kept = record {
-  journal = is;
-  all = (j.kept, whole j.kept, subst (λ ls. Tells replica ls h) (sym kept) (told_then replica bytes h read));
 }
 
 -- ---- the first line has no line feed
