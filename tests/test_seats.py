@@ -4,6 +4,7 @@ import threading
 import time
 from pathlib import Path
 
+import preloaded
 from preloaded import PROGRAM
 from program import LIMIT, Ended, ProgramTest, lines
 from servers import Client, comes_to, serving
@@ -134,6 +135,20 @@ class Waiting(ProgramTest):
         self.assertIn(found, (lines(reply), NO_SEAT))
         return found == lines(reply)
 
+    def test_who_waits_is_told_after_the_time_that_is_asked_for_and_else_after_five_seconds(self):
+        asked = (((), 5), (("--wait", "8"), 8))
+
+        def wait(number):
+            words, seconds = asked[number]
+            with serving(None, "--seats", "1", *words) as server:
+                self.assertEqual(server.client().ask("set A1 5"), "ok 1")
+                begun = time.monotonic()
+                self.assertEqual(server.client().told(), NO_SEAT)
+                self.assertGreaterEqual(time.monotonic() - begun, 0.95 * seconds)
+                self.assertLess(time.monotonic() - begun, seconds + SOON)
+
+        beside(wait, len(asked))
+
     def test_nobody_waits_where_no_wait_is_asked_for(self):
         with serving(None, "--seats", "1", "--wait", "0") as server:
             client = server.client()
@@ -214,6 +229,28 @@ class Idle(ProgramTest):
             self.assertGreaterEqual(time.monotonic() - begun, 0.9)
             self.assertLess(time.monotonic() - begun, 1 + SOON)
             self.assertEqual(silent.rest(), b"")
+
+    def test_it_ends_after_the_time_that_is_asked_for_and_else_never(self):
+        # (a wait of a minute is made ten times shorter, and no shorter one is: `hasten.c`)
+        library = preloaded.build("hasten.c", self.folder() / "hasten.so")
+        how = {"program": PROGRAM, "env": preloaded.before(library)}
+        lasting = 60 / 10
+
+        def is_silent(number):
+            words = (("--idle", "60"), ())[number]
+            with serving(None, *words, **how) as server:
+                client = server.client()
+                self.assertEqual(client.ask("set A1 5"), "ok 1")
+                since = time.monotonic()
+                if not words:
+                    self.assertFalse(client.is_answered_within(lasting + 1))
+                    self.assertEqual(client.ask("get A1"), "val 5")
+                    return
+                self.assertEqual(client.rest(), b"")
+                self.assertGreaterEqual(time.monotonic() - since, 0.95 * lasting)
+                self.assertLess(time.monotonic() - since, lasting + SOON)
+
+        beside(is_silent, 2)
 
     def test_one_that_sends_now_and_then_goes_on(self):
         idle, pause, count = 2, 0.5, 6

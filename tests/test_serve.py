@@ -1,4 +1,5 @@
 """`sheet serve` with real sockets: sessions side by side, clients that misbehave, and replicas that meet."""
+import errno
 import resource
 import signal
 import socket
@@ -6,6 +7,7 @@ import subprocess
 import threading
 import time
 
+from hunt import shortages
 from preloaded import PROGRAM
 from program import DEVICE_FAILED, LIMIT, Ended, ProgramTest, lines, run
 from servers import HERE, PAUSE, comes_to, free_port, serving, sync
@@ -466,6 +468,33 @@ class Ends(ProgramTest):
 
             self.assertTrue(comes_to(has_failed))
             self.assertEqual(server.ended(), Ended(1, b"", DEVICE_FAILED))
+
+    def test_a_call_for_a_connection_that_is_interrupted_or_whose_client_has_gone_is_made_again(self):
+        library = shortages.library(self.folder())
+        for error in (errno.EINTR, errno.ECONNABORTED):
+            # (the call for the first connection waits for it, the later ones don't)
+            for first in (1, 3):
+                fault = ("a", first, first + 2, error)
+                with self.subTest(fault=fault), shortages.spoiling(library, fault) as (how, counts):
+                    with serving(3, "--seats", "1", "--wait", "60", program=PROGRAM, **how) as server:
+                        clients = [server.client() for _ in range(3)]
+                        for number, client in enumerate(clients, 1):
+                            self.assertEqual(client.ask(f"set A1 {number}"), f"ok {number}")
+                            self.assertEqual(client.leave(), b"")
+                        self.assertEqual(server.ended(), Ended(0, lines("closed 3")))
+                    self.assertGreaterEqual(shortages.counted(counts).calls, first + 3)
+
+    def test_where_no_more_can_be_accepted_who_waits_is_told_so_at_once(self):
+        library = shortages.library(self.folder())
+        with shortages.spoiling(library, ("a", 3, shortages.ALL, errno.ENOBUFS)) as (how, _):
+            with serving(None, "--seats", "1", "--wait", "60", program=PROGRAM, **how) as server:
+                client, other = server.client(), server.client()
+                self.assertEqual(other.told(), lines("err 21 seat"))
+                # the session that was begun goes on to its end
+                self.assertEqual(client.ask("set A1 5"), "ok 1")
+                self.assertTrue(server.is_running())
+                self.assertEqual(client.leave(), b"")
+                self.assertEqual(server.ended(), Ended(1, b"", DEVICE_FAILED))
 
 
 class CommandLine(ProgramTest):
