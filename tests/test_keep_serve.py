@@ -11,7 +11,7 @@ from hunt.deltas import delta_line
 from keeping import KeepingTest, Spoilt, text_of
 from preloaded import PROGRAM
 from program import DEVICE_FAILED, LIMIT, Ended, lines, run
-from servers import Client, free_port, serving, sync
+from servers import Client, comes_to, free_port, serving, sync
 from shortage import ALL, build, each, serve_short
 
 
@@ -54,15 +54,15 @@ class Serve(KeepingTest):
             with self.subTest(told=told):
                 self.file.write_bytes(content)
                 ended = run("serve", "--port", str(free_port()), "--keep", str(self.file))
-                self.assertEqual((ended.status, ended.error), (3, lines(*told)))
-                self.assertNotIn(b"closed", ended.output)
+                # (it says nothing of listening)
+                self.assertEqual(ended, Ended(3, b"", lines(*told)))
                 self.assertEqual(self.file.read_bytes(), content)
 
     def test_a_file_that_another_server_keeps(self):
         with self.serving(1) as server:
             ended = run("serve", "--port", str(free_port()), "--keep", str(self.file))
             told = lines("err 20 device", f"{self.file} is kept by another program")
-            self.assertEqual((ended.status, ended.error), (1, told))
+            self.assertEqual(ended, Ended(1, b"", told))
             client = server.client()
             self.assertEqual(client.ask("set A1 5"), "ok 1")
             client.leave()
@@ -148,8 +148,52 @@ class Serve(KeepingTest):
             client.leave()
             self.assert_closed(server, 10, 10)
 
+    def test_it_has_as_many_seats_as_are_asked_for(self):
+        with self.serving(None, "--seats", "2", "--wait", "0") as server:
+            clients = [server.client() for _ in range(2)]
+            for number, client in enumerate(clients, 1):
+                self.assertEqual(client.ask(f"set A1 {number}"), f"ok {number}")
+            self.assertEqual(server.client().told(), lines("err 21 seat"))
+
+    def test_a_session_that_fails_ends_alone(self):
+        with self.serving(None, "--seats", "1", "--wait", "60") as server:
+            for number in range(1, 11):
+                client = server.client()
+                self.assertEqual(client.ask(f"set A{number} {number}"), f"ok {number}")
+                # (some amid a line, and some whose replies nobody reads)
+                client.send(b"get A1" if number % 2 else b"get A1\n" * 1_000)
+                client.reset()
+            last = server.client()
+            self.assertEqual(last.ask("set B1 =SUM([.A1:.A10])"), "ok 11")
+            self.assertEqual(last.ask("get B1"), "val 55")
+            self.assertTrue(server.is_running())
+
+    def test_a_session_whose_peer_sends_nothing_ends_alone(self):
+        with self.serving(None, "--seats", "1", "--idle", "1", "--wait", "60") as server:
+            self.assertEqual(server.client().rest(), b"")
+
+            def is_answered():
+                # (a machine that does much else may not let this side send in time)
+                with server_gone():
+                    return server.client().ask("get A1") == "val "
+
+            self.assertTrue(comes_to(is_answered))
+            self.assertTrue(server.is_running())
+
 
 class Failing(Spoilt):
+    def test_a_sync_that_fails_ends_all_sessions_and_the_server_though_nobody_comes(self):
+        with self.spoiling("s", 4, ALL, 5) as (how, _):
+            with serving(None, "--keep", str(self.file), program=PROGRAM, **how) as server:
+                silent, other = server.client(), server.client()
+                self.assertEqual((silent.ask("get A1"), other.ask("get A1")), ("val ", "val "))
+                with server_gone():
+                    for number in range(1, 51):
+                        self.assertEqual(other.ask(f"set A1 {number}"), f"ok {number}")
+                    self.fail("no sync has failed")
+                self.assertEqual(silent.told(), b"")
+                self.assertEqual(server.ended(), Ended(1, b"", self.opened(0) + DEVICE_FAILED))
+
     def test_a_sync_that_fails_ends_it_and_what_was_answered_is_kept(self):
         for first in (4, 5, 9):
             with self.subTest(first=first), self.spoiling("s", first, first, 5) as (how, _):

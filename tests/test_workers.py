@@ -96,6 +96,24 @@ class Workers(CountsThreads):
                 self.assertEqual(server.ended(), Ended(0, lines(f"closed {ROWS + 1}")))
                 self.assertEqual(threads.started(), wanted + 1)
 
+    def test_a_kept_sheet_has_as_many_as_it_is_told(self):
+        for workers in (4, 16):
+            threads, file = self.threads(), self.folder() / "kept.lines"
+            words, told = ("--keep", str(file), "--workers", str(workers)), lines(f"opened {file}, 0 changes")
+            files = {"stdin": subprocess.PIPE, "stdout": subprocess.PIPE, **threads.how}
+            with self.subTest(command="run", workers=workers), started("run", *words, **files) as program:
+                written, error = program.communicate(SCRIPT, timeout=LIMIT)
+                self.assertEqual(Ended(program.returncode, written, error), Ended(0, REPLIES, told))
+                self.assertEqual(threads.started(), THREADS[workers])
+            threads = self.threads()
+            file.unlink()
+            with self.subTest(command="serve", workers=workers), serving(1, *words, **threads.how) as server:
+                client = server.client()
+                client.send(SCRIPT)
+                self.assertEqual(client.leave(), REPLIES)
+                self.assertEqual(server.ended(), Ended(0, lines(f"closed {ROWS + 1}"), told))
+                self.assertEqual(threads.started(), THREADS[workers] + 1)
+
     def test_each_has_its_part_of_a_level(self):
         # each formula is a sum, so that nearly all time is that of evaluations, most of it in changes of the one cell
         entry = f"=SUM([.{SOURCE}:.{SUMMED}])"
