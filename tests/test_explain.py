@@ -1,14 +1,16 @@
 """Words that help: `--explain` of each command that has it, and `--strict` of `run`."""
 import csv
+import errno
 import io
 import os
 import pty
 import subprocess
 
-from hunt import contents, entries
+from hunt import contents, entries, shortages
 from hunt.chance import Chance
 from hunt.records import written_record
 from hunt.scripts import NO_CELLS, VERBS
+from preloaded import PROGRAM
 from program import DEVICE_FAILED, LIMIT, SHEET, Ended, ProgramTest, lines, run
 from servers import free_port, serving
 
@@ -159,6 +161,22 @@ class OfPorts(ProgramTest):
         for words in words_with_port(str(port))[1]:
             with self.subTest(words=words):
                 self.assert_told(words, told)
+
+    def test_a_port_that_the_system_does_not_give(self):
+        library, port = shortages.library(self.folder()), str(free_port())
+        listening, connecting = words_with_port(port)
+        may_not = f"port {port}: listening on it isn't allowed; all may listen on ports from 1024 on"
+        for call, error, each, told in (
+            ("b", errno.EACCES, listening, may_not),
+            ("b", errno.ENOBUFS, listening, f"port {port} can't be listened on"),
+            ("c", errno.ENETUNREACH, connecting, f"port {port} can't be connected to"),
+        ):
+            for words in each:
+                with self.subTest(words=words, error=error), \
+                        shortages.spoiling(library, (call, 1, shortages.ALL, error)) as (how, _):
+                    ran = subprocess.run([PROGRAM, *words, "--explain"], capture_output=True, timeout=LIMIT, **how)
+                    self.assertEqual(Ended(ran.returncode, ran.stdout, ran.stderr),
+                                     Ended(1, b"", DEVICE_FAILED + lines(told)))
 
     def test_the_second_port_of_sync(self):
         port = free_port()

@@ -385,6 +385,17 @@ class Silences(ProgramTest):
                 self.assert_lasted(since, 300 / 60)
 
 
+class Places(ProgramTest):
+    def test_there_are_as_many_browsers_as_are_asked_for_and_else_eight(self):
+        for words, most in (((), 8), (("--browsers", "16"), 16), (("--browsers", "5"), 5)):
+            with self.subTest(words=words), contextlib.ExitStack() as stack:
+                server = stack.enter_context(serving(SESSIONS))
+                gateway = stack.enter_context(paging(server.port, *words))
+                for _ in range(most):
+                    self.assertEqual(stack.enter_context(WebSocket(gateway.port)).ask("get A1"), "val \n")
+                self.assertEqual(stack.enter_context(WebSocket(gateway.port)).closing(), NO_ROOM)
+
+
 class Ends(ProgramTest):
     def test_without_a_server_a_browser_is_told_so(self):
         with paging(free_port()) as gateway:

@@ -3,11 +3,11 @@
    to.
 
    FAULT_CALL is a letter of the calls that are meant: m for memory, r for what reads, w for what writes, f for what
-   writes to a file that has a name, s for what syncs, a for what accepts. They are counted from 1 on, and FAULT_FIRST
-   and FAULT_LAST tell the first and the last one that fails by the error with the number FAULT_ERROR; where that is 0
-   it is cut to one byte. FAULT_COUNTS is an open file of five numbers of eight bytes: how many such calls there were so
-   far, how many bytes were read and written, how many syncs there were, and the number of the folder that was synced
-   last. */
+   writes to a file that has a name, s for what syncs, a for what accepts, b for what binds to a port, c for what
+   connects. They are counted from 1 on, and FAULT_FIRST and FAULT_LAST tell the first and the last one that fails by
+   the error with the number FAULT_ERROR; where that is 0 it is cut to one byte. FAULT_COUNTS is an open file of five
+   numbers of eight bytes: how many such calls there were so far, how many bytes were read and written, how many syncs
+   there were, and the number of the folder that was synced last. */
 #define _GNU_SOURCE
 #include <errno.h>
 #include <stdatomic.h>
@@ -177,4 +177,22 @@ int accept4(int file, struct sockaddr *restrict address, socklen_t *restrict len
         return -1;
     }
     return (int)syscall(SYS_accept4, file, address, length, flags);
+}
+
+int bind(int file, const struct sockaddr *address, socklen_t length)
+{
+    if (is_spoilt('b')) {
+        errno = error;
+        return -1;
+    }
+    return (int)syscall(SYS_bind, file, address, length);
+}
+
+int connect(int file, const struct sockaddr *address, socklen_t length)
+{
+    if (is_spoilt('c')) {
+        errno = error;
+        return -1;
+    }
+    return (int)syscall(SYS_connect, file, address, length);
 }
