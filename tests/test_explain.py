@@ -118,6 +118,17 @@ class AtATerminal(ProgramTest):
         finally:
             os.close(person)
 
+    def test_no_hints_where_nobody_types(self):
+        """Though the errors are shown at a terminal."""
+        person, terminal = pty.openpty()
+        try:
+            how = {"stdout": subprocess.PIPE, "stderr": terminal, "timeout": LIMIT}
+            ran = subprocess.run([SHEET, "run"], input=b"get a1\n", **how)
+            os.close(terminal)
+            self.assertEqual((ran.returncode, ran.stdout, self.shown(person)), (0, lines("err 1 cell"), b""))
+        finally:
+            os.close(person)
+
     def shown(self, person):
         """All that a terminal shows which nobody holds any more."""
         pieces = [b""]

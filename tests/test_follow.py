@@ -63,10 +63,12 @@ class Peers(Following):
         self.assertEqual(follow(free_port()), Ended(1, b"", DEVICE_FAILED))
 
     def test_it_waits_between_two_questions(self):
-        peer = self.peer(*[b"end 0\n"] * 3)
-        begun = time.monotonic()
-        self.assertEqual(follow(peer.port, "--every", "200"), Ended(0))
-        self.assertGreater(time.monotonic() - begun, 0.5)
+        for every, count in ((200, 3), (700, 2)):
+            with self.subTest(every=every):
+                peer = self.peer(*[b"end 0\n"] * count)
+                begun = time.monotonic()
+                self.assertEqual(follow(peer.port, "--every", str(every)), Ended(0))
+                self.assertGreater(time.monotonic() - begun, 0.95 * count * every / 1000)
 
 
 class Replicas(Following):

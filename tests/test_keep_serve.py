@@ -36,9 +36,12 @@ class Serve(KeepingTest):
             self.assert_closed(server, 0, len(first))
         with self.serving(1) as server:
             client = server.client()
-            client.send(lines("rows A1:D1", "replica", "add C1 1", "pull 6", "unchoose D1 7"))
+            # (a line that is refused is told to nobody else, and isn't kept)
+            client.send(lines("rows A1:D1", "replica", "walk", "add C1 1", "push []", "add A1 1", "pull 6",
+                              "unchoose D1 7"))
             self.assertEqual(client.leave(), lines(
-                "rows 1", "5,10,4,{7}", "replica 1", "ok 7", 'delta 7 [["C1",null,[[1,5,0]],[]]]', "ok 8"))
+                "rows 1", "5,10,4,{7}", "replica 1", "err 16 command", "ok 7", "err 14 delta", "err 5 not-tally",
+                'delta 7 [["C1",null,[[1,5,0]],[]]]', "ok 8"))
             self.assert_closed(server, 6, 8)
         self.assertEqual(self.file.read_bytes(), text_of(*first, "add C1 1", "unchoose D1 7"))
 
@@ -67,6 +70,11 @@ class Serve(KeepingTest):
             self.assertEqual(client.ask("set A1 5"), "ok 1")
             client.leave()
             self.assert_closed(server, 0, 1)
+
+    def test_an_output_that_fails(self):
+        with open("/dev/full", "wb") as full:
+            ended = run("serve", "--port", str(free_port()), "--keep", str(self.file), stdout=full)
+        self.assertEqual(ended, Ended(1, b"", DEVICE_FAILED))
 
     def test_the_journal_of_a_follower_and_the_file_are_the_same_sheet(self):
         with self.serving(3, "--replica", "2") as server:
@@ -148,12 +156,16 @@ class Serve(KeepingTest):
             client.leave()
             self.assert_closed(server, 10, 10)
 
-    def test_it_has_as_many_seats_as_are_asked_for(self):
+    def test_it_has_as_many_seats_and_one_waits_as_long_as_is_asked_for(self):
         with self.serving(None, "--seats", "2", "--wait", "0") as server:
             clients = [server.client() for _ in range(2)]
             for number, client in enumerate(clients, 1):
                 self.assertEqual(client.ask(f"set A1 {number}"), f"ok {number}")
-            self.assertEqual(server.client().told(), lines("err 21 seat"))
+            # (so many that waited for a few seconds would take longer)
+            begun = time.monotonic()
+            for _ in range(20):
+                self.assertEqual(server.client().told(), lines("err 21 seat"))
+            self.assertLess(time.monotonic() - begun, LIMIT)
 
     def test_a_session_that_fails_ends_alone(self):
         with self.serving(None, "--seats", "1", "--wait", "60") as server:

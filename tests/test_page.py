@@ -522,6 +522,11 @@ class Ends(ProgramTest):
             resource.prlimit(process, kind, most)
             self.assertEqual(answer(gateway.port, request(gateway.port))[0], 200)
 
+    def test_an_output_that_fails(self):
+        with open("/dev/full", "wb") as full:
+            ended = run("page", "--from", "7001", "--port", str(free_port()), stdout=full)
+        self.assertEqual(ended, Ended(1, b"", DEVICE_FAILED))
+
     def test_a_port_that_is_taken(self):
         with serving(1) as server:
             self.assertEqual(run("page", "--from", "7001", "--port", str(server.port)), Ended(1, b"", DEVICE_FAILED))
