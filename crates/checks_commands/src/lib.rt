@@ -10,8 +10,6 @@ mod attending;
 #[cfg(test)]
 mod devices;
 #[cfg(test)]
-mod exchange;
-#[cfg(test)]
 mod explain;
 #[cfg(test)]
 mod help;
@@ -23,5 +21,7 @@ mod serving;
 mod session;
 #[cfg(test)]
 mod squash;
+#[cfg(test)]
+mod sync;
 #[cfg(test)]
 mod words;

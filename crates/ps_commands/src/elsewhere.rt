@@ -1,6 +1,6 @@
 //! What is told of a kept sheet: what was opened, and that it is pushed changes of its own replica that it hasn't got.
 //!
-//! Nothing that is done or replied hangs on it. What can't be written, or has no memory, is lost.
+//! Nothing that is done or replied depends on it. What can't be written, or has no memory, is lost.
 use crate::explain::Onlooker;
 use crate::fault::ProgramFault;
 use crate::kept::OpenedFile;

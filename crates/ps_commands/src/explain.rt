@@ -1,6 +1,6 @@
 //! What is told of lines and of fields of a table while they are taken in, with hints.
 //!
-//! It only looks on: nothing that is done or replied hangs on it. What it can't write, or has no memory for, is lost.
+//! It only looks on: nothing that is done or replied depends on it. What it can't write, or has no memory for, is lost.
 
 use crate::fault::ProgramFault;
 use crate::notice::tell_line;

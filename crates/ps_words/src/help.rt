@@ -2,7 +2,7 @@
 
 /// What `--workers` means, with the range 1 to `WORKERS`.
 pub const WORKERS_HELP: &str =
-    "how many threads may evaluate formulas, 1 to 16; no reply hangs on it";
+    "how many threads may evaluate formulas, 1 to 16; no reply depends on it";
 
 /// What `--replica` means, with the range 1 to `REPLICAS`.
 pub const REPLICA_HELP: &str = "the number of this replica, 1 to 32";

@@ -1,4 +1,4 @@
-use Rattle.ps_commands.proofs.exchange.sync_on.Given as goal
+use Rattle.ps_commands.proofs.sync.sync_on.Given as goal
 
 abbrev pub ghosts-sync_between-I-Ledger : goal.ghosts-sync_between-I-Ledger
 ghosts-sync_between-I-Ledger g a = record { name = a.first_input.name; parts = a.first_input.parts }
