@@ -8,28 +8,17 @@ use ps_csv::ImportFault;
 use ps_grid::Refusal;
 use ps_session::{RunFault, SyncFault};
 use std::alloc::AllocError;
-use std::fmt;
 use thiserror::Error;
-
-/// The line that tells a refusal, without its line feed: `err`, its number and its name.
-#[derive(Clone, Copy)]
-pub(crate) struct RefusalLine(pub(crate) Refusal);
-
-impl fmt::Display for RefusalLine {
-    fn fmt<W: fmt::Write>(&self, f: &mut fmt::Formatter<W>) -> fmt::Result {
-        write!(f, "err {} {}", self.0.number(), self.0.name())
-    }
-}
 
 /// What ended the program. Its text is the line that standard error gets: `err`, the refusal's number and its name, or
 /// a peer's own such line.
 #[derive(Debug, Drop, Error)]
 pub enum ProgramFault {
     /// A call was refused.
-    #[error("{}", RefusalLine(*.0))]
+    #[error("{0}")]
     Refused(Refusal),
     /// `csv`'s own reader failed over a table, with this error. The text is that of `Csv`.
-    #[error("{}", RefusalLine(Refusal::Csv))]
+    #[error("{}", Refusal::Csv)]
     ReaderFailed(csv::Error),
     /// A peer refused a request. The text is its reply, as it came.
     #[error("{0}")]
@@ -38,10 +27,10 @@ pub enum ProgramFault {
     #[error("refused lines: {0}")]
     LinesRefused(u64),
     /// A line of the input is no delta's. The text is that of `Delta`, and below it the line's number, from 1 on.
-    #[error("{}\nline {}", RefusalLine(Refusal::Delta), .0)]
+    #[error("{}\nline {}", Refusal::Delta, .0)]
     DeltaRefused(u64),
     /// A port of this machine can't be had. The text is that of `Device`.
-    #[error("{}", RefusalLine(Refusal::Device))]
+    #[error("{}", Refusal::Device)]
     PortFailed(PortFault),
     /// A file isn't taken to keep a sheet in.
     #[error("{0}")]

@@ -7,7 +7,7 @@ ghost use Rattle.ps_kept.specs.Starts.{Reads};
 ghost use Rattle.ps_commands.specs.Kept.{IsFileRefusal, TellsTrouble};
 ghost use Rattle.ps_commands.specs.Status.{kept_status};
 
-use crate::fault::{ProgramFault, RefusalLine};
+use crate::fault::ProgramFault;
 use ps_eval::Meter;
 use ps_grid::Refusal;
 use ps_keep::{FileFault, Found, FoundFile};
@@ -61,15 +61,15 @@ impl fmt::Display for KeptFault {
         let path = self.path.as_str();
         match self.trouble {
             KeptTrouble::Line(number) => {
-                let refusal = RefusalLine(Refusal::Delta);
+                let refusal = Refusal::Delta;
                 write!(f, "{refusal}\nline {number} of {path}")
             }
             KeptTrouble::Replica(number) => {
-                let refusal = RefusalLine(Refusal::Replica);
+                let refusal = Refusal::Replica;
                 write!(f, "{refusal}\n{path} is of replica {number}")
             }
             KeptTrouble::Busy => {
-                let refusal = RefusalLine(Refusal::Device);
+                let refusal = Refusal::Device;
                 write!(f, "{refusal}\n{path} is kept by another program")
             }
         }

@@ -11,7 +11,7 @@ use std::alloc::Global;
 /// How many bytes of a table fall to a cell: an entry has at most 512, and what is left is for quotes and a comma.
 const BYTES_PER_CELL: usize = 640;
 
-/// The most bytes of a table: 68,157,440. It hangs on the size of the grid alone, and no other limit hangs on it.
+/// The most bytes of a table: 68,157,440. It depends on the size of the grid alone, and no other limit depends on it.
 pub const LONGEST_TABLE: usize = BYTES_PER_CELL * CELLS;
 
 /// The bytes of the source, to its end. No more are taken out once they are too many.

@@ -1,6 +1,6 @@
 //! A list of cells with room for all of them.
 
-ghost use Rattle.std.specs.Prelude.{◌≡◌, ◌<◌, ◌≤◌, ◌++◌, [], ◌∷◌, IfOk, IfErr, length, vec_capacity};
+ghost use Rattle.std.specs.Prelude.{◌≡◌, ◌<◌, ◌++◌, [], ◌∷◌, IfOk, IfErr};
 ghost use Rattle.std.specs.List.{All};
 ghost use Rattle.ps_grid.specs.declared.refusal.Refusal.{Refusal};
 ghost use Rattle.ps_grid.specs.declared.size.TheConstants.{CELLS};
@@ -11,6 +11,8 @@ use std::marker::Model;
 
 /// The cells that a join would change, ascending. It has room for each cell of the grid, so `Grid::touched` takes no
 /// memory. A contract sees it as the list of the cells.
+///
+/// It is part of the public interface, with `Grid::touched`: the sheet itself learns these cells as it joins.
 #[derive(Drop)]
 pub struct Touched {
     cells: Vec<Cell>,
@@ -65,15 +67,6 @@ impl Touched {
         requires above { All (λ c. c < cell) self.old }
         ensures { self.new ≡ self.old ++ cell ∷ [] }
     {
-        put(&mut self.cells, cell);
+        self.cells.push_reserved(cell);
     }
-}
-
-/// Adds a cell where there is room for it.
-fn put(cells: &mut Vec<Cell>, cell: Cell)
-    requires { length cells.old.items < vec_capacity cells.old }
-    ensures items { cells.new.items ≡ cells.old.items ++ cell ∷ [] }
-    ensures capacity { vec_capacity cells.old ≤ vec_capacity cells.new }
-{
-    let _ = cells.push(cell);
 }

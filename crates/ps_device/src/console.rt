@@ -61,7 +61,8 @@ impl<W: Write + Drop, L: Ledger> ConsoleOutput<W, L> {
         })
     }
 
-    /// The writer, which has all that was put where nothing waits.
+    /// The writer, which has all that was put where nothing waits. It is part of the public interface, for whoever goes
+    /// on with the writer; the program ends with its output.
     ///
     /// Cost: O(1).
     pub fn into_writer(self) -> W

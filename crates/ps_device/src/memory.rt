@@ -7,7 +7,8 @@ use ps_grid::GhostCount;
 use std::alloc::Global;
 use std::sync::ledger::{Blank, Ledger};
 
-/// A source of the bytes of a slice, from its front on. It never fails.
+/// A source of the bytes of a slice, from its front on. It never fails. The program reads none: it is part of the
+/// public interface, for whoever has the bytes at hand, as the tests of the crates above do.
 #[derive(Drop)]
 pub struct MemorySource<'a> {
     /// The bytes that are still to come.

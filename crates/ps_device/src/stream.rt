@@ -82,7 +82,7 @@ impl<W: Write + Drop, L: Ledger> Writing<W, L> {
         }
     }
 
-    /// The writer.
+    /// The writer, for `ConsoleOutput::into_writer` and for whoever goes on with it.
     ///
     /// Cost: O(1).
     pub fn into_writer(self) -> W

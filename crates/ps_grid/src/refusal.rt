@@ -5,8 +5,10 @@ ghost use Rattle.ps_grid.specs.declared.refusal.Refusal.TheVariants.{Memory};
 ghost use Rattle.ps_grid.specs.Refusals.{name_of, number_of};
 
 use std::alloc::{AllocError, AllocFailed};
+use std::fmt;
 
-/// Why a call did nothing. Each has a number, from 1 on, and a name.
+/// Why a call did nothing. Each has a number, from 1 on, and a name. Its text is the line that tells it, without its
+/// line feed: `err`, the number and the name.
 #[derive(Clone, Copy, Debug, PartialEq, Eq, PartialOrd, Ord, Hash)]
 pub enum Refusal {
     /// 1: a text that names no cell of the grid.
@@ -51,6 +53,12 @@ pub enum Refusal {
     Device,
     /// 21: no reading place was left.
     Seat,
+}
+
+impl fmt::Display for Refusal {
+    fn fmt<W: fmt::Write>(&self, f: &mut fmt::Formatter<W>) -> fmt::Result {
+        write!(f, "err {} {}", self.number(), self.name())
+    }
 }
 
 impl From<AllocError> for Refusal {

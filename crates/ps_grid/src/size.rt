@@ -1,4 +1,4 @@
-//! The size of the grid, and what hangs on it.
+//! The size of the grid, and what depends on it.
 //!
 //! - `COLUMNS`: a column is a `u8`, and so is a rectangle's width, so they stay below 256. A column's name has one
 //!   letter or two, so there are at most `LETTERS + LETTERS * LETTERS` of them, which is 702.

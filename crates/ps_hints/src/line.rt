@@ -51,7 +51,7 @@ fn words_hint(line: &[u8], refusal: Refusal) -> LineHint<'_> {
     }
 }
 
-/// The hint about a refusal that hangs on more than the words.
+/// The hint about a refusal that depends on more than the words.
 fn state_hint<'a>(refusal: Refusal) -> LineHint<'a> {
     match refusal {
         Refusal::TallyFull => LineHint::TallyFull,

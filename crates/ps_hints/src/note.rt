@@ -99,7 +99,7 @@ impl fmt::Display for HintNote<'_> {
     fn fmt<W: fmt::Write>(&self, f: &mut fmt::Formatter<W>) -> fmt::Result {
         write!(f, "{}: ", self.place)?;
         if let Some(refusal) = self.refusal {
-            write!(f, "err {} {}: ", refusal.number(), refusal.name())?;
+            write!(f, "{refusal}: ")?;
         }
         write!(f, "{}", self.hint)
     }

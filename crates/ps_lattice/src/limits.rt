@@ -1,4 +1,4 @@
-//! The ranges of what a state holds, and which of them hangs on which.
+//! The ranges of what a state holds, and which of them depends on which.
 
 ghost use Rattle.std.specs.Prelude.{◌≡◌};
 ghost use Rattle.ps_lattice.specs.Limits.{is_replica};

@@ -37,7 +37,7 @@ pub use length::{fits_line, outgrows_line};
 pub use line::{decode, encode};
 pub use sharing::may_share_line;
 
-/// The most bytes of a delta's line. `edited_lines_fit` hangs on it, with `COLUMNS`: a batch of a row's cells has to
+/// The most bytes of a delta's line. `edited_lines_fit` rests on it and on `COLUMNS`: a batch of a row's cells has to
 /// fit, at 1,613 bytes a cell and a comma, so twice the columns need twice the bytes. The session's limit of a line
-/// hangs on it in turn: the word of a command stands before a delta.
+/// follows from it: the word of a command stands before a delta.
 pub const DELTA_LINE_LIMIT: usize = 262_144;

@@ -3,8 +3,8 @@ use Rattle.std.proofs.lemmas.List.Elements.{recursion_from_All}
 use Rattle.ps_delta.proofs.CellLists.{length-rising, rising_from_increasing}
 use Rattle.ps_delta.proofs.touched.Touched.add.Goals as goal
 
-pub put-requires : goal.put-requires
-put-requires c =
+pub push_reserved-requires : goal.push_reserved-requires
+push_reserved-requires c =
     let above = recursion_from_All (λ d. d < c.args.cell) c.self.inside.cells.items
     (rw c.self.view_is c.requires.above) in
     let rising = rising_from_increasing 0 c.self.inside.cells.items c.self.invariant.ascending (λ _. omega arith) in
