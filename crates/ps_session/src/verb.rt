@@ -21,6 +21,7 @@ pub(crate) enum Verb {
 
 impl Verb {
     /// The verb that a word is.
+    #[inline(always)]
     #[tactic(auto, unfolding(crate::specs::Commands::verb_of))]
     pub(crate) fn read(word: &[u8]) -> Option<Verb>
         ensures { result ≡ verb_of word.now }
