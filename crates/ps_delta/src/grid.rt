@@ -113,7 +113,7 @@ impl Grid {
     /// Finds the cells that a join of the delta would change: those whose register, counter or set is not what it was,
     /// shown or not.
     ///
-    /// It is for whoever asks before a join. A sheet has these cells from `raised`.
+    /// It is part of the public interface, for whoever asks before a join. A sheet has these cells from `raised`.
     ///
     /// Cost: for each cell of the delta its counts and pairs, each with a search among those that the cell has here; it
     /// takes no memory.
@@ -222,6 +222,8 @@ fn raised_of(alloc: Global, grid: &Grid, delta: &Delta) -> Result<Vec<(Cell, Cel
 /// A grid joined with another one: what two replicas hold, cell by cell. A block that was made counts as different from
 /// one that wasn't, whatever the cells hold. The blocks are all made before they take their places, so a join that is
 /// refused changes nothing.
+///
+/// It is part of the public interface: a sheet joins deltas alone.
 impl Join for Grid {
     ghost use Rattle.ps_delta.specs.State.{joined_blocks};
     ghost use Rattle.ps_delta.specs.CellLaws.{joined_blocks-comm, joined_blocks-assoc, joined_blocks-idem};

@@ -1,4 +1,6 @@
 //! Laws of joins, of states and of histories: what holds whatever the deltas are.
+//!
+//! They are part of the public interface. The program calls `grids_are_shared` alone.
 
 ghost use Rattle.std.specs.Thread.{IsSync};
 ghost use Rattle.ps_delta.specs.Laws.{CoveredChangesNothing, GroupsJoin, HistoryIsASet, StatesJoin};
