@@ -5,7 +5,8 @@ use ps_grid::REPLICAS;
 use ps_lattice::{AMOUNT_LIMIT, COUNT_LIMIT, OPTIONS, SEQUENCES};
 use std::fmt;
 
-/// The verbs of lines, each with the form of its line.
+/// The verbs of lines, each with the form of its line. The test `the_verbs_are_those_of_lines` of
+/// `checks_commands` shows that a session reads each of these verbs.
 pub const VERBS: [(&str, &str); 12] = [
     ("get", "get <cell>"),
     ("set", "set <cell> <entry>"),
