@@ -20,7 +20,7 @@ pub(crate) fn entries_of(alloc: Global, grid: &Grid) -> Result<Vec<(Cell, CellSt
     ensures same { IfOk result (λ entries. state_of entries.items ≡ state_at grid.now) }
     ensures memory { IfErr result (λ e. e ≡ Refusal.Memory) }
 {
-    // the call brings that no cell outside the grid holds anything
+    // for the fact that no cell outside the grid holds anything
     let _ = grid.at(Cell::from_index(0).unwrap());
     let mut entries = Vec::new(alloc);
     for index in 0..CELLS {
