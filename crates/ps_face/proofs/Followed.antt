@@ -17,7 +17,7 @@ use Rattle.ps_cells.proofs.SettledValues.{settled_at_most_once}
 use Rattle.ps_face.specs.declared.patch.Note.{Note}
 use Rattle.ps_face.specs.Values.{in_order, written}
 use Rattle.ps_face.specs.Legal.{Follows, IsLegal, Shows, delta_of, history_of}
-use Rattle.ps_face.specs.Seen.{Copy, Stands, Turn, turned}
+use Rattle.ps_face.specs.Seen.{Copy, CopyStands, Turn, turned}
 use Rattle.ps_face.proofs.Orders.{listed-overlaid}
 
 pub legal_more : (h : List Entries) (ps : List Note) (p : Note) → IsLegal h ps → Follows (history_of h ps) p
@@ -70,9 +70,9 @@ shows_next h p values in_grid s f =
     )
 
 -- a copy that takes in the patch behind its list stands too
-pub stands_next : (h : List Entries) (b : Book) (x : Copy) (t : Turn) (p : Note) → Stands h b x → t.book ≡ b
+pub stands_next : (h : List Entries) (b : Book) (x : Copy) (t : Turn) (p : Note) → CopyStands h b x → t.book ≡ b
     → t.list ≡ x.list ++ p ∷ [] → t.version ≡ p.number → t.changes ≡ p.changes → AreInGrid p.delta
-    → Follows (history_of h x.list) p → Stands h b (turned x t)
+    → Follows (history_of h x.list) p → CopyStands h b (turned x t)
 stands_next h b x t p s book is version changes inside f =
     let old : List Entries = history_of h x.list in
     let history : history_of h t.list ≡ old ++ p.delta ∷ [] = ap (history_of h) is ∙ history_more h x.list p in record {

@@ -9,7 +9,7 @@ use Rattle.atomic_table.proofs.Lists.{at_set, at_snoc}
 use Rattle.ps_delta.specs.Deltas.{Entries}
 use Rattle.ps_face.specs.declared.patch.Note.{Note}
 use Rattle.ps_face.specs.declared.rule.View.{View}
-use Rattle.ps_face.specs.Seen.{Copy, Stands}
+use Rattle.ps_face.specs.Seen.{Copy, CopyStands}
 use Rattle.ps_face.specs.Rules.{Keeps, newcomer, Publishes, Enters}
 use Rattle.ps_face.proofs.Beginnings.{begins_itself, begins_trans}
 
@@ -24,7 +24,7 @@ module _ (h : List Entries) (b : Book) where
 
   -- this seat's view becomes the list of y, which goes on where that of x ended
   kept : (x y : Copy) (views : List View) (seat : ℕ) (w : View) → IsPrefix x.list y.list → w.list ≡ y.list
-      → Stands h b y → Keeps h b x views → Keeps h b y (set views seat w)
+      → CopyStands h b y → Keeps h b x views → Keeps h b y (set views seat w)
   kept x y views seat w up is s k =
       let own : IsPrefix w.list y.list =
       subst (λ (l : List Note). IsPrefix l y.list) (sym is) (begins_itself y.list) in (
@@ -34,7 +34,7 @@ module _ (h : List Entries) (b : Book) where
             (at_set views seat j w u e),
       )
 
-  pub publishes : (seat : ℕ) (v : View) (x y : Copy) → IsPrefix x.list y.list → Stands h b y
+  pub publishes : (seat : ℕ) (v : View) (x y : Copy) → IsPrefix x.list y.list → CopyStands h b y
       → TurnsAt (Keeps h b) seat v x y Publishes
   publishes seat v x y up s views k at =
       let w : View = record { list = y.list; enters = v.enters } in

@@ -15,7 +15,7 @@ use Rattle.ps_cells.specs.Settled.{IsSettled}
 use Rattle.ps_cells.specs.Changes.{IsChanges}
 use Rattle.ps_sheet.specs.Prepared.{IsPrepared, PreparedView, history_after, shown_after, shown_before}
 use Rattle.ps_cells.proofs.PutValues.{with_value-here, with_value-there}
-use Rattle.ps_face.specs.Legal.{AreChanges, Follows}
+use Rattle.ps_face.specs.Legal.{AreShownChanges, Follows}
 use Rattle.ps_face.specs.Values.{Changes, overlaid}
 use Rattle.ps_face.specs.declared.patch.Note.{Note}
 use Rattle.ps_face.proofs.Decided.{value_decided}
@@ -53,7 +53,7 @@ module _ (w : Assignment) where
       (⊎_elim (λ (e : w c ≡ v c). sym e) (λ ne. absurd (out ((is.exact c).1 ne))) (value_decided (w c) (v c))))
       (In-decided (map (λ e. e.0) changes) c))
 
-  pub are_changes : (v : Assignment) (changes : Changes) → IsChanges v w changes → AreChanges v w changes
+  pub are_changes : (v : Assignment) (changes : Changes) → IsChanges v w changes → AreShownChanges v w changes
   are_changes v changes is = record {
     ascending = is.ascending;
     exact = is.exact;
@@ -80,6 +80,6 @@ prepared_follows p n is fresh number delta changes =
       settled = is.before;
       settles = subst (λ (h : List Entries). IsSettled (joined_history h) (shown_after p))
           (after ∙ ap (λ (d : Entries). p.history ++ d ∷ []) (sym delta)) is.after;
-      changes = subst (λ (cs : Changes). AreChanges (shown_before p) (shown_after p) cs) (sym changes)
+      changes = subst (λ (cs : Changes). AreShownChanges (shown_before p) (shown_after p) cs) (sym changes)
           (are_changes (shown_after p) (shown_before p) p.changes is.changes);
     }

@@ -6,7 +6,7 @@ use Rattle.logbook.specs.Pages.{Book}
 use Rattle.ps_delta.specs.Deltas.{AreInGrid, Entries}
 use Rattle.ps_face.specs.declared.patch.Note.{Note}
 use Rattle.ps_face.specs.Legal.{Follows, history_of}
-use Rattle.ps_face.specs.Seen.{Copy, Turn, Stands}
+use Rattle.ps_face.specs.Seen.{Copy, CopyStands, Turn}
 use Rattle.ps_face.specs.Published.{MayShow}
 use Rattle.ps_face.proofs.Followed.{stands_next}
 
@@ -21,7 +21,7 @@ only_one xs (y ∷ ys) o p one is some =
 
 -- a copy may be shown that takes in the turn of the patch that comes next
 pub may_show : (h : List Entries) (b : Book) (x y : Copy) (t : Turn) (turns : List Turn) (front : List Note) (p : Note)
-    → Stands h b x → x.list ≡ front → y ≡ x → turns ≡ t ∷ [] → t.book ≡ b → t.list ≡ front ++ p ∷ []
+    → CopyStands h b x → x.list ≡ front → y ≡ x → turns ≡ t ∷ [] → t.book ≡ b → t.list ≡ front ++ p ∷ []
     → t.version ≡ p.number → t.changes ≡ p.changes → AreInGrid p.delta → Follows (history_of h front) p
     → MayShow h b y turns
 may_show h b x y t turns front p s same old one book list version changes inside f =

@@ -11,7 +11,7 @@ use Rattle.ps_face.specs.Values.{Changes, in_order, overlaid}
 use Rattle.ps_face.specs.declared.patch.Note.{Note}
 
 -- exactly the cells whose values differ, ascending, each with its value in the second one
-pub record AreChanges (before after : Assignment) (changes : Changes) : Type 0 where
+pub record AreShownChanges (before after : Assignment) (changes : Changes) : Type 0 where
   pub ascending : IsStrictlyIncreasing (map (λ e. e.0) changes)
   pub exact : (c : ℕ) → In (map (λ e. e.0) changes) c ↔ ¬ (after c ≡ before c)
   pub gives : overlaid before changes ≡ after
@@ -25,7 +25,7 @@ pub record Follows (h : List Entries) (p : Note) : Type 0 where
   pub after : Assignment
   pub settled : IsSettled (joined_history h) before
   pub settles : IsSettled (joined_history (h ++ p.delta ∷ [])) after
-  pub changes : AreChanges before after p.changes
+  pub changes : AreShownChanges before after p.changes
 
 abbrev pub delta_of : Note → Entries
 delta_of p = p.delta

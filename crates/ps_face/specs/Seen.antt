@@ -30,9 +30,9 @@ pub record Turn : Type 0 where
 abbrev pub turned : Copy → Turn → Copy
 turned x t = record { book = t.book; list = t.list; version = t.version; values = written x.values t.changes }
 
--- STANDS: the list is legal from the opening history h, and the copy shows the settled values of the history that the
--- list stands for
-pub record Stands (h : List Entries) (b : Book) (x : Copy) : Type 0 where
+-- THE COPY STANDS: the list is legal from the opening history h, and the copy shows the settled values of the history
+-- that the list stands for
+pub record CopyStands (h : List Entries) (b : Book) (x : Copy) : Type 0 where
   pub book : x.book ≡ b
   pub legal : IsLegal h x.list
   pub version : x.version ≡ length (history_of h x.list)

@@ -25,10 +25,8 @@ fn crosses<T: Send + Sync>()
     ensures sync { IsSync T.row }
 {}
 
-/// A patch may go to another thread. Who shares patches between threads calls this first.
-///
-/// Cost: none.
-pub fn patch_crosses()
+/// A patch may go to another thread.
+fn patch_crosses()
     ensures { IsSend patch.the_row }
 {
     crosses::<Delta>();

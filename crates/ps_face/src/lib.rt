@@ -34,7 +34,7 @@ mod reader;
 mod rule;
 mod writer;
 
-pub use crossing::{patch_crosses, writer_crosses};
+pub use crossing::writer_crosses;
 pub use front::{Front, Opened};
 pub use name::Named;
 pub use patch::{Note, Patch};

@@ -53,7 +53,7 @@ impl<L: Named> Model for Seen<L> {
     ghost use Rattle.left_right.specs.Sides.{view as seat_view};
     ghost use Rattle.ps_face.specs.contracts.patch.Note as note;
     ghost use Rattle.ps_face.specs.Published.{Sight};
-    ghost use Rattle.ps_face.specs.Seen.{Stands};
+    ghost use Rattle.ps_face.specs.Seen.{CopyStands};
 
     ghost Value = { Sight };
 
@@ -66,7 +66,7 @@ impl<L: Named> Model for Seen<L> {
     } };
 
     ghost invariant = { λ s. ((seat_view s.reading.place).list ≡ s.reading.part.value.list)
-        × Stands L.opening L.book s.reading.part.value };
+        × CopyStands L.opening L.book s.reading.part.value };
 }
 
 impl<L: Named> FaceReader<L> {

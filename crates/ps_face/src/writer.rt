@@ -10,7 +10,7 @@ ghost use Rattle.ps_shown.specs.Shown.{shown_at};
 ghost use Rattle.ps_cells.specs.Settled.{IsSettled};
 ghost use Rattle.ps_face.specs.Legal.{Follows, IsLegal, history_of};
 ghost use Rattle.ps_face.specs.Rules.{newcomer};
-ghost use Rattle.ps_face.specs.Seen.{Stands, turned};
+ghost use Rattle.ps_face.specs.Seen.{CopyStands, turned};
 ghost use Rattle.ps_face.specs.Published.{MayShow};
 
 use crate::face::{Face, Operation};
@@ -44,7 +44,7 @@ impl<L: Named, R: Wait + Drop> Model for FaceWriter<L, R> {
     ghost use Rattle.std.specs.Prelude.{drop};
     ghost use Rattle.std.specs.Coded.{codes};
     ghost use Rattle.ps_face.specs.contracts.patch.Note as note;
-    ghost use Rattle.ps_face.specs.Published.{IsHeld, Published};
+    ghost use Rattle.ps_face.specs.Published.{Published, WriterStands};
 
     ghost Value = { Published };
 
@@ -52,7 +52,7 @@ impl<L: Named, R: Wait + Drop> Model for FaceWriter<L, R> {
 
     ghost view = { λ w. record { list = w.front.list; pending = w.staged.items } };
 
-    ghost invariant = { λ w. IsHeld L.opening L.book w.copies.desk.shown.value w.front w.head
+    ghost invariant = { λ w. WriterStands L.opening L.book w.copies.desk.shown.value w.front w.head
         (drop w.copies.behind w.copies.log.items) w.staged.items };
 }
 
@@ -178,7 +178,7 @@ fn open_copies<L: Named, R: Wait>(
     requires in_grid { IsInGrid (joined_history L.opening) }
     requires readers { (1 ≤ readers) × (readers ≤ MOST) }
     ensures list { IfOk result (λ w. w.desk.shown.value.list ≡ []) }
-    ensures stands { IfOk result (λ w. Stands L.opening L.book w.desk.shown.value) }
+    ensures stands { IfOk result (λ w. CopyStands L.opening L.book w.desk.shown.value) }
     ensures queue { IfOk result (λ w. drop w.behind w.log.items ≡ []) }
     ensures memory { IfErr result (λ e. e ≡ Memory) }
 {
@@ -250,7 +250,7 @@ fn show<L: Named, R: Wait>(rt: &R, copies: &mut Copies<L>)
     requires { MayShow L.opening L.book copies.old.desk.shown.value (drop copies.old.behind copies.old.log.items) }
     ensures shown { copies.new.desk.shown.value
         ≡ fold turned copies.old.desk.shown.value (drop copies.old.behind copies.old.log.items) }
-    ensures stands { Stands L.opening L.book copies.new.desk.shown.value }
+    ensures stands { CopyStands L.opening L.book copies.new.desk.shown.value }
     ensures queue { drop copies.new.behind copies.new.log.items ≡ [] }
 {
     for _ in rt.forever() {

@@ -20,7 +20,7 @@ use Rattle.ps_session.specs.Feeding.{Ends, EndsLine, Feeds, HasNoFeed, Reading, 
 use Rattle.ps_session.specs.Transcript.{IsAfterLine, stream_of, with_last}
 use Rattle.ps_session.specs.ReplicaLine.{TellsNone}
 use Rattle.ps_squash.specs.Squashed.{FirstFault, FirstSays, Say, SayAll, SayTogether, Says}
-use Rattle.ps_squash.specs.Inside.{Holds, NextSays, Stands}
+use Rattle.ps_squash.specs.Inside.{Holds, NextSays, StandsAfter}
 use Rattle.ps_squash.proofs.LineLemmas.{held_line}
 
 -- one line more
@@ -126,7 +126,7 @@ Faulty line after count number = (raw : List ℕ) → Holds line after raw
 module _ (read : List ℕ) (before after : Reading) (told : Option ℕ) (old : State) (count : ℕ) where
   -- no line ended
   pub part_stands : (bytes : List ℕ) → Feeds before after bytes lines.None
-      → Stands read before.pending told old count → Stands (read ++ bytes) after.pending told old count
+      → StandsAfter read before.pending told old count → StandsAfter (read ++ bytes) after.pending told old count
   part_stands bytes fed s = record {
     lines = s.lines;
     rest = s.rest ++ bytes;
@@ -154,7 +154,7 @@ module _ (read : List ℕ) (before after : Reading) (told : Option ℕ) (old : S
   )
 
   ended : (bytes : List ℕ) (line : Line) → line ≢ lines.None → Feeds before after bytes line
-      → (s : Stands read before.pending told old count)
+      → (s : StandsAfter read before.pending told old count)
       → (part : List ℕ) × (bytes ≡ part ++ 10 ∷ []) × HasNoFeed part × Holds line after (s.rest ++ part)
       × (after.pending ≡ Some [])
   ended bytes lines.None some fed s = absurd (some refl)
@@ -167,7 +167,7 @@ module _ (read : List ℕ) (before after : Reading) (told : Option ℕ) (old : S
   pub line_stands : (tells : Option ℕ) (new : State) (counted : ℕ) (bytes : List ℕ) (line : Line) → line ≢ lines.None
       → Feeds before after bytes line → Joined line after told old count tells new
       → counted ≡ min (count + 1) (2 ^ 64 - 1)
-      → Stands read before.pending told old count → Stands (read ++ bytes) after.pending tells new counted
+      → StandsAfter read before.pending told old count → StandsAfter (read ++ bytes) after.pending tells new counted
   line_stands tells new counted bytes line some fed joined rises s =
       let e = ended bytes line some fed s in
       let j = joined (s.rest ++ e.0) e.3 in record {
@@ -190,7 +190,7 @@ module _ (read : List ℕ) (before after : Reading) (told : Option ℕ) (old : S
 
   pub line_fails : (number : ℕ) (piece : List ℕ) (taken : ℕ) (line : Line) → line ≢ lines.None
       → Feeds before after (take taken piece) line → Faulty line after count number
-      → Stands read before.pending told old count → FirstFault ⊥ (read ++ piece) number
+      → StandsAfter read before.pending told old count → FirstFault ⊥ (read ++ piece) number
   line_fails number piece taken line some fed faulty s =
       let e = ended (take taken piece) line some fed s in
       let f = faulty (s.rest ++ e.0) e.3 in
@@ -216,7 +216,7 @@ module _ (read : List ℕ) (before after : Reading) (told : Option ℕ) (old : S
       }
 
   -- the end, where nothing remains
-  pub none_remains : Ends before after lines.None → Stands read before.pending told old count
+  pub none_remains : Ends before after lines.None → StandsAfter read before.pending told old count
       → SayTogether read told old
   none_remains ends s =
       let none : s.rest ≡ [] = held_line s.rest [] (sym s.held ∙ ends.0) in record {
@@ -237,7 +237,7 @@ module _ (read : List ℕ) (before after : Reading) (told : Option ℕ) (old : S
   long_filled (b ∷ bs) is = omega arith
 
   last_held : (line : Line) → line ≢ lines.None → Ends before after line
-      → (s : Stands read before.pending told old count) → Holds line after s.rest × (0 < length s.rest)
+      → (s : StandsAfter read before.pending told old count) → Holds line after s.rest × (0 < length s.rest)
   last_held lines.None some ends s = absurd (some refl)
   last_held lines.Full some ends s =
       let is = sym s.held ∙ ends.0 in
@@ -246,7 +246,7 @@ module _ (read : List ℕ) (before after : Reading) (told : Option ℕ) (old : S
       let is = sym s.held ∙ ends.0 in (is, long_filled s.rest is)
 
   pub last_joins : (tells : Option ℕ) (new : State) (line : Line) → line ≢ lines.None → Ends before after line
-      → Joined line after told old count tells new → Stands read before.pending told old count
+      → Joined line after told old count tells new → StandsAfter read before.pending told old count
       → SayTogether read tells new
   last_joins tells new line some ends joined s =
       let held = last_held line some ends s in
@@ -261,7 +261,7 @@ module _ (read : List ℕ) (before after : Reading) (told : Option ℕ) (old : S
       }
 
   pub last_fails : (number : ℕ) (line : Line) → line ≢ lines.None → Ends before after line
-      → Faulty line after count number → Stands read before.pending told old count → FirstFault ⊤ read number
+      → Faulty line after count number → StandsAfter read before.pending told old count → FirstFault ⊤ read number
   last_fails number line some ends faulty s =
       let held = last_held line some ends s in
       let f = faulty s.rest held.0 in record {
@@ -305,7 +305,7 @@ fault_ended P Q read number known f = record {
 
 -- nothing is read yet
 pub none_stand : (pending : Option (List ℕ)) (state : State) → pending ≡ Some [] → state ≡ empty_state
-    → Stands [] pending None state 0
+    → StandsAfter [] pending None state 0
 none_stand pending state is empty = record {
   lines = [];
   rest = [];
@@ -324,11 +324,11 @@ none_stand pending state is empty = record {
 -- one turn more, as the code takes it, and all that is left
 pub stands_more : (read bytes : List ℕ) (start taken : ℕ) (pending : Option (List ℕ)) (told : Option ℕ) (state : State)
     (count : ℕ)
-    → Stands ((read ++ take start bytes) ++ take taken (take (length bytes - start) (drop start bytes))) pending told
-    state count
-    → Stands (read ++ take (start + taken) bytes) pending told state count
+    → StandsAfter ((read ++ take start bytes) ++ take taken (take (length bytes - start) (drop start bytes))) pending
+    told state count
+    → StandsAfter (read ++ take (start + taken) bytes) pending told state count
 stands_more read bytes start taken pending told state count s =
-    subst (λ r. Stands r pending told state count)
+    subst (λ r. StandsAfter r pending told state count)
     (ap (λ r. (read ++ take start bytes) ++ take taken r) (rest-range bytes start)
     ∙ append_assoc read (take start bytes) (take taken (drop start bytes))
     ∙ ap (λ t. read ++ t) (sym (take-add start taken bytes))) s

@@ -31,7 +31,7 @@ NextSays count before line after deltas =
     ((count ≡ 0) × FirstSays line after deltas) ⊎ ((0 < count) × (after ≡ before) × Says line deltas)
 
 -- the complete lines read were joined, and what remains is held
-pub record Stands (read : List ℕ) (pending : Option (List ℕ)) (told : Option ℕ) (state : State) (count : ℕ)
+pub record StandsAfter (read : List ℕ) (pending : Option (List ℕ)) (told : Option ℕ) (state : State) (count : ℕ)
     : Type 0 where
   pub lines : List (List ℕ)
   pub rest : List ℕ
@@ -46,12 +46,12 @@ pub record Stands (read : List ℕ) (pending : Option (List ℕ)) (told : Option
 abbrev pub GoesOn : List ℕ → Option (List ℕ) → Option ℕ → State → ℕ → Option (List ℕ) → Option ℕ → State → ℕ
     → Type 0
 GoesOn bytes held first before count pending told state number =
-    (read : List ℕ) → Stands read held first before count → Stands (read ++ bytes) pending told state number
+    (read : List ℕ) → StandsAfter read held first before count → StandsAfter (read ++ bytes) pending told state number
 
 -- .. or one of the lines that ended among them is the first that says no delta
 abbrev pub Fails : Type 0 → List ℕ → Option (List ℕ) → Option ℕ → State → ℕ → ℕ → Type 0
 Fails ended bytes held told before count number =
-    (read : List ℕ) → Stands read held told before count → FirstFault ended (read ++ bytes) number
+    (read : List ℕ) → StandsAfter read held told before count → FirstFault ended (read ++ bytes) number
 
 -- what the cells before n hold
 pub record AreFirst (s : State) (n : ℕ) (entries : Entries) : Type 0 where

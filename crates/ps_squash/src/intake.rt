@@ -8,7 +8,7 @@ ghost use Rattle.ps_delta.specs.State.{joined_state, state_at};
 ghost use Rattle.ps_session.specs.Feeding.{without_return};
 ghost use Rattle.ps_session.specs.ReplicaLine.{TellsNone};
 ghost use Rattle.ps_squash.specs.Squashed.{FirstFault, FirstSays, SayTogether, Says, after_push};
-ghost use Rattle.ps_squash.specs.Inside.{Fails, GoesOn, Holds, IsOfIntake, IsOfLines, NextSays, Stands};
+ghost use Rattle.ps_squash.specs.Inside.{Fails, GoesOn, Holds, IsOfIntake, IsOfLines, NextSays, StandsAfter};
 ghost use Rattle.ps_squash.specs.declared.fault.SquashFault.TheVariants.{Line as FaultyLine};
 
 use crate::fault::SquashFault;
@@ -175,11 +175,11 @@ impl Intake {
     /// At the end of the input: takes in what remains, if it is a line.
     fn finish(&mut self) -> Result<(), SquashFault>
         ensures together { OnOk result ((read : List ℕ)
-            → Stands read self.old.session.pending self.old.told (state_at self.old.state) self.old.ended
+            → StandsAfter read self.old.session.pending self.old.told (state_at self.old.state) self.old.ended
             → SayTogether read self.new.told (state_at self.new.state)) }
         ensures faulty { IfErr result (λ f. (number : ℕ) → f ≡ FaultyLine number
             → (read : List ℕ)
-            → Stands read self.old.session.pending self.old.told (state_at self.old.state) self.old.ended
+            → StandsAfter read self.old.session.pending self.old.told (state_at self.old.state) self.old.ended
             → FirstFault ⊤ read number) }
         ensures refused { IfErr result IsOfLines }
     {
@@ -197,11 +197,11 @@ impl Intake {
 fn read_on<S: Source>(intake: &mut Intake, source: &mut S) -> Result<(), SquashFault>
     ensures read { OnOk result ((read : List ℕ)
         × Consumes (S.remaining source.old) (S.remaining source.new) read × IsAtEnd (S.remaining source.new)
-        × (Stands [] intake.old.session.pending intake.old.told (state_at intake.old.state) intake.old.ended
-        → Stands read intake.new.session.pending intake.new.told (state_at intake.new.state) intake.new.ended)) }
+        × (StandsAfter [] intake.old.session.pending intake.old.told (state_at intake.old.state) intake.old.ended
+        → StandsAfter read intake.new.session.pending intake.new.told (state_at intake.new.state) intake.new.ended)) }
     ensures faulty { IfErr result (λ f. (number : ℕ) → f ≡ FaultyLine number
         → (read : List ℕ) × Consumes (S.remaining source.old) (S.remaining source.new) read
-        × (Stands [] intake.old.session.pending intake.old.told (state_at intake.old.state) intake.old.ended
+        × (StandsAfter [] intake.old.session.pending intake.old.told (state_at intake.old.state) intake.old.ended
         → FirstFault ⊥ read number)) }
     ensures calm { OnOk result (S.failures source.new ≡ S.failures source.old) }
     ensures failed { result ≡ Err SquashFault.Source → S.failures source.old < S.failures source.new }
@@ -258,7 +258,7 @@ pub(crate) fn taken_in<S: Source>(
 /// No line is taken in yet.
 fn begin(alloc: Global) -> Result<Intake, SquashFault>
     ensures stands { IfOk result (λ intake.
-        Stands [] intake.session.pending intake.told (state_at intake.state) intake.ended) }
+        StandsAfter [] intake.session.pending intake.told (state_at intake.state) intake.ended) }
     ensures memory { IfErr result (λ f. f ≡ SquashFault.Memory) }
 {
     let session = match Session::new(alloc) {
