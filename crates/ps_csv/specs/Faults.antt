@@ -1,6 +1,6 @@
 -- Why a table isn't taken in.
 use Rattle.std.specs.Prelude.{◌≡◌, ◌≢◌, ◌⊎◌, ℕ, ◌<◌, ◌≤◌, true, List, [], ◌∷◌, ◌++◌, length, Option, None, Ok, Err}
-use Rattle.std.specs.Io.KnownBytes.{Consumes, IsAtEnd}
+use Rattle.std.specs.Io.KnownBytes.{Consumes}
 use Rattle.csv.specs.Reading.{error_kind, is_io}
 use Rattle.csv.specs.declared.error.Error.{Error}
 use Rattle.ps_grid.specs.declared.refusal.Refusal.{Refusal}
@@ -12,6 +12,7 @@ use Rattle.ps_delta.specs.State.{State}
 use Rattle.ps_sheet.specs.Edits.{is_clock_full}
 use Rattle.ps_csv.specs.declared.bytes.TheConstants.{LONGEST_TABLE}
 use Rattle.ps_csv.specs.declared.fault.ImportFault.{ImportFault}
+use Rattle.ps_csv.specs.Imports.{ReadToEnd}
 use Rattle.ps_csv.specs.Records.{BeginsTable, Cells, FieldsSay, Record, RecordsSay, place}
 
 -- TOO MANY BYTES: those that were taken out of the source so far are more than a table may have
@@ -66,8 +67,7 @@ pub record ReaderFails (s : State) (bytes : List ℕ) (error : Error) : Type 0 w
 
 -- all bytes of a source that had `old` were taken out of it, a table may have so many, and P holds of them
 abbrev pub WholeTable : Option (List ℕ) → Option (List ℕ) → (List ℕ → Type 0) → Type 0
-WholeTable old new P =
-    (bytes : List ℕ) × Consumes old new bytes × IsAtEnd new × (length bytes ≤ LONGEST_TABLE) × P bytes
+WholeTable old new P = ReadToEnd old new (λ bytes. (length bytes ≤ LONGEST_TABLE) × P bytes)
 
 -- why a source's table is refused: memory, a device, too many bytes, or the first fault of its text
 abbrev pub TableFault : State → Option (List ℕ) → Option (List ℕ) → Refusal → Type 0

@@ -1,11 +1,21 @@
--- What an import does to a sheet.
-use Rattle.std.specs.Prelude.{◌≡◌, ℕ, ◌<◌, ◌≤◌, List, [], ◌∷◌, ◌++◌, length, take, Ok}
+-- What an import does to a source and to a sheet.
+use Rattle.std.specs.Prelude.{◌≡◌, ℕ, ◌<◌, ◌≤◌, List, [], ◌∷◌, ◌++◌, length, take, Ok, Option}
+use Rattle.std.specs.Io.KnownBytes.{Consumes, IsAtEnd}
+use Rattle.ps_grid.specs.declared.size.TheConstants.{COLUMNS, ROWS}
 use Rattle.ps_delta.specs.Deltas.{Entries, joined_history}
 use Rattle.ps_sheet.specs.Sheet.{SheetView}
 use Rattle.ps_sheet.specs.Edits.{delta_of_edit}
 use Rattle.ps_sheet.specs.declared.edit.Edit.TheVariants.{SetAll}
 use Rattle.ps_csv.specs.declared.bytes.TheConstants.{LONGEST_TABLE}
 use Rattle.ps_csv.specs.Records.{Cells, IsTable, Record, RecordsSay, most_fields}
+
+-- all bytes of a source that had `old` were taken out of it, and P holds of them
+abbrev pub ReadToEnd : Option (List ℕ) → Option (List ℕ) → (List ℕ → Type 0) → Type 0
+ReadToEnd old new P = (bytes : List ℕ) × Consumes old new bytes × IsAtEnd new × P bytes
+
+-- so many records and so many fields lie in the grid, and each record has a field
+abbrev pub LieInGrid : ℕ → ℕ → Type 0
+LieInGrid records fields = (records ≤ ROWS) × (fields ≤ COLUMNS) × (0 < records → 0 < fields)
 
 -- ASSIGNED at replica r: the history h grew to k by the delta of one edit of all its cells for each list that has any,
 -- in order, and by nothing else

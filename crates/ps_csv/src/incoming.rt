@@ -2,13 +2,12 @@
 
 ghost use Rattle.std.specs.Prelude.{◌≡◌, ◌≢◌, ◌⊎◌, ◌<◌, ◌≤◌, ℕ, List, length, IfOk, IfErr, IfNone, IfSome, OnOk};
 ghost use Rattle.std.specs.Io.KnownBytes.{Consumes, IsAtEnd};
-ghost use Rattle.ps_grid.specs.declared.size.TheConstants.{COLUMNS, ROWS};
 ghost use Rattle.ps_delta.specs.Deltas.{joined_history};
 ghost use Rattle.ps_sheet.specs.Sheet.{IsSheet};
 ghost use Rattle.ps_csv.specs.Faults.{TableFault, TableReaderFails};
 ghost use Rattle.ps_csv.specs.Records.{IsTable, Record};
 ghost use Rattle.ps_csv.specs.Inside.{HasRead};
-ghost use Rattle.ps_csv.specs.Imports.{StopsAfter, ImportsTable};
+ghost use Rattle.ps_csv.specs.Imports.{ImportsTable, LieInGrid, ReadToEnd, StopsAfter};
 ghost use Rattle.ps_csv.specs.declared.bytes.TheConstants.{LONGEST_TABLE};
 
 use crate::apply::apply;
@@ -57,11 +56,9 @@ pub fn import<R: Threads + Sync, S: Source, L: Ledger>(
     sheet: &mut Sheet,
     meter: &mut Meter<L>,
 ) -> Result<Imported, ImportFault>
-    ensures imported { IfOk result (λ i. (bytes : List ℕ)
-        × Consumes (S.remaining source.old) (S.remaining source.new) bytes × IsAtEnd (S.remaining source.new)
-        × ImportsTable bytes i.records i.fields sheet.old sheet.new) }
-    // the records and their fields lie in the grid, and each record has a field
-    ensures extent { IfOk result (λ i. (i.records ≤ ROWS) × (i.fields ≤ COLUMNS) × (0 < i.records → 0 < i.fields)) }
+    ensures imported { IfOk result (λ i. ReadToEnd (S.remaining source.old) (S.remaining source.new)
+        (λ bytes. ImportsTable bytes i.records i.fields sheet.old sheet.new)) }
+    ensures extent { IfOk result (λ i. LieInGrid i.records i.fields) }
     ensures calm { OnOk result (S.failures source.new ≡ S.failures source.old) }
     ensures refused { IfErr result (λ f. IfNone f.reader_error
         (TableFault (joined_history sheet.old.history) (S.remaining source.old) (S.remaining source.new) f.refusal)) }
@@ -73,9 +70,8 @@ pub fn import<R: Threads + Sync, S: Source, L: Ledger>(
         → S.failures source.new ≡ S.failures source.old) }
     ensures none { IfErr result (λ f. f.refusal ≢ Refusal.Memory → f.applied ≡ 0) }
     ensures kept { IfErr result (λ f. f.applied ≡ 0 → (sheet.new ≡ sheet.old) × (meter.new ≡ meter.old)) }
-    ensures stopped { IfErr result (λ f. 0 < f.applied → (bytes : List ℕ)
-        × Consumes (S.remaining source.old) (S.remaining source.new) bytes × IsAtEnd (S.remaining source.new)
-        × StopsAfter bytes f.applied sheet.old sheet.new) }
+    ensures stopped { IfErr result (λ f. 0 < f.applied → ReadToEnd (S.remaining source.old) (S.remaining source.new)
+        (λ bytes. StopsAfter bytes f.applied sheet.old sheet.new)) }
     ensures replica { sheet.new.replica ≡ sheet.old.replica }
     ensures workers { sheet.new.workers ≡ sheet.old.workers }
     ensures sheet { IsSheet sheet.new }
@@ -95,11 +91,9 @@ pub fn import_watched<R: Threads + Sync, S: Source, L: Ledger, W: TableWatcher>(
     meter: &mut Meter<L>,
     watcher: &mut W,
 ) -> Result<Imported, ImportFault>
-    ensures imported { IfOk result (λ i. (bytes : List ℕ)
-        × Consumes (S.remaining source.old) (S.remaining source.new) bytes × IsAtEnd (S.remaining source.new)
-        × ImportsTable bytes i.records i.fields sheet.old sheet.new) }
-    // the records and their fields lie in the grid, and each record has a field
-    ensures extent { IfOk result (λ i. (i.records ≤ ROWS) × (i.fields ≤ COLUMNS) × (0 < i.records → 0 < i.fields)) }
+    ensures imported { IfOk result (λ i. ReadToEnd (S.remaining source.old) (S.remaining source.new)
+        (λ bytes. ImportsTable bytes i.records i.fields sheet.old sheet.new)) }
+    ensures extent { IfOk result (λ i. LieInGrid i.records i.fields) }
     ensures calm { OnOk result (S.failures source.new ≡ S.failures source.old) }
     ensures refused { IfErr result (λ f. IfNone f.reader_error
         (TableFault (joined_history sheet.old.history) (S.remaining source.old) (S.remaining source.new) f.refusal)) }
@@ -111,9 +105,8 @@ pub fn import_watched<R: Threads + Sync, S: Source, L: Ledger, W: TableWatcher>(
         → S.failures source.new ≡ S.failures source.old) }
     ensures none { IfErr result (λ f. f.refusal ≢ Refusal.Memory → f.applied ≡ 0) }
     ensures kept { IfErr result (λ f. f.applied ≡ 0 → (sheet.new ≡ sheet.old) × (meter.new ≡ meter.old)) }
-    ensures stopped { IfErr result (λ f. 0 < f.applied → (bytes : List ℕ)
-        × Consumes (S.remaining source.old) (S.remaining source.new) bytes × IsAtEnd (S.remaining source.new)
-        × StopsAfter bytes f.applied sheet.old sheet.new) }
+    ensures stopped { IfErr result (λ f. 0 < f.applied → ReadToEnd (S.remaining source.old) (S.remaining source.new)
+        (λ bytes. StopsAfter bytes f.applied sheet.old sheet.new)) }
     ensures replica { sheet.new.replica ≡ sheet.old.replica }
     ensures workers { sheet.new.workers ≡ sheet.old.workers }
     ensures sheet { IsSheet sheet.new }
