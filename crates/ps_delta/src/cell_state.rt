@@ -1,6 +1,7 @@
 //! What a cell holds: a register, a counter and a set.
 
-ghost use Rattle.std.specs.Prelude.{◌≡◌, ◌↔◌, IsTrue};
+ghost use Rattle.std.specs.Prelude.{◌≡◌, ◌↔◌, IsTrue, IfOk, IfErr};
+ghost use Rattle.ps_grid.specs.declared.refusal.Refusal.{Refusal};
 ghost use Rattle.ps_delta.specs.State.{empty_cell, joined_cell};
 
 use ps_content::Content;
@@ -71,6 +72,26 @@ impl CellState {
     }
 }
 
+impl CellState {
+    /// The join of this state and another one.
+    ///
+    /// Refused only when out of memory.
+    ///
+    /// Cost: as of `join`.
+    #[tactic(auto, unfolding(crate::specs::State::joined_cell))]
+    #[inline(always)]
+    pub fn joined(&self, alloc: Global, other: &CellState) -> Result<CellState, Refusal>
+        ensures ok { IfOk result (λ s. s ≡ joined_cell self.now other.now) }
+        ensures memory { IfErr result (λ e. e ≡ Refusal.Memory) }
+    {
+        Ok(CellState {
+            register: self.register.joined(alloc, &other.register)?,
+            tally: self.tally.joined(alloc, &other.tally)?,
+            choice: self.choice.joined(alloc, &other.choice)?,
+        })
+    }
+}
+
 impl Twin for CellState {
     #[inline(always)]
     fn twin(&self, alloc: Global) -> Result<CellState, Refusal> {
@@ -88,16 +109,9 @@ impl Join for CellState {
 
     ghost joined = { joined_cell };
 
-    #[tactic(auto, unfolding(crate::specs::State::joined_cell))]
     #[inline(always)]
     fn join(&mut self, alloc: Global, other: &CellState) -> Result<(), Refusal> {
-        let mut tally = self.tally.twin(alloc)?;
-        tally.join(alloc, &other.tally)?;
-        let mut choice = self.choice.twin(alloc)?;
-        choice.join(alloc, &other.choice)?;
-        self.register.join(alloc, &other.register)?;
-        self.tally = tally;
-        self.choice = choice;
+        *self = self.joined(alloc, other)?;
         Ok(())
     }
 

@@ -211,8 +211,7 @@ fn raised_of(alloc: Global, grid: &Grid, delta: &Delta) -> Result<Vec<(Cell, Cel
     for change in parts {
         let here = grid.at(change.0);
         if !change.1.below(here) {
-            let mut state = here.twin(alloc)?;
-            state.join(alloc, &change.1)?;
+            let state = here.joined(alloc, &change.1)?;
             raised.push((change.0, state))?;
         }
     }

@@ -354,6 +354,23 @@ impl Twin for Choice {
     }
 }
 
+impl Choice {
+    /// The join of this set and another one.
+    ///
+    /// Refused only when out of memory.
+    ///
+    /// Cost: as of `join`.
+    #[tactic(auto, using(crate::proofs::Joining::seen_joined, crate::proofs::ChoiceLemmas::joined_in_range))]
+    pub fn joined(&self, alloc: Global, other: &Choice) -> Result<Choice, Refusal>
+        ensures ok { IfOk result (λ c. c ≡ joined_choices self.now other.now) }
+        ensures memory { IfErr result (λ e. e ≡ Refusal.Memory) }
+    {
+        Ok(Choice {
+            pairs: shared::joined(alloc, &self.pairs, &other.pairs)?,
+        })
+    }
+}
+
 impl Join for Choice {
     ghost use Rattle.ps_lattice.specs.Choice.{joined_choices};
     ghost use Rattle.ps_lattice.specs.ChoiceLaws.{choices_is_join};
@@ -366,9 +383,8 @@ impl Join for Choice {
 
     ghost idempotent = { choices_is_join.idempotent };
 
-    #[tactic(auto, using(crate::proofs::Joining::seen_joined, crate::proofs::ChoiceLemmas::joined_in_range))]
     fn join(&mut self, alloc: Global, other: &Self) -> Result<(), Refusal> {
-        self.pairs = shared::joined(alloc, &self.pairs, &other.pairs)?;
+        *self = self.joined(alloc, other)?;
         Ok(())
     }
 

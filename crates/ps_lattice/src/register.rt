@@ -120,6 +120,25 @@ impl<V: Linear + Drop> Register<V> {
     }
 }
 
+impl<V: Linear + Twin + Drop> Register<V> {
+    /// The join of this register and another one.
+    ///
+    /// Refused only when out of memory.
+    ///
+    /// Cost: constant; where the stamps are equal, that of comparing the contents.
+    #[inline(always)]
+    pub fn joined(&self, alloc: Global, other: &Register<V>) -> Result<Register<V>, Refusal>
+        ensures ok { IfOk result (λ r. r ≡ joined_registers V.cmp self.now other.now) }
+        ensures memory { IfErr result (λ e. e ≡ Refusal.Memory) }
+    {
+        if other.below(self) {
+            self.twin(alloc)
+        } else {
+            other.twin(alloc)
+        }
+    }
+}
+
 impl<V: Twin> Twin for Register<V> {
     #[inline(always)]
     fn twin(&self, alloc: Global) -> Result<Self, Refusal> {
@@ -170,9 +189,13 @@ impl<V: Ord> Assignment<V> {
     fn compare(&self, other: &Assignment<V>) -> Ordering
         ensures { result ≡ assignment_cmp V.cmp self.now other.now }
     {
-        self.time
-            .cmp(&other.time)
-            .then(self.replica.cmp(&other.replica))
-            .then(self.content.cmp(&other.content))
+        match self.time.cmp(&other.time) {
+            Ordering::Equal => {}
+            order => return order,
+        }
+        match self.replica.cmp(&other.replica) {
+            Ordering::Equal => self.content.cmp(&other.content),
+            order => order,
+        }
     }
 }

@@ -289,6 +289,23 @@ fn is_amount(amount: u64) -> bool
     amount >= 1 && amount <= AMOUNT_LIMIT
 }
 
+impl Tally {
+    /// The join of this counter and another one.
+    ///
+    /// Refused only when out of memory.
+    ///
+    /// Cost: as of `join`.
+    #[tactic(auto, using(crate::proofs::Joining::seen_joined, crate::proofs::TallyLemmas::joined_in_range))]
+    pub fn joined(&self, alloc: Global, other: &Tally) -> Result<Tally, Refusal>
+        ensures ok { IfOk result (λ t. t ≡ joined_tallies self.now other.now) }
+        ensures memory { IfErr result (λ e. e ≡ Refusal.Memory) }
+    {
+        Ok(Tally {
+            counts: shared::joined(alloc, &self.counts, &other.counts)?,
+        })
+    }
+}
+
 impl Twin for Tally {
     fn twin(&self, alloc: Global) -> Result<Self, Refusal> {
         // one more owner takes no memory
@@ -311,9 +328,8 @@ impl Join for Tally {
 
     ghost idempotent = { tallies_is_join.idempotent };
 
-    #[tactic(auto, using(crate::proofs::Joining::seen_joined, crate::proofs::TallyLemmas::joined_in_range))]
     fn join(&mut self, alloc: Global, other: &Self) -> Result<(), Refusal> {
-        self.counts = shared::joined(alloc, &self.counts, &other.counts)?;
+        *self = self.joined(alloc, other)?;
         Ok(())
     }
 

@@ -2,7 +2,7 @@ use Rattle.std.proofs.Common.{sym, ◌∙◌, true≢false}
 use Rattle.std.proofs.lemmas.List.{take_all}
 use Rattle.ps_delta.proofs.RaisedLemmas.{listed_none, listed-same, listed-more, raised_from_listed}
 use Rattle.ps_delta.proofs.WalkLemmas.{walk-in_grid}
-use Rattle.ps_delta.proofs.grid.raised_of.Goals.{then-not-below+in_ok-state+in_ok-join+in_ok-push, else-not-below}
+use Rattle.ps_delta.proofs.grid.raised_of.Goals.{then-not-below+in_ok-state+in_ok-push, else-not-below}
 use Rattle.ps_delta.proofs.grid.raised_of.Goals as goal
 
 pub loop-change-init : goal.loop-change-init
@@ -11,8 +11,8 @@ loop-change-init c = rw c.in_ok-raised.ensures.items (listed_none _)
 pub loop-change-preserved : goal.loop-change-preserved
 loop-change-preserved c =
     elim c.if-not-below.branch [
-      | then-not-below+in_ok-state+in_ok-join+in_ok-push w ↦
-          rw (w.raised-is, w.in_ok-push.ensures.items, w.in_ok-join.ensures.ok, w.in_ok-state.ensures.equal)
+      | then-not-below+in_ok-state+in_ok-push w ↦
+          rw (w.raised-is, w.in_ok-push.ensures.items, w.in_ok-state.ensures.ok)
           (listed-more _ _ _ _ _ c.parts-parts.ensures.delta c.loop-change-test.true c.change-item.is
           c.at-here.ensures.value _ (λ h. true≢false (sym (c.below.ensures.1 h) ∙ w.if-not-below.true))
           (walk-in_grid _ _ _ c.loop-change-test.true c.change-item.is c.parts-parts.ensures.in_grid)
