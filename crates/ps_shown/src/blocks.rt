@@ -109,7 +109,7 @@ fn reach(sums: &mut Vec<Option<Summary>>, block: usize)
     ensures capacity { vec_capacity sums.old ≤ vec_capacity sums.new }
 {
     while sums.len() <= block {
-        let _ = sums.push(None);
+        sums.push_reserved(None);
     }
 }
 

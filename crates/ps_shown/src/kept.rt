@@ -45,19 +45,6 @@ impl Kept {
     pub fn operand(&self) -> Operand
         ensures { result ≡ operand_of (value_of self.now) }
     {
-        // (a test for what most cells of a range show is cheaper than a choice among five)
-        match self {
-            Kept::Num(number) => Operand::Num(*number),
-            Kept::Empty => Operand::Empty,
-            _ => self.rarer_operand(),
-        }
-    }
-
-    /// What evaluation reads of the value, whatever it is.
-    #[inline(never)]
-    fn rarer_operand(&self) -> Operand
-        ensures { result ≡ operand_of (value_of self.now) }
-    {
         match self {
             Kept::Empty => Operand::Empty,
             Kept::Num(number) => Operand::Num(*number),

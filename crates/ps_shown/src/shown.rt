@@ -81,7 +81,7 @@ fn reach(kept: &mut Vec<Kept>, place: usize)
     ensures capacity { vec_capacity kept.old ≤ vec_capacity kept.new }
 {
     while kept.len() <= place {
-        let _ = kept.push(Kept::Empty);
+        kept.push_reserved(Kept::Empty);
     }
 }
 
