@@ -1,9 +1,11 @@
 -- The items of a rectangle, column after column.
-use Rattle.std.specs.Prelude.{ℕ, List, flat_map}
+use Rattle.std.specs.Prelude.{ℕ, List, flat_map, take}
 use Rattle.std.specs.List.{range_with_len}
 use Rattle.ps_grid.specs.Rectangle.{Area, cell_within}
 use Rattle.ps_eval.specs.Number.{Number}
 use Rattle.ps_eval.specs.Items.{Assignment, cell_items}
+use Rattle.ps_eval.specs.Summarized.{Summarizes}
+use Rattle.ps_eval.specs.declared.summary.Summary.{Summary}
 use Rattle.ps_shown.specs.declared.kept.Kept.{Kept}
 use Rattle.ps_shown.specs.Kept.{value_of}
 
@@ -18,3 +20,7 @@ column_items v a across = flat_map (λ down. cell_items (v (cell_within a across
 -- those of its first n columns
 abbrev pub items_by_columns : Assignment → Area → ℕ → List Number
 items_by_columns v a n = flat_map (column_items v a) (range_with_len 0 n)
+
+-- a summary of the first n of what is kept
+abbrev pub HasTaken : List Kept → ℕ → Summary → Type 0
+HasTaken kept n s = Summarizes (items_kept (take n kept)) s

@@ -1,9 +1,10 @@
-use Rattle.std.proofs.Common.{◌≤◌, take}
-use Rattle.ps_eval.specs.Summarized.{Summarizes}
-use Rattle.ps_shown.specs.Sums.{items_kept}
+use Rattle.std.proofs.Common.{◌≤◌, ◌-◌, length}
+use Rattle.ps_shown.specs.Sums.{HasTaken}
 use Rattle.ps_shown.proofs.run.summary_of_run.Given as goal
 
--- the summary has the items of what came so far
-abbrev pub invariant-loop-kept : goal.invariant-loop-kept
-invariant-loop-kept l =
-    Summarizes (items_kept (take l.kept-index l.run)) l.summary × (l.summary.count ≤ l.kept-index)
+-- the summary is of the cells up to the next one
+abbrev pub invariant-walk : goal.invariant-walk
+invariant-walk l = HasTaken l.run l.next l.summary × (l.next ≤ length l.run)
+
+abbrev pub decreases-walk : goal.decreases-walk
+decreases-walk l = length l.run - l.next
