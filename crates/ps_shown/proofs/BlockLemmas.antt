@@ -51,6 +51,13 @@ between_join kept p q r low high =
     (take (r - q) (drop (q - p) (drop p kept))))
     ∙ ap items_kept (sym (ap (λ n. take n (drop p kept)) parts ∙ take-add (q - p) (r - q) (drop p kept)))
 
+-- the items up to a block, and those of the block
+pub block_more : (kept : List Kept) (p b : ℕ) → p ≤ b * BLOCK
+    → items_between kept p (b * BLOCK) ++ block_items kept b ≡ items_between kept p ((b + 1) * BLOCK)
+block_more kept p b low =
+    let next : b * BLOCK + BLOCK ≡ (b + 1) * BLOCK = omega arith in
+    between_join kept p (b * BLOCK) (b * BLOCK + BLOCK) low (omega arith) ∙ ap (items_between kept p) next
+
 -- where the same is kept at each place between
 pub same_between : (kept others : List Kept) (p q : ℕ)
     → ((j : ℕ) → p ≤ j → j < q → get_or kept j Empty ≡ get_or others j Empty)

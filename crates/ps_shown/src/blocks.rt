@@ -59,6 +59,69 @@ fn take_block(summary: &mut Summary, kept: &[Kept], sums: &[Option<Summary>], bl
     }
 }
 
+/// The same of a summary by value.
+// Not inlined, so that the summary of whoever calls this lies in registers meanwhile.
+#[inline(never)]
+fn with_block(summary: Summary, kept: &[Kept], sums: &[Option<Summary>], block: usize) -> Summary
+    requires remembered { AreRemembered kept.now sums.now }
+    requires block { block * BLOCK + BLOCK ≤ PLACES }
+    requires room { numbers_taken summary < 2 ^ 50 }
+    ensures { (items : List Number)
+        → Summarizes items summary
+        → Summarizes (items ++ block_items kept.now block) result }
+{
+    let mut summary = summary;
+    take_block(&mut summary, kept, sums, block);
+    summary
+}
+
+/// What is remembered of a block, unless there is a fault.
+#[inline(always)]
+fn known_numbers(sums: &[Option<Summary>], block: usize) -> Option<&Summary>
+    requires { block < length sums.now }
+    ensures { IfSome result (λ s. slice_index_or sums.now block None ≡ Some s.now) }
+{
+    match sums[block].as_ref() {
+        Some(known) if !known.has_fault() => Some(known),
+        _ => None,
+    }
+}
+
+/// The items of the blocks from one up to another one, as far as they are remembered and there is no fault. Returns
+/// the first block that is left.
+#[inline(always)]
+fn take_known(
+    summary: &mut Summary,
+    kept: &[Kept],
+    sums: &[Option<Summary>],
+    from: usize,
+    first: usize,
+    end: usize,
+) -> usize
+    requires remembered { AreRemembered kept.now sums.now }
+    requires place { from ≤ first * BLOCK }
+    requires order { first ≤ end }
+    requires within { end * BLOCK ≤ PLACES }
+    requires taken { Summarizes (items_between kept.now from (first * BLOCK)) summary.old }
+    ensures order { first ≤ result }
+    ensures within { result ≤ end }
+    ensures taken { Summarizes (items_between kept.now from (result * BLOCK)) summary.new }
+{
+    if summary.has_fault() {
+        return first;
+    }
+    let reached = end.min(sums.len());
+    let mut next = first;
+    'known: while next < reached {
+        match known_numbers(sums, next) {
+            Some(known) => summary.join(known),
+            None => return next,
+        }
+        next += 1;
+    }
+    next
+}
+
 /// What is known of the items from one place up to another one: block by block, and what lies before the first whole
 /// block and after the last one is walked.
 // Not inlined, so that the summary lies in registers while blocks are joined.
@@ -80,8 +143,13 @@ pub(crate) fn summary_between(
         return walk(kept, from, to);
     }
     let mut summary = walk(kept, from, first * BLOCK);
-    for block in first..end {
-        take_block(&mut summary, kept, sums, block);
+    let mut block = first;
+    'whole: while block < end {
+        block = take_known(&mut summary, kept, sums, from, block, end);
+        if block < end {
+            summary = with_block(summary, kept, sums, block);
+            block += 1;
+        }
     }
     summary.join(&walk(kept, end * BLOCK, to));
     summary
