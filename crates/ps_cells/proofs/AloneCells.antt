@@ -18,7 +18,7 @@ use Rattle.ps_eval.specs.Items.{Assignment}
 use Rattle.ps_delta.specs.State.{State}
 use Rattle.ps_cells.specs.Settled.{refers_to, Cyclic, IsSettled}
 use Rattle.ps_cells.specs.Inside.Steps.{AreListed, BeginsAll}
-use Rattle.ps_cells.specs.Inside.Walk.{formula_at, AreLevels, InFrame, IsChange, IsCount, IsPassed, IsWork}
+use Rattle.ps_cells.specs.Inside.Walk.{formula_at, AreLevels, InFrame, IsStateChange, IsCount, IsPassed, IsWork}
 use Rattle.ps_cells.specs.Inside.Walk.{Begun, ListsCyclic, Walked}
 use Rattle.ps_cells.proofs.FirstValues.{begun_start}
 use Rattle.ps_cells.proofs.FoundLevels.{walked_flags, walked_settled, walked_counted, cyclic_counted}
@@ -120,7 +120,7 @@ module _ (refers : References) (formula : ℕ → Bool) (touched : List ℕ) (on
   }
 
 -- After the touched cells were looked after, nothing is left to do.
-module _ (s t : State) (v : Assignment) (touched : List ℕ) (change : IsChange s t v touched)
+module _ (s t : State) (v : Assignment) (touched : List ℕ) (change : IsStateChange s t v touched)
     (inside : (c : ℕ) → In touched c → c < CELLS) (once : IsDistinct eqb touched) (list : ℕ → List ℕ)
     (lists : AreListed (refers_to t) touched list) (alone : list_all (is_alone (formula_at t) list) touched ≡ true)
   where

@@ -11,7 +11,7 @@ use Rattle.ps_delta.specs.State.{State, IsInGrid}
 use Rattle.ps_delta.specs.Deltas.{Entries, cells_of}
 use Rattle.ps_delta.specs.Raised.{AreChanges}
 use Rattle.ps_cells.specs.Settled.{IsSettled}
-use Rattle.ps_cells.specs.Inside.Walk.{IsChange}
+use Rattle.ps_cells.specs.Inside.Walk.{IsStateChange}
 use Rattle.ps_cells.proofs.PutFormulas.{overlaid_others}
 
 inside_of : (es : Entries) → All (λ e. e.0 < CELLS) es → (c : ℕ) → In (cells_of es) c → c < CELLS
@@ -30,7 +30,7 @@ module _ (s t : State) (v : Assignment) (es : Entries) (changes : AreChanges s t
   pub same_elsewhere : (c : ℕ) → ¬ In (cells_of es) c → s c ≡ t c
   same_elsewhere c out = sym (overlaid_others s es c out) ∙ ap (λ (x : State). x c) changes.gives
 
-  pub change_of : IsChange s t v (cells_of es)
+  pub change_of : IsStateChange s t v (cells_of es)
   change_of = record {
     settled = settled;
     before = in_grid;

@@ -15,7 +15,7 @@ use Rattle.ps_grid.proofs.ChainLemmas.{In-one, In-self, In-more}
 use Rattle.ps_value.specs.declared.value.Value.{Value}
 use Rattle.ps_eval.specs.Items.{Assignment}
 use Rattle.ps_shown.specs.declared.kept.Kept.{Kept}
-use Rattle.ps_shown.specs.Kept.{value_of}
+use Rattle.ps_shown.specs.Kept.{value_of as value_kept}
 use Rattle.ps_shown.specs.Shown.{with_value}
 use Rattle.ps_cells.specs.Changes.{IsChanged, IsChanges}
 use Rattle.ps_cells.specs.Inside.Screens.{Differ, ListsDiffering, cells_in, put_back}
@@ -29,7 +29,7 @@ pub back_absent : (olds : List (ℕ × Kept)) (v : Assignment) (x : ℕ) → ¬ 
 unfolding put_back with_value
 back_absent [] v x lacks = refl
 back_absent (e ∷ olds) v x lacks =
-    ap (λ b. if b then value_of e.1 else put_back olds v x)
+    ap (λ b. if b then value_kept e.1 else put_back olds v x)
     (ne_eqb e.0 x (λ same. lacks (subst (In (cells_in (e ∷ olds))) same (In-self e.0 (cells_in olds)))))
     ∙ back_absent olds v x (λ i. lacks (In-more x e.0 (cells_in olds) i))
 
@@ -57,19 +57,19 @@ differ_none w = record {
 
 -- one more old value is looked at
 module _ (ps : List (ℕ × Kept)) (e : ℕ × Kept) (w : Assignment) (absent : ¬ In (cells_in ps) e.0) where
-  pub here : put_back (ps ++ e ∷ []) w e.0 ≡ value_of e.1
+  pub here : put_back (ps ++ e ∷ []) w e.0 ≡ value_kept e.1
   here =
       ap (λ (v : Assignment). v e.0) (back_last ps e w)
-      ∙ (back_absent ps (with_value w e.0 (value_of e.1)) e.0 absent ∙ with_value-here w e.0 (value_of e.1))
+      ∙ (back_absent ps (with_value w e.0 (value_kept e.1)) e.0 absent ∙ with_value-here w e.0 (value_kept e.1))
 
   pub there : (c : ℕ) → c ≢ e.0 → put_back (ps ++ e ∷ []) w c ≡ put_back ps w c
-  there c ne = ap (λ (v : Assignment). v c) (back_last ps e w) ∙ back_there ps w e.0 c (value_of e.1) ne
+  there c ne = ap (λ (v : Assignment). v c) (back_last ps e w) ∙ back_there ps w e.0 c (value_kept e.1) ne
 
   module _ (cells : List ℕ) (so_far : Differ w (put_back ps w) cells) where
     not_in : ¬ In cells e.0
     not_in i = (so_far.exact e.0).0 i (sym (back_absent ps w e.0 absent))
 
-    same_more : w e.0 ≡ value_of e.1 → Differ w (put_back (ps ++ e ∷ []) w) cells
+    same_more : w e.0 ≡ value_kept e.1 → Differ w (put_back (ps ++ e ∷ []) w) cells
     same_more same = record {
       once = so_far.once;
       exact = λ c. ⊎_elim
@@ -88,7 +88,7 @@ module _ (ps : List (ℕ × Kept)) (e : ℕ × Kept) (w : Assignment) (absent : 
     unfolding IsDistinct
     single = (tt, tt)
 
-    other_more : ¬ (w e.0 ≡ value_of e.1) → Differ w (put_back (ps ++ e ∷ []) w) (cells ++ e.0 ∷ [])
+    other_more : ¬ (w e.0 ≡ value_kept e.1) → Differ w (put_back (ps ++ e ∷ []) w) (cells ++ e.0 ∷ [])
     other_more differs = record {
       once = IsDistinct-joined cells (e.0 ∷ []) so_far.once single
           (λ c i j. not_in (subst (In cells) (In-one c e.0 j) i));

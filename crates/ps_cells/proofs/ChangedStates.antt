@@ -14,7 +14,7 @@ use Rattle.ps_delta.specs.declared.cell_state.CellState.{CellState}
 use Rattle.ps_content.specs.declared.content.Content.{Content}
 use Rattle.ps_cells.specs.Settled.{content_of, content_mentions, refers_to, Cyclic, value_by}
 use Rattle.ps_cells.specs.Inside.Waiting.{is_formula, is_waiting}
-use Rattle.ps_cells.specs.Inside.Walk.{formula_at, IsChange}
+use Rattle.ps_cells.specs.Inside.Walk.{formula_at, IsStateChange}
 use Rattle.ps_cells.proofs.SettledValues.{true_not_false, waiting_is, value_by-agrees, value_by-waits}
 use Rattle.ps_cells.proofs.SettledValues.{refers_formula, refers_below}
 
@@ -51,7 +51,7 @@ pub region_touched : (t : State) (touched : List ℕ) (c : ℕ) → InRegion (re
     → formula_at t c ≡ false → In touched c
 region_touched t touched c h plain = touched_along t touched c h.0 h.1 h.2 plain
 
-module _ (s t : State) (v : Assignment) (touched : List ℕ) (change : IsChange s t v touched) where
+module _ (s t : State) (v : Assignment) (touched : List ℕ) (change : IsStateChange s t v touched) where
   pub same_references : (c d : ℕ) → list_any (eqb c) touched ≡ false → refers_to s c d ≡ refers_to t c d
   same_references c d out =
       ap (λ x. content_mentions (content_of x) d)

@@ -10,7 +10,7 @@ use Rattle.ps_grid.proofs.ChainLemmas.{bool_cases, In-decided, In-self, In-more,
 use Rattle.ps_eval.specs.Items.{Assignment}
 use Rattle.ps_delta.specs.State.{State}
 use Rattle.ps_cells.specs.Settled.{refers_to, Cyclic}
-use Rattle.ps_cells.specs.Inside.Walk.{IsChange, ListsCyclic}
+use Rattle.ps_cells.specs.Inside.Walk.{IsStateChange, ListsCyclic}
 use Rattle.ps_cells.proofs.SettledValues.{true_not_false}
 use Rattle.ps_cells.proofs.ChangedStates.{same_cyclic}
 use Rattle.ps_cells.proofs.ListedCells.{absent}
@@ -90,7 +90,7 @@ not_true : (b : Bool) → not b ≡ true → b ≡ false
 not_true true h = absurd (true_not_false false h refl)
 not_true false h = refl
 
-module _ (s t : State) (v : Assignment) (touched : List ℕ) (change : IsChange s t v touched)
+module _ (s t : State) (v : Assignment) (touched : List ℕ) (change : IsStateChange s t v touched)
     (kept members found : List ℕ) (listed : ListsCyclic s kept)
     (sound : (c : ℕ) → In members c → InRegion (refers_to t) touched c)
     (complete : (c : ℕ) → InRegion (refers_to t) touched c → In members c)

@@ -13,7 +13,7 @@ use Rattle.ps_value.specs.declared.value.Value.{Value}
 use Rattle.ps_value.specs.declared.value.Value.TheVariants.{Empty}
 use Rattle.ps_eval.specs.Items.{Assignment}
 use Rattle.ps_shown.specs.declared.kept.Kept.{Kept}
-use Rattle.ps_shown.specs.Kept.{value_of}
+use Rattle.ps_shown.specs.Kept.{value_of as value_kept}
 use Rattle.ps_shown.specs.Shown.{shown_at}
 use Rattle.ps_delta.specs.State.{State}
 use Rattle.ps_cells.specs.Settled.{IsSettled}
@@ -98,7 +98,7 @@ module _ (ps : List (ℕ × Kept)) (e : ℕ × Kept) (w : Assignment) (absent : 
   longer_once on =
       IsDistinct-joined cells (e.0 ∷ []) so_far.once single
       (λ c i j. true_not_false (list_any (eqb e.0) cells) (subst (In cells) (In-one c e.0 j) i)
-      (waits_here ∙ (came (is_waiting (w e.0)) (is_waiting (value_of e.1)) on).0))
+      (waits_here ∙ (came (is_waiting (w e.0)) (is_waiting (value_kept e.1)) on).0))
 
   others : (c : ℕ) → c ≢ e.0 → list_any (eqb c) cells ≡ (is_waiting (w c) || is_waiting (put_back (ps ++ e ∷ []) w c))
   others c ne =
@@ -112,7 +112,7 @@ module _ (ps : List (ℕ × Kept)) (e : ℕ × Kept) (w : Assignment) (absent : 
         (λ (is : c ≡ e.0).
         subst (λ q. list_any (eqb q) cells ≡ (is_waiting (w q) || is_waiting (put_back (ps ++ e ∷ []) w q))) (sym is)
         (waits_here
-        ∙ (stayed (is_waiting (w e.0)) (is_waiting (value_of e.1)) off
+        ∙ (stayed (is_waiting (w e.0)) (is_waiting (value_kept e.1)) off
         ∙ ap (λ (x : Value). is_waiting (w e.0) || is_waiting x) (sym (here ps e w absent)))))
         (λ ne. others c ne)
         (cases_eq c e.0);
@@ -127,7 +127,7 @@ module _ (ps : List (ℕ × Kept)) (e : ℕ × Kept) (w : Assignment) (absent : 
         ≡ (is_waiting (w q) || is_waiting (put_back (ps ++ e ∷ []) w q))) (sym is)
         (In-end cells e.0
         ∙ sym (or_right (is_waiting (w e.0)) (is_waiting (put_back (ps ++ e ∷ []) w e.0))
-        (ap is_waiting (here ps e w absent) ∙ (came (is_waiting (w e.0)) (is_waiting (value_of e.1)) on).1))))
+        (ap is_waiting (here ps e w absent) ∙ (came (is_waiting (w e.0)) (is_waiting (value_kept e.1)) on).1))))
         (λ ne.
         list_any-append (eqb c) cells (e.0 ∷ [])
         ∙ (ap (λ b. list_any (eqb c) cells || b) (ap (λ b. b || false) (ne_eqb c e.0 ne))

@@ -8,7 +8,7 @@ use Rattle.ps_grid.proofs.DepthLemmas.{IsDepth-unique}
 use Rattle.ps_eval.specs.Items.{Assignment}
 use Rattle.ps_delta.specs.State.{State}
 use Rattle.ps_cells.specs.Settled.{refers_to, Cyclic, IsSettled}
-use Rattle.ps_cells.specs.Inside.Walk.{formula_at, InFrame, IsCount, IsWork, IsChange, Walked, AreLevels, IsPassed}
+use Rattle.ps_cells.specs.Inside.Walk.{formula_at, InFrame, IsCount, IsWork, IsStateChange, Walked, AreLevels, IsPassed}
 use Rattle.ps_cells.specs.Inside.Walk.{IsGreatestDepth}
 use Rattle.ps_cells.proofs.ListedCells.{In-place}
 use Rattle.ps_cells.proofs.WalkLevels.{levels_all}
@@ -54,7 +54,7 @@ module _ (t : State) (touched : List ℕ) (level : ℕ → List ℕ) (top : ℕ)
         (get_or (level top) 0 0, here.0, here.1);
   }
 
-module _ (s t : State) (v : Assignment) (touched : List ℕ) (change : IsChange s t v touched)
+module _ (s t : State) (v : Assignment) (touched : List ℕ) (change : IsStateChange s t v touched)
     (level : ℕ → List ℕ) (top : ℕ) (levels : AreLevels t touched level top) (u : Assignment) (flags : ℕ → Bool) (n : ℕ)
     (w : Walked t v touched (IsPassed level (top + 1) []) u flags n) (members : List ℕ)
     (sound : (c : ℕ) → In members c → InRegion (refers_to t) touched c)

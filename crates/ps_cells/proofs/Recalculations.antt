@@ -16,7 +16,8 @@ use Rattle.ps_delta.specs.State.{State}
 use Rattle.ps_cells.specs.Settled.{content_of, refers_to}
 use Rattle.ps_cells.specs.Inside.Bounded.{bounded}
 use Rattle.ps_cells.specs.Inside.Steps.{AreListed, Road, MayWalk, StepsLevels}
-use Rattle.ps_cells.specs.Inside.Walk.{formula_at, InFrame, IsChange, ListsCyclic, Begun, Walked, AreLevels, IsPassed}
+use Rattle.ps_cells.specs.Inside.Walk.{formula_at, InFrame, IsStateChange, ListsCyclic, Begun, Walked, AreLevels}
+use Rattle.ps_cells.specs.Inside.Walk.{IsPassed}
 use Rattle.ps_cells.proofs.SettledValues.{formula_below, refers_formula}
 use Rattle.ps_cells.proofs.ChangedStates.{same_cyclic, cyclic_formula}
 use Rattle.ps_cells.proofs.Bounded.{region_bounded, cyclic_bounded, found_bounded}
@@ -26,7 +27,7 @@ use Rattle.ps_cells.proofs.FirstValues.{start}
 kept : (a x y : Bool) → a ≡ true → x ≡ true → y ≡ true → (a && (x && y)) ≡ true
 kept a x y h i j = rw (h, i, j) refl
 
-module _ (s t : State) (v : Assignment) (touched : List ℕ) (change : IsChange s t v touched)
+module _ (s t : State) (v : Assignment) (touched : List ℕ) (change : IsStateChange s t v touched)
     (inside : (c : ℕ) → In touched c → c < CELLS) where
   formula : (c d : ℕ) → refers_to t c d ≡ true → formula_at t c ≡ true
   formula c d h = refers_formula (content_of (t c)) d h

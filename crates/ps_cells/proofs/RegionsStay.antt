@@ -12,7 +12,7 @@ use Rattle.ps_delta.specs.State.{State}
 use Rattle.ps_delta.specs.declared.cell_state.CellState.{CellState}
 use Rattle.ps_cells.specs.Settled.{content_of, content_mentions, refers_to}
 use Rattle.ps_cells.specs.Inside.Waiting.{is_formula}
-use Rattle.ps_cells.specs.Inside.Walk.{formula_at, IsChange, IsRegionOf}
+use Rattle.ps_cells.specs.Inside.Walk.{formula_at, IsStateChange, IsRegionOf}
 use Rattle.ps_cells.proofs.SettledValues.{true_not_false, refers_formula}
 
 -- a cell without a formula refers to none
@@ -23,7 +23,7 @@ refers_none s c d off =
     (λ none. none)
     (bool_cases (refers_to s c d))
 
-module _ (s t : State) (v : Assignment) (x : ℕ) (change : IsChange s t v (x ∷ [])) (was : formula_at s x ≡ false)
+module _ (s t : State) (v : Assignment) (x : ℕ) (change : IsStateChange s t v (x ∷ [])) (was : formula_at s x ≡ false)
     (now : formula_at t x ≡ false) where
   elsewhere : (c : ℕ) → c ≢ x → s c ≡ t c
   elsewhere c ne = change.same c (λ i. ne (In-one c x i))
@@ -51,12 +51,12 @@ module _ (s t : State) (v : Assignment) (x : ℕ) (change : IsChange s t v (x �
 
 -- the source of a region stays it where it had no formula, by what is noted of it, and has none
 pub region_stays : (s t : State) (v : Assignment) (touched : List ℕ) (source : Option ℕ) (f : Found) (x : ℕ)
-    → IsChange s t v touched → IsRegionOf s source f → source ≡ Some x → touched ≡ x ∷ [] → has_left f x ≡ false
+    → IsStateChange s t v touched → IsRegionOf s source f → source ≡ Some x → touched ≡ x ∷ [] → has_left f x ≡ false
     → formula_at t x ≡ false → IsFound (refers_to t) (formula_at t) (x ∷ []) f
 region_stays s t v touched source f x change region is alone left now =
     let found : IsFound (refers_to s) (formula_at s) (x ∷ []) f =
     subst (λ (o : Option ℕ). IsRegionOf s o f) is region in
-    found_still s t v x (subst (λ (xs : List ℕ). IsChange s t v xs) alone change)
+    found_still s t v x (subst (λ (xs : List ℕ). IsStateChange s t v xs) alone change)
     (sym (found.left_formula x (InRegion-touched (refers_to s) (x ∷ []) x (In-self x []))) ∙ left) now f found
 
 -- a region that was found is that of the one touched cell

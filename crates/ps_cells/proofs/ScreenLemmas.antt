@@ -14,7 +14,7 @@ use Rattle.ps_grid.proofs.ChainLemmas.{bool_cases, In-one, In-cases}
 use Rattle.ps_value.specs.declared.value.Value.{Value}
 use Rattle.ps_eval.specs.Items.{Assignment}
 use Rattle.ps_shown.specs.declared.kept.Kept.{Kept}
-use Rattle.ps_shown.specs.Kept.{value_of}
+use Rattle.ps_shown.specs.Kept.{value_of as value_kept}
 use Rattle.ps_shown.specs.Shown.{shown_at, with_value}
 use Rattle.ps_cells.specs.Inside.Steps.{flag_at}
 use Rattle.ps_cells.specs.Inside.Screens.{ScreenView, before_of, cells_in, put_back, IsNoted}
@@ -30,7 +30,7 @@ pub back_there : (olds : List (ℕ × Kept)) (v : Assignment) (x c : ℕ) (y : V
     → put_back olds (with_value v x y) c ≡ put_back olds v c
 unfolding put_back with_value
 back_there [] v x c y ne = with_value-there v x c y ne
-back_there (e ∷ olds) v x c y ne = ap (λ q. if eqb e.0 c then value_of e.1 else q) (back_there olds v x c y ne)
+back_there (e ∷ olds) v x c y ne = ap (λ q. if eqb e.0 c then value_kept e.1 else q) (back_there olds v x c y ne)
 
 -- and the value of a cell of the list doesn't count
 back_here : (olds : List (ℕ × Kept)) (v : Assignment) (x : ℕ) (y : Value) → In (cells_in olds) x
@@ -40,9 +40,9 @@ back_here [] v x y i = absurd (let f : false ≡ true = i in cc)
 back_here (e ∷ olds) v x y i =
     ⊎_elim
     (λ (same : x ≡ e.0).
-    ap (λ b. if b then value_of e.1 else put_back olds (with_value v x y) x) (eq-eqb e.0 x (sym same))
-    ∙ sym (ap (λ b. if b then value_of e.1 else put_back olds v x) (eq-eqb e.0 x (sym same))))
-    (λ later. ap (λ q. if eqb e.0 x then value_of e.1 else q) (back_here olds v x y later))
+    ap (λ b. if b then value_kept e.1 else put_back olds (with_value v x y) x) (eq-eqb e.0 x (sym same))
+    ∙ sym (ap (λ b. if b then value_kept e.1 else put_back olds v x) (eq-eqb e.0 x (sym same))))
+    (λ later. ap (λ q. if eqb e.0 x then value_kept e.1 else q) (back_here olds v x y later))
     (In-cases x e.0 (cells_in olds) i)
 
 -- a cell of the list is put once more
@@ -57,10 +57,10 @@ put_again olds v x y i =
 
 -- the last of the list is put back first
 pub back_last : (olds : List (ℕ × Kept)) (e : ℕ × Kept) (v : Assignment)
-    → put_back (olds ++ e ∷ []) v ≡ put_back olds (with_value v e.0 (value_of e.1))
+    → put_back (olds ++ e ∷ []) v ≡ put_back olds (with_value v e.0 (value_kept e.1))
 unfolding put_back
 back_last [] e v = refl
-back_last (d ∷ olds) e v = ap (λ w. with_value w d.0 (value_of d.1)) (back_last olds e v)
+back_last (d ∷ olds) e v = ap (λ w. with_value w d.0 (value_kept d.1)) (back_last olds e v)
 
 -- nothing is put back
 pub back_none : (olds : List (ℕ × Kept)) (v : Assignment) → length olds ≡ 0 → put_back olds v ≡ v
@@ -72,14 +72,14 @@ pub still_before : (s : ScreenView) → s.olds ≡ [] → before_of s ≡ shown_
 still_before s none = back_none s.olds (shown_at s.kept) (ap length none)
 
 -- a cell is put for the first time
-pub put_first : (olds : List (ℕ × Kept)) (v : Assignment) (x : ℕ) (y : Value) (old : Kept) → value_of old ≡ v x
+pub put_first : (olds : List (ℕ × Kept)) (v : Assignment) (x : ℕ) (y : Value) (old : Kept) → value_kept old ≡ v x
     → put_back (olds ++ (x, old) ∷ []) (with_value v x y) ≡ put_back olds v
 put_first olds v x y old was =
     back_last olds (x, old) (with_value v x y) ∙ ap (put_back olds)
     (fun_ext (λ c. ⊎_elim
-    (λ (same : c ≡ x). subst (λ q. with_value (with_value v x y) x (value_of old) q ≡ v q) (sym same)
-    (with_value-here (with_value v x y) x (value_of old) ∙ was))
-    (λ ne. with_value-there (with_value v x y) x c (value_of old) ne ∙ with_value-there v x c y ne)
+    (λ (same : c ≡ x). subst (λ q. with_value (with_value v x y) x (value_kept old) q ≡ v q) (sym same)
+    (with_value-here (with_value v x y) x (value_kept old) ∙ was))
+    (λ ne. with_value-there (with_value v x y) x c (value_kept old) ne ∙ with_value-there v x c y ne)
     (cases_eq c x)))
 
 -- nothing is kept aside

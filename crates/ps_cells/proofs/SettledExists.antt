@@ -8,7 +8,8 @@ use Rattle.ps_delta.specs.State.{State}
 use Rattle.ps_cells.specs.Settled.{content_of}
 use Rattle.ps_eval.specs.Items.{Assignment}
 use Rattle.ps_cells.specs.Settled.{refers_to, value_of, SettledAtLeastOnce}
-use Rattle.ps_cells.specs.Inside.Waiting.{is_waiting, is_formula, first_value, Progress, IsReady, IsHeld, Evaluates}
+use Rattle.ps_cells.specs.Inside.Waiting.{is_waiting, is_formula, first_value, Progress, IsReady, RefersToWaiting}
+use Rattle.ps_cells.specs.Inside.Waiting.{Evaluates}
 use Rattle.ps_grid.proofs.ChainLemmas.{bool_cases}
 use Rattle.ps_cells.proofs.SettledValues.{true_not_false, formula_below, progress_start, progress_step}
 use Rattle.ps_cells.proofs.SettledValues.{step_done, settled_at_end}
@@ -51,7 +52,7 @@ fewer_waiting v w c (suc m) lt t f same =
 
 -- among the first m cells one that c refers to waits, or none does
 find_held : (s : State) (v : Assignment) (c m : ℕ)
-    → IsHeld s v c ⊎ ((d : ℕ) → d < m → refers_to s c d ≡ true → is_waiting (v d) ≡ false)
+    → RefersToWaiting s v c ⊎ ((d : ℕ) → d < m → refers_to s c d ≡ true → is_waiting (v d) ≡ false)
 find_held s v c zero = inr (λ d lt r. absurd (omega arith))
 find_held s v c (suc m) =
     ⊎_elim (λ h. inl h)
@@ -71,8 +72,8 @@ find_held s v c (suc m) =
         (cases_eq d m)
 
 module _ (s : State) (n : ℕ) (below : (c : ℕ) → is_formula (content_of (s c)) ≡ true → c < n) where
-  held_or_ready : (v : Assignment) → Progress s v → (c : ℕ) → IsHeld s v c ⊎ IsReady s v c
-  held_or_ready v p c =
+  waits_or_ready : (v : Assignment) → Progress s v → (c : ℕ) → RefersToWaiting s v c ⊎ IsReady s v c
+  waits_or_ready v p c =
       ⊎_elim (λ h. inl h)
       (λ none. inr (λ d r. ⊎_elim
       (λ t. absurd (true_not_false (is_waiting (v d)) t (none d (below d (p.waiting d t)) r)))
@@ -83,21 +84,21 @@ module _ (s : State) (n : ℕ) (below : (c : ℕ) → is_formula (content_of (s 
   -- among the first m cells one that waits is ready, or each that waits is held
   find_ready : (v : Assignment) → Progress s v → (m : ℕ)
       → ((c : ℕ) × (is_waiting (v c) ≡ true) × IsReady s v c)
-      ⊎ ((c : ℕ) → c < m → is_waiting (v c) ≡ true → IsHeld s v c)
+      ⊎ ((c : ℕ) → c < m → is_waiting (v c) ≡ true → RefersToWaiting s v c)
   find_ready v p zero = inr (λ c lt t. absurd (omega arith))
   find_ready v p (suc m) =
       ⊎_elim (λ f. inl f)
       (λ all. ⊎_elim
-      (λ t. ⊎_elim (λ h. inr (more all (λ q. h))) (λ r. inl (m, t, r)) (held_or_ready v p m))
+      (λ t. ⊎_elim (λ h. inr (more all (λ q. h))) (λ r. inl (m, t, r)) (waits_or_ready v p m))
       (λ f. inr (more all (λ t. absurd (true_not_false (is_waiting (v m)) t f))))
       (bool_cases (is_waiting (v m))))
       (find_ready v p m)
     where
-      more : ((c : ℕ) → c < m → is_waiting (v c) ≡ true → IsHeld s v c)
-          → (is_waiting (v m) ≡ true → IsHeld s v m)
-          → (c : ℕ) → c < suc m → is_waiting (v c) ≡ true → IsHeld s v c
+      more : ((c : ℕ) → c < m → is_waiting (v c) ≡ true → RefersToWaiting s v c)
+          → (is_waiting (v m) ≡ true → RefersToWaiting s v m)
+          → (c : ℕ) → c < suc m → is_waiting (v c) ≡ true → RefersToWaiting s v c
       more all here c lt t =
-          ⊎_elim (λ is. subst (λ q. IsHeld s v q) (sym is) (here (subst (λ q. is_waiting (v q) ≡ true) is t)))
+          ⊎_elim (λ is. subst (λ q. RefersToWaiting s v q) (sym is) (here (subst (λ q. is_waiting (v q) ≡ true) is t)))
           (λ (ne : c ≢ m). all c (omega arith) t)
           (cases_eq c m)
 
@@ -113,7 +114,7 @@ module _ (s : State) (n : ℕ) (below : (c : ℕ) → is_formula (content_of (s 
   }
 
   search_on : (k : ℕ) (v : Assignment) → Progress s v → waiting_below v n < k
-      → (w : Assignment) × Progress s w × ((c : ℕ) → is_waiting (w c) ≡ true → IsHeld s w c)
+      → (w : Assignment) × Progress s w × ((c : ℕ) → is_waiting (w c) ≡ true → RefersToWaiting s w c)
   search_on zero v p less = absurd (omega arith)
   search_on (suc k) v p less =
       ⊎_elim

@@ -17,7 +17,7 @@ use Rattle.ps_eval.specs.Items.{Assignment}
 use Rattle.ps_cells.specs.Settled.{content_mentions, refers_to, Cyclic, value_by, value_of, IsSettled}
 use Rattle.ps_cells.specs.Settled.{SettledAtMostOnce}
 use Rattle.ps_cells.specs.Inside.Waiting.{is_cycle, is_waiting, is_formula, first_by, first_value, Progress, IsReady}
-use Rattle.ps_cells.specs.Inside.Waiting.{IsHeld, Evaluates}
+use Rattle.ps_cells.specs.Inside.Waiting.{RefersToWaiting, Evaluates}
 use Rattle.ps_grid.proofs.ChainLemmas.{bool_cases}
 use Rattle.ps_grid.proofs.CycleLemmas.{acyclic_above, stuck_is_cyclic, acyclic_induction}
 use Rattle.ps_eval.proofs.Agreement.{ev-agrees}
@@ -189,7 +189,7 @@ module _ (s : State) (c : ℕ) (v w : Assignment) (p : Progress s v) (here_waits
 -- END: where each cell that waits refers to one that waits, the values are settled
 
 pub settled_at_end : (s : State) (v : Assignment) → IsInGrid s → Progress s v
-    → ((c : ℕ) → is_waiting (v c) ≡ true → IsHeld s v c) → IsSettled s v
+    → ((c : ℕ) → is_waiting (v c) ≡ true → RefersToWaiting s v c) → IsSettled s v
 settled_at_end s v inside p held =
     let Waits : ℕ → Type 0 = λ c. is_waiting (v c) ≡ true in
     let cyclic : (c : ℕ) → is_waiting (v c) ≡ true → Cyclic s c =

@@ -24,7 +24,7 @@ use Rattle.ps_cells.specs.Inside.BoundedLaws.{mentions_formula}
 use Rattle.ps_cells.specs.Inside.Formulas.{firsts, forms_of, shown_firsts, with_puts}
 use Rattle.ps_cells.specs.Inside.Kept.{IsTidy, MayRecalculate, Recalculates}
 use Rattle.ps_cells.specs.Inside.Waiting.{first_value}
-use Rattle.ps_cells.specs.Inside.Walk.{IsChange, Lists}
+use Rattle.ps_cells.specs.Inside.Walk.{IsStateChange, Lists}
 use Rattle.ps_cells.proofs.Begins.{touched_inside, change_of}
 use Rattle.ps_cells.proofs.ListedFormulas.{increasing_once, listed_both}
 use Rattle.ps_cells.proofs.PutFormulas.{entries_hold, swapped}
@@ -101,7 +101,7 @@ pub may_recalculate : (s d : State) (es : Entries) (x : Tables) (touched : List 
 may_recalculate s d es x touched first in_grid settled tidy stands joins given cells shows =
     let t = state_at x.grid in
     let changes : AreChanges s t es = subst (λ (q : State). AreChanges s q es) (sym (given ∙ joins.gives)) joins in
-    let change : IsChange s t (shown_at x.shown.kept) (cells_of es) =
+    let change : IsStateChange s t (shown_at x.shown.kept) (cells_of es) =
     change_of s t (shown_at x.shown.kept) es changes in_grid settled in
     let both : (p : ℕ) → p < CELLS → Lists (refers_to (overlaid s es)) (cells_of es) p (listed x.index p) =
     listed_both s es (listed x.index)
@@ -110,7 +110,7 @@ may_recalculate s d es x touched first in_grid settled tidy stands joins given c
     (λ p q p_lt q_lt. listed_refers x.index (with_puts es (forms_of s)) stands p q p_lt q_lt) in
     record {
       before = s;
-      change = subst (λ (ts : List ℕ). IsChange s t (shown_at x.shown.kept) ts) (sym cells) change;
+      change = subst (λ (ts : List ℕ). IsStateChange s t (shown_at x.shown.kept) ts) (sym cells) change;
       tidy = tidy;
       once = subst (λ (ts : List ℕ). IsDistinct eqb ts) (sym cells) (increasing_once (cells_of es) joins.ascending);
       inside = λ c i. touched_inside s t (shown_at x.shown.kept) es changes in_grid settled c

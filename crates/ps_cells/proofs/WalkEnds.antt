@@ -8,12 +8,12 @@ use Rattle.ps_value.specs.declared.value.Fault.{Fault}
 use Rattle.ps_eval.specs.Items.{Assignment}
 use Rattle.ps_delta.specs.State.{State}
 use Rattle.ps_cells.specs.Settled.{content_of, refers_to, Cyclic, value_of, IsSettled}
-use Rattle.ps_cells.specs.Inside.Walk.{formula_at, InFrame, IsDue, IsWork, IsCount, IsChange, Walked}
+use Rattle.ps_cells.specs.Inside.Walk.{formula_at, InFrame, IsDue, IsWork, IsCount, IsStateChange, Walked}
 use Rattle.ps_cells.proofs.SettledValues.{value_by-agrees}
 use Rattle.ps_cells.proofs.ChangedStates.{plain_real, region_touched, outside_cyclic, same_cyclic, cyclic_decided}
 use Rattle.ps_cells.proofs.ListedCells.{count_same}
 
-module _ (s t : State) (v : Assignment) (touched : List ℕ) (change : IsChange s t v touched)
+module _ (s t : State) (v : Assignment) (touched : List ℕ) (change : IsStateChange s t v touched)
     (Done : ℕ → Type 0) (u : Assignment) (flags : ℕ → Bool) (n : ℕ) (w : Walked t v touched Done u flags n) where
   -- where a list has the cells of the region, a flag is set at none but its cells
   pub flag_listed : (members : List ℕ) → ((c : ℕ) → InRegion (refers_to t) touched c → In members c)

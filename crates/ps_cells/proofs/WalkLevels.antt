@@ -5,10 +5,10 @@ use Rattle.std.proofs.lemmas.Bool.{cases_eq}
 use Rattle.ps_grid.specs.Chains.{In}
 use Rattle.ps_eval.specs.Items.{Assignment}
 use Rattle.ps_delta.specs.State.{State}
-use Rattle.ps_cells.specs.Inside.Walk.{InFrame, IsChange, Walked, AreLevels, IsPassed}
+use Rattle.ps_cells.specs.Inside.Walk.{InFrame, IsStateChange, Walked, AreLevels, IsPassed}
 use Rattle.ps_cells.proofs.Walks.{weaker}
 
-module _ (s t : State) (v : Assignment) (touched : List ℕ) (change : IsChange s t v touched)
+module _ (s t : State) (v : Assignment) (touched : List ℕ) (change : IsStateChange s t v touched)
     (level : ℕ → List ℕ) (top : ℕ) (levels : AreLevels t touched level top) where
   -- BEGIN: nothing is done before the first level
   pub levels_start : (u : Assignment) (flags : ℕ → Bool) (m : ℕ) → Walked t v touched (λ c. ⊥) u flags m

@@ -9,7 +9,7 @@ use Rattle.ps_value.specs.declared.value.Fault.{Fault}
 use Rattle.ps_eval.specs.Items.{Assignment}
 use Rattle.ps_delta.specs.State.{State}
 use Rattle.ps_cells.specs.Settled.{content_of, content_mentions, refers_to, Cyclic, value_of}
-use Rattle.ps_cells.specs.Inside.Walk.{formula_at, InFrame, IsDue, IsChange, IsQuiet, Lists, Shows, Walked}
+use Rattle.ps_cells.specs.Inside.Walk.{formula_at, InFrame, IsDue, IsStateChange, IsQuiet, Lists, Shows, Walked}
 use Rattle.ps_cells.proofs.SettledValues.{true_not_false, value_by-agrees}
 use Rattle.ps_cells.proofs.ChangedStates.{value_cycle, plain_agrees, plain_real, region_touched, outside_cyclic}
 use Rattle.ps_cells.proofs.ListedCells.{count_same, count_more}
@@ -35,7 +35,7 @@ weaker t v touched Done Done2 u flags n w to from = record {
       (λ c p. (to c p.0, p.1)) (λ c p. (from c p.0, p.1));
 }
 
-module _ (s t : State) (v : Assignment) (touched : List ℕ) (change : IsChange s t v touched)
+module _ (s t : State) (v : Assignment) (touched : List ℕ) (change : IsStateChange s t v touched)
     (Done : ℕ → Type 0) (u : Assignment) (flags : ℕ → Bool) (n x : ℕ) (w : Walked t v touched Done u flags n)
     (frame : InFrame t touched x) (fresh : ¬ Done x)
     (below : (d : ℕ) → refers_to t x d ≡ true → InFrame t touched d → Done d) where

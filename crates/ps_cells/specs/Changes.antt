@@ -6,13 +6,13 @@ use Rattle.ps_grid.specs.Chains.{In}
 use Rattle.ps_value.specs.declared.value.Value.{Value}
 use Rattle.ps_eval.specs.Items.{Assignment}
 use Rattle.ps_shown.specs.declared.kept.Kept.{Kept}
-use Rattle.ps_shown.specs.Kept.{value_of}
+use Rattle.ps_shown.specs.Kept.{value_of as value_kept}
 use Rattle.ps_shown.specs.Shown.{with_value}
 
 -- the assignment with old values put back: of two of a cell the first
 unfoldable pub put_back : List (ℕ × Kept) → Assignment → Assignment
 put_back [] v = v
-put_back (e ∷ olds) v = with_value (put_back olds v) e.0 (value_of e.1)
+put_back (e ∷ olds) v = with_value (put_back olds v) e.0 (value_kept e.1)
 
 -- CHANGED: where the cells showed v and show w, exactly the cells that show another value, ascending
 pub record IsChanged (v w : Assignment) (cells : List ℕ) : Type 0 where

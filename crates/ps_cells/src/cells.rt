@@ -42,11 +42,11 @@ impl Model for Cells {
 
     ghost coded = { cells_code };
 
-    ghost use Rattle.ps_cells.specs.Inside.Held.{view_of, IsHeld};
+    ghost use Rattle.ps_cells.specs.Inside.Held.{view_of, AreCells};
 
     ghost view = { view_of };
 
-    ghost invariant = { IsHeld };
+    ghost invariant = { AreCells };
 }
 
 impl Cells {

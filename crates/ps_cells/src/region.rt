@@ -9,7 +9,7 @@ ghost use Rattle.ps_region.specs.Found.{IsFound, has_left};
 ghost use Rattle.ps_region.specs.Listed.{listed};
 ghost use Rattle.ps_cells.specs.Settled.{refers_to};
 ghost use Rattle.ps_cells.specs.Inside.Steps.{AreListed};
-ghost use Rattle.ps_cells.specs.Inside.Walk.{formula_at, IsChange, IsRegionOf, ListsCyclic};
+ghost use Rattle.ps_cells.specs.Inside.Walk.{formula_at, IsStateChange, IsRegionOf, ListsCyclic};
 
 use crate::contents::{formula_of, holds_formula};
 use ps_delta::Grid;
@@ -101,7 +101,7 @@ pub(crate) fn find_region(
     region: &mut Region,
     source: &mut Option<Cell>,
 )
-    requires change { (s : State) × (v : Assignment) × IsChange s (state_at grid.now) v touched.now
+    requires change { (s : State) × (v : Assignment) × IsStateChange s (state_at grid.now) v touched.now
         × ListsCyclic s cyclic.now × IsRegionOf s source.old region.old }
     requires inside { (c : ℕ) → In touched.now c → c < CELLS }
     requires lists { AreListed (refers_to (state_at grid.now)) touched.now (listed index.now) }

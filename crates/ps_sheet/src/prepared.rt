@@ -46,11 +46,11 @@ impl Model for Prepared {
 
     ghost coded = { prepared_code };
 
-    ghost use Rattle.ps_sheet.specs.Inside.Kept.{prepared_by, IsReady};
+    ghost use Rattle.ps_sheet.specs.Inside.Kept.{prepared_by, StagesPrepared};
 
     ghost view = { λ p. prepared_by p.staging p.staging.staged };
 
-    ghost invariant = { λ p. IsReady p.staging };
+    ghost invariant = { λ p. StagesPrepared p.staging };
 }
 
 impl Sheet {

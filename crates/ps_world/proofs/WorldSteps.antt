@@ -28,7 +28,7 @@ use Rattle.std.proofs.Math.ListN.{length-set}
 use Rattle.std.specs.Result.{IsErr}
 use Rattle.ps_world.specs.Replicas.{ReplicaView, WorldView, replica_at, has_taken, world_of, IsReplica, IsWorld}
 use Rattle.ps_world.specs.Replicas.{ShowsSettled, SameTakenShowTheSame}
-use Rattle.ps_world.specs.Inside.Steps.{IsNew, AreNew, Follows}
+use Rattle.ps_world.specs.Inside.Steps.{IsNew, AreNew, IsAfter}
 use Rattle.ps_shown.specs.Shown.{shown_at}
 use Rattle.ps_cells.specs.Settled.{IsSettled}
 use Rattle.ps_sheet.proofs.AcceptedRuns.{same_shown}
@@ -252,7 +252,7 @@ module _ (w : WorldView) (i k : ℕ) (x y : ReplicaView) (d : Entries) (world : 
 
 -- the world v follows the world w, and is one
 pub record Goes (e : Event) (w v : WorldView) : Type 0 where
-  pub follows : Follows e w v
+  pub follows : IsAfter e w v
   pub world : IsWorld v
 
 -- a delivery, one event further

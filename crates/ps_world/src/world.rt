@@ -50,7 +50,7 @@ impl Model for World {
 
 impl World {
     ghost use Rattle.ps_world.specs.World.{empty_world};
-    ghost use Rattle.ps_world.specs.Inside.Steps.{Follows};
+    ghost use Rattle.ps_world.specs.Inside.Steps.{IsAfter};
 
     /// Empty sheets of as many replicas, and no deltas.
     fn open(alloc: Global, replicas: u8) -> Result<World, Refusal>
@@ -78,7 +78,7 @@ impl World {
         event: Event,
         meter: &mut Meter<L>,
     ) -> Result<World, Refusal>
-        ensures follows { IfOk result (Follows event self) }
+        ensures follows { IfOk result (IsAfter event self) }
         ensures memory { IfErr result (λ e. e ≡ Refusal.Memory) }
     {
         match event {
@@ -97,7 +97,7 @@ impl World {
         edit: Edit,
         meter: &mut Meter<L>,
     ) -> Result<World, Refusal>
-        ensures follows { IfOk result (Follows (Event.Edit replica edit) self) }
+        ensures follows { IfOk result (IsAfter (Event.Edit replica edit) self) }
         ensures memory { IfErr result (λ e. e ≡ Refusal.Memory) }
     {
         let Some(place) = place_of(usize::from(replica), self.replicas.len()) else {
@@ -120,7 +120,7 @@ impl World {
 
     /// Adds the delta of an untrusted peer.
     fn add(self, delta: Arc<Delta>) -> Result<World, Refusal>
-        ensures follows { IfOk result (Follows (Event.Foreign delta) self) }
+        ensures follows { IfOk result (IsAfter (Event.Foreign delta) self) }
         ensures memory { IfErr result (λ e. e ≡ Refusal.Memory) }
     {
         let World {
@@ -140,7 +140,7 @@ impl World {
         number: usize,
         meter: &mut Meter<L>,
     ) -> Result<World, Refusal>
-        ensures follows { IfOk result (Follows (Event.Deliver replica number) self) }
+        ensures follows { IfOk result (IsAfter (Event.Deliver replica number) self) }
         ensures memory { IfErr result (λ e. e ≡ Refusal.Memory) }
     {
         let Some(place) = place_of(usize::from(replica), self.replicas.len()) else {

@@ -24,9 +24,9 @@ view_of x = record {
 }
 
 -- between two changes the tables are whole; a staged change can be taken back
-abbrev pub IsHeldBy : Tables → Option Entries → Type 0
-IsHeldBy t None = IsWhole t
-IsHeldBy t (Some olds) = IsPending (overlaid (state_at t.grid) olds) t olds
+abbrev pub AreCellsBy : Tables → Option Entries → Type 0
+AreCellsBy t None = IsWhole t
+AreCellsBy t (Some olds) = IsPending (overlaid (state_at t.grid) olds) t olds
 
-abbrev pub IsHeld : Inside → Type 0
-IsHeld x = IsHeldBy x.tables (staged_of x)
+abbrev pub AreCells : Inside → Type 0
+AreCells x = AreCellsBy x.tables (staged_of x)

@@ -14,7 +14,7 @@ use Rattle.ps_cells.specs.Settled.{refers_to, Cyclic, IsSettled}
 use Rattle.ps_cells.specs.Inside.Formulas.{forms_of}
 use Rattle.ps_cells.specs.Inside.Waiting.{first_value}
 use Rattle.ps_cells.specs.Inside.Steps.{AreListed, flag_at, HasRoom}
-use Rattle.ps_cells.specs.Inside.Walk.{IsChange, IsCount, IsRegionOf, IsWork, InFrame, ListsCyclic, formula_at}
+use Rattle.ps_cells.specs.Inside.Walk.{IsStateChange, IsCount, IsRegionOf, IsWork, InFrame, ListsCyclic, formula_at}
 use Rattle.ps_cells.specs.declared.tables.Tables.{Tables}
 
 -- the cyclic cells are listed, with room for all cells of the grid, no cell is flagged, there are workers, and the
@@ -39,7 +39,7 @@ pub record IsWhole (x : Tables) : Type 0 where
 -- WITHIN A CHANGE: the touched cells hold what they are to hold, and nothing else is done
 pub record MayRecalculate (x : Tables) (touched : List ℕ) (first : List (ℕ × Kept)) : Type 0 where
   pub before : State
-  pub change : IsChange before (state_at x.grid) (shown_at x.shown.kept) touched
+  pub change : IsStateChange before (state_at x.grid) (shown_at x.shown.kept) touched
   pub tidy : IsTidy before x
   pub once : IsDistinct nat_eq touched
   pub inside : (c : ℕ) → In touched c → c < CELLS

@@ -7,7 +7,7 @@ use Rattle.ps_grid.specs.declared.size.TheConstants.{CELLS}
 use Rattle.ps_value.specs.declared.value.Value.{Value}
 use Rattle.ps_eval.specs.Items.{Assignment}
 use Rattle.ps_shown.specs.declared.kept.Kept.{Kept}
-use Rattle.ps_shown.specs.Kept.{value_of}
+use Rattle.ps_shown.specs.Kept.{value_of as value_kept}
 use Rattle.ps_shown.specs.Shown.{shown_at}
 unfoldable pub use Rattle.ps_cells.specs.Changes.{put_back}
 use Rattle.ps_cells.specs.Inside.Steps.{flag_at}
@@ -44,7 +44,7 @@ pub record Differ (w v : Assignment) (cells : List ℕ) : Type 0 where
 -- ONE CELL is listed, where the cells show w, if that is another value than the one that was kept of it
 abbrev pub ListsDiffering : ℕ × Kept → Assignment → List ℕ → List ℕ → Type 0
 ListsDiffering e w cells cells2 =
-    ((w e.0 ≡ value_of e.1) × (cells2 ≡ cells)) ⊎ ((¬ (w e.0 ≡ value_of e.1)) × (cells2 ≡ cells ++ e.0 ∷ []))
+    ((w e.0 ≡ value_kept e.1) × (cells2 ≡ cells)) ⊎ ((¬ (w e.0 ≡ value_kept e.1)) × (cells2 ≡ cells ++ e.0 ∷ []))
 
 -- exactly the cells that show #CYCLE! by one of two assignments, each once
 pub record ShowCycle (w v : Assignment) (cells : List ℕ) : Type 0 where
@@ -53,7 +53,7 @@ pub record ShowCycle (w v : Assignment) (cells : List ℕ) : Type 0 where
 
 -- #CYCLE! was kept of the cell, and it shows another value where the cells show w
 abbrev pub was_cyclic : ℕ × Kept → Assignment → Bool
-was_cyclic e w = is_waiting (value_of e.1) && not (is_waiting (w e.0))
+was_cyclic e w = is_waiting (value_kept e.1) && not (is_waiting (w e.0))
 
 -- ONE CELL is put into the list if it was cyclic
 abbrev pub AddsCyclic : ℕ × Kept → Assignment → List ℕ → List ℕ → Type 0

@@ -9,7 +9,7 @@ use Rattle.ps_eval.specs.Items.{Assignment}
 use Rattle.ps_delta.specs.State.{State}
 use Rattle.ps_cells.specs.Settled.{refers_to, value_of, Cyclic}
 use Rattle.ps_cells.specs.declared.level.Level.{Level}
-use Rattle.ps_cells.specs.Inside.Walk.{formula_at, IsChange, Lists, Shows, Begun, Walked, AreLevels, IsPassed}
+use Rattle.ps_cells.specs.Inside.Walk.{formula_at, IsStateChange, Lists, Shows, Begun, Walked, AreLevels, IsPassed}
 
 -- whether a cell is flagged
 abbrev pub flag_at : List Bool → ℕ → Bool
@@ -43,7 +43,7 @@ ClosesAll cells u u2 =
 pub record Road (t : State) (listed : ℕ → List ℕ) (v : Assignment) (touched : List ℕ) (level : ℕ → List ℕ) (top : ℕ)
     : Type 0 where
   pub before : State
-  pub change : IsChange before t v touched
+  pub change : IsStateChange before t v touched
   pub lists : AreListed (refers_to t) touched listed
   pub levels : AreLevels t touched level top
 

@@ -54,8 +54,8 @@ abbrev pub IsReady : State → Assignment → ℕ → Type 0
 IsReady s v c = (d : ℕ) → refers_to s c d ≡ true → is_waiting (v d) ≡ false
 
 -- the cell c refers to a cell that waits
-abbrev pub IsHeld : State → Assignment → ℕ → Type 0
-IsHeld s v c = (d : ℕ) × (refers_to s c d ≡ true) × (is_waiting (v d) ≡ true)
+abbrev pub RefersToWaiting : State → Assignment → ℕ → Type 0
+RefersToWaiting s v c = (d : ℕ) × (refers_to s c d ≡ true) × (is_waiting (v d) ≡ true)
 
 -- the cell c got its value, and no other cell changed
 pub record Evaluates (s : State) (c : ℕ) (v w : Assignment) : Type 0 where

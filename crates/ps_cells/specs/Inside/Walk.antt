@@ -17,7 +17,7 @@ abbrev pub IsQuiet : State → List ℕ → Assignment → Assignment → ℕ �
 IsQuiet t touched v u c = ¬ In touched c × ((d : ℕ) → refers_to t c d ≡ true → u d ≡ v d)
 
 -- a change from the state s to the state t, where s shows v: just the touched cells differ
-pub record IsChange (s t : State) (v : Assignment) (touched : List ℕ) : Type 0 where
+pub record IsStateChange (s t : State) (v : Assignment) (touched : List ℕ) : Type 0 where
   pub settled : IsSettled s v
   pub before : IsInGrid s
   pub after : IsInGrid t

@@ -63,8 +63,9 @@ prepared_by x None = prepared_of x (record {
 })
 prepared_by x (Some p) = prepared_of x p
 
-abbrev pub IsReady : StagingView → Type 0
-IsReady x = IsSomeAnd x.staged (λ p. IsPrepared (prepared_of x p))
+-- a change is staged, and what is true of each prepared change is true of it
+abbrev pub StagesPrepared : StagingView → Type 0
+StagesPrepared x = IsSomeAnd x.staged (λ p. IsPrepared (prepared_of x p))
 
 -- the prepared change q is the change p, whichever values were listed
 pub record Prepares (p q : PreparedView) : Type 0 where

@@ -7,7 +7,7 @@ use Rattle.ps_world.specs.World.{after}
 use Rattle.ps_world.specs.declared.event.Event.{Event}
 
 -- the world v is the world w after the event
-pub record Follows (e : Event) (w v : WorldView) : Type 0 where
+pub record IsAfter (e : Event) (w v : WorldView) : Type 0 where
   pub replicas : length v.replicas ≡ length w.replicas
   pub state : world_of v ≡ after (length w.replicas) (world_of w) e
 

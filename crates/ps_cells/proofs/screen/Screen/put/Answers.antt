@@ -1,6 +1,6 @@
 use Rattle.std.proofs.Common.{◌∙◌, Bool, List, sym, ap, subst, arith}
 use Rattle.std.proofs.lemmas.List.{with_items_is}
-use Rattle.ps_shown.specs.Kept.{value_of}
+use Rattle.ps_shown.specs.Kept.{value_of as value_kept}
 use Rattle.ps_shown.specs.Shown.{shown_at}
 use Rattle.ps_cells.specs.Inside.Screens.{put_back, before_of, IsNoted}
 use Rattle.ps_cells.proofs.screen.Screen.put.Goals as goal
@@ -28,5 +28,5 @@ invariant_of-self c =
 pub returns-clause-before : goal.returns-clause-before
 returns-clause-before c =
     ap (put_back c.note.new.olds.items) c.put-old.ensures.shown
-    ∙ (c.note.ensures.back (shown_at c.self.inside.shown) (value_of c.args.kept) c.put-old.ensures.old
+    ∙ (c.note.ensures.back (shown_at c.self.inside.shown) (value_kept c.args.kept) c.put-old.ensures.old
     ∙ ap before_of c.self.view_is)
