@@ -70,11 +70,11 @@ pub(crate) struct Level {
 
 /// What the cells show, as a formula looks at them.
 #[derive(Drop)]
-struct Looks<'a> {
+struct ScreenLook<'a> {
     shown: &'a Screen,
 }
 
-impl Look for Looks<'_> {
+impl Look for ScreenLook<'_> {
     ghost use Rattle.ps_shown.specs.Shown.{shown_at};
 
     ghost value_at = { λ s. shown_at s.shown.now.kept };
@@ -94,11 +94,11 @@ impl Look for Looks<'_> {
 
 /// The formulas that the cells hold.
 #[derive(Drop)]
-struct Held<'a> {
+struct GridFormulas<'a> {
     grid: &'a Grid,
 }
 
-impl Formulas for Held<'_> {
+impl Formulas for GridFormulas<'_> {
     ghost use Rattle.ps_content.specs.Order.{formula_in};
     ghost use Rattle.ps_delta.specs.State.{state_at};
     ghost use Rattle.ps_cells.specs.Settled.{content_of};
@@ -226,14 +226,14 @@ fn evaluate<R: Threads + Sync, G: Gate, L: Ledger>(
     ensures values { kept_values values.new ≡ values_at (state_at grid.now) (shown_at shown.now.kept) cells.now }
     ensures metered { meter.new ≡ meter.old + length cells.now }
 {
-    // It says that the workers may look at the grid together.
+    // for the fact that the workers may look at the grid together
     grids_are_shared();
     let worth = workers_worth(cells.len(), workers.count);
     eval_level(
         workers.rt,
         cells,
-        &Held { grid },
-        &Looks { shown },
+        &GridFormulas { grid },
+        &ScreenLook { shown },
         values,
         worth,
         workers.gate,

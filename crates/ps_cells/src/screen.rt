@@ -368,5 +368,6 @@ fn put_one(old: (Cell, Kept), is_put: &mut [bool], shown: &mut Shown)
 {
     let (cell, kept) = old;
     is_put[cell.index()] = false;
+    // what it showed meanwhile is forgotten
     let _ = shown.put(cell, kept);
 }

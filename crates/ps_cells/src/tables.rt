@@ -334,6 +334,7 @@ fn renew(region: &Region, met: bool, cyclic: &mut Vec<Cell>)
     ensures room { vec_capacity cyclic.old ≤ vec_capacity cyclic.new }
 {
     leave_outside(region, met, cyclic);
+    // never refused, since there is room for these
     let _ = cyclic.extend_from_slice(region.cyclic());
 }
 

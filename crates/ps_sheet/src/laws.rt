@@ -70,7 +70,7 @@ pub fn same_join_shows_the_same(a: &Sheet, b: &Sheet)
     requires { joined_history a.now.history ≡ joined_history b.now.history }
     ensures { shown_at a.now.shown ≡ shown_at b.now.shown }
 {
-    // Each call brings the fact `IsSheet` of its sheet.
+    // for the fact that each is a sheet (`IsSheet`)
     let _ = a.version();
     let _ = b.version();
 }

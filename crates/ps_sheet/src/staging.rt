@@ -103,7 +103,7 @@ impl Staging {
         ensures sheet { IsSheet sheet }
     {
         let Sheet { staging } = sheet;
-        // for the facts of each sheet
+        // for the fact that it is a sheet (`IsSheet`)
         let _ = staging.version();
         staging
     }
@@ -116,7 +116,7 @@ impl Staging {
         ensures same { result ≡ sheet_of self }
         ensures sheet { IsSheet result }
     {
-        // for the facts of each sheet
+        // for the fact that it is a sheet (`IsSheet`)
         let _ = self.version();
         Sheet { staging: self }
     }
