@@ -28,8 +28,8 @@ use std::thread::Threads;
 /// A change of a sheet that is worked out, and not yet made. It has the sheet, and is ended by [`Prepared::commit`] or
 /// [`Prepared::cancel`].
 ///
-/// It is part of the public interface, for who has a sheet of their own and gives it away meanwhile. A sheet that many
-/// share, under a lock, is changed in place, by `Staging`.
+/// It is part of the public interface, for whoever wants to see a change before it is made, and can give the sheet away
+/// meanwhile. The program has none: it edits, receives, and stages in place, by a `Staging`.
 ///
 /// A contract sees it as its `PreparedView`.
 pub struct Prepared {
@@ -58,6 +58,9 @@ impl Sheet {
     /// as one that isn't fresh. The formulas are evaluated and counted here, whether the change is then made or given
     /// up.
     ///
+    /// Nothing in the program calls it: that edits and receives, and stages in place. It is part of the public
+    /// interface, for whoever wants to see a change before it is made.
+    ///
     /// Refused as [`Sheet::edit`] or [`Sheet::receive`] would be, and then the sheet comes back as it was.
     ///
     /// Cost: that of [`Sheet::edit`] or [`Sheet::receive`], and of sorting the cells that show another value.
@@ -84,7 +87,8 @@ impl Sheet {
         self.prepare_by(rt, &Open, alloc, change, meter)
     }
 
-    /// The same, with a gate that each worker passes before each of its evaluations.
+    /// The same, with a gate that each worker passes before each of its evaluations. It is part of the public interface
+    /// as [`Sheet::prepare`] is.
     ///
     /// Cost: that of [`Sheet::prepare`], and of the gate.
     pub fn prepare_by<R: Threads + Sync, G: Gate, L: Ledger>(

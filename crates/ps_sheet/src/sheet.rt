@@ -30,7 +30,7 @@ use std::sync::Arc;
 use std::sync::ledger::Ledger;
 use std::thread::Threads;
 
-/// What an accepted change did.
+/// What an accepted change did: what the history came to, and the work that it was (`ps_cells::Work`).
 #[derive(Clone, Copy, Debug, PartialEq, Eq)]
 pub struct Report {
     /// The length of the history.
@@ -204,7 +204,7 @@ impl Sheet {
         ensures kept { OnErr result (self.new ≡ self.old) }
         ensures unmetered { OnErr result (meter.new ≡ meter.old) }
     {
-        // for the facts of each sheet
+        // for the fact that it is a sheet (`IsSheet`)
         let _ = self.staging.version();
         self.staging.stage(rt, &Open, alloc, change, meter)?;
         Ok(self.staging.commit())

@@ -6,7 +6,8 @@
 //! replica took, and replicas that took the same deltas show the same.
 //!
 //! It is no network: it sends no bytes, loses nothing and starts no thread but those of its sheets. It knows a sheet by
-//! its contract alone.
+//! its contract alone. The program doesn't use it, tests do: it is part of the public interface, as the model in which
+//! the headline promise is told for any number of edits and deliveries, in any order.
 //!
 //! The contract to use is that of [`play`], the headline for whole runs. That each sheet joins to what its replica
 //! took, `IsWorld`, is a fact of every `World`, and [`World::sheet`] and [`World::taken`] bring it.

@@ -159,7 +159,8 @@ impl World {
         Ok(World { deltas, replicas })
     }
 
-    /// The sheet of a replica, counted from 1.
+    /// The sheet of a replica, counted from 1; none where there is no such replica. Nothing in the program calls it: it
+    /// is part of the public interface, as [`play`] is.
     ///
     /// Cost: constant.
     pub fn sheet(&self, replica: u8) -> Option<&Sheet>
@@ -169,7 +170,8 @@ impl World {
         Some(self.replica(replica)?.sheet())
     }
 
-    /// The numbers of the deltas that a replica took, counted from 1.
+    /// The numbers of the deltas that a replica took, counted from 1; none where there is no such replica. Nothing in
+    /// the program calls it: it is part of the public interface, as [`play`] is.
     ///
     /// Cost: constant.
     pub fn taken(&self, replica: u8) -> Option<&BTreeSet<usize>>
@@ -214,6 +216,9 @@ fn numbered(replicas: &[Replica], replica: u8) -> Option<&Replica>
 /// took exactly the numbers, of `played`, a definition that knows no sheet. Each sheet shows the settled values of the
 /// join of the deltas that its replica took (`settled`), and replicas that took the same deltas show the same (`same`).
 ///
+/// Nothing in the program calls it. It is part of the public interface: the model in which the headline is told, and
+/// tests run it.
+///
 /// An event that names an unknown replica or an unknown delta changes nothing, and neither does an edit that is refused
 /// for another cause than memory.
 ///
@@ -239,7 +244,7 @@ pub fn play<R: Threads + Sync, L: Ledger>(
     for event in events {
         world = world.after(rt, alloc, event, meter)?;
     }
-    // Brings the fact `IsWorld`: a type's invariant is known where one of its fields is looked at.
+    // for the fact that it is a world (`IsWorld`)
     let _ = &world.deltas;
     Ok(world)
 }
