@@ -2,6 +2,7 @@
 use Rattle.std.proofs.Common.{◌≡◌, ◌++◌, ◌∷◌, [], ℕ, ◌+◌, ◌<◌, ◌≤◌, Bool, true, false, Option, Some, None, List, map}
 use Rattle.std.proofs.Common.{is_some, refl, sym, ap, ◌∙◌, subst, length}
 use Rattle.std.proofs.Common.{Result, Ok, Err}
+use Rattle.std.proofs.lemmas.List.{map-append}
 use Rattle.std.specs.Prelude.{IsSomeAnd, IfOk, OnOk, if◌then◌else◌, vec_len, vec_capacity}
 use Rattle.ps_grid.specs.declared.refusal.Refusal.{Refusal}
 use Rattle.std.specs.Arc.{arc_value}
@@ -89,10 +90,13 @@ kept_state x s is kept = subst (IsStagedBy (view_of x) x.cells) (ap (staged_of x
 
 -- the sheet after the change was made
 module _ (x y : Inside) (s : Staged) (is : x.staged ≡ Some s) (fresh : true ≡ is_some x.cells.staged) (kept : IsKept x)
-    (replica : y.replica ≡ x.replica) (pushed : history_of y ≡ history_of x ++ arc_value s.delta ∷ [])
+    (replica : y.replica ≡ x.replica) (pushed : y.history.items ≡ x.history.items ++ s.delta ∷ [])
     (grid : y.cells.grid ≡ x.cells.grid) (shown : y.cells.shown ≡ x.cells.shown) where
   after_push : history_of y ≡ history_after (change_of x s)
-  after_push = pushed ∙ ap (λ (b : Bool). if b then (history_of x ++ arc_value s.delta ∷ []) else history_of x) fresh
+  after_push =
+      ap (map arc_value) pushed
+      ∙ map-append arc_value x.history.items (s.delta ∷ [])
+      ∙ ap (λ (b : Bool). if b then (history_of x ++ arc_value s.delta ∷ []) else history_of x) fresh
 
   committed_state : state_now y.cells ≡ joined_history (history_of y)
   committed_state = ap state_at grid ∙ (kept_state x s is kept ∙ ap joined_history (sym after_push))

@@ -1,8 +1,7 @@
 //! A sheet in which at most one change is staged.
 
-ghost use Rattle.std.specs.Prelude.{◌≡◌, ◌+◌, ◌<◌, ◌≤◌, ◌⊎◌, ◌↔◌, ◌∷◌, ◌++◌, [], ℕ, true, false, is_some, length, map};
+ghost use Rattle.std.specs.Prelude.{◌≡◌, ◌+◌, ◌≤◌, ◌⊎◌, ◌↔◌, [], ℕ, true, false, is_some, length, map};
 ghost use Rattle.std.specs.Prelude.{None, Ok, Err, IfOk, IfErr, IsErrOf, IsOk, IsSomeAnd, IsTrue, OnOk, OnErr};
-ghost use Rattle.std.specs.Prelude.{vec_len, vec_capacity};
 ghost use Rattle.std.specs.Arc.{arc_value};
 ghost use Rattle.std.specs.Option.{option_copied, option_map};
 ghost use Rattle.ps_grid.specs.declared.parties.TheConstants.{WORKERS};
@@ -317,7 +316,7 @@ impl Staging {
         let Staged { delta, report } = staged;
         if self.cells.is_staged() {
             self.cells.commit();
-            put(&mut self.history, delta);
+            self.history.push_reserved(delta);
         }
         report
     }
@@ -459,13 +458,4 @@ impl Staging {
     {
         self.replica
     }
-}
-
-/// Appends a delta to a history that has room for it.
-#[inline(always)]
-fn put(history: &mut Vec<Arc<Delta>>, delta: Arc<Delta>)
-    requires { vec_len history.old < vec_capacity history.old }
-    ensures { map arc_value history.new.items ≡ map arc_value history.old.items ++ arc_value delta ∷ [] }
-{
-    let _ = history.push(delta);
 }

@@ -9,31 +9,32 @@ invariant_of-self c =
     kept_committed c.self.inside
     (record {
       replica = c.self.inside.replica;
-      history = c.put.new.history;
+      history = c.push_reserved.new.self;
       cells = c.commit.new.self;
       staged = c.replace.new.dest;
     })
     c.in-Some.staged (sym c.replace.ensures.value ∙ c.in-Some.is) c.if-is_staged.ensures.staged c.self.invariant refl
-    c.put.ensures c.commit.ensures.kept.0 c.commit.ensures.kept.1 c.replace.ensures.after c.commit.ensures.none
+    c.push_reserved.ensures.items c.commit.ensures.kept.0 c.commit.ensures.kept.1 c.replace.ensures.after
+    c.commit.ensures.none
 
 pub returns-then-is_staged-clause-sheet : goal.returns-then-is_staged-clause-sheet
 returns-then-is_staged-clause-sheet c =
     committed_sheet c.self.inside
     (record {
       replica = c.self.inside.replica;
-      history = c.put.new.history;
+      history = c.push_reserved.new.self;
       cells = c.commit.new.self;
       staged = c.replace.new.dest;
     })
     c.in-Some.staged (sym c.replace.ensures.value ∙ c.in-Some.is) c.if-is_staged.ensures.staged c.self.invariant refl
-    c.put.ensures c.commit.ensures.kept.0 c.commit.ensures.kept.1
+    c.push_reserved.ensures.items c.commit.ensures.kept.0 c.commit.ensures.kept.1
 
 pub returns-then-is_staged-clause-idle : goal.returns-then-is_staged-clause-idle
 returns-then-is_staged-clause-idle c =
     committed_idle c.self.inside c.args.self.now
     (sheet_of (view_of (record {
       replica = c.self.inside.replica;
-      history = c.put.new.history;
+      history = c.push_reserved.new.self;
       cells = c.commit.new.self;
       staged = c.replace.new.dest;
     })))
