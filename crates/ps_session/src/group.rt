@@ -67,7 +67,7 @@ fn line_alone(alloc: Global, delta: &Arc<Delta>) -> Result<Vec<u8>, Refusal>
     ensures none { result ≡ Err Refusal.TooLong → HasNone (arc_value delta.now ∷ []) 1 }
     ensures refused { IfErr result (λ e. (e ≡ Refusal.TooLong) ⊎ (e ≡ Refusal.Memory)) }
 {
-    // the call brings that the parts are a delta
+    // for the fact that the parts are a delta
     let _ = delta.parts();
     joint_line(alloc, delta)
 }
@@ -122,7 +122,7 @@ fn whole_line(
     ensures memory { IfErr result (λ e. e ≡ Refusal.Memory) }
 {
     let joint = Delta::joined(alloc, &deltas[..count])?;
-    // the call brings that the parts are a delta
+    // for the fact that the parts are a delta
     let _ = joint.parts();
     let Some(line) = short_line(alloc, &joint)? else {
         return Ok(None);
@@ -179,7 +179,7 @@ fn next_joint(
     let count = joints.len();
     let delta = &deltas[count];
     if count == 0 {
-        // the call brings that the parts are a delta
+        // for the fact that the parts are a delta
         let _ = delta.parts();
         return Ok(delta.clone()?);
     }
@@ -195,7 +195,7 @@ fn joined_pair(alloc: Global, joint: &Arc<Delta>, delta: &Arc<Delta>) -> Result<
 {
     let pair = [joint.clone()?, delta.clone()?];
     let joined = Delta::joined(alloc, &pair)?;
-    // the call brings that the parts are a delta
+    // for the fact that the parts are a delta
     let _ = joined.parts();
     Ok(Arc::new(alloc, joined)?)
 }

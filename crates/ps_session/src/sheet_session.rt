@@ -59,7 +59,7 @@ pub fn run_watched<R: Threads + Sync, S: Source, K: Sink, L: Ledger, W: Watcher>
     ensures source_failed { result ≡ Err RunFault.Source → S.failures source.old < S.failures source.new }
 {
     let answered = talk_watched(rt, alloc, source, sink, sheet, meter, watcher);
-    // The call brings that the sheet is one still (`IsSheet`).
+    // for the fact that the sheet is one still (`IsSheet`)
     let _ = sheet.version();
     answered
 }
@@ -176,7 +176,7 @@ pub fn run_kept<
     ensures source_failed { result ≡ Err RunFault.Source → S.failures source.old < S.failures source.new }
 {
     let answered = talk_kept(resources, source, sink, sheet, meter, watcher, keeper);
-    // The call brings that the sheet is one still (`IsSheet`).
+    // for the fact that the sheet is one still (`IsSheet`)
     let _ = sheet.version();
     answered
 }
