@@ -114,7 +114,7 @@ impl<L: DeskName> Pass<L> {
     /// gone.
     ///
     /// All are settled values of the one history that a legal published list stands for, and the list begins with all
-    /// that this pass had seen or appended.
+    /// that this pass had seen or appended. It is part of the public interface, for who wants all values at once.
     ///
     /// Cost: the cells of the grid; no lock, no wait and no memory.
     pub fn read_all(&mut self, values: &mut [Value]) -> Option<u64>
