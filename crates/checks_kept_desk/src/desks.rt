@@ -4,7 +4,7 @@ ghost use Rattle.std.specs.Prelude.{◌≡◌, [], false, IfOk};
 ghost use Rattle.ps_grid.specs.Blanks.{IsBlankOf};
 ghost use Rattle.ps_keep.specs.Journals.{IsJournal};
 ghost use Rattle.ps_keep.specs.Lines.{whole_lines};
-ghost use Rattle.ps_kept.specs.Kept.{Tells};
+ghost use Rattle.ps_kept.specs.Kept.{TellHistory};
 
 use ps_content::Content;
 use ps_desk::{DeskName, Seat};
@@ -29,7 +29,7 @@ fn copied(alloc: Global, bytes: &[u8]) -> Result<Vec<u8>, AllocError>
 
 /// What a file has that keeps an empty sheet of replica 1.
 pub(crate) fn empty_file(rt: &impl Abort, alloc: Global) -> Vec<u8>
-    ensures { Tells 1 (whole_lines result.items) [] }
+    ensures { TellHistory 1 (whole_lines result.items) [] }
 {
     match copied(alloc, b"replica 1\n") {
         Ok(bytes) => bytes,
@@ -39,8 +39,8 @@ pub(crate) fn empty_file(rt: &impl Abort, alloc: Global) -> Vec<u8>
 
 /// The journal of such a file.
 fn journal_of<F: Found + Drop>(rt: &impl Abort, alloc: Global, found: F) -> Journal<F::Device>
-    requires told { Tells 1 (whole_lines (F.bytes found)) [] }
-    ensures told { Tells 1 result.lines [] }
+    requires told { TellHistory 1 (whole_lines (F.bytes found)) [] }
+    ensures told { TellHistory 1 result.lines [] }
     ensures kept { result.kept ≡ result.lines }
     ensures open { result.has_failed ≡ false }
     ensures journal { IsJournal result }
@@ -54,10 +54,10 @@ pub(crate) fn begin<F: Found + Drop>(
     alloc: Global,
     found: F,
 ) -> (Sheet, Journal<F::Device>)
-    requires told { Tells 1 (whole_lines (F.bytes found)) [] }
+    requires told { TellHistory 1 (whole_lines (F.bytes found)) [] }
     ensures replica { result.0.replica ≡ 1 }
     ensures history { result.0.history ≡ [] }
-    ensures told { Tells 1 result.1.lines [] }
+    ensures told { TellHistory 1 result.1.lines [] }
     ensures kept { result.1.kept ≡ result.1.lines }
     ensures open { result.1.has_failed ≡ false }
     ensures journal { IsJournal result.1 }

@@ -3,7 +3,7 @@
 ghost use Rattle.std.specs.Prelude.{◌≡◌, [], false};
 ghost use Rattle.ps_desk.specs.Opening.{IsNamed};
 ghost use Rattle.ps_keep.specs.Journals.{IsJournal};
-ghost use Rattle.ps_kept.specs.Kept.{Tells};
+ghost use Rattle.ps_kept.specs.Kept.{TellHistory};
 
 use crate::desks::{begin, count_lines, empty_file, line_at};
 use crate::sessions::{Job, close, sessions};
@@ -31,7 +31,7 @@ fn race<L: DeskName + Send + Sync, T: Abort + Threads + Wait + Sync>(
     journal: Journal<MemoryDevice>,
 ) -> (Ended<MemoryDevice>, Vec<(u64, u64, u16)>)
     requires named { IsNamed L.name L.parts L.book L.opening L.replica parts }
-    requires told { Tells L.replica journal.lines L.opening }
+    requires told { TellHistory L.replica journal.lines L.opening }
     requires kept { journal.kept ≡ journal.lines }
     requires open { journal.has_failed ≡ false }
     requires journal { IsJournal journal }

@@ -3,7 +3,7 @@
 ghost use Rattle.std.specs.Prelude.{◌≡◌, [], false};
 ghost use Rattle.ps_desk.specs.Opening.{IsNamed};
 ghost use Rattle.ps_keep.specs.Journals.{IsJournal};
-ghost use Rattle.ps_kept.specs.Kept.{Tells};
+ghost use Rattle.ps_kept.specs.Kept.{TellHistory};
 
 use crate::desks::{begin, empty_file};
 use crate::devices::{Log, Watched, WatchedFile};
@@ -30,7 +30,7 @@ fn syncs<'a, L: DeskName + Send + Sync, T: Abort + Threads + Wait + Sync>(
     job: Job<'_>,
 ) -> (u64, u64, u64)
     requires named { IsNamed L.name L.parts L.book L.opening L.replica parts }
-    requires told { Tells L.replica journal.lines L.opening }
+    requires told { TellHistory L.replica journal.lines L.opening }
     requires kept { journal.kept ≡ journal.lines }
     requires open { journal.has_failed ≡ false }
     requires journal { IsJournal journal }

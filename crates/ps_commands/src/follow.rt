@@ -1,7 +1,7 @@
 //! The command `follow`: what a replica has and gets, as lines to push.
 ghost use Rattle.std.specs.Prelude.{◌≡◌, ◌⊎◌, ◌<◌, [], IfErr, OnOk, false, true};
 ghost use Rattle.ps_grid.specs.Blanks.{IsBlankOf};
-ghost use Rattle.ps_session.specs.Exchange.{IsAll, IsHalted, IsLeft};
+ghost use Rattle.ps_session.specs.Exchange.{IsAll, IsHalted, IsUntilClosed};
 ghost use Rattle.ps_session.specs.Peers.{PeerView};
 
 use crate::fault::ProgramFault;
@@ -33,7 +33,7 @@ pub fn follow_on<R: Net<Stream = TcpStream>, C: Clock, K: Sink>(
     ensures all { OnOk result (options.until_now ≡ true
         → (first : PeerView) × (last : PeerView) × IsAll first last (K.contents out.old) (K.contents out.new)) }
     ensures left { OnOk result (options.until_now ≡ false
-        → (first : PeerView) × (last : PeerView) × IsLeft first last (K.contents out.old) (K.contents out.new)) }
+        → (first : PeerView) × (last : PeerView) × IsUntilClosed first last (K.contents out.old) (K.contents out.new)) }
     ensures halted { IfErr result (λ fault. (out.new ≡ out.old) ⊎ ((first : PeerView) × (last : PeerView)
         × IsHalted (K.failures out.old < K.failures out.new) first last (K.contents out.old) (K.contents out.new))) }
     ensures settled { K.waiting out.old ≡ []
@@ -74,7 +74,7 @@ fn follow_stream<C: Clock, K: Sink, I: Ledger, O: Ledger>(
     ensures all { OnOk result (following.until_now ≡ true
         → (first : PeerView) × (last : PeerView) × IsAll first last (K.contents out.old) (K.contents out.new)) }
     ensures left { OnOk result (following.until_now ≡ false
-        → (first : PeerView) × (last : PeerView) × IsLeft first last (K.contents out.old) (K.contents out.new)) }
+        → (first : PeerView) × (last : PeerView) × IsUntilClosed first last (K.contents out.old) (K.contents out.new)) }
     ensures halted { IfErr result (λ fault. (out.new ≡ out.old) ⊎ ((first : PeerView) × (last : PeerView)
         × IsHalted (K.failures out.old < K.failures out.new) first last (K.contents out.old) (K.contents out.new))) }
     ensures settled { K.waiting out.old ≡ []

@@ -2,7 +2,7 @@
 ghost use Rattle.std.specs.Prelude.{◌≡◌, IfErr, IfOk, false};
 ghost use Rattle.ps_sheet.specs.Sheet.{IsSheet};
 ghost use Rattle.ps_keep.specs.Journals.{IsJournal};
-ghost use Rattle.ps_kept.specs.Kept.{IsKept, IsNoted, Tells};
+ghost use Rattle.ps_kept.specs.Kept.{IsKept, IsNoted, TellHistory};
 ghost use Rattle.ps_kept.specs.Starts.{Reads};
 ghost use Rattle.ps_commands.specs.Kept.{IsFileRefusal, TellsTrouble};
 ghost use Rattle.ps_commands.specs.Status.{kept_status};
@@ -124,7 +124,7 @@ pub fn keep_sheet<R: Threads + Sync, F: Found + Drop, L: Ledger>(
     ensures sheet { IfOk result (λ r. IsSheet r.0) }
     ensures settled { IfOk result (λ r. r.1.kept ≡ r.1.lines) }
     ensures open { IfOk result (λ r. r.1.has_failed ≡ false) }
-    ensures told { IfOk result (λ r. Tells options.replica r.1.lines r.0.history) }
+    ensures told { IfOk result (λ r. TellHistory options.replica r.1.lines r.0.history) }
     ensures journal { IfOk result (λ r. IsJournal r.1) }
     ensures noted { IfOk result (λ r. IsNoted options.replica r.0.history r.1) }
     ensures kept { IfOk result (λ r. IsKept options.replica r.0.history r.1) }

@@ -4,7 +4,7 @@ ghost use Rattle.std.specs.Io.KnownBytes.{Appends};
 ghost use Rattle.ps_grid.specs.declared.refusal.Refusal.TheVariants.{Device, Memory, Seat};
 ghost use Rattle.ps_sheet.specs.Sheet.{SheetView};
 ghost use Rattle.ps_keep.specs.Journals.{IsJournal};
-ghost use Rattle.ps_kept.specs.Kept.{Tells};
+ghost use Rattle.ps_kept.specs.Kept.{TellHistory};
 ghost use Rattle.ps_commands.specs.Commands.{IsOpened, closed_text, listening_text};
 ghost use Rattle.ps_commands.specs.Sessions.{IsServed};
 ghost use Rattle.ps_commands.specs.Status.{HasNoPort};
@@ -127,7 +127,7 @@ pub fn serve_kept<
     meter: &mut Meter<L>,
 ) -> Result<Closed<Journal<KeptFile>>, ProgramFault>
     ensures asked { IfOk result (λ closed. options.entry.sessions ≡ Some closed.sessions) }
-    ensures kept { IfOk result (λ closed. Tells closed.sheet.replica closed.journal.kept closed.sheet.history) }
+    ensures kept { IfOk result (λ closed. TellHistory closed.sheet.replica closed.journal.kept closed.sheet.history) }
     ensures journal { IfOk result (λ closed. IsJournal closed.journal) }
     ensures told { IfOk result (λ closed. Appends (K.contents out.old) (K.contents out.new)
         (listening_text options.entry.port ++ closed_text (length closed.sheet.history))) }

@@ -7,7 +7,7 @@ ghost use Rattle.ps_sheet.specs.Sheet.{IsSheet};
 ghost use Rattle.ps_desk.specs.Closing.{HistoryBegins, IsClosed, appended_of};
 ghost use Rattle.ps_desk.specs.Opening.{IsNamed, new_passes};
 ghost use Rattle.ps_keep.specs.Journals.{IsJournal};
-ghost use Rattle.ps_kept.specs.Kept.{Tells};
+ghost use Rattle.ps_kept.specs.Kept.{TellHistory};
 ghost use Rattle.ps_commands.specs.Commands.{closed_text};
 ghost use Rattle.ps_commands.specs.Sessions.{IsServed};
 ghost use Rattle.ps_commands.specs.declared.fault.ProgramFault.TheVariants.{Refused};
@@ -126,13 +126,13 @@ pub fn serve_kept_on<
     out: &mut K,
     warner: &mut Warner<'_, W>,
 ) -> Result<Closed<Journal<D>>, ProgramFault>
-    requires told { Tells sheet.replica journal.lines sheet.history }
+    requires told { TellHistory sheet.replica journal.lines sheet.history }
     requires kept { journal.kept ≡ journal.lines }
     requires open { journal.has_failed ≡ false }
     requires journal { IsJournal journal }
     ensures asked { IfOk result (λ closed. entrance.entry.serving.sessions ≡ Some closed.sessions) }
     ensures served { IfOk result (λ closed. IsServed entrance.entry.serving.seats closed.sessions sheet closed.sheet) }
-    ensures kept { IfOk result (λ closed. Tells closed.sheet.replica closed.journal.kept closed.sheet.history) }
+    ensures kept { IfOk result (λ closed. TellHistory closed.sheet.replica closed.journal.kept closed.sheet.history) }
     ensures journal { IfOk result (λ closed. IsJournal closed.journal) }
     ensures told { IfOk result (λ closed. Appends (K.contents out.old) (K.contents out.new)
         (closed_text (length closed.sheet.history))) }
@@ -169,7 +169,7 @@ fn serve_sheet<R: Threads + Wait + Clock + Sync, D: Device + Drop + Send, K: Sin
     out: &mut K,
     warner: &mut Warner<'_, W>,
 ) -> Result<Closed<Option<Journal<D>>>, ProgramFault>
-    requires told { IfSome journal (λ j. Tells sheet.replica j.lines sheet.history) }
+    requires told { IfSome journal (λ j. TellHistory sheet.replica j.lines sheet.history) }
     requires kept { IfSome journal (λ j. j.kept ≡ j.lines) }
     requires open { IfSome journal (λ j. j.has_failed ≡ false) }
     requires journal { IfSome journal (λ j. IsJournal j) }
@@ -177,7 +177,7 @@ fn serve_sheet<R: Threads + Wait + Clock + Sync, D: Device + Drop + Send, K: Sin
     ensures served { IfOk result (λ closed. IsServed entrance.entry.serving.seats closed.sessions sheet closed.sheet) }
     ensures some { IfOk result (λ closed. IsSome journal → IsSome closed.journal) }
     ensures kept { IfOk result (λ closed. IfSome closed.journal
-        (λ j. Tells closed.sheet.replica j.kept closed.sheet.history)) }
+        (λ j. TellHistory closed.sheet.replica j.kept closed.sheet.history)) }
     ensures journal { IfOk result (λ closed. IfSome closed.journal (λ j. IsJournal j)) }
     ensures told { IfOk result (λ closed. Appends (K.contents out.old) (K.contents out.new)
         (closed_text (length closed.sheet.history))) }
@@ -228,7 +228,7 @@ fn serve_parts<
     warner: &mut Warner<'_, W>,
 ) -> Result<Closed<Option<Journal<D>>>, Refusal>
     requires named { IsNamed L.name L.parts L.book L.opening L.replica parts }
-    requires told { IfSome journal (λ j. Tells parts.sheet.replica j.lines parts.sheet.history) }
+    requires told { IfSome journal (λ j. TellHistory parts.sheet.replica j.lines parts.sheet.history) }
     requires kept { IfSome journal (λ j. j.kept ≡ j.lines) }
     requires open { IfSome journal (λ j. j.has_failed ≡ false) }
     requires journal { IfSome journal (λ j. IsJournal j) }
@@ -237,7 +237,7 @@ fn serve_parts<
     ensures served { IfOk result (λ closed. IsServed parts.seats closed.sessions parts.sheet closed.sheet) }
     ensures some { IfOk result (λ closed. IsSome journal → IsSome closed.journal) }
     ensures kept { IfOk result (λ closed. IfSome closed.journal
-        (λ j. Tells closed.sheet.replica j.kept closed.sheet.history)) }
+        (λ j. TellHistory closed.sheet.replica j.kept closed.sheet.history)) }
     ensures journal { IfOk result (λ closed. IfSome closed.journal (λ j. IsJournal j)) }
     ensures refused { IfErr result (λ e. (e ≡ Memory) ⊎ (e ≡ Seat) ⊎ (e ≡ Device)) }
 {
@@ -267,7 +267,7 @@ fn keeper_of<L: DeskName, W: Wait + Drop, D: Device + Drop>(
     passes: &[Pass<L>],
     changes: u64,
 ) -> Option<DeskKeeper<L, D>>
-    requires told { IfSome journal (λ j. Tells L.replica j.lines L.opening) }
+    requires told { IfSome journal (λ j. TellHistory L.replica j.lines L.opening) }
     requires kept { IfSome journal (λ j. j.kept ≡ j.lines) }
     requires open { IfSome journal (λ j. j.has_failed ≡ false) }
     requires journal { IfSome journal (λ j. IsJournal j) }
@@ -296,7 +296,7 @@ fn close<L: DeskName, W: Wait + Drop, D: Device + Drop, V: Wait>(
     ensures one { IfOk result (λ r. IsClosed L.opening r.0.history passes.items) }
     ensures sheet { IfOk result (λ r. IsSheet r.0) }
     ensures some { IfOk result (λ r. IsSome keeper → IsSome r.1) }
-    ensures kept { IfOk result (λ r. IfSome r.1 (λ j. Tells r.0.replica j.kept r.0.history)) }
+    ensures kept { IfOk result (λ r. IfSome r.1 (λ j. TellHistory r.0.replica j.kept r.0.history)) }
     ensures journal { IfOk result (λ r. IfSome r.1 (λ j. IsJournal j)) }
     ensures refused { IfErr result (λ e. e ≡ Device) }
 {

@@ -17,7 +17,7 @@ use Rattle.ps_face.proofs.Noted.{after_fresh}
 use Rattle.ps_desk.specs.declared.receipt.Receipt.{Receipt}
 use Rattle.ps_desk.specs.Passes.{PassView}
 use Rattle.ps_desk.specs.Patches.{IsNoted}
-use Rattle.ps_desk.specs.Receipts.{IsAppended, IsCovered, Tells}
+use Rattle.ps_desk.specs.Receipts.{IsAppended, IsIncluded, IsReceipt}
 
 on_both : (b : Bool) (P Q R S : Type 0) → (P → R) → (Q → S) → MatchBool b P Q → MatchBool b R S
 on_both true P Q R S f g m = f m
@@ -25,11 +25,11 @@ on_both false P Q R S f g m = g m
 
 -- where more had been seen, and less is asked of the delta
 tells_more : (M N : State → Entries → Type 0) (h : List Entries) (seen mid now : List Note) (seat : ℕ) (r : Receipt)
-    → ((s : State) (d : Entries) → M s d → N s d) → IsPrefix seen mid → Tells M h mid now seat r
-    → Tells N h seen now seat r
+    → ((s : State) (d : Entries) → M s d → N s d) → IsPrefix seen mid → IsReceipt M h mid now seat r
+    → IsReceipt N h seen now seat r
 tells_more M N h seen mid now seat r weaker later t =
-    on_both r.fresh (IsAppended M h mid now seat r) (IsCovered M h now r)
-    (IsAppended N h seen now seat r) (IsCovered N h now r)
+    on_both r.fresh (IsAppended M h mid now seat r) (IsIncluded M h now r)
+    (IsAppended N h seen now seat r) (IsIncluded N h now r)
     (λ a. record {
       before = a.before;
       patch = a.patch;
@@ -52,10 +52,10 @@ tells_more M N h seen mid now seat r weaker later t =
 tells_fresh : (h : List Entries) (p : PreparedView) (seen now : List Note) (seat : ℕ) (r : Receipt)
     → IsWorkedOut p → p.fresh ≡ true → p.history ≡ history_of h seen → IsNoted p seat seen now
     → r.number ≡ p.report.version → arc_value r.delta ≡ p.delta → r.fresh ≡ true
-    → Tells (λ s d. (s ≡ joined_history p.history) × (d ≡ p.delta)) h seen now seat r
+    → IsReceipt (λ s d. (s ≡ joined_history p.history) × (d ≡ p.delta)) h seen now seat r
 tells_fresh h p seen now seat r is fresh history noted number delta new =
     let Made : State → Entries → Type 0 = λ s d. (s ≡ joined_history p.history) × (d ≡ p.delta) in
-    subst (λ b. MatchBool b (IsAppended Made h seen now seat r) (IsCovered Made h now r)) (sym new) (record {
+    subst (λ b. MatchBool b (IsAppended Made h seen now seat r) (IsIncluded Made h now r)) (sym new) (record {
       before = seen;
       patch = noted.patch;
       last = noted.last;
@@ -78,13 +78,13 @@ pub history_kept : (p : PreparedView) → p.fresh ≡ false → history_after p 
 history_kept p idle = ap (λ b. if b then (p.history ++ p.delta ∷ []) else p.history) idle
 
 -- what another receipt tells
-pub tells_covered : (h : List Entries) (p : PreparedView) (seen : List Note) (seat : ℕ) (r : Receipt)
+pub tells_included : (h : List Entries) (p : PreparedView) (seen : List Note) (seat : ℕ) (r : Receipt)
     → IsWorkedOut p → p.fresh ≡ false → p.history ≡ history_of h seen → r.number ≡ p.report.version
     → arc_value r.delta ≡ p.delta → r.fresh ≡ false
-    → Tells (λ s d. (s ≡ joined_history p.history) × (d ≡ p.delta)) h seen seen seat r
-tells_covered h p seen seat r is idle history number delta old =
+    → IsReceipt (λ s d. (s ≡ joined_history p.history) × (d ≡ p.delta)) h seen seen seat r
+tells_included h p seen seat r is idle history number delta old =
     let Made : State → Entries → Type 0 = λ s d. (s ≡ joined_history p.history) × (d ≡ p.delta) in
-    subst (λ b. MatchBool b (IsAppended Made h seen seen seat r) (IsCovered Made h seen r)) (sym old) (record {
+    subst (λ b. MatchBool b (IsAppended Made h seen seen seat r) (IsIncluded Made h seen r)) (sym old) (record {
       number = number ∙ is.version ∙ ap length (history_kept p idle) ∙ ap length history;
       below = subst (λ (z : Entries × List Entries). IsBelow (state_of z.0) (joined_history z.1))
           (λ i. (sym delta i, history i)) (below_state p is idle);
@@ -102,7 +102,7 @@ pub tells_if_fresh : (h : List Entries) (p : PreparedView) (res : Result Receipt
     (seat : ℕ) → IsWorkedOut p → p.fresh ≡ true → p.history ≡ history_of h seen
     → OnOk res (IsNoted p seat seen now)
     → IfOk res (λ r. (r.number ≡ p.report.version) × (arc_value r.delta ≡ p.delta) × (r.fresh ≡ true))
-    → IfOk res (Tells (λ s d. (s ≡ joined_history p.history) × (d ≡ p.delta)) h seen now seat)
+    → IfOk res (IsReceipt (λ s d. (s ≡ joined_history p.history) × (d ≡ p.delta)) h seen now seat)
 tells_if_fresh h p (Ok r) seen now seat is fresh history noted t =
     tells_fresh h p seen now seat r is fresh history noted t.0 t.1 t.2
 tells_if_fresh h p (Err e) seen now seat is fresh history noted t = tt
@@ -125,12 +125,12 @@ module _ (list : List Note) (old new : PassView) where
 pub tells_change : (r : ℕ) (h : List Entries) (change : Change) (p : PreparedView) (res : Result Receipt Refusal)
     (old mid : PassView) (now : List Note) → IsPrefix old.list mid.list → mid.seat ≡ old.seat
     → IsDeltaOf r (joined_history p.history) change p.delta
-    → IfOk res (Tells (λ s d. (s ≡ joined_history p.history) × (d ≡ p.delta)) h mid.list now mid.seat)
-    → IfOk res (Tells (λ s d. IsDeltaOf r s change d) h old.list now old.seat)
+    → IfOk res (IsReceipt (λ s d. (s ≡ joined_history p.history) × (d ≡ p.delta)) h mid.list now mid.seat)
+    → IfOk res (IsReceipt (λ s d. IsDeltaOf r s change d) h old.list now old.seat)
 tells_change r h change p (Ok t) old mid now later seat made told =
     let M : State → Entries → Type 0 = λ s d. (s ≡ joined_history p.history) × (d ≡ p.delta) in
     let N : State → Entries → Type 0 = λ s d. IsDeltaOf r s change d in
     tells_more M N h old.list mid.list now old.seat t
     (λ s d m. subst (λ (z : State × Entries). IsDeltaOf r z.0 change z.1) (λ i. (sym m.0 i, sym m.1 i)) made)
-    later (subst (λ n. Tells M h mid.list now n t) seat told)
+    later (subst (λ n. IsReceipt M h mid.list now n t) seat told)
 tells_change r h change p (Err e) old mid now later seat made told = tt

@@ -22,13 +22,14 @@ pub record IsAppended (Made : State → Entries → Type 0) (h : List Entries) (
   pub owner : patch.owner ≡ seat
   pub made : Made (joined_history (history_of h before)) (arc_value r.delta)
 
--- COVERED: the receipt's number is the length of the history that the list stands for, and its delta is below the join
+-- INCLUDED: the receipt's number is the length of the history that the list stands for, and its delta is below the join
 -- of that history; and `Made` holds of the delta and this state
-pub record IsCovered (Made : State → Entries → Type 0) (h : List Entries) (now : List Note) (r : Receipt) : Type 0 where
-  pub number : r.number ≡ length (history_of h now)
-  pub below : IsBelow (state_of (arc_value r.delta)) (joined_history (history_of h now))
-  pub made : Made (joined_history (history_of h now)) (arc_value r.delta)
+pub record IsIncluded (Made : State → Entries → Type 0) (h : List Entries) (now : List Note) (r : Receipt) : Type 0
+  where
+    pub number : r.number ≡ length (history_of h now)
+    pub below : IsBelow (state_of (arc_value r.delta)) (joined_history (history_of h now))
+    pub made : Made (joined_history (history_of h now)) (arc_value r.delta)
 
--- TELLS: a fresh receipt's delta was appended, and another's is covered, where the list was `seen` and is `now`
-abbrev pub Tells : (State → Entries → Type 0) → List Entries → List Note → List Note → ℕ → Receipt → Type 0
-Tells Made h seen now seat r = MatchBool r.fresh (IsAppended Made h seen now seat r) (IsCovered Made h now r)
+-- RECEIPT: a fresh receipt's delta was appended, and another's is included, where the list was `seen` and is `now`
+abbrev pub IsReceipt : (State → Entries → Type 0) → List Entries → List Note → List Note → ℕ → Receipt → Type 0
+IsReceipt Made h seen now seat r = MatchBool r.fresh (IsAppended Made h seen now seat r) (IsIncluded Made h now r)

@@ -25,7 +25,7 @@ use Rattle.ps_session.specs.declared.command.Command.{Command}
 use Rattle.ps_session.specs.declared.command.Command.TheVariants.{Edit, Entries as AllEntries, Entry, Get, Pull, Push}
 use Rattle.ps_session.specs.declared.command.Command.TheVariants.{Replica, Rows}
 use Rattle.ps_desk.specs.Passes.{PassView}
-use Rattle.ps_desk.specs.Receipts.{IsAppended, Tells}
+use Rattle.ps_desk.specs.Receipts.{IsAppended, IsReceipt}
 use Rattle.ps_desk.specs.declared.receipt.Receipt.{Receipt}
 
 -- an edit was made: a patch of this seat, with the edit's delta over all that came before it, ends the list, and the
@@ -82,12 +82,12 @@ pub record IsHandedOut (h : List Entries) (from most : ℕ) (old : PassView) (te
     pub counted : new.appended ≡ old.appended
     pub entered : new.enters ≡ old.enters
 
--- a delta was taken in: it was appended, or is covered, and the reply has the receipt's number
+-- a delta was taken in: it was appended, or is included, and the reply has the receipt's number
 pub record IsTakenIn (h : List Entries) (delta : Entries) (old : PassView) (text : List ℕ) (new : PassView) : Type 0
   where
     pub legal : IsLegal h new.list
     pub receipt : Receipt
-    pub tells : Tells (λ s d. d ≡ delta) h old.list new.list old.seat receipt
+    pub tells : IsReceipt (λ s d. d ≡ delta) h old.list new.list old.seat receipt
     pub told : text ≡ done_text receipt.number
     pub counted : new.appended ≡ old.appended + (if receipt.fresh then 1 else 0)
     pub entered : new.enters ≡ old.enters

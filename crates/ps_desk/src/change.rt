@@ -14,7 +14,7 @@ ghost use Rattle.ps_sheet.specs.Staging.{IsWorkedOut};
 ghost use Rattle.ps_face.specs.Legal.{history_of};
 ghost use Rattle.ps_desk.specs.UnderLock.{IsUnderLock};
 ghost use Rattle.ps_desk.specs.Patches.{IsNoted, KeepsChange, change_in, note_of, staged_in};
-ghost use Rattle.ps_desk.specs.Receipts.{Tells};
+ghost use Rattle.ps_desk.specs.Receipts.{IsReceipt};
 
 use crate::name::DeskName;
 use crate::pass::Pass;
@@ -47,7 +47,7 @@ pub(crate) fn finish<L: DeskName, W: Wait + Drop, V: Wait>(
         book.new.total }
     ensures later { IsPrefix pass.old.list pass.new.list }
     ensures all { pass.new.list ≡ copies.new.list }
-    ensures receipt { IfOk result (Tells (λ s d. (s ≡ joined_history sheet.old.history)
+    ensures receipt { IfOk result (IsReceipt (λ s d. (s ≡ joined_history sheet.old.history)
         × (d ≡ (change_in sheet.old).delta)) L.opening pass.old.list pass.new.list pass.old.seat) }
     ensures memory { IfErr result (λ e. e ≡ Memory) }
     ensures asked { OnErr result (¬ IsBelow (state_of ((change_in sheet.old).delta))

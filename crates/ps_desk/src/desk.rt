@@ -14,7 +14,7 @@ ghost use Rattle.ps_sheet.specs.Prepared.{IsDeltaOf, IsRefusedBy, IsToAppend};
 ghost use Rattle.ps_csv.specs.Exports.{entry_text, exported_entries, held_in};
 ghost use Rattle.ps_face.specs.declared.patch.Note.{Note};
 ghost use Rattle.ps_face.specs.Legal.{IsLegal, history_of};
-ghost use Rattle.ps_desk.specs.Receipts.{IsAppended, Tells};
+ghost use Rattle.ps_desk.specs.Receipts.{IsAppended, IsReceipt};
 
 use crate::name::DeskName;
 use crate::pass::Pass;
@@ -147,7 +147,7 @@ impl<L: DeskName, W: Wait + Drop> Desk<L, W> {
     ) -> Result<Receipt, Refusal>
         ensures later { IsPrefix pass.old.list pass.new.list }
         ensures legal { IsLegal L.opening pass.new.list }
-        ensures receipt { IfOk result (Tells (λ s d. d ≡ arc_value delta) L.opening pass.old.list pass.new.list
+        ensures receipt { IfOk result (IsReceipt (λ s d. d ≡ arc_value delta) L.opening pass.old.list pass.new.list
             pass.old.seat) }
         ensures memory { IfErr result (λ e. e ≡ Memory) }
         ensures asked { OnErr result (¬ IsBelow (state_of (arc_value delta))
@@ -296,7 +296,7 @@ impl<L: DeskName, W: Wait + Drop> Desk<L, W> {
     ) -> Result<Receipt, Refusal>
         ensures later { IsPrefix pass.old.list pass.new.list }
         ensures legal { IsLegal L.opening pass.new.list }
-        ensures receipt { IfOk result (Tells (λ s d. IsDeltaOf L.replica s change d) L.opening pass.old.list
+        ensures receipt { IfOk result (IsReceipt (λ s d. IsDeltaOf L.replica s change d) L.opening pass.old.list
             pass.new.list pass.old.seat) }
         ensures refused { IfErr result (λ e. (e ≡ Memory)
             ⊎ IsRefusedBy L.replica (joined_history (history_of L.opening pass.new.list)) change e) }

@@ -11,7 +11,7 @@ ghost use Rattle.ps_sheet.specs.Prepared.{IsDeltaOf, IsRefusedBy, IsToAppend};
 ghost use Rattle.ps_sheet.specs.Own.{has_own};
 ghost use Rattle.ps_sheet.specs.Sheet.{IsSheet};
 ghost use Rattle.ps_face.specs.Legal.{IsLegal, history_of};
-ghost use Rattle.ps_desk.specs.Receipts.{Tells};
+ghost use Rattle.ps_desk.specs.Receipts.{IsReceipt};
 
 use crate::change::finish;
 use crate::name::DeskName;
@@ -115,7 +115,7 @@ impl<L: DeskName, W: Wait + Drop> DeskState<L, W> {
         ensures later { IsPrefix pass.old.list pass.new.list }
         ensures all { pass.new.list ≡ self.new }
         ensures legal { IsLegal L.opening pass.new.list }
-        ensures receipt { IfOk result (Tells (λ s d. IsDeltaOf L.replica s change d) L.opening pass.old.list
+        ensures receipt { IfOk result (IsReceipt (λ s d. IsDeltaOf L.replica s change d) L.opening pass.old.list
             pass.new.list pass.old.seat) }
         ensures refused { IfErr result (λ e. (e ≡ Memory)
             ⊎ IsRefusedBy L.replica (joined_history (history_of L.opening pass.new.list)) change e) }

@@ -11,20 +11,20 @@ use Rattle.ps_keep.specs.Journals.{IsJournal, JournalView}
 use Rattle.ps_keep.proofs.CrashLemmas.{journal_survives}
 use Rattle.ps_kept.specs.Inside.{later}
 use Rattle.ps_session.specs.PushLine.{push_line}
-use Rattle.ps_kept.specs.Kept.{IsKept, IsNoted, Notes, PushAll, Tells}
+use Rattle.ps_kept.specs.Kept.{IsKept, IsNoted, Notes, PushAll, TellHistory}
 use Rattle.ps_kept.specs.Starts.{Outlives}
 use Rattle.ps_kept.proofs.NoteLemmas.{PushAll-both}
 use Rattle.ps_kept.proofs.StartLemmas.{PushAll-length}
 use Rattle.ps_kept.proofs.ToldLemmas.{outlives}
 
 -- as many lines as deltas, and the first
-pub told_count : (replica : ℕ) (lines : List (List ℕ)) (h : List Entries) → Tells replica lines h
+pub told_count : (replica : ℕ) (lines : List (List ℕ)) (h : List Entries) → TellHistory replica lines h
     → length lines ≡ length h + 1
 told_count replica [] h told = absurd told
 told_count replica (first ∷ others) h told = omega (arith, PushAll-length others h told.1)
 
-tells_more : (replica : ℕ) (lines more : List (List ℕ)) (h ds : List Entries) → Tells replica lines h → PushAll more ds
-    → Tells replica (lines ++ more) (h ++ ds)
+tells_more : (replica : ℕ) (lines more : List (List ℕ)) (h ds : List Entries) → TellHistory replica lines h
+    → PushAll more ds → TellHistory replica (lines ++ more) (h ++ ds)
 tells_more replica [] more h ds told all = absurd told
 tells_more replica (first ∷ others) more h ds told all = (told.0, PushAll-both others more h ds told.1 all)
 
@@ -56,9 +56,9 @@ module _ (replica : ℕ) (history : List Entries) (old : JournalView) (fits : Is
       ap (λ (k : ℕ). drop k history) n ∙ drop_front fits.noted fits.begins.0 history fits.begins.1
 
   told_with : (ds : List Entries) (mid : JournalView) → Notes old ds mid
-      → Tells replica mid.lines (fits.noted ++ ds)
+      → TellHistory replica mid.lines (fits.noted ++ ds)
   told_with ds mid notes =
-      subst (λ ls. Tells replica ls (fits.noted ++ ds)) (sym (ap (λ j. j.lines) notes.lines))
+      subst (λ ls. TellHistory replica ls (fits.noted ++ ds)) (sym (ap (λ j. j.lines) notes.lines))
       (tells_more replica old.lines (map push_line ds) fits.noted ds fits.told notes.each)
 
   pub noted_part : (n : ℕ) (mid : JournalView) → Notes old (take n (later old.lines history)) mid
@@ -77,9 +77,9 @@ module _ (replica : ℕ) (history : List Entries) (old : JournalView) (fits : Is
         );
       }
 
-  pub told_all : (mid : JournalView) → Notes old (later old.lines history) mid → Tells replica mid.lines history
+  pub told_all : (mid : JournalView) → Notes old (later old.lines history) mid → TellHistory replica mid.lines history
   told_all mid notes =
-      subst (λ h. Tells replica mid.lines h) (ap (λ l. fits.noted ++ l) rest_is ∙ fits.begins.1)
+      subst (λ h. TellHistory replica mid.lines h) (ap (λ l. fits.noted ++ l) rest_is ∙ fits.begins.1)
       (told_with (later old.lines history) mid notes)
 
   pub noted_all : (mid : JournalView) → Notes old (later old.lines history) mid → IsNoted replica history mid
@@ -125,18 +125,18 @@ later_is value lines xs n is =
 -- ---- once all is settled
 
 pub kept_all : (replica : ℕ) (history : List Entries) (mid new : JournalView) → IsJournal new → new.kept ≡ mid.lines
-    → Tells replica mid.lines history → IsKept replica history new
+    → TellHistory replica mid.lines history → IsKept replica history new
 kept_all replica history mid new journal same told = record {
   journal = journal;
-  all = (new.kept, ([], append-nil new.kept), subst (λ ls. Tells replica ls history) (sym same) told);
+  all = (new.kept, ([], append-nil new.kept), subst (λ ls. TellHistory replica ls history) (sym same) told);
 }
 
 pub noted_again : (replica : ℕ) (history : List Entries) (mid new : JournalView) → IsJournal new
-    → new.lines ≡ mid.lines → Tells replica mid.lines history → IsNoted replica history new
+    → new.lines ≡ mid.lines → TellHistory replica mid.lines history → IsNoted replica history new
 noted_again replica history mid new journal same told = record {
   journal = journal;
   noted = history;
-  told = subst (λ ls. Tells replica ls history) (sym same) told;
+  told = subst (λ ls. TellHistory replica ls history) (sym same) told;
   begins = ([], append-nil history);
 }
 

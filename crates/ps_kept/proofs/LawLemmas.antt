@@ -10,7 +10,7 @@ use Rattle.ps_keep.specs.Lines.{AreLines, text, whole_lines}
 use Rattle.ps_keep.proofs.CrashLemmas.{journal_survives, journal_torn, prefix_trans, start_again}
 use Rattle.ps_keep.proofs.LineLemmas.{whole_are, whole_of_text}
 use Rattle.ps_session.specs.ReplicaLine.{replica_line}
-use Rattle.ps_kept.specs.Kept.{PushAll, Pushes, Tells, started}
+use Rattle.ps_kept.specs.Kept.{PushAll, Pushes, TellHistory, started}
 use Rattle.ps_kept.specs.Laws.{CrashesKeepSheets, FaultsComeAfter, OneHistory, ReadAgain, ReadFilesOpen, StartsMayCrash}
 use Rattle.ps_kept.specs.Laws.{StaysNoted}
 use Rattle.ps_kept.specs.Starts.{HasNoFirst, IsFaulty, IsOther, Reads}
@@ -33,7 +33,7 @@ crashes_keep replica kept history j is noted fresh =
 
 -- ---- one history
 
-not_told : (replica : ℕ) (lines : List (List ℕ)) (h : List Entries) → lines ≡ [] → Tells replica lines h → ⊥
+not_told : (replica : ℕ) (lines : List (List ℕ)) (h : List Entries) → lines ≡ [] → TellHistory replica lines h → ⊥
 not_told replica lines h none told = told_some replica lines h told none
 
 pub one_history : OneHistory
@@ -93,13 +93,13 @@ no_empty [] line after e = cc
 no_empty (b ∷ before) line after e = cc
 
 -- no line of those that tell a fresh history is faulty
-none_faulty : (replica : ℕ) (lines : List (List ℕ)) (h : List Entries) (number : ℕ) → Tells replica lines h → IsFresh h
-    → IsFaulty replica lines number → ⊥
+none_faulty : (replica : ℕ) (lines : List (List ℕ)) (h : List Entries) (number : ℕ) → TellHistory replica lines h
+    → IsFresh h → IsFaulty replica lines number → ⊥
 none_faulty replica lines h number told fresh fault =
-    go fault.before fault.told (subst (λ ls. Tells replica ls h) fault.is told)
+    go fault.before fault.told (subst (λ ls. TellHistory replica ls h) fault.is told)
   where
-    go : (before : List (List ℕ)) → Tells replica before fault.history
-        → Tells replica (before ++ fault.line ∷ fault.after) h → ⊥
+    go : (before : List (List ℕ)) → TellHistory replica before fault.history
+        → TellHistory replica (before ++ fault.line ∷ fault.after) h → ⊥
     go [] first all = first
     go (b ∷ before) first all =
         let d = divided before fault.line fault.after h all.1 in
@@ -112,11 +112,11 @@ none_faulty replica lines h number told fresh fault =
 
 -- a first line that the file has
 has_first : (replica : ℕ) (bytes : List ℕ) (h : List Entries) (lines : List (List ℕ)) → 1 ≤ replica → replica ≤ REPLICAS
-    → Tells replica lines h → HasNoFirst replica bytes lines → ⊥
+    → TellHistory replica lines h → HasNoFirst replica bytes lines → ⊥
 has_first replica bytes h [] low high told never = told
 has_first replica bytes h (first ∷ others) low high told never = never replica low high told.0
 
-not_other : (replica : ℕ) (h : List Entries) (lines : List (List ℕ)) (other : ℕ) → Tells replica lines h
+not_other : (replica : ℕ) (h : List Entries) (lines : List (List ℕ)) (other : ℕ) → TellHistory replica lines h
     → IsOther replica lines other → ⊥
 not_other replica h [] other told is = told
 not_other replica h (first ∷ others) other told is = is.1 told.0
@@ -164,7 +164,7 @@ read_again replica bytes h high read =
     let same : whole_lines (text lines) ≡ lines = whole_of_text lines (started_are replica (whole_lines bytes) high
     (whole_are bytes)) in
     inr (record {
-      told = subst (λ ls. Tells replica ls h) (sym same) (told_then replica bytes h read);
+      told = subst (λ ls. TellHistory replica ls h) (sym same) (told_then replica bytes h read);
       fresh = fresh_of replica bytes h read;
     })
 
@@ -177,7 +177,7 @@ starts_may_crash replica bytes left h (inl empty) is = inl (
   empty.1,
 )
 starts_may_crash replica bytes left h (inr begun) is = inr (record {
-  told = subst (λ ls. Tells replica ls h) (sym (start_again bytes left is)) begun.told;
+  told = subst (λ ls. TellHistory replica ls h) (sym (start_again bytes left is)) begun.told;
   fresh = begun.fresh;
 })
 

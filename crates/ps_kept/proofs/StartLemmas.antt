@@ -16,7 +16,7 @@ use Rattle.ps_keep.specs.Journals.{IsJournal, JournalView}
 use Rattle.ps_keep.specs.Lines.{IsLine, whole_lines}
 use Rattle.ps_kept.specs.Inside.{IsDue}
 use Rattle.ps_session.specs.ReplicaLine.{replica_line}
-use Rattle.ps_kept.specs.Kept.{IsNoted, PushAll, Tells, started}
+use Rattle.ps_kept.specs.Kept.{IsNoted, PushAll, TellHistory, started}
 use Rattle.ps_kept.specs.Starts.{Reads}
 
 pub PushAll-length : (lines : List (List ℕ)) (h : List Entries) → PushAll lines h → length lines ≡ length h
@@ -25,7 +25,7 @@ PushAll-length [] (d ∷ h) all = absurd all
 PushAll-length (l ∷ lines) [] all = absurd all
 PushAll-length (l ∷ lines) (d ∷ h) all = omega (arith, PushAll-length lines h all.1)
 
-due_in : (replica : ℕ) (lines : List (List ℕ)) (h : List Entries) → Tells replica lines h → IsDue (length h) lines
+due_in : (replica : ℕ) (lines : List (List ℕ)) (h : List Entries) → TellHistory replica lines h → IsDue (length h) lines
 due_in replica [] h told = absurd told
 due_in replica (first ∷ others) h told = sym (PushAll-length others h told.1)
 
@@ -34,19 +34,19 @@ pub due : (replica : ℕ) (bytes : List ℕ) (h : List Entries) → Reads replic
 due replica bytes h (inl (empty, none)) = subst (λ ls. IsDue (length h) ls) (sym empty.no_line) (ap length none)
 due replica bytes h (inr is) = due_in replica (whole_lines bytes) h is.told
 
-started_some : (replica : ℕ) (lines : List (List ℕ)) (h : List Entries) → Tells replica lines h
+started_some : (replica : ℕ) (lines : List (List ℕ)) (h : List Entries) → TellHistory replica lines h
     → started replica lines ≡ lines
 started_some replica [] h told = absurd told
 started_some replica (first ∷ others) h told = refl
 
 -- once a file is kept its lines tell what was read of it
 pub told_then : (replica : ℕ) (bytes : List ℕ) (h : List Entries) → Reads replica bytes h
-    → Tells replica (started replica (whole_lines bytes)) h
+    → TellHistory replica (started replica (whole_lines bytes)) h
 told_then replica bytes h (inl (empty, none)) =
-    subst (λ ls. Tells replica (started replica ls) h) (sym empty.no_line)
+    subst (λ ls. TellHistory replica (started replica ls) h) (sym empty.no_line)
     (refl, subst (λ x. PushAll [] x) (sym none) tt)
 told_then replica bytes h (inr is) =
-    subst (λ ls. Tells replica ls h) (sym (started_some replica (whole_lines bytes) h is.told)) is.told
+    subst (λ ls. TellHistory replica ls h) (sym (started_some replica (whole_lines bytes) h is.told)) is.told
 
 whole : {A : Type 0} (xs : List A) → IsPrefix xs xs
 whole xs = ([], append-nil xs)
@@ -56,7 +56,7 @@ pub noted_then : (replica : ℕ) (bytes : List ℕ) (h : List Entries) (j : Jour
 noted_then replica bytes h j read is lines = record {
   journal = is;
   noted = h;
-  told = subst (λ ls. Tells replica ls h) (sym lines) (told_then replica bytes h read);
+  told = subst (λ ls. TellHistory replica ls h) (sym lines) (told_then replica bytes h read);
   begins = whole h;
 }
 
@@ -96,7 +96,7 @@ push_have_lines (line ∷ lines) (d ∷ h) all =
     All-cons HasLine d h (record { lawful = is.lawful; fits = (decoded_fit all.0.0 d is).1 })
     (push_have_lines lines h all.1)
 
-told_have_lines : (replica : ℕ) (lines : List (List ℕ)) (h : List Entries) → Tells replica lines h → All HasLine h
+told_have_lines : (replica : ℕ) (lines : List (List ℕ)) (h : List Entries) → TellHistory replica lines h → All HasLine h
 told_have_lines replica [] h told = absurd told
 told_have_lines replica (first ∷ others) h told = push_have_lines others h told.1
 

@@ -12,7 +12,7 @@ use Rattle.ps_sheet.specs.Sheet.{IsFresh}
 use Rattle.ps_keep.specs.Crash.{SurvivesCrashes}
 use Rattle.ps_keep.specs.Lines.{whole_lines}
 use Rattle.ps_keep.proofs.CrashLemmas.{prefix_trans}
-use Rattle.ps_kept.specs.Kept.{PushAll, Pushes, Tells}
+use Rattle.ps_kept.specs.Kept.{PushAll, Pushes, TellHistory}
 use Rattle.ps_kept.specs.Starts.{Outlives}
 use Rattle.ps_kept.proofs.PushLemmas.{text_after}
 
@@ -43,8 +43,8 @@ push_the_same (line ∷ lines) (d ∷ h) (e ∷ k) a b =
     let others = push_the_same lines h k a.1 b.1 in
     λ i. first i ∷ others i
 
-pub tell_the_same : (replica : ℕ) (lines : List (List ℕ)) (h k : List Entries) → Tells replica lines h
-    → Tells replica lines k → h ≡ k
+pub tell_the_same : (replica : ℕ) (lines : List (List ℕ)) (h k : List Entries) → TellHistory replica lines h
+    → TellHistory replica lines k → h ≡ k
 tell_the_same replica [] h k a b = absurd a
 tell_the_same replica (first ∷ others) h k a b = push_the_same others h k a.1 b.1
 
@@ -69,8 +69,8 @@ push_front (f ∷ front) (line ∷ lines) (d ∷ h) all begins =
     let others = push_front front lines h all.1 (begins.0, tail_same f line (front ++ begins.0) lines begins.1) in
     (d ∷ others.0, (subst (λ l. Pushes l d) (sym same) all.0, others.1), (others.2.0, ap (λ ds. d ∷ ds) others.2.1))
 
-pub tell_front : (replica : ℕ) (front lines : List (List ℕ)) (h : List Entries) → Tells replica lines h
-    → IsPrefix front lines → front ≢ [] → (k : List Entries) × Tells replica front k × IsPrefix k h
+pub tell_front : (replica : ℕ) (front lines : List (List ℕ)) (h : List Entries) → TellHistory replica lines h
+    → IsPrefix front lines → front ≢ [] → (k : List Entries) × TellHistory replica front k × IsPrefix k h
 tell_front replica [] lines h told begins some = absurd (some refl)
 tell_front replica (f ∷ front) [] h told begins some = absurd told
 tell_front replica (f ∷ front) (line ∷ lines) h told begins some =
@@ -78,13 +78,13 @@ tell_front replica (f ∷ front) (line ∷ lines) h told begins some =
     let others = push_front front lines h told.1 (begins.0, tail_same f line (front ++ begins.0) lines begins.1) in
     (others.0, (same ∙ told.0, others.1), others.2)
 
-pub told_some : (replica : ℕ) (lines : List (List ℕ)) (h : List Entries) → Tells replica lines h → lines ≢ []
+pub told_some : (replica : ℕ) (lines : List (List ℕ)) (h : List Entries) → TellHistory replica lines h → lines ≢ []
 told_some replica [] h told is = absurd told
 told_some replica (first ∷ others) h told is = no_lines first others is
 
 -- where some first lines tell a history, all tell one that begins with it
-pub told_begins : (replica : ℕ) (front lines : List (List ℕ)) (h k : List Entries) → Tells replica front h
-    → Tells replica lines k → IsPrefix front lines → IsPrefix h k
+pub told_begins : (replica : ℕ) (front lines : List (List ℕ)) (h k : List Entries) → TellHistory replica front h
+    → TellHistory replica lines k → IsPrefix front lines → IsPrefix h k
 told_begins replica front lines h k first all begins =
     let found = tell_front replica front lines k all begins (told_some replica front h first) in
     subst (λ x. IsPrefix x k) (tell_the_same replica front found.0 h found.1 first) found.2
@@ -113,8 +113,8 @@ not_none [] lines some begins is = some refl
 not_none (l ∷ kept) lines some begins is = no_lines l (kept ++ begins.0) (begins.1 ∙ is)
 
 pub outlives : (replica : ℕ) (kept noted history : List Entries) (kept_lines lines : List (List ℕ)) (written : List ℕ)
-    (synced : ℕ) (front : List (List ℕ)) → IsPrefix front kept_lines → Tells replica front kept
-    → Tells replica lines noted → IsPrefix noted history → IsFresh history
+    (synced : ℕ) (front : List (List ℕ)) → IsPrefix front kept_lines → TellHistory replica front kept
+    → TellHistory replica lines noted → IsPrefix noted history → IsFresh history
     → SurvivesCrashes written synced kept_lines lines → Outlives replica kept history written synced
 outlives replica kept noted history kept_lines lines written synced front first told_first told begins fresh survives
     left is =

@@ -4,7 +4,7 @@ use Rattle.ps_delta.specs.Deltas.{Entries}
 use Rattle.ps_sheet.specs.Sheet.{IsFresh}
 use Rattle.ps_keep.specs.Lines.{whole_lines}
 use Rattle.ps_kept.specs.Kept.{PushAll}
-use Rattle.ps_kept.specs.Starts.{Follows}
+use Rattle.ps_kept.specs.Starts.{PushesNew}
 use Rattle.ps_kept.specs.declared.fault.KeepFault.{KeepFault}
 use Rattle.ps_kept.specs.declared.fault.KeepFault.TheVariants as faults
 
@@ -26,7 +26,7 @@ pub record IsFaultyPush (lines : List (List ℕ)) (number : ℕ) : Type 0 where
   pub history : List Entries
   pub told : PushAll before history
   pub fresh : IsFresh history
-  pub faulty : (delta : Entries) → ¬ Follows history line delta
+  pub faulty : (delta : Entries) → ¬ PushesNew history line delta
 
 -- why the lines after the first aren't read
 abbrev pub IsPushFault : List (List ℕ) → KeepFault → Type 0

@@ -19,14 +19,14 @@ PushAll (line ∷ lines) [] = ⊥
 PushAll (line ∷ lines) (d ∷ ds) = Pushes line d × PushAll lines ds
 
 -- TOLD: the lines tell a replica, and its history
-abbrev pub Tells : ℕ → List (List ℕ) → List Entries → Type 0
-Tells replica [] history = ⊥
-Tells replica (first ∷ others) history = (first ≡ replica_line replica) × PushAll others history
+abbrev pub TellHistory : ℕ → List (List ℕ) → List Entries → Type 0
+TellHistory replica [] history = ⊥
+TellHistory replica (first ∷ others) history = (first ≡ replica_line replica) × PushAll others history
 
 -- some first ones of the lines tell all of the history
 abbrev pub HasAll : ℕ → List (List ℕ) → List Entries → Type 0
 HasAll replica lines history =
-    (front : List (List ℕ)) × IsPrefix front lines × Tells replica front history
+    (front : List (List ℕ)) × IsPrefix front lines × TellHistory replica front history
 
 -- KEPT: the journal has all of the history on the disk
 pub record IsKept (replica : ℕ) (history : List Entries) (j : JournalView) : Type 0 where
@@ -37,7 +37,7 @@ pub record IsKept (replica : ℕ) (history : List Entries) (j : JournalView) : T
 pub record IsNoted (replica : ℕ) (history : List Entries) (j : JournalView) : Type 0 where
   pub journal : IsJournal j
   pub noted : List Entries
-  pub told : Tells replica j.lines noted
+  pub told : TellHistory replica j.lines noted
   pub begins : IsPrefix noted history
 
 -- the lines of these deltas were noted, and nothing else was done

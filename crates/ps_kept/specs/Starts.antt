@@ -8,7 +8,7 @@ use Rattle.ps_sheet.specs.Sheet.{IsFresh}
 use Rattle.ps_keep.specs.Crash.{IsLeft}
 use Rattle.ps_keep.specs.Lines.{whole_lines}
 use Rattle.ps_session.specs.ReplicaLine.{replica_line}
-use Rattle.ps_kept.specs.Kept.{Pushes, Tells}
+use Rattle.ps_kept.specs.Kept.{Pushes, TellHistory}
 use Rattle.ps_kept.specs.declared.fault.KeepFault.{KeepFault}
 use Rattle.ps_kept.specs.declared.fault.KeepFault.TheVariants as faults
 
@@ -19,7 +19,7 @@ pub record IsUnbegun (replica : ℕ) (bytes : List ℕ) : Type 0 where
 
 -- the whole lines tell a history in which no delta is below those before it
 pub record IsBegun (replica : ℕ) (bytes : List ℕ) (history : List Entries) : Type 0 where
-  pub told : Tells replica (whole_lines bytes) history
+  pub told : TellHistory replica (whole_lines bytes) history
   pub fresh : IsFresh history
 
 -- READ: a start of this replica reads this history in a file of these bytes
@@ -34,8 +34,8 @@ Outlives replica kept history written synced =
     → (read : List Entries) × Reads replica left read × IsPrefix kept read × IsPrefix read history
 
 -- the line pushes a delta that isn't below the history
-abbrev pub Follows : List Entries → List ℕ → Entries → Type 0
-Follows history line delta = Pushes line delta × ¬ IsBelow (state_of delta) (joined_history history)
+abbrev pub PushesNew : List Entries → List ℕ → Entries → Type 0
+PushesNew history line delta = Pushes line delta × ¬ IsBelow (state_of delta) (joined_history history)
 
 -- the first line tells no replica, or there is none and what there is is no beginning of it
 abbrev pub HasNoFirst : ℕ → List ℕ → List (List ℕ) → Type 0
@@ -50,9 +50,9 @@ pub record IsFaulty (replica : ℕ) (lines : List (List ℕ)) (number : ℕ) : T
   pub is : lines ≡ before ++ line ∷ after
   pub counts : number ≡ length before + 1
   pub history : List Entries
-  pub told : Tells replica before history
+  pub told : TellHistory replica before history
   pub fresh : IsFresh history
-  pub faulty : (delta : Entries) → ¬ Follows history line delta
+  pub faulty : (delta : Entries) → ¬ PushesNew history line delta
 
 -- the first line tells this other replica
 abbrev pub IsOther : ℕ → List (List ℕ) → ℕ → Type 0

@@ -7,7 +7,7 @@ ghost use Rattle.ps_sheet.specs.Sheet.{IsSheet};
 ghost use Rattle.ps_keep.specs.Lines.{whole_lines};
 ghost use Rattle.ps_session.specs.ReplicaLine.{replica_line};
 ghost use Rattle.ps_kept.specs.Kept.{PushAll};
-ghost use Rattle.ps_kept.specs.Starts.{Follows, IsFaultOf, IsUnbegun, Reads};
+ghost use Rattle.ps_kept.specs.Starts.{IsFaultOf, IsUnbegun, PushesNew, Reads};
 ghost use Rattle.ps_kept.specs.Inside.{IsPushFault};
 
 use crate::fault::KeepFault;
@@ -55,8 +55,8 @@ fn take_in<R: Threads + Sync, L: Ledger>(
     meter: &mut Meter<L>,
 ) -> Result<bool, Refusal>
     ensures taken { IfOk result (λ is. is ≡ true
-        → (d : Entries) × Follows sheet.old.history line.now d × (sheet.new.history ≡ sheet.old.history ++ d ∷ [])) }
-    ensures refused { IfOk result (λ is. is ≡ false → (d : Entries) → ¬ Follows sheet.old.history line.now d) }
+        → (d : Entries) × PushesNew sheet.old.history line.now d × (sheet.new.history ≡ sheet.old.history ++ d ∷ [])) }
+    ensures refused { IfOk result (λ is. is ≡ false → (d : Entries) → ¬ PushesNew sheet.old.history line.now d) }
     ensures memory { IfErr result (λ e. e ≡ Refusal.Memory) }
     ensures replica { sheet.new.replica ≡ sheet.old.replica }
     ensures workers { sheet.new.workers ≡ sheet.old.workers }

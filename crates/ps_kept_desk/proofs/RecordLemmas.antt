@@ -12,7 +12,7 @@ use Rattle.ps_face.proofs.Beginnings.{begins_itself, begins_trans}
 use Rattle.ps_desk.proofs.Closes.{history_begins}
 use Rattle.ps_keep.specs.Journals.{IsJournal, JournalView}
 use Rattle.ps_session.specs.PushLine.{push_line}
-use Rattle.ps_kept.specs.Kept.{Notes, PushAll, Tells}
+use Rattle.ps_kept.specs.Kept.{Notes, PushAll, TellHistory}
 use Rattle.ps_kept_desk.specs.Records.{EndsKept, IsRecord, RecordView}
 
 push_more : (lines news : List (List ℕ)) (a b : List Entries) → PushAll lines a → PushAll news b
@@ -22,8 +22,8 @@ push_more [] news (d ∷ a) b p q = absurd p
 push_more (line ∷ lines) news [] b p q = absurd p
 push_more (line ∷ lines) news (d ∷ a) b p q = (p.0, push_more lines news a b p.1 q)
 
-tells_more : (r : ℕ) (lines news : List (List ℕ)) (a b : List Entries) → Tells r lines a → PushAll news b
-    → Tells r (lines ++ news) (a ++ b)
+tells_more : (r : ℕ) (lines news : List (List ℕ)) (a b : List Entries) → TellHistory r lines a → PushAll news b
+    → TellHistory r (lines ++ news) (a ++ b)
 tells_more r [] news a b t q = absurd t
 tells_more r (first ∷ lines) news a b t q = (t.0, push_more lines news a b t.1 q)
 
@@ -36,7 +36,7 @@ module _ (r : ℕ) (h : List Entries) (v : RecordView) (is : IsRecord r h v) whe
       sym (take-append-le v.noted (history_of h v.seen) begins.0 is.within) ∙ ap (take v.noted) begins.1 in
       record {
         told = is.told;
-        noted = subst (λ (ds : List Entries). Tells r v.journal.lines ds) same is.noted;
+        noted = subst (λ (ds : List Entries). TellHistory r v.journal.lines ds) same is.noted;
         within = omega (arith, is.within, ap length begins.1, length-append (history_of h v.seen) begins.0);
         later = begins_trans v.kept v.seen list is.later later;
         journal = is.journal;
@@ -53,10 +53,10 @@ module _ (r : ℕ) (h : List Entries) (v : RecordView) (is : IsRecord r h v) whe
       let all : take v.noted seen ++ take k deltas ≡ take (v.noted + k) seen =
       ap (λ (ds : List Entries). take v.noted seen ++ take k ds) rest ∙ sym (take-add v.noted k seen) in
       record {
-        told = subst (λ (ls : List (List ℕ)). Tells r ls (history_of h v.kept))
+        told = subst (λ (ls : List (List ℕ)). TellHistory r ls (history_of h v.kept))
             (sym (ap (λ (w : JournalView). w.kept) notes.lines)) is.told;
-        noted = subst (λ (ls : List (List ℕ)). Tells r ls (take (v.noted + k) seen)) (sym lines)
-            (subst (λ (ds : List Entries). Tells r (v.journal.lines ++ map push_line (take k deltas)) ds) all
+        noted = subst (λ (ls : List (List ℕ)). TellHistory r ls (take (v.noted + k) seen)) (sym lines)
+            (subst (λ (ds : List Entries). TellHistory r (v.journal.lines ++ map push_line (take k deltas)) ds) all
             (tells_more r v.journal.lines (map push_line (take k deltas)) (take v.noted seen) (take k deltas) is.noted
             notes.each));
         within = omega (arith, is.within, few, ap length rest, length-drop v.noted seen);
@@ -99,10 +99,10 @@ module _ (r : ℕ) (h : List Entries) (v : RecordView) (is : IsRecord r h v) whe
   settled j all kept lines journal =
       let seen = history_of h v.seen in
       record {
-        told = subst (λ (ls : List (List ℕ)). Tells r ls seen) (sym kept)
-            (subst (λ (ds : List Entries). Tells r v.journal.lines ds) (take_all v.noted seen (omega (arith, all)))
-            is.noted);
-        noted = subst (λ (ls : List (List ℕ)). Tells r ls (take v.noted seen)) (sym lines) is.noted;
+        told = subst (λ (ls : List (List ℕ)). TellHistory r ls seen) (sym kept)
+            (subst (λ (ds : List Entries). TellHistory r v.journal.lines ds)
+            (take_all v.noted seen (omega (arith, all))) is.noted);
+        noted = subst (λ (ls : List (List ℕ)). TellHistory r ls (take v.noted seen)) (sym lines) is.noted;
         within = is.within;
         later = begins_itself v.seen;
         journal = journal;
@@ -112,8 +112,8 @@ module _ (r : ℕ) (h : List Entries) (v : RecordView) (is : IsRecord r h v) whe
   pub unsettled : (j : JournalView) → j.kept ≡ v.journal.kept → j.lines ≡ v.journal.lines → IsJournal j
       → IsRecord r h (record v { journal = j })
   unsettled j kept lines journal = record {
-    told = subst (λ (ls : List (List ℕ)). Tells r ls (history_of h v.kept)) (sym kept) is.told;
-    noted = subst (λ (ls : List (List ℕ)). Tells r ls (take v.noted (history_of h v.seen))) (sym lines) is.noted;
+    told = subst (λ (ls : List (List ℕ)). TellHistory r ls (history_of h v.kept)) (sym kept) is.told;
+    noted = subst (λ (ls : List (List ℕ)). TellHistory r ls (take v.noted (history_of h v.seen))) (sym lines) is.noted;
     within = is.within;
     later = is.later;
     journal = journal;

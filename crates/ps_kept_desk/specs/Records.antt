@@ -5,7 +5,7 @@ use Rattle.ps_delta.specs.Deltas.{Entries}
 use Rattle.ps_face.specs.declared.patch.Note.{Note}
 use Rattle.ps_face.specs.Legal.{history_of}
 use Rattle.ps_keep.specs.Journals.{IsJournal, JournalView}
-use Rattle.ps_kept.specs.Kept.{Tells}
+use Rattle.ps_kept.specs.Kept.{TellHistory}
 
 pub record RecordView : Type 0 where
   pub journal : JournalView
@@ -18,8 +18,8 @@ pub record RecordView : Type 0 where
 -- RECORD: the kept lines tell the replica r, and the history that the kept list stands for, after the opening history
 -- h; and the noted ones a beginning of the history that the seen list stands for
 pub record IsRecord (r : ℕ) (h : List Entries) (v : RecordView) : Type 0 where
-  pub told : Tells r v.journal.kept (history_of h v.kept)
-  pub noted : Tells r v.journal.lines (take v.noted (history_of h v.seen))
+  pub told : TellHistory r v.journal.kept (history_of h v.kept)
+  pub noted : TellHistory r v.journal.lines (take v.noted (history_of h v.seen))
   pub within : v.noted ≤ length (history_of h v.seen)
   pub later : IsPrefix v.kept v.seen
   pub journal : IsJournal v.journal
@@ -29,6 +29,6 @@ pub record IsRecord (r : ℕ) (h : List Entries) (v : RecordView) : Type 0 where
 pub record EndsKept (r : ℕ) (h history : List Entries) (lists : List (List Note)) (lines : List (List ℕ)) : Type 0
   where
     pub part : List Entries
-    pub told : Tells r lines part
+    pub told : TellHistory r lines part
     pub begins : IsPrefix part history
     pub all : All (λ list. IsPrefix (history_of h list) part) lists

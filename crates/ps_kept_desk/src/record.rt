@@ -6,7 +6,7 @@ ghost use Rattle.std.specs.Arc.{arc_value};
 ghost use mathlib.Core.List.{IsPrefix};
 ghost use Rattle.ps_face.specs.Legal.{history_of};
 ghost use Rattle.ps_keep.specs.Journals.{IsJournal};
-ghost use Rattle.ps_kept.specs.Kept.{Tells};
+ghost use Rattle.ps_kept.specs.Kept.{TellHistory};
 ghost use Rattle.ps_sheet.specs.Sheet.{IsSheet};
 ghost use Rattle.ps_desk.specs.Closing.{HistoryBegins, IsClosed, appended_of};
 ghost use Rattle.ps_kept_desk.specs.Records.{EndsKept, IsRecord};
@@ -130,7 +130,7 @@ impl<L: DeskName, D: Device + Drop> Model for Record<L, D> {
 impl<L: DeskName, D: Device + Drop> Record<L, D> {
     /// A record that keeps the opening history.
     pub(crate) fn new(journal: Journal<D>, place: Place<L>, noted: u64) -> Record<L, D>
-        requires told { Tells L.replica journal.lines L.opening }
+        requires told { TellHistory L.replica journal.lines L.opening }
         requires kept { journal.kept ≡ journal.lines }
         requires open { journal.has_failed ≡ false }
         requires journal { IsJournal journal }
@@ -249,7 +249,7 @@ impl<L: DeskName, D: Device + Drop> Record<L, D> {
         ensures one { IsClosed L.opening result.sheet.history passes.items }
         ensures sheet { IsSheet result.sheet }
         ensures told { EndsKept L.replica L.opening result.sheet.history told.now result.journal.kept }
-        ensures all { OnOk result.settled (Tells L.replica result.journal.kept result.sheet.history) }
+        ensures all { OnOk result.settled (TellHistory L.replica result.journal.kept result.sheet.history) }
         ensures journal { IsJournal result.journal }
     {
         let sheet = desk.close_at(wait, passes, &mut self.seen);

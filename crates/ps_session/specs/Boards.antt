@@ -40,8 +40,8 @@ told text (Ok answer) = text answer
 told text (Err refusal) = refusal_text refusal
 
 -- a call answered, and the reply tells its answer
-abbrev pub Tells : {X : Type 0} → (Read X → Type 0) → (X → List ℕ) → List ℕ → Type 0
-Tells {X} Call text reply = (answer : Read X) × Call answer × (reply ≡ told text answer)
+abbrev pub TellsAnswer : {X : Type 0} → (Read X → Type 0) → (X → List ℕ) → List ℕ → Type 0
+TellsAnswer {X} Call text reply = (answer : Read X) × Call answer × (reply ≡ told text answer)
 
 -- what one is told who has the first `from` deltas and takes at most so many at once: of these deltas after them as
 -- many as one line holds, or that there are none; out of memory only where there is one
@@ -54,17 +54,18 @@ HandsOn from most (Ok (d ∷ ds)) reply =
 -- what a board does where a line asks for this: the reply, and the board afterwards. A pull asks for one delta at
 -- least, so that there is none only at the end. A delta that is pushed may find no memory before the board is asked
 abbrev pub Obeyed : {State : Type 0} → Calls State → State → Read Command → List ℕ → State → Type 0
-Obeyed calls old (Ok (Edit edit)) reply new = Tells (λ answer. calls.edits old edit answer new) done_text reply
-Obeyed calls old (Ok (Get cell)) reply new = Tells (λ answer. calls.shows old cell answer new) value_text reply
+Obeyed calls old (Ok (Edit edit)) reply new = TellsAnswer (λ answer. calls.edits old edit answer new) done_text reply
+Obeyed calls old (Ok (Get cell)) reply new = TellsAnswer (λ answer. calls.shows old cell answer new) value_text reply
 Obeyed calls old (Ok (Rows first last)) reply new =
-    Tells (λ answer. calls.tables old (spanned first last) answer new) (rows_text ((spanned first last).height)) reply
-Obeyed calls old (Ok (Entry cell)) reply new = Tells (λ answer. calls.holds old cell answer new) entry_reply reply
-Obeyed calls old (Ok (AllEntries first last)) reply new = Tells
+    TellsAnswer (λ answer. calls.tables old (spanned first last) answer new)
+    (rows_text ((spanned first last).height)) reply
+Obeyed calls old (Ok (Entry cell)) reply new = TellsAnswer (λ answer. calls.holds old cell answer new) entry_reply reply
+Obeyed calls old (Ok (AllEntries first last)) reply new = TellsAnswer
     (λ answer. calls.lists old (spanned first last) answer new) (entries_reply ((spanned first last).height)) reply
 Obeyed calls old (Ok (Pull from most)) reply new = (answer : Read (List Entries))
     × calls.pulls old from (max (unwrap_or most 1) 1) answer new × HandsOn from (unwrap_or most 1) answer reply
 Obeyed calls old (Ok (Push delta)) reply new =
-    Tells (λ answer. calls.receives old delta answer new) done_text reply
+    TellsAnswer (λ answer. calls.receives old delta answer new) done_text reply
     ⊎ ((new ≡ old) × (reply ≡ refusal_text refusals.Memory))
 Obeyed calls old (Ok (Replica named)) reply new =
     (number : ℕ) × calls.replica old number new × (reply ≡ replica_text number)

@@ -98,7 +98,7 @@ pub record IsAll (first last : PeerView) (written contents : Option (List ℕ)) 
   pub ended : TellsEnd (without_return last.line) version
 
 -- .. until the peer closed: it ended its replies behind one of them
-pub record IsLeft (first last : PeerView) (written contents : Option (List ℕ)) : Type 0 where
+pub record IsUntilClosed (first last : PeerView) (written contents : Option (List ℕ)) : Type 0 where
   pub middle : PeerView
   pub version : ℕ
   pub followed : IsFollowed first middle written contents version

@@ -2,7 +2,7 @@
 ghost use Rattle.std.specs.Prelude.{◌≡◌, ◌⊎◌, ◌<◌, [], Err, IfErr, OnErr, OnOk, false, true};
 ghost use Rattle.std.specs.Io.KnownBytes.{Appends};
 ghost use Rattle.ps_grid.specs.declared.refusal.Refusal.TheVariants as Refusal;
-ghost use Rattle.ps_session.specs.Exchange.{IsAll, IsHalted, IsLeft, IsOwn};
+ghost use Rattle.ps_session.specs.Exchange.{IsAll, IsHalted, IsOwn, IsUntilClosed};
 ghost use Rattle.ps_session.specs.Feeding.{without_return};
 ghost use Rattle.ps_session.specs.Peers.{PutsSome};
 ghost use Rattle.ps_session.specs.PushLine.{push_text};
@@ -58,7 +58,7 @@ pub fn follow<S: Source + Drop, K: Sink + Drop, O: Sink, C: Clock>(
     ensures all { OnOk result (following.until_now ≡ true
         → IsAll from.old from.new (O.contents out.old) (O.contents out.new)) }
     ensures left { OnOk result (following.until_now ≡ false
-        → IsLeft from.old from.new (O.contents out.old) (O.contents out.new)) }
+        → IsUntilClosed from.old from.new (O.contents out.old) (O.contents out.new)) }
     ensures halted { OnErr result (IsHalted (O.failures out.old < O.failures out.new) from.old from.new
         (O.contents out.old) (O.contents out.new)) }
     ensures settled { O.waiting out.old ≡ []

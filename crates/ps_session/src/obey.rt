@@ -2,7 +2,7 @@
 ghost use Rattle.std.specs.Prelude.{◌≡◌, ◌⊎◌, List, Ok, map, max};
 ghost use Rattle.std.specs.Arc.{arc_value};
 ghost use Rattle.ps_delta.specs.Deltas.{Entries};
-ghost use Rattle.ps_session.specs.Boards.{BoardAnswers, HandsOn, Obeyed, Tells};
+ghost use Rattle.ps_session.specs.Boards.{BoardAnswers, HandsOn, Obeyed, TellsAnswer};
 ghost use Rattle.ps_session.specs.Commands.{Read};
 ghost use Rattle.ps_session.specs.Replies.{done_text, entries_reply, refusal_text, reply_text, rows_text};
 
@@ -65,7 +65,7 @@ fn obey<R: Threads + Sync, B: Board<M>, M>(
 
 /// The shown values of a rectangle as a table.
 fn show_table<B: Board<M>, M>(alloc: Global, rect: Rect, board: &mut B) -> Reply
-    ensures { Tells (λ answer. B.calls.tables board.old rect answer board.new) (rows_text rect.height)
+    ensures { TellsAnswer (λ answer. B.calls.tables board.old rect answer board.new) (rows_text rect.height)
         (reply_text result) }
 {
     match board.table(alloc, rect) {
@@ -76,7 +76,7 @@ fn show_table<B: Board<M>, M>(alloc: Global, rect: Rect, board: &mut B) -> Reply
 
 /// The entries of a rectangle as a table.
 fn list_entries<B: Board<M>, M>(alloc: Global, rect: Rect, board: &mut B) -> Reply
-    ensures { Tells (λ answer. B.calls.lists board.old rect answer board.new) (entries_reply rect.height)
+    ensures { TellsAnswer (λ answer. B.calls.lists board.old rect answer board.new) (entries_reply rect.height)
         (reply_text result) }
 {
     match board.entries(alloc, rect) {
@@ -112,7 +112,8 @@ fn take_in<R: Threads + Sync, B: Board<M>, M>(
     board: &mut B,
     meter: &mut M,
 ) -> Reply
-    ensures taken { Tells (λ answer. B.calls.receives board.old delta answer board.new) done_text (reply_text result)
+    ensures taken { TellsAnswer (λ answer. B.calls.receives board.old delta answer board.new) done_text
+        (reply_text result)
         ⊎ ((board.new ≡ board.old) × (reply_text result ≡ refusal_text Refusal.Memory)) }
 {
     let pushed = match Arc::new(alloc, delta) {

@@ -8,7 +8,7 @@ use Rattle.ps_face.specs.Legal.{history_of}
 use Rattle.ps_desk.specs.Patches.{change_in}
 use Rattle.ps_desk.proofs.Locked.{same_locked}
 use Rattle.ps_desk.proofs.Noted.{at_staged, worked_out}
-use Rattle.ps_desk.proofs.Receipted.{history_kept, later_either, refused_fresh, tells_covered, tells_if_fresh}
+use Rattle.ps_desk.proofs.Receipted.{history_kept, later_either, refused_fresh, tells_if_fresh, tells_included}
 use Rattle.ps_desk.proofs.change.finish.Goals as goal
 
 pub append-requires-clause-fresh : goal.append-requires-clause-fresh
@@ -55,7 +55,7 @@ returns-clause-receipt g c =
     let x : StagingView = c.args.sheet.now in
     let idle = sym (at_staged (λ (p : StagedView). c.fresh.result ≡ p.fresh) x.staged c.fresh.ensures.fresh)
     ∙ c.if-fresh.false in
-    tells_covered g.L.Named.opening (change_in x) c.args.pass.now.list c.args.pass.now.seat _
+    tells_included g.L.Named.opening (change_in x) c.args.pass.now.list c.args.pass.now.seat _
     (worked_out x c.requires.staged c.fresh.ensures.staging) idle
     (c.requires.under_lock.history ∙ ap (history_of g.L.Named.opening) (sym c.requires.seen))
     (ap (λ (r : Report). r.version)
