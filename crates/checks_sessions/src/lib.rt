@@ -1,7 +1,7 @@
 //! Tests of sessions and of desks, by public calls alone.
 //!
 //! `commands` asks what lines ask for, `session` how bytes are put together to lines, `runs` what a sheet's session
-//! replies, `keeping` what one hands on whose keeper or sink fails, `exchange` and `following` what peers may reply,
+//! replies, `keeping` what one hands on whose keeper or sink fails, `syncing` and `following` what peers may reply,
 //! `replica_line` which line tells a replica, all of `ps_session`. `desk` has a sheet shared by several sessions, of
 //! `ps_desk`.
 //!
@@ -13,8 +13,6 @@ mod commands;
 #[cfg(test)]
 mod desk;
 #[cfg(test)]
-mod exchange;
-#[cfg(test)]
 mod following;
 #[cfg(test)]
 mod keeping;
@@ -24,3 +22,5 @@ mod replica_line;
 mod runs;
 #[cfg(test)]
 mod session;
+#[cfg(test)]
+mod syncing;

@@ -1,4 +1,4 @@
-use Rattle.checks_sessions.proofs.exchange.synced.Given as goal
+use Rattle.checks_sessions.proofs.syncing.synced.Given as goal
 
 abbrev pub ghosts-between-O-Ledger : goal.ghosts-between-O-Ledger
 ghosts-between-O-Ledger a = record { name = a.first.name; parts = a.first.parts }
