@@ -5,14 +5,14 @@ use Rattle.ps_kept.specs.Starts.{IsFaultOf}
 use Rattle.ps_kept.specs.declared.fault.KeepFault.TheVariants as keeps
 use Rattle.ps_commands.specs.declared.fault.ProgramFault.{ProgramFault}
 use Rattle.ps_commands.specs.declared.fault.ProgramFault.TheVariants.{KeptFailed, Refused}
-use Rattle.ps_commands.specs.declared.kept.KeptFault.{KeptFault}
+use Rattle.ps_commands.specs.declared.kept.FileNotTaken.{FileNotTaken}
 use Rattle.ps_commands.specs.declared.kept.KeptTrouble.{KeptTrouble}
 use Rattle.ps_commands.specs.declared.kept.KeptTrouble.TheVariants as troubles
 
 -- the fault tells of this trouble, or that there was no memory to tell of it
 abbrev pub TellsTrouble : KeptTrouble → ProgramFault → Type 0
 TellsTrouble trouble fault =
-    (fault ≡ Refused Memory) ⊎ ((kept : KeptFault) × (kept.trouble ≡ trouble) × (fault ≡ KeptFailed kept))
+    (fault ≡ Refused Memory) ⊎ ((kept : FileNotTaken) × (kept.trouble ≡ trouble) × (fault ≡ KeptFailed kept))
 
 -- what there is about the bytes of a file that a start of this replica is refused for: the first line that may not
 -- stand there, or the replica whose sheet it is

@@ -2,7 +2,7 @@
 ghost use Rattle.std.specs.Prelude.{◌≡◌};
 ghost use Rattle.ps_commands.specs.Status.{exit_status, program_fault, session_fault};
 
-use crate::kept::KeptFault;
+use crate::kept::FileNotTaken;
 use crate::port::PortFault;
 use ps_csv::ImportFault;
 use ps_grid::Refusal;
@@ -34,7 +34,7 @@ pub enum ProgramFault {
     PortFailed(PortFault),
     /// A file isn't taken to keep a sheet in.
     #[error("{0}")]
-    KeptFailed(KeptFault),
+    KeptFailed(FileNotTaken),
 }
 
 impl From<Refusal> for ProgramFault {

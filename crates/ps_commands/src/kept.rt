@@ -35,14 +35,14 @@ pub enum KeptTrouble {
 /// A file that isn't taken to keep a sheet in, and why. Its text is two lines, without the last line feed: the refusal,
 /// and what is told of the file.
 #[derive(Debug, Drop)]
-pub struct KeptFault {
+pub struct FileNotTaken {
     /// The path of the file, as it was given.
     pub path: String,
     /// Why it isn't taken.
     pub trouble: KeptTrouble,
 }
 
-impl KeptFault {
+impl FileNotTaken {
     /// The exit status: 1 where another program keeps the file, else 3.
     ///
     /// Cost: constant.
@@ -56,7 +56,7 @@ impl KeptFault {
     }
 }
 
-impl fmt::Display for KeptFault {
+impl fmt::Display for FileNotTaken {
     fn fmt<W: fmt::Write>(&self, f: &mut fmt::Formatter<W>) -> fmt::Result {
         let path = self.path.as_str();
         match self.trouble {
@@ -77,11 +77,11 @@ impl fmt::Display for KeptFault {
 }
 
 /// The fault of a file that isn't taken; out of memory another one.
-fn kept_fault(alloc: Global, path: &str, trouble: KeptTrouble) -> ProgramFault
+fn not_taken(alloc: Global, path: &str, trouble: KeptTrouble) -> ProgramFault
     ensures { TellsTrouble trouble result }
 {
     match path.to_string(alloc) {
-        Ok(path) => ProgramFault::KeptFailed(KeptFault { path, trouble }),
+        Ok(path) => ProgramFault::KeptFailed(FileNotTaken { path, trouble }),
         Err(_) => ProgramFault::Refused(Refusal::Memory),
     }
 }
@@ -99,7 +99,7 @@ pub fn open_file<R: Files<File = File>>(
         Ok(found) => Ok(found),
         Err(FileFault::Memory) => Err(ProgramFault::Refused(Refusal::Memory)),
         Err(FileFault::Device) => Err(ProgramFault::Refused(Refusal::Device)),
-        Err(FileFault::Busy) => Err(kept_fault(alloc, path, KeptTrouble::Busy)),
+        Err(FileFault::Busy) => Err(not_taken(alloc, path, KeptTrouble::Busy)),
     }
 }
 
@@ -141,8 +141,8 @@ pub fn keep_sheet<R: Threads + Sync, F: Found + Drop, L: Ledger>(
     match fault {
         KeepFault::Memory => Err(ProgramFault::Refused(Refusal::Memory)),
         KeepFault::Device => Err(ProgramFault::Refused(Refusal::Device)),
-        KeepFault::Line(number) => Err(kept_fault(alloc, path, KeptTrouble::Line(number))),
-        KeepFault::Replica(number) => Err(kept_fault(alloc, path, KeptTrouble::Replica(number))),
+        KeepFault::Line(number) => Err(not_taken(alloc, path, KeptTrouble::Line(number))),
+        KeepFault::Replica(number) => Err(not_taken(alloc, path, KeptTrouble::Replica(number))),
     }
 }
 
