@@ -1,16 +1,17 @@
 //! The file that a sheet is kept in, and why it isn't taken.
-ghost use Rattle.std.specs.Prelude.{◌≡◌, IfErr, IfOk, false};
+ghost use Rattle.std.specs.Prelude.{◌≡◌, ◌⊎◌, ℕ, List, IfErr, IfOk, false};
 ghost use Rattle.ps_sheet.specs.Sheet.{IsSheet};
 ghost use Rattle.ps_keep.specs.Journals.{IsJournal};
 ghost use Rattle.ps_kept.specs.Kept.{IsKept, IsNoted, TellHistory};
 ghost use Rattle.ps_kept.specs.Starts.{Reads};
 ghost use Rattle.ps_commands.specs.Kept.{IsFileRefusal, TellsTrouble};
 ghost use Rattle.ps_commands.specs.Status.{kept_status};
+ghost use Rattle.ps_commands.specs.declared.fault.ProgramFault.TheVariants.{Refused};
 
 use crate::fault::ProgramFault;
 use ps_eval::Meter;
 use ps_grid::Refusal;
-use ps_keep::{FileFault, Found, FoundFile};
+use ps_keep::{FileFault, Found, FoundFile, KeptFile};
 use ps_kept::{KeepFault, SheetKeeper, open_kept};
 use ps_sheet::Sheet;
 use ps_words::SheetOptions;
@@ -90,11 +91,13 @@ fn not_taken(alloc: Global, path: &str, trouble: KeptTrouble) -> ProgramFault
 /// Refused as `Device` where it is no regular file or can't be opened for reading and writing, and as `Memory`.
 ///
 /// Cost: linear in the file, and its memory.
-pub fn open_file<R: Files<File = File>>(
+fn open_file<R: Files<File = File>>(
     rt: &R,
     alloc: Global,
     path: &str,
-) -> Result<FoundFile, ProgramFault> {
+) -> Result<FoundFile, ProgramFault>
+    ensures refused { IfErr result (λ f. (f ≡ Refused Refusal.Device) ⊎ TellsTrouble KeptTrouble.Busy f) }
+{
     match FoundFile::open(rt, alloc, path) {
         Ok(found) => Ok(found),
         Err(FileFault::Memory) => Err(ProgramFault::Refused(Refusal::Memory)),
@@ -144,6 +147,41 @@ pub fn keep_sheet<R: Threads + Sync, F: Found + Drop, L: Ledger>(
         KeepFault::Line(number) => Err(not_taken(alloc, path, KeptTrouble::Line(number))),
         KeepFault::Replica(number) => Err(not_taken(alloc, path, KeptTrouble::Replica(number))),
     }
+}
+
+/// Opens the file of this path, or makes it, reads the sheet of the replica that was asked for of its bytes, and keeps
+/// the sheet there from then on.
+///
+/// A file that another program keeps, a line that may not stand there, and a file of another replica are faults of
+/// their own. Refused as `Device` where it is no regular file or can't be opened for reading and writing, and where the
+/// device fails, and as `Memory`.
+///
+/// Cost: that of [`keep_sheet`], and the memory of the file's bytes.
+pub fn open_kept_sheet<R: Files<File = File> + Threads + Sync, L: Ledger>(
+    rt: &R,
+    alloc: Global,
+    path: &str,
+    options: SheetOptions,
+    meter: &mut Meter<L>,
+) -> Result<(Sheet, SheetKeeper<KeptFile>), ProgramFault>
+    ensures read { IfOk result (λ r. (bytes : List ℕ) × Reads options.replica bytes r.0.history) }
+    ensures replica { IfOk result (λ r. r.0.replica ≡ options.replica) }
+    ensures workers { IfOk result (λ r. r.0.workers ≡ options.workers) }
+    ensures sheet { IfOk result (λ r. IsSheet r.0) }
+    ensures settled { IfOk result (λ r. r.1.kept ≡ r.1.lines) }
+    ensures open { IfOk result (λ r. r.1.has_failed ≡ false) }
+    ensures told { IfOk result (λ r. TellHistory options.replica r.1.lines r.0.history) }
+    ensures journal { IfOk result (λ r. IsJournal r.1) }
+    ensures noted { IfOk result (λ r. IsNoted options.replica r.0.history r.1) }
+    ensures kept { IfOk result (λ r. IsKept options.replica r.0.history r.1) }
+    ensures refused { IfErr result (λ f. (f ≡ Refused Refusal.Device) ⊎ TellsTrouble KeptTrouble.Busy f
+        ⊎ ((bytes : List ℕ) × IsFileRefusal options.replica bytes f)) }
+{
+    let found = match open_file(rt, alloc, path) {
+        Ok(found) => found,
+        Err(fault) => return Err(fault),
+    };
+    keep_sheet(rt, alloc, found, path, options, meter)
 }
 
 /// What was opened: a line for standard error, without its line feed.

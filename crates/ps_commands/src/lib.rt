@@ -14,10 +14,10 @@
 //! the program early, and [`status_of`] its exit status: 1 where a device failed, 3 for any other refusal.
 //! [`port_fault`] says of a port that can't be had why.
 //!
-//! A sheet that is kept in a file begins with [`keep_sheet`], which reads what the file has. [`answer_kept`] and
-//! [`attend_kept`] hand nothing on but what is on the disk, whatever they come to (`IsCovered`, of `ps_session`), and
-//! at the end of [`serve_kept_on`] the journal has all of the sheet. A [`FileNotTaken`] says why a file isn't taken. A
-//! [`Warner`] tells once that the replica of a kept sheet makes changes elsewhere, too.
+//! A sheet that is kept in a file begins with [`open_kept_sheet`], which reads what the file has by [`keep_sheet`].
+//! [`answer_kept`] and [`attend_kept`] hand nothing on but what is on the disk, whatever they come to (`IsCovered`, of
+//! `ps_session`), and at the end of [`serve_kept_on`] the journal has all of the sheet. A [`FileNotTaken`] says why a
+//! file isn't taken. A [`Warner`] tells once that the replica of a kept sheet makes changes elsewhere, too.
 //!
 //! From a source of `set A1 5` and `get A1`, [`answer_lines`] writes `ok 1` and `val 5` on its sink; from one of
 //! `2,=[.A1]*3`, [`table_on`] writes `2,6`.
@@ -55,7 +55,7 @@ pub use elsewhere::{KeptOnlooker, NumberElsewhere, Warner, tell_opened};
 pub use explain::Onlooker;
 pub use fault::{ProgramFault, status_of};
 pub use follow::follow_on;
-pub use kept::{FileNotTaken, KeptTrouble, OpenedFile, keep_sheet, open_file};
+pub use kept::{FileNotTaken, KeptTrouble, OpenedFile, keep_sheet, open_kept_sheet};
 pub use listening::{serve, serve_kept};
 pub use page::open_page;
 pub use port::{PortFault, PortTrouble, port_fault};

@@ -12,7 +12,7 @@ ghost use Rattle.ps_commands.specs.declared.fault.ProgramFault.TheVariants.{Refu
 
 use crate::elsewhere::tell_opened;
 use crate::fault::ProgramFault;
-use crate::kept::{keep_sheet, open_file};
+use crate::kept::open_kept_sheet;
 use crate::notice::tell;
 use crate::port::listen;
 use crate::run::open_sheet;
@@ -106,7 +106,7 @@ pub fn serve<
 ///
 /// A port that can't be listened on, and a file that isn't taken, are faults of their own, at which nothing is written.
 ///
-/// Cost: that of [`open_file`], [`keep_sheet`] and [`serve_kept_on`].
+/// Cost: that of [`open_kept_sheet`] and of [`serve_kept_on`].
 pub fn serve_kept<
     R: Files<File = File>
         + Net<Listener = TcpListener, Stream = TcpStream>
@@ -138,11 +138,7 @@ pub fn serve_kept<
         Ok(listener) => listener,
         Err(fault) => return Err(fault),
     };
-    let found = match open_file(rt, alloc, path) {
-        Ok(found) => found,
-        Err(fault) => return Err(fault),
-    };
-    let (sheet, keeper) = match keep_sheet(rt, alloc, found, path, options.sheet, meter) {
+    let (sheet, keeper) = match open_kept_sheet(rt, alloc, path, options.sheet, meter) {
         Ok(kept) => kept,
         Err(fault) => return Err(fault),
     };

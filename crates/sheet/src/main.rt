@@ -23,9 +23,9 @@ ghost use Rattle.ps_grid.specs.Blanks.{IsBlankOf};
 use clap::Error;
 use clap::error::ErrorKind;
 use ps_commands::{
-    Counts, KeptOnlooker, Onlooker, ProgramFault, answer_kept, answer_lines, follow_on, keep_sheet,
-    open_file, open_page, port_fault, serve, serve_kept, squash_on, status_of, sync_on, table_on,
-    tell_opened,
+    Counts, KeptOnlooker, Onlooker, ProgramFault, answer_kept, answer_lines, follow_on,
+    open_kept_sheet, open_page, port_fault, serve, serve_kept, squash_on, status_of, sync_on,
+    table_on, tell_opened,
 };
 use ps_device::{ConsoleOutput, Reading, Sink, Writing};
 use ps_eval::Meter;
@@ -241,10 +241,9 @@ fn run_kept<R: Files<File = File> + Threads + Sync, I: Ledger, O: Ledger, H: Led
     requires evaluations { IsBlankOf counts.evaluations M.name M.parts }
 {
     let mut meter = Meter::<M>::new(counts.evaluations);
-    let found = open_file(threads, rt.alloc(), path)?;
-    let kept = keep_sheet(threads, rt.alloc(), found, path, options.sheet, &mut meter);
-    let (sheet, mut keeper) = match kept {
-        Ok(kept) => kept,
+    let opened = open_kept_sheet(threads, rt.alloc(), path, options.sheet, &mut meter);
+    let (sheet, mut keeper) = match opened {
+        Ok(opened) => opened,
         Err(fault) => return Err(fault),
     };
     let warner = tell_opened(rt.alloc(), path, &sheet, rt.stderr());
