@@ -12,7 +12,7 @@ ghost use Rattle.ps_region.specs.Listed.{listed};
 
 use crate::after::After;
 use crate::change::{MarkedChange, still_refers};
-use crate::members::{has_formula, put};
+use crate::members::has_formula;
 use ps_grid::{CELLS, Cell};
 
 /// Whether a member is a formula cell of which no reference is left.
@@ -44,7 +44,7 @@ pub(crate) fn first_level(
     for c in members {
         if is_ready_cell(plain, left, *c) {
             level[c.index()] = 1;
-            put(order, *c);
+            order.push_reserved(*c);
         }
     }
 }
@@ -67,7 +67,7 @@ fn lower(left: &mut [u32], level: &mut [u32], order: &mut Vec<Cell>, e: Cell, k:
     left[place] -= 1;
     if left[place] == 0 {
         level[place] = k;
-        put(order, e);
+        order.push_reserved(e);
     }
 }
 
@@ -139,16 +139,6 @@ fn release<A: After>(
     }
 }
 
-/// Puts a place at the end of the places where levels begin.
-fn put_start(starts: &mut Vec<u32>, place: usize)
-    requires small { place ≤ ALL }
-    requires room { length starts.old.items < vec_capacity starts.old }
-    ensures items { starts.new.items ≡ starts.old.items ++ place ∷ [] }
-    ensures capacity { vec_capacity starts.old ≤ vec_capacity starts.new }
-{
-    let _ = starts.push(place as u32);
-}
-
 /// Gives the cells of the queue and those that they release their levels, level after level.
 pub(crate) fn settle<A: After>(
     change: &MarkedChange<'_, A>,
@@ -187,7 +177,7 @@ pub(crate) fn settle<A: After>(
     ensures levels { Levels starts.new.items order.new.items level.new }
     ensures whole { slice_index starts.new.items (length starts.new.items - 1) ≡ length order.new.items }
 {
-    put_start(starts, 0);
+    starts.push_reserved(0);
     let mut head = 0;
     let mut end = order.len();
     let mut k = 1;
@@ -197,7 +187,7 @@ pub(crate) fn settle<A: After>(
             release(change, sole, left, level, order, d, k + 1);
             head += 1;
         }
-        put_start(starts, end);
+        starts.push_reserved(end as u32);
         end = order.len();
         k += 1;
     }
@@ -223,7 +213,7 @@ pub(crate) fn list_held(plain: &[bool], left: &[u32], members: &[Cell], cyclic: 
 {
     for c in members {
         if is_held_cell(plain, left, *c) {
-            put(cyclic, *c);
+            cyclic.push_reserved(*c);
         }
     }
 }

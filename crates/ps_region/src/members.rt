@@ -1,6 +1,6 @@
 //! The members of a region, and what is noted of the touched cells.
 
-ghost use Rattle.std.specs.Prelude.{◌≡◌, ◌≤◌, ◌<◌, ◌∷◌, ◌++◌, [], length, ℕ, true, false, slice_index_or, vec_capacity};
+ghost use Rattle.std.specs.Prelude.{◌≡◌, ◌≤◌, [], length, ℕ, true, false, slice_index_or, vec_capacity};
 ghost use Rattle.ps_grid.specs.declared.size.TheConstants.{CELLS as ALL};
 ghost use Rattle.ps_grid.specs.Chains.{In};
 ghost use Rattle.ps_region.specs.Inside.Counts.{counted_in};
@@ -9,15 +9,6 @@ ghost use Rattle.ps_region.specs.Inside.Touched.{FlagsTouched, IsPlain, not_plai
 
 use crate::after::After;
 use ps_grid::Cell;
-
-/// Puts a cell at the end of a list that has room for it.
-pub(crate) fn put(cells: &mut Vec<Cell>, c: Cell)
-    requires { length cells.old.items < vec_capacity cells.old }
-    ensures items { cells.new.items ≡ cells.old.items ++ c ∷ [] }
-    ensures capacity { vec_capacity cells.old ≤ vec_capacity cells.new }
-{
-    let _ = cells.push(c);
-}
 
 /// Puts a cell into the region, with no reference counted, if it is not there yet.
 pub(crate) fn enter(marks: &mut [bool], left: &mut [u32], members: &mut Vec<Cell>, c: Cell)
@@ -34,7 +25,7 @@ pub(crate) fn enter(marks: &mut [bool], left: &mut [u32], members: &mut Vec<Cell
     if !marks[place] {
         marks[place] = true;
         left[place] = 0;
-        put(members, c);
+        members.push_reserved(c);
     }
 }
 

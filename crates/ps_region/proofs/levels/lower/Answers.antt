@@ -3,8 +3,8 @@ use Rattle.std.specs.List.{list_any}
 use Rattle.ps_region.proofs.CellListLemmas.{room_for, bool_cases}
 use Rattle.ps_region.proofs.levels.lower.Goals as goal
 
-pub put-requires : goal.put-requires
-put-requires c =
+pub push_reserved-requires : goal.push_reserved-requires
+push_reserved-requires c =
     let order = c.args.order.now.items in
     let absent : list_any (eqb c.args.e) order ≡ false =
     ⊎_elim

@@ -84,8 +84,8 @@ walk-preserved g c =
       room = c.release.ensures.room;
     }
 
-pub put_start-requires-in-levels : goal.put_start-requires-in-levels
-put_start-requires-in-levels g c =
+pub push_reserved-requires-in-levels : goal.push_reserved-requires-in-levels
+push_reserved-requires-in-levels g c =
     let i = c.levels.invariant in
     let few = few_levels _ _ _ _ _ _ _ i.levels i.state.queued i.count i.some i.begin
     c.levels-test.true i.state.within in
@@ -121,11 +121,11 @@ levels-preserved g c =
     CELLS c.levels.head c.walk.head e k c.walk.left c.walk.level c.walk.order.items) (sym same) j.state in
     let long = c.len-end-in-levels.ensures in
     let last : c.len-end-in-levels.result ≡ length c.walk.order.items = omega arith in
-    let items = c.put_start-in-levels.ensures.items in
+    let items = c.push_reserved-in-levels.ensures.items in
     let count = i.count in
     let pushed = length_push starts c.levels.«end» in
     let count2 : length starts ≡ k + 1 - 1 = omega (arith, count) in
-    let cap = c.put_start-in-levels.ensures.capacity in
+    let cap = c.push_reserved-in-levels.ensures.capacity in
     let room = i.room_starts in
     let long1 = c.walk.auto.left in
     record {
@@ -176,3 +176,20 @@ release-requires-clause-known g c = λ e.
     let b = s.queued.below (get_or order c.walk.head 0) (in-get_or order c.walk.head 0 front.there) in
     c.requires.known c.index-d.result.now e
     (omega (arith, front.is, b, c.walk.auto.left, c.levels.auto.left, c.requires.left_length))
+
+pub overflow_cast-end : goal.overflow_cast-end
+overflow_cast-end g c =
+    let i = c.levels.invariant in
+    let w = i.state.within in
+    let few = Queued-le c.levels.left c.levels.order.items i.state.queued in
+    let long0 = c.levels.auto.left in
+    omega (arith, w, few, long0, c.requires.left_length)
+
+pub returns-clause-ended : goal.returns-clause-ended
+returns-clause-ended g c =
+    let i = c.levels.invariant in
+    let f = c.levels-test.false in
+    let r = i.state.reached in
+    let last = i.last in
+    let same : c.levels.head ≡ length c.levels.order.items = omega (arith, f, r, last) in
+    rw (same, last, sym i.count) at i.state

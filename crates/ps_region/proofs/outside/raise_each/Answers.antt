@@ -1,4 +1,4 @@
-use Rattle.std.proofs.Common.{◌≡◌, ◌<◌, ◌+◌, ◌&&◌, true, false, take, get_or}
+use Rattle.std.proofs.Common.{◌+◌, ◌&&◌, false, take, get_or}
 use Rattle.std.proofs.Common.{arith, length, ap, ◌∙◌, eqb}
 use Rattle.std.specs.List.{list_any}
 use Rattle.ps_region.specs.Listed.{listed}

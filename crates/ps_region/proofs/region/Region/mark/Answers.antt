@@ -7,13 +7,12 @@ use Rattle.ps_grid.specs.declared.size.TheConstants.{CELLS}
 use Rattle.ps_grid.proofs.RegionLemmas.{InRegion-touched}
 use Rattle.ps_region.specs.Inside.Cells.{Marked}
 use Rattle.ps_region.specs.Inside.Counts.{is_in}
-use Rattle.ps_region.specs.Listed.{listed}
 use Rattle.ps_region.proofs.CellListLemmas.{marked_le}
 use Rattle.ps_region.proofs.CountLemmas.{and_true_left}
 use Rattle.ps_region.proofs.FoundLemmas.{is_found}
 use Rattle.ps_region.proofs.GrowthCounts.{counts_by_marks}
 use Rattle.ps_region.proofs.QueueStart.{marks_closed, starting}
-use Rattle.ps_region.proofs.TouchedLemmas.{fresh_known, formula_cells, not_plain_is}
+use Rattle.ps_region.proofs.TouchedLemmas.{formula_cells, not_plain_is}
 use Rattle.ps_region.proofs.region.Region.mark.Goals as goal
 
 -- there are no more members than cells
