@@ -1,14 +1,15 @@
 -- A column stays sorted when a span is put in.
 use Rattle.std.proofs.Common.{◌≡◌, ℕ, ◌+◌, ◌-◌, ◌<◌, ◌≤◌, inl, inr, sym, ◌∙◌, ap, arith, cond, nat_le, nat_lt, Bool}
-use Rattle.std.proofs.Common.{true, false, List, length, get_or}
+use Rattle.std.proofs.Common.{true, false, List, length, get_or, []}
 use Rattle.std.specs.List.{insert}
 use Rattle.std.proofs.lemmas.Bool.{cases_lt}
 use Rattle.std.proofs.lemmas.List.Edits.{length-insert, get_or-insert_below, get_or-insert_at, get_or-insert_above}
 use Rattle.ps_grid.specs.declared.size.TheConstants.{ROWS}
+use Rattle.ps_index.specs.declared.nodes.TheConstants.{LEVELS}
 use Rattle.ps_index.specs.declared.span.Span.{Span}
 use Rattle.ps_index.proofs.ColumnsSorted.{beside, placed_le, placed_lt, same_tests, within_key}
-use Rattle.ps_index.proofs.KeysOnTheWay.{divided_less}
-use Rattle.ps_index.specs.Inside.Columns.{IsColumn, IsFromLevel, IsSpan, key_at}
+use Rattle.ps_index.proofs.KeysOnTheWay.{below_higher, divided_less}
+use Rattle.ps_index.specs.Inside.Columns.{AreBelow, IsBelowLevel, IsColumn, IsFromLevel, IsSpan, key_at}
 use Rattle.ps_index.specs.Inside.Nodes.{key_of}
 use Rattle.ps_index.specs.Spans.{cell_of}
 
@@ -164,3 +165,30 @@ module _ (spans : List Span) (ends ends' : List ℕ) (lowest lowest' : ℕ) (col
         levels = omega (arith, col.levels);
         ranges = put_ranges;
       }
+
+-- ---- the levels that ranges are below
+
+-- what is below a level is below a higher one
+to_higher : (a b : ℕ) (s : Span) → a ≤ b → IsBelowLevel a s → IsBelowLevel b s
+to_higher a b s le (inl one) = inl one
+to_higher a b s le (inr below) = inr (below_higher a b (key_of s.from s.to) le below)
+
+pub below_put_in : (spans : List Span) (p : ℕ) (x : Span) (above above' : ℕ) → p ≤ length spans → AreBelow spans above
+    → above ≤ above' → above' ≤ LEVELS → IsBelowLevel above' x → AreBelow (insert spans p x) above'
+below_put_in spans p x above above' le are more small here = record {
+  levels = small;
+  ranges = λ (i : ℕ) (d : Span) (within : i < length (insert spans p x)).
+      let n : length (insert spans p x) ≡ length spans + 1 = length-insert spans p x le in
+      elim (was spans p x i d le) [
+        | was_before lt e ↦ rw e (to_higher above above' (get_or spans i d) more (are.ranges i d (omega arith)))
+        | was_put at e ↦ rw e here
+        | was_later m at ge e ↦ rw e (to_higher above above' (get_or spans m d) more (are.ranges m d (omega arith)))
+      ];
+}
+
+pub below_none : (spans : List Span) → spans ≡ [] → AreBelow spans 0
+below_none spans none = record {
+  levels = omega arith;
+  ranges = λ (i : ℕ) (d : Span) (within : i < length spans).
+      absurd (let n : length spans ≡ 0 = ap length none in omega (arith, n, within));
+}

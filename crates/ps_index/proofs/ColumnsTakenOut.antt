@@ -8,7 +8,7 @@ use Rattle.ps_grid.specs.declared.size.TheConstants.{ROWS}
 use Rattle.ps_index.specs.declared.span.Span.{Span}
 use Rattle.ps_index.proofs.ColumnsPutIn.{key_is}
 use Rattle.ps_index.proofs.ColumnsSorted.{beside, ends_rise, placed_le, placed_lt, same_tests, within_key}
-use Rattle.ps_index.specs.Inside.Columns.{IsColumn, IsFromLevel, IsSpan, key_at}
+use Rattle.ps_index.specs.Inside.Columns.{AreBelow, IsColumn, IsFromLevel, IsSpan, key_at}
 use Rattle.ps_index.specs.Inside.Nodes.{key_of}
 use Rattle.ps_index.specs.Spans.{cell_of, count_of}
 use Rattle.ps_index.proofs.SpansCounted.{is_there}
@@ -163,3 +163,15 @@ some_counted spans ends lowest col x k p key some small within found j le lt =
       ends_rise spans ends lowest col k j x le (omega (arith, col.size)),
       (found_within spans ends lowest col x k p key some small within found).1,
     )
+
+pub below_taken_out : (spans : List Span) (p above : ℕ) → p < length spans → AreBelow spans above
+    → AreBelow (remove spans p) above
+below_taken_out spans p above lt are = record {
+  levels = are.levels;
+  ranges = λ (i : ℕ) (d : Span) (within : i < length (remove spans p)).
+      let n : length (remove spans p) + 1 ≡ length spans = length-remove spans p lt in
+      elim (stays spans p i d lt) [
+        | stays_before lt' e ↦ rw e (are.ranges i d (omega arith))
+        | stays_later ge e ↦ rw e (are.ranges (i + 1) d (omega arith))
+      ];
+}

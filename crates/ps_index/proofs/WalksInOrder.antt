@@ -11,8 +11,8 @@ use Rattle.ps_grid.specs.declared.size.TheConstants.{CELLS, ROWS}
 use Rattle.ps_index.specs.declared.span.Span.{Span}
 use Rattle.ps_index.proofs.CellsPassing.{cells_from-end, cells_from-first, none_within}
 use Rattle.ps_index.proofs.ColumnsSorted.{by_cell_within, ends_rise, within_key}
-use Rattle.ps_index.proofs.KeysOnTheWay.{OnTheWay, below_node, key_of_within, no_higher, on_the_way}
-use Rattle.ps_index.specs.Inside.Columns.{IsColumn, IsFromLevel, IsSole, IsSpan, key_at}
+use Rattle.ps_index.proofs.KeysOnTheWay.{OnTheWay, below_node, key_of_within, no_higher, no_lower, on_the_way}
+use Rattle.ps_index.specs.Inside.Columns.{AreBelow, IsBelowLevel, IsColumn, IsFromLevel, IsSole, IsSpan, key_at}
 use Rattle.ps_index.specs.Inside.Nodes.{key_of, node_of, rounded}
 use Rattle.ps_index.specs.Inside.Walks.{IsAhead, IsHead, IsLooked, IsMoved, IsRuns, IsWalk}
 use Rattle.ps_index.specs.Spans.{cell_of, cells_from, holds, refers_at}
@@ -349,31 +349,36 @@ walk_goes v w (Some x) e = record { on = λ fin. (tt, fin, omega (arith, ap leng
 
 -- ---- the walk's beginning
 
-looked : (lowest : ℕ) (s : Span) (y : ℕ) → IsSpan s → IsFromLevel lowest s → s.from ≤ y → y ≤ s.to
-    → IsLooked lowest y (key_of s.from s.to)
-looked lowest s y is high from to = elim (cases_eq (key_of s.from s.to) y) [
+looked : (lowest above : ℕ) (s : Span) (y : ℕ) → IsSpan s → IsFromLevel lowest s → IsBelowLevel above s → s.from ≤ y
+    → y ≤ s.to → IsLooked lowest above y (key_of s.from s.to)
+looked lowest above s y is high low from to = elim (cases_eq (key_of s.from s.to) y) [
   | inl e ↦ inl e
   | inr other ↦ elim high [
     | inl one ↦ absurd (other (omega (arith, key_of_within s.from s.to (omega arith))))
-    | inr divides ↦ (
-        let way : OnTheWay y (key_of s.from s.to) = on_the_way s.from s.to y is.first from to is.in_rows in
-        let node : rounded (node_of y way.level) lowest ≡ node_of y way.level =
-        subst (λ (n : ℕ). rounded n lowest ≡ n) way.node divides in
-        let apart : node_of y way.level ≡ y → ⊥ = λ (e : node_of y way.level ≡ y). other (way.node ∙ e) in
-        inr (
-          way.level,
-          no_higher y way.level lowest node,
-          omega (arith, way.within),
-          way.node,
-          below_node y way.level way.above apart,
-        ))
+    | inr divides ↦ elim low [
+      | inl one ↦ absurd (other (omega (arith, key_of_within s.from s.to (omega arith))))
+      | inr below ↦ (
+          let way : OnTheWay y (key_of s.from s.to) = on_the_way s.from s.to y is.first from to is.in_rows in
+          let node : rounded (node_of y way.level) lowest ≡ node_of y way.level =
+          subst (λ (n : ℕ). rounded n lowest ≡ n) way.node divides in
+          let under : rounded (node_of y way.level) above < node_of y way.level =
+          subst (λ (n : ℕ). rounded n above < n) way.node below in
+          let apart : node_of y way.level ≡ y → ⊥ = λ (e : node_of y way.level ≡ y). other (way.node ∙ e) in
+          inr (
+            way.level,
+            no_higher y way.level lowest node,
+            no_lower y way.level above under,
+            way.node,
+            below_node y way.level way.above apart,
+          ))
+    ]
   ]
 ]
 
-pub IsWalk-start : (spans : List Span) (column : List ℕ) (lowest y : ℕ) (starts ends : List ℕ) (runs : ℕ)
-    → IsColumn spans column lowest → IsRuns column (IsLooked lowest y) starts ends runs
+pub IsWalk-start : (spans : List Span) (column : List ℕ) (lowest above y : ℕ) (starts ends : List ℕ) (runs : ℕ)
+    → IsColumn spans column lowest → AreBelow spans above → IsRuns column (IsLooked lowest above y) starts ends runs
     → IsWalk spans y starts ends runs 0
-IsWalk-start spans column lowest y starts ends runs col is = record {
+IsWalk-start spans column lowest above y starts ends runs col are is = record {
   few = is.few;
   rising = λ (r : ℕ) (lt : r < runs). let s = is.sound r lt in
       omega (arith, s.3, s.4, ends_rise spans column lowest col (s.0 - 1) s.0 (any_span spans 0) (omega arith) s.2);
@@ -394,7 +399,7 @@ IsWalk-start spans column lowest y starts ends runs col is = record {
       let b : (get_or column (k - 1) 0 ≤ i) × (i < get_or column k 0) =
       within_key spans column lowest col k i d one small within refl in
       let found = is.complete k
-      (looked lowest (get_or spans i d) y span (col.ranges i d within) at.0 at.1)
+      (looked lowest above (get_or spans i d) y span (col.ranges i d within) (are.ranges i d within) at.0 at.1)
       small (omega (arith, b.0, b.1)) in
       (found.0, found.1, omega (arith, found.2, b.0), omega (arith, found.3, b.1));
   in_grid = λ (i : ℕ) (d : Span) (within : i < length spans). (col.each i d within).in_grid;

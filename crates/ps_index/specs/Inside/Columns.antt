@@ -21,6 +21,10 @@ key_at spans i d = key_of (get_or spans i d).from (get_or spans i d).to
 abbrev pub IsFromLevel : ℕ → Span → Type 0
 IsFromLevel level s = (s.from ≡ s.to) ⊎ (rounded (key_of s.from s.to) level ≡ key_of s.from s.to)
 
+-- it has one row, or is kept at a row below this level: one that 2 doesn't divide so many times
+abbrev pub IsBelowLevel : ℕ → Span → Type 0
+IsBelowLevel level s = (s.from ≡ s.to) ⊎ (rounded (key_of s.from s.to) level < key_of s.from s.to)
+
 -- the spans stand row by row of those at which they are kept, and by their cells at each: those up to row j are the
 -- first `ends j` ones; those of several rows are kept at no level below the lowest one
 pub record IsColumn (spans : List Span) (ends : List ℕ) (lowest : ℕ) : Type 0 where
@@ -33,6 +37,11 @@ pub record IsColumn (spans : List Span) (ends : List ℕ) (lowest : ℕ) : Type 
   pub each : (i : ℕ) (d : Span) → i < length spans → IsSpan (get_or spans i d)
   pub levels : lowest ≤ LEVELS
   pub ranges : (i : ℕ) (d : Span) → i < length spans → IsFromLevel lowest (get_or spans i d)
+
+-- the spans of several rows are kept at rows below a level
+pub record AreBelow (spans : List Span) (above : ℕ) : Type 0 where
+  pub levels : above ≤ LEVELS
+  pub ranges : (i : ℕ) (d : Span) → i < length spans → IsBelowLevel above (get_or spans i d)
 
 -- the cells that pass a test are n alone; none where n is CELLS, and nothing is said where it is greater
 pub record IsSole (test : ℕ → Bool) (n : ℕ) : Type 0 where

@@ -3,13 +3,12 @@ use Rattle.std.specs.Prelude.{◌≡◌, ℕ, ◌+◌, ◌-◌, ◌<◌, ◌≤�
 use Rattle.ps_grid.specs.declared.size.TheConstants.{CELLS, ROWS}
 use Rattle.ps_index.specs.declared.span.Span.{Span}
 use Rattle.ps_index.specs.Inside.Nodes.{node_of, rounded}
-use Rattle.ps_index.specs.declared.nodes.TheConstants.{LEVELS}
 use Rattle.ps_index.specs.Spans.{cell_of, cells_from, holds, refers_at}
 
--- a span that has row y is kept at y, or, from the lowest level of ranges on, at a row above it
-abbrev pub IsLooked : ℕ → ℕ → ℕ → Type 0
-IsLooked lowest y key = (key ≡ y)
-    ⊎ ((k : ℕ) × (lowest ≤ k) × (k < LEVELS) × (key ≡ node_of y k) × (rounded y k < y))
+-- a span that has row y is kept at y, or, from the lowest level of ranges on and below another, at a row above it
+abbrev pub IsLooked : ℕ → ℕ → ℕ → ℕ → Type 0
+IsLooked lowest above y key = (key ≡ y)
+    ⊎ ((k : ℕ) × (lowest ≤ k) × (k < above) × (key ≡ node_of y k) × (rounded y k < y))
 
 -- the runs are those of some rows, and of each row where a span may be kept and one is
 pub record IsRuns (column : List ℕ) (Looked : ℕ → Type 0) (starts ends : List ℕ) (runs : ℕ) : Type 0 where
