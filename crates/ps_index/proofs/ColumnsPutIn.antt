@@ -162,7 +162,6 @@ module _ (spans : List Span) (ends ends' : List ℕ) (lowest lowest' : ℕ) (col
         placed = put_placed;
         by_cell = put_by_cell;
         each = put_each;
-        levels = omega (arith, col.levels);
         ranges = put_ranges;
       }
 

@@ -107,6 +107,5 @@ empty_column spans ends none size zeros =
       placed = λ (i j : ℕ) (d : Span) (lt : i < length spans). absurd (omega arith);
       by_cell = λ (i j : ℕ) (d : Span) (le : i ≤ j) (lt : j < length spans). absurd (omega arith);
       each = λ (i : ℕ) (d : Span) (lt : i < length spans). absurd (omega arith);
-      levels = omega arith;
       ranges = λ (i : ℕ) (d : Span) (lt : i < length spans). absurd (omega arith);
     }

@@ -121,7 +121,6 @@ module _ (spans : List Span) (ends ends' : List ℕ) (lowest : ℕ) (col : IsCol
         placed = taken_placed;
         by_cell = taken_by_cell;
         each = taken_each;
-        levels = col.levels;
         ranges = taken_ranges;
       }
 

@@ -35,7 +35,6 @@ pub record IsColumn (spans : List Span) (ends : List ℕ) (lowest : ℕ) : Type 
   pub by_cell : (i j : ℕ) (d : Span) → i ≤ j → j < length spans → key_at spans i d ≡ key_at spans j d
       → cell_of spans i d ≤ cell_of spans j d
   pub each : (i : ℕ) (d : Span) → i < length spans → IsSpan (get_or spans i d)
-  pub levels : lowest ≤ LEVELS
   pub ranges : (i : ℕ) (d : Span) → i < length spans → IsFromLevel lowest (get_or spans i d)
 
 -- the spans of several rows are kept at rows below a level
