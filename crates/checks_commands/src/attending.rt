@@ -5,7 +5,7 @@ ghost use Rattle.ps_desk.specs.Opening.{IsNamed};
 
 use ps_commands::attend_lines;
 use ps_desk::{Desk, DeskName, Parts};
-use ps_device::{MemorySink, MemorySource};
+use ps_device::{MemorySink, Reading};
 use ps_eval::Meter;
 use ps_grid::Refusal;
 use ps_sheet::Sheet;
@@ -16,15 +16,16 @@ use std::sync::ledger::{Blank, Ledger};
 use std::test::Fail;
 use std::thread::Threads;
 
-/// What counts a sink's failures, and a session's evaluations.
+/// What counts the failures of a source and of a sink, and a session's evaluations.
 #[derive(Drop)]
 struct Counts {
+    input: Blank,
     output: Blank,
     evaluations: Blank,
 }
 
 /// What the session of a desk's last seat writes, where these are its lines, and how many lines it answered.
-fn answered<L: DeskName, R: Threads + Wait + Sync, O: Ledger, M: Ledger>(
+fn answered<L: DeskName, R: Threads + Wait + Sync, I: Ledger, O: Ledger, M: Ledger>(
     rt: &R,
     alloc: Global,
     parts: Parts,
@@ -32,6 +33,7 @@ fn answered<L: DeskName, R: Threads + Wait + Sync, O: Ledger, M: Ledger>(
     lines: &[u8],
 ) -> Result<(Vec<u8>, Option<u64>), Refusal>
     requires named { IsNamed L.name L.parts L.book L.opening L.replica parts }
+    requires input { IsBlankOf counts.input I.name I.parts }
     requires output { IsBlankOf counts.output O.name O.parts }
     requires evaluations { IsBlankOf counts.evaluations M.name M.parts }
 {
@@ -41,7 +43,7 @@ fn answered<L: DeskName, R: Threads + Wait + Sync, O: Ledger, M: Ledger>(
     let Some(pass) = passes.pop() else {
         return Err(Refusal::Seat);
     };
-    let mut source = MemorySource::new(lines);
+    let mut source = Reading::<&[u8], I>::new(lines, counts.input);
     let mut sink = MemorySink::<O>::new(alloc, counts.output);
     let mut meter = Meter::<M>::new(counts.evaluations);
     let attended = attend_lines(rt, alloc, &mut source, &mut sink, &desk, pass, &mut meter);
@@ -58,10 +60,11 @@ fn replies<R: Threads + Wait + Sync>(
 ) -> Result<(Vec<u8>, Option<u64>), Refusal> {
     let parts = Parts::new(Sheet::open(alloc, 3, 1)?, 2);
     let counts = Counts {
+        input: Blank::new(1),
         output: Blank::new(1),
         evaluations: Blank::new(1),
     };
-    answered::<Brand, R, Brand, Brand>(rt, alloc, parts, counts, lines)
+    answered::<Brand, R, Brand, Brand, Brand>(rt, alloc, parts, counts, lines)
 }
 
 /// Each line of a session at a desk is answered, an empty one isn't, and the last one wants no line feed.

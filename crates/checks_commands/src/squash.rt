@@ -2,7 +2,7 @@
 ghost use Rattle.ps_grid.specs.Blanks.{IsBlankOf};
 
 use ps_commands::{ProgramFault, squash_on, status_of};
-use ps_device::{MemorySink, MemorySource};
+use ps_device::{MemorySink, Reading};
 use std::alloc::Global;
 use std::marker::Brand;
 use std::sync::ledger::{Blank, Ledger};
@@ -10,13 +10,19 @@ use std::test::Fail;
 
 /// What is written for these bytes.
 fn squashed(alloc: Global, given: &[u8]) -> Result<Vec<u8>, ProgramFault> {
-    written::<Brand>(alloc, given, Blank::new(1))
+    written::<Brand, Brand>(alloc, given, Blank::new(1), Blank::new(1))
 }
 
-fn written<O: Ledger>(alloc: Global, given: &[u8], output: Blank) -> Result<Vec<u8>, ProgramFault>
+fn written<I: Ledger, O: Ledger>(
+    alloc: Global,
+    given: &[u8],
+    input: Blank,
+    output: Blank,
+) -> Result<Vec<u8>, ProgramFault>
+    requires input { IsBlankOf input I.name I.parts }
     requires output { IsBlankOf output O.name O.parts }
 {
-    let mut source = MemorySource::new(given);
+    let mut source = Reading::<&[u8], I>::new(given, input);
     let mut sink = MemorySink::<O>::new(alloc, output);
     squash_on(alloc, &mut source, &mut sink)?;
     let MemorySink { bytes, failed } = sink;

@@ -1,7 +1,7 @@
 //! Devices that fail, stop short or are interrupted.
 ghost use Rattle.ps_grid.specs.Blanks.{IsBlankOf};
 
-use ps_device::{ConsoleOutput, MemorySource, Reading, Sink, Source, Writing, hand_on, put_all};
+use ps_device::{ConsoleOutput, Reading, Sink, Source, Writing, hand_on, put_all};
 use ps_grid::Refusal;
 use std::alloc::Global;
 use std::io;
@@ -100,15 +100,22 @@ fn interrupted(rt: HostRuntime) {
     assert!(rt; takes_four(4) && !takes_four(3));
 }
 
-/// What three reads of five bytes give, in pieces of three bytes, and the piece after the first.
-fn taken_in_pieces() -> ([Option<usize>; 3], [u8; 3]) {
-    let mut source = MemorySource::new(b"abcde");
+/// What three reads of these bytes give, in pieces of three bytes, and the piece after the first.
+fn takes_in_pieces<L: Ledger>(bytes: &[u8], blank: Blank) -> ([Option<usize>; 3], [u8; 3])
+    requires { IsBlankOf blank L.name L.parts }
+{
+    let mut source = Reading::<&[u8], L>::new(bytes, blank);
     let mut piece = [0; 3];
     let first = source.take(&mut piece).ok();
     let after_first = piece;
     let second = source.take(&mut piece).ok();
     let third = source.take(&mut piece).ok();
     ([first, second, third], after_first)
+}
+
+/// What three reads of five bytes give.
+fn taken_in_pieces() -> ([Option<usize>; 3], [u8; 3]) {
+    takes_in_pieces::<Brand>(b"abcde", Blank::new(1))
 }
 
 /// The bytes of a slice come in pieces of any size, and then the end.
@@ -141,26 +148,28 @@ impl Write for HoldsBack {
     }
 }
 
-/// What a writer has given on after the bytes were put on a console and handed on.
-fn given_on<L: Ledger>(alloc: Global, bytes: &[u8], blank: Blank) -> Result<Vec<u8>, Refusal>
+/// Puts the bytes on a console over a writer, and hands them on.
+fn hands_on<L: Ledger>(
+    alloc: Global,
+    writer: &mut HoldsBack,
+    bytes: &[u8],
+    blank: Blank,
+) -> Result<(), Refusal>
     requires { IsBlankOf blank L.name L.parts }
 {
-    let writer = HoldsBack {
-        held: Vec::new(alloc),
-        given: Vec::new(alloc),
-    };
-    let mut sink = ConsoleOutput::<HoldsBack, L>::new(alloc, writer, blank)?;
+    let mut sink = ConsoleOutput::<&mut HoldsBack, L>::new(alloc, writer, blank)?;
     put_all(&mut sink, bytes).map_err(|_| Refusal::Device)?;
-    hand_on(&mut sink).map_err(|_| Refusal::Device)?;
-    Ok(sink.into_writer().given)
+    hand_on(&mut sink).map_err(|_| Refusal::Device)
 }
 
 /// Whether a writer has given on all that was handed to it.
 fn gives_on(alloc: Global, bytes: &[u8]) -> bool {
-    match given_on::<Brand>(alloc, bytes, Blank::new(1)) {
-        Ok(given) => given.as_slice() == bytes,
-        Err(_) => false,
-    }
+    let mut writer = HoldsBack {
+        held: Vec::new(alloc),
+        given: Vec::new(alloc),
+    };
+    let handed = hands_on::<Brand>(alloc, &mut writer, bytes, Blank::new(1));
+    handed.is_ok() && writer.given.as_slice() == bytes
 }
 
 /// A settle flushes the writer.
@@ -223,34 +232,27 @@ fn bytes_of(alloc: Global, count: usize) -> Result<Vec<u8>, Refusal> {
     Ok(bytes)
 }
 
-/// Puts the bytes and settles, and does so again: whether each of the four was Ok, whether a put of no byte is then,
-/// and what the writer has.
+/// Puts the bytes and settles, and does so again: whether each of the four was Ok, and whether a put of no byte is
+/// then.
 fn rounds<L: Ledger>(
     alloc: Global,
-    writer: FailsOnce,
+    writer: &mut FailsOnce,
     bytes: &[u8],
     blank: Blank,
-) -> Result<([bool; 5], FailsOnce), Refusal>
+) -> Result<[bool; 5], Refusal>
     requires { IsBlankOf blank L.name L.parts }
 {
-    let mut sink = ConsoleOutput::<FailsOnce, L>::new(alloc, writer, blank)?;
+    let mut sink = ConsoleOutput::<&mut FailsOnce, L>::new(alloc, writer, blank)?;
     let put = put_all(&mut sink, bytes).is_ok();
     let settled = sink.settle().is_ok();
     let put_again = put_all(&mut sink, bytes).is_ok();
     let settled_again = hand_on(&mut sink).is_ok();
     let nothing = sink.put(b"").is_ok();
-    Ok((
-        [put, settled, put_again, settled_again, nothing],
-        sink.into_writer(),
-    ))
+    Ok([put, settled, put_again, settled_again, nothing])
 }
 
 /// The same over a new ledger.
-fn rounds_of(
-    alloc: Global,
-    writer: FailsOnce,
-    bytes: &[u8],
-) -> Result<([bool; 5], FailsOnce), Refusal> {
+fn rounds_of(alloc: Global, writer: &mut FailsOnce, bytes: &[u8]) -> Result<[bool; 5], Refusal> {
     rounds::<Brand>(alloc, writer, bytes, Blank::new(1))
 }
 
@@ -269,7 +271,8 @@ fn oks_where_a_call_fails(
     fails_at: usize,
     kept: usize,
 ) -> Result<Option<[bool; 5]>, Refusal> {
-    let (oks, writer) = rounds_of(alloc, failing(alloc, 30_000, fails_at), bytes)?;
+    let mut writer = failing(alloc, 30_000, fails_at);
+    let oks = rounds_of(alloc, &mut writer, bytes)?;
     let calls = if fails_at < 12 { fails_at + 1 } else { 12 };
     if has_first(&writer, calls, kept, twice) {
         Ok(Some(oks))
@@ -310,7 +313,8 @@ fn each_call_of_the_writer_fails(rt: HostRuntime) -> Result<(), Refusal> {
 
 /// Whether the first put alone is Ok with a writer that takes no byte, which is called once and keeps none.
 fn fails_at_none(alloc: Global) -> Result<bool, Refusal> {
-    let (oks, writer) = rounds_of(alloc, failing(alloc, 0, 100), b"ok 1\n")?;
+    let mut writer = failing(alloc, 0, 100);
+    let oks = rounds_of(alloc, &mut writer, b"ok 1\n")?;
     Ok(oks == [true, false, false, false, false] && has_first(&writer, 1, 0, b""))
 }
 
@@ -320,27 +324,28 @@ fn a_writer_takes_none(rt: HostRuntime) {
     assert!(rt; fails_at_none(rt.alloc()) == Ok(true));
 }
 
-/// How many bytes three puts take, of a piece, of its rest and of four more; and the writer after a settle.
+/// How many bytes three puts take, of a piece, of its rest and of four more, before a settle.
 fn taken_of<L: Ledger>(
     alloc: Global,
+    writer: &mut FailsOnce,
     piece: &[u8],
     blank: Blank,
-) -> Result<([usize; 3], FailsOnce), Refusal>
+) -> Result<[usize; 3], Refusal>
     requires { IsBlankOf blank L.name L.parts }
 {
-    let writer = failing(alloc, usize::MAX, 100);
-    let mut sink = ConsoleOutput::<FailsOnce, L>::new(alloc, writer, blank)?;
+    let mut sink = ConsoleOutput::<&mut FailsOnce, L>::new(alloc, writer, blank)?;
     let first = sink.put(piece).map_err(|_| Refusal::Device)?;
     let second = sink.put(&piece[first..]).map_err(|_| Refusal::Device)?;
     let third = sink.put(b"last").map_err(|_| Refusal::Device)?;
     sink.settle().map_err(|_| Refusal::Device)?;
-    Ok(([first, second, third], sink.into_writer()))
+    Ok([first, second, third])
 }
 
 /// Whether of 100,000 bytes the room's are taken first, then their rest, and all came to the writer in three calls.
 fn takes_up_to_the_room(alloc: Global) -> Result<bool, Refusal> {
     let piece = bytes_of(alloc, 100_000)?;
-    let (taken, writer) = taken_of::<Brand>(alloc, &piece, Blank::new(1))?;
+    let mut writer = failing(alloc, usize::MAX, 100);
+    let taken = taken_of::<Brand>(alloc, &mut writer, &piece, Blank::new(1))?;
     let kept = writer.kept.as_slice();
     Ok(
         taken == [65_536, 34_464, 4]
@@ -357,27 +362,27 @@ fn a_piece_larger_than_the_room(rt: HostRuntime) {
     assert!(rt; takes_up_to_the_room(rt.alloc()) == Ok(true));
 }
 
-/// A reply put so many times, then settled.
-fn replied<L: Ledger>(
+/// Puts a reply so many times, then settles.
+fn replies<L: Ledger>(
     alloc: Global,
+    writer: &mut FailsOnce,
     reply: &[u8],
     count: usize,
     blank: Blank,
-) -> Result<FailsOnce, Refusal>
+) -> Result<(), Refusal>
     requires { IsBlankOf blank L.name L.parts }
 {
-    let writer = failing(alloc, usize::MAX, 100);
-    let mut sink = ConsoleOutput::<FailsOnce, L>::new(alloc, writer, blank)?;
+    let mut sink = ConsoleOutput::<&mut FailsOnce, L>::new(alloc, writer, blank)?;
     for _ in 0..count {
         put_all(&mut sink, reply).map_err(|_| Refusal::Device)?;
     }
-    sink.settle().map_err(|_| Refusal::Device)?;
-    Ok(sink.into_writer())
+    sink.settle().map_err(|_| Refusal::Device)
 }
 
 /// Whether 25,000 replies come whole and in order, in five calls of the writer.
 fn replies_come_whole(alloc: Global) -> Result<bool, Refusal> {
-    let writer = replied::<Brand>(alloc, b"ok 1234\n", 25_000, Blank::new(1))?;
+    let mut writer = failing(alloc, usize::MAX, 100);
+    replies::<Brand>(alloc, &mut writer, b"ok 1234\n", 25_000, Blank::new(1))?;
     let is_whole = writer
         .kept
         .chunks(8)

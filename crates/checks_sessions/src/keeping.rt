@@ -3,7 +3,7 @@
 ghost use Rattle.std.specs.Prelude.{◌≤◌, ⊤, length};
 ghost use Rattle.ps_grid.specs.Blanks.{IsBlankOf};
 
-use ps_device::{Failed, MemorySource, Reading, Source, Writing};
+use ps_device::{Failed, Reading, Writing};
 use ps_eval::Meter;
 use ps_grid::Refusal;
 use ps_session::{HeldOutput, Keeper, Resources, RunFault, Unwatched, run_kept};
@@ -100,35 +100,39 @@ struct Outcome {
 /// What counts the failures of the devices, and the evaluations.
 #[derive(Drop)]
 struct Blanks {
+    reads: Blank,
     writes: Blank,
     holds: Blank,
     evaluations: Blank,
 }
 
-/// A session of a new sheet of replica 1.
-fn kept_run<R: Threads + Sync, S: Source, K: Ledger, N: Ledger, L: Ledger>(
+/// A session of a new sheet of replica 1, where these blanks count.
+fn kept_counted<R: Threads + Sync, T: Read + Drop, J: Ledger, K: Ledger, N: Ledger, L: Ledger>(
     rt: &R,
     alloc: Global,
-    source: &mut S,
+    reader: T,
     plan: Plan,
     blanks: Blanks,
 ) -> Result<Outcome, Refusal>
+    requires reads { IsBlankOf blanks.reads J.name J.parts }
     requires writes { IsBlankOf blanks.writes K.name K.parts }
     requires holds { IsBlankOf blanks.holds N.name N.parts }
     requires evaluations { IsBlankOf blanks.evaluations L.name L.parts }
 {
     let mut sheet = Sheet::open(alloc, 1, 1)?;
-    let recorder = Recorder {
+    let mut recorder = Recorder {
         bytes: Vec::new(alloc),
         writes: plan.writes,
     };
     let Blanks {
+        reads,
         writes,
         holds,
         evaluations,
     } = blanks;
-    let writing = Writing::<Recorder, K>::new(recorder, writes);
-    let mut sink = HeldOutput::<Writing<Recorder, K>, N>::new(alloc, writing, holds);
+    let mut source = Reading::<T, J>::new(reader, reads);
+    let writing = Writing::<&mut Recorder, K>::new(&mut recorder, writes);
+    let mut sink = HeldOutput::<Writing<&mut Recorder, K>, N>::new(alloc, writing, holds);
     let mut meter = Meter::<L>::new(evaluations);
     let mut keeper = Counting {
         settles: 0,
@@ -137,64 +141,36 @@ fn kept_run<R: Threads + Sync, S: Source, K: Ledger, N: Ledger, L: Ledger>(
     };
     let ended = run_kept(
         Resources { threads: rt, alloc },
-        source,
+        &mut source,
         &mut sink,
         &mut sheet,
         &mut meter,
         &mut Unwatched,
         &mut keeper,
     );
+    drop(sink);
     Ok(Outcome {
         ended,
-        handed: sink.into_sink().into_writer().bytes,
+        handed: recorder.bytes,
         settles: keeper.settles,
         kept: keeper.kept,
     })
 }
 
-/// .. whose lines come one at a time.
-fn by_lines<R: Threads + Sync, J: Ledger>(
+/// The same over new ledgers.
+fn kept_run<R: Threads + Sync, T: Read + Drop>(
     rt: &R,
     alloc: Global,
-    text: &[u8],
-    plan: Plan,
-    input: Blank,
-) -> Result<Outcome, Refusal>
-    requires { IsBlankOf input J.name J.parts }
-{
-    let mut source = Reading::<ByLines, J>::new(ByLines(text), input);
-    kept_run::<R, Reading<ByLines, J>, Brand, Brand, Brand>(
-        rt,
-        alloc,
-        &mut source,
-        plan,
-        Blanks {
-            writes: Blank::new(1),
-            holds: Blank::new(1),
-            evaluations: Blank::new(1),
-        },
-    )
-}
-
-/// .. whose lines come in one piece.
-fn in_one_piece<R: Threads + Sync>(
-    rt: &R,
-    alloc: Global,
-    text: &[u8],
+    reader: T,
     plan: Plan,
 ) -> Result<Outcome, Refusal> {
-    let mut source = MemorySource::new(text);
-    kept_run::<R, MemorySource, Brand, Brand, Brand>(
-        rt,
-        alloc,
-        &mut source,
-        plan,
-        Blanks {
-            writes: Blank::new(1),
-            holds: Blank::new(1),
-            evaluations: Blank::new(1),
-        },
-    )
+    let blanks = Blanks {
+        reads: Blank::new(1),
+        writes: Blank::new(1),
+        holds: Blank::new(1),
+        evaluations: Blank::new(1),
+    };
+    kept_counted::<R, T, Brand, Brand, Brand, Brand>(rt, alloc, reader, plan, blanks)
 }
 
 /// Four lines.
@@ -222,7 +198,7 @@ fn a_failed_settle_ends_it(rt: HostRuntime) -> Result<(), Fail> {
             fails_at: settles,
             writes: u64::MAX,
         };
-        let found = by_lines::<_, Brand>(&rt, alloc, TEXT, plan, Blank::new(1));
+        let found = kept_run(&rt, alloc, ByLines(TEXT), plan);
         let found = found.ok().ok_or("memory")?;
         let answered = settles.saturating_sub(2) as usize;
         assert!(rt; found.ended == Err(RunFault::Keep) && found.settles == settles);
@@ -241,11 +217,11 @@ fn all_is_kept(rt: HostRuntime) -> Result<(), Fail> {
         fails_at: 0,
         writes: u64::MAX,
     };
-    let found = by_lines::<_, Brand>(&rt, alloc, TEXT, plan, Blank::new(1));
+    let found = kept_run(&rt, alloc, ByLines(TEXT), plan);
     let found = found.ok().ok_or("memory")?;
     assert!(rt; found.ended == Ok(4) && found.settles == 6);
     assert!(rt; found.handed.as_slice() == REPLIES[4] && found.kept == CHANGES[4]);
-    let found = in_one_piece(&rt, alloc, TEXT, plan).ok().ok_or("memory")?;
+    let found = kept_run(&rt, alloc, TEXT, plan).ok().ok_or("memory")?;
     assert!(rt; found.ended == Ok(4) && found.settles == 3);
     assert!(rt; found.handed.as_slice() == REPLIES[4] && found.kept == CHANGES[4]);
     Ok(())
@@ -260,7 +236,7 @@ fn a_failed_write_comes_after_its_settle(rt: HostRuntime) -> Result<(), Fail> {
             fails_at: 0,
             writes: writes as u64,
         };
-        let found = by_lines::<_, Brand>(&rt, alloc, TEXT, plan, Blank::new(1));
+        let found = kept_run(&rt, alloc, ByLines(TEXT), plan);
         let found = found.ok().ok_or("memory")?;
         assert!(rt; found.ended == Err(RunFault::Sink) && found.settles == writes as u64 + 2);
         assert!(rt;
@@ -289,7 +265,7 @@ fn put_table(text: &mut Vec<u8>, digit: u8) -> Result<(), Fail> {
 #[test]
 fn many_replies_are_settled_amid_a_piece(rt: HostRuntime) -> Result<(), Fail> {
     let alloc = rt.alloc();
-    let text = b"set A1 5\nrows A1:CZ1024\nset A1 6\nrows A1:CZ1024\nget A1\n";
+    let text = b"set A1 5\nrows A1:CZ1024\nset A1 6\nrows A1:CZ1024\nget A1\n".as_slice();
     let mut replies = Vec::new(alloc);
     replies.extend_from_slice(b"ok 1\n")?;
     put_table(&mut replies, b'5')?;
@@ -305,7 +281,7 @@ fn many_replies_are_settled_amid_a_piece(rt: HostRuntime) -> Result<(), Fail> {
             fails_at: before as u64 + 1,
             writes: u64::MAX,
         };
-        let found = in_one_piece(&rt, alloc, text, plan).ok().ok_or("memory")?;
+        let found = kept_run(&rt, alloc, text, plan).ok().ok_or("memory")?;
         assert!(rt; found.ended == Err(RunFault::Keep) && found.settles == plan.fails_at);
         assert!(rt; found.handed.len() == handed[before]);
         assert!(rt; replies.as_slice().starts_with(found.handed.as_slice()));

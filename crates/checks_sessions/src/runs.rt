@@ -2,7 +2,7 @@
 ghost use Rattle.std.specs.Prelude.{◌≡◌, ◌<◌};
 ghost use Rattle.ps_grid.specs.Blanks.{IsBlankOf};
 
-use ps_device::{MemorySink, MemorySource, Reading, Source};
+use ps_device::{MemorySink, Reading};
 use ps_eval::Meter;
 use ps_grid::Refusal;
 use ps_session::run;
@@ -14,26 +14,6 @@ use std::marker::Brand;
 use std::sync::ledger::{Blank, Ledger};
 use std::test::Fail;
 use std::thread::Threads;
-
-/// What a new sheet of replica 1 answers.
-fn answered<R: Threads + Sync, S: Source, K: Ledger, L: Ledger>(
-    rt: &R,
-    alloc: Global,
-    source: &mut S,
-    output: Blank,
-    count: Blank,
-) -> Result<Vec<u8>, Refusal>
-    requires output { IsBlankOf output K.name K.parts }
-    requires count { IsBlankOf count L.name L.parts }
-{
-    let mut sheet = Sheet::open(alloc, 1, 1)?;
-    let mut meter = Meter::<L>::new(count);
-    let mut sink = MemorySink::<K>::new(alloc, output);
-    run(rt, alloc, source, &mut sink, &mut sheet, &mut meter).map_err(|_| Refusal::Device)?;
-    let MemorySink { bytes, failed } = sink;
-    drop(failed);
-    Ok(bytes)
-}
 
 /// A reader that gives a byte at a time.
 #[derive(Drop)]
@@ -50,20 +30,40 @@ impl Read for Trickle<'_> {
     }
 }
 
-/// .. where a byte comes at a time.
-fn answered_slowly<R: Threads + Sync, J: Ledger>(
+/// What a new sheet of replica 1 answers to a reader's lines, where these blanks count.
+fn answered_counted<R: Threads + Sync, T: Read + Drop, J: Ledger, K: Ledger, L: Ledger>(
     rt: &R,
     alloc: Global,
+    reader: T,
     input: Blank,
-    text: &[u8],
+    output: Blank,
+    count: Blank,
 ) -> Result<Vec<u8>, Refusal>
-    requires { IsBlankOf input J.name J.parts }
+    requires input { IsBlankOf input J.name J.parts }
+    requires output { IsBlankOf output K.name K.parts }
+    requires count { IsBlankOf count L.name L.parts }
 {
-    let mut source = Reading::<Trickle, J>::new(Trickle(text), input);
-    answered::<R, Reading<Trickle, J>, Brand, Brand>(
+    let mut sheet = Sheet::open(alloc, 1, 1)?;
+    let mut source = Reading::<T, J>::new(reader, input);
+    let mut sink = MemorySink::<K>::new(alloc, output);
+    let mut meter = Meter::<L>::new(count);
+    run(rt, alloc, &mut source, &mut sink, &mut sheet, &mut meter).map_err(|_| Refusal::Device)?;
+    let MemorySink { bytes, failed } = sink;
+    drop(failed);
+    Ok(bytes)
+}
+
+/// The same over new ledgers.
+fn answered<R: Threads + Sync, T: Read + Drop>(
+    rt: &R,
+    alloc: Global,
+    reader: T,
+) -> Result<Vec<u8>, Refusal> {
+    answered_counted::<R, T, Brand, Brand, Brand>(
         rt,
         alloc,
-        &mut source,
+        reader,
+        Blank::new(1),
         Blank::new(1),
         Blank::new(1),
     )
@@ -96,16 +96,9 @@ fn lines_are_answered(rt: HostRuntime) -> Result<(), Fail> {
             b"ok 1\nok 2\nok 3\nentries 2\n5,\"'x,y\",\n,,=[.A1]+1\nentry =[.A1]+1\nentry \nerr 1 cell\n",
         ),
     ] {
-        let mut source = MemorySource::new(text);
-        let found = answered::<_, MemorySource, Brand, Brand>(
-            &rt,
-            alloc,
-            &mut source,
-            Blank::new(1),
-            Blank::new(1),
-        );
+        let found = answered(&rt, alloc, text);
         assert!(rt; found.ok().ok_or("no fault")?.as_slice() == replies);
-        let found = answered_slowly::<_, Brand>(&rt, alloc, Blank::new(1), text);
+        let found = answered(&rt, alloc, Trickle(text));
         assert!(rt; found.ok().ok_or("no fault")?.as_slice() == replies);
     }
     Ok(())

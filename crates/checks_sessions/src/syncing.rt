@@ -1,7 +1,7 @@
 //! What a peer may reply to `sync`.
 ghost use Rattle.ps_grid.specs.Blanks.{IsBlankOf};
 
-use ps_device::{MemorySink, MemorySource};
+use ps_device::{MemorySink, Reading};
 use ps_grid::Refusal;
 use ps_session::{Peer, SyncFault, sync};
 use std::alloc::Global;
@@ -9,27 +9,46 @@ use std::marker::Brand;
 use std::sync::ledger::{Blank, Ledger};
 use std::test::Fail;
 
-/// How many lines `sync` hands on between two peers with these replies.
-fn synced(alloc: Global, pulled: &[u8], pushed: &[u8]) -> Result<u64, SyncFault> {
-    between::<Brand, Brand>(alloc, pulled, pushed, Blank::new(1), Blank::new(1))
+/// What counts the failures of a peer's two devices.
+#[derive(Drop)]
+struct Counts {
+    replies: Blank,
+    requests: Blank,
 }
 
-fn between<O: Ledger, P: Ledger>(
+/// How many lines `sync` hands on between two peers with these replies.
+fn synced(alloc: Global, pulled: &[u8], pushed: &[u8]) -> Result<u64, SyncFault> {
+    let first = Counts {
+        replies: Blank::new(1),
+        requests: Blank::new(1),
+    };
+    let second = Counts {
+        replies: Blank::new(1),
+        requests: Blank::new(1),
+    };
+    between::<Brand, Brand, Brand, Brand>(alloc, pulled, pushed, first, second)
+}
+
+fn between<I: Ledger, O: Ledger, J: Ledger, P: Ledger>(
     alloc: Global,
     pulled: &[u8],
     pushed: &[u8],
-    first: Blank,
-    second: Blank,
+    first: Counts,
+    second: Counts,
 ) -> Result<u64, SyncFault>
-    requires first { IsBlankOf first O.name O.parts }
-    requires second { IsBlankOf second P.name P.parts }
+    requires pulls { IsBlankOf first.replies I.name I.parts }
+    requires pull_requests { IsBlankOf first.requests O.name O.parts }
+    requires pushes { IsBlankOf second.replies J.name J.parts }
+    requires push_requests { IsBlankOf second.requests P.name P.parts }
 {
-    let requests = MemorySink::<O>::new(alloc, first);
-    let Ok(mut from) = Peer::new(alloc, MemorySource::new(pulled), requests) else {
+    let replies = Reading::<&[u8], I>::new(pulled, first.replies);
+    let requests = MemorySink::<O>::new(alloc, first.requests);
+    let Ok(mut from) = Peer::new(alloc, replies, requests) else {
         return Err(SyncFault::Refused(Refusal::Memory));
     };
-    let requests = MemorySink::<P>::new(alloc, second);
-    let Ok(mut to) = Peer::new(alloc, MemorySource::new(pushed), requests) else {
+    let replies = Reading::<&[u8], J>::new(pushed, second.replies);
+    let requests = MemorySink::<P>::new(alloc, second.requests);
+    let Ok(mut to) = Peer::new(alloc, replies, requests) else {
         return Err(SyncFault::Refused(Refusal::Memory));
     };
     sync(alloc, &mut from, &mut to)

@@ -1,62 +1,31 @@
 //! Tables as people and other programs give them, and what they show. Where nothing else is said, the expected texts
 //! are worked by hand from the rules.
 
-ghost use Rattle.std.specs.Prelude.{◌≡◌, ◌<◌, None, length, if◌then◌else◌};
 ghost use Rattle.ps_grid.specs.Blanks.{IsBlankOf};
 
 use ps_csv::{ImportFault, Imported, exported_text, import};
-use ps_device::{Failed, MemorySource, Source};
+use ps_device::Reading;
 use ps_eval::Meter;
 use ps_grid::{Cell, Rect, Refusal};
 use ps_sheet::Sheet;
 use std::alloc::Global;
+use std::io;
+use std::io::{ErrorKind, Read};
 use std::marker::Brand;
 use std::sync::ledger::{Blank, Ledger};
 use std::test::Fail;
 use std::thread::Threads;
 
-/// So many line feeds.
+/// A reader of the bytes of a text, which fails after them.
 #[derive(Drop)]
-struct LineFeeds {
-    left: usize,
-}
+struct FailsAfter<'a>(&'a [u8]);
 
-impl Source for LineFeeds {
-    ghost remaining = { λ source. None };
-
-    ghost failures = { λ source. 0 };
-
-    ghost left = { λ source. source.left };
-
-    fn take(&mut self, piece: &mut [u8]) -> Result<usize, Failed> {
-        let count = self.left.min(piece.len());
-        let front = &mut piece[..count];
-        front.fill(b'\n');
-        self.left -= count;
-        Ok(count)
-    }
-}
-
-/// The bytes of a text, and then a failure.
-#[derive(Drop)]
-struct FailsAfter<'a> {
-    source: MemorySource<'a>,
-    failed: bool,
-}
-
-impl Source for FailsAfter<'_> {
-    ghost remaining = { λ source. None };
-
-    ghost failures = { λ source. (if source.failed then 1 else 0) };
-
-    ghost left = { λ source. length source.source.rest.now };
-
-    fn take(&mut self, piece: &mut [u8]) -> Result<usize, Failed> {
-        if self.source.rest.is_empty() && !self.failed {
-            self.failed = true;
-            return Err(Failed);
+impl Read for FailsAfter<'_> {
+    fn read(&mut self, buf: &mut [u8]) -> io::Result<usize> {
+        if self.0.is_empty() {
+            return Err(io::Error::from(ErrorKind::BrokenPipe));
         }
-        self.source.take(piece)
+        self.0.read(buf)
     }
 }
 
@@ -67,18 +36,21 @@ struct ImportEnd {
     version: u64,
 }
 
-/// Takes a table in, with a meter of its own.
-fn taken<R: Threads + Sync, S: Source, L: Ledger>(
+/// Takes a reader's table in, where these blanks count.
+fn taken<R: Threads + Sync, T: Read + Drop, I: Ledger, M: Ledger>(
     rt: &R,
-    blank: Blank,
     alloc: Global,
-    source: &mut S,
+    reader: T,
     sheet: &mut Sheet,
+    input: Blank,
+    evaluations: Blank,
 ) -> Result<Imported, ImportFault>
-    requires { IsBlankOf blank L.name L.parts }
+    requires input { IsBlankOf input I.name I.parts }
+    requires evaluations { IsBlankOf evaluations M.name M.parts }
 {
-    let mut meter = Meter::<L>::new(blank);
-    import(rt, alloc, source, sheet, &mut meter)
+    let mut source = Reading::<T, I>::new(reader, input);
+    let mut meter = Meter::<M>::new(evaluations);
+    import(rt, alloc, &mut source, sheet, &mut meter)
 }
 
 /// The refusal of a fault, and how many records stand.
@@ -86,35 +58,29 @@ fn refused(fault: ImportFault) -> (Refusal, usize) {
     (fault.refusal, fault.applied)
 }
 
-/// Takes a table in, over a ledger of its own.
-fn take_from<R: Threads + Sync, S: Source>(
+/// Takes a reader's table in, over ledgers of its own.
+fn take_from<R: Threads + Sync, T: Read + Drop>(
     rt: &R,
     alloc: Global,
-    source: &mut S,
+    reader: T,
     sheet: &mut Sheet,
 ) -> Result<Imported, (Refusal, usize)> {
-    match taken::<R, S, Brand>(rt, Blank::new(1), alloc, source, sheet) {
+    match taken::<R, T, Brand, Brand>(rt, alloc, reader, sheet, Blank::new(1), Blank::new(1)) {
         Ok(imported) => Ok(imported),
         Err(fault) => Err(refused(fault)),
     }
 }
 
-/// How the import of a source's table into an empty sheet ends.
-fn end_from<R: Threads + Sync, S: Source>(
+/// How the import of a reader's table into an empty sheet ends.
+fn end_of<R: Threads + Sync, T: Read + Drop>(
     rt: &R,
     alloc: Global,
-    source: &mut S,
+    reader: T,
 ) -> Result<ImportEnd, Refusal> {
     let mut sheet = Sheet::open(alloc, 1, 1)?;
-    let import = take_from(rt, alloc, source, &mut sheet);
+    let import = take_from(rt, alloc, reader, &mut sheet);
     let version = sheet.version();
     Ok(ImportEnd { import, version })
-}
-
-/// How the import of a text into an empty sheet ends.
-fn end_of<R: Threads + Sync>(rt: &R, alloc: Global, text: &[u8]) -> Result<ImportEnd, Refusal> {
-    let mut source = MemorySource::new(text);
-    end_from(rt, alloc, &mut source)
 }
 
 /// A table of so many records, the widest with so many fields, by so many edits.
@@ -148,8 +114,7 @@ fn shown_on<R: Threads + Sync>(
     text: &[u8],
     last: &str,
 ) -> Result<Vec<u8>, Refusal> {
-    let mut source = MemorySource::new(text);
-    match take_from(rt, alloc, &mut source, sheet) {
+    match take_from(rt, alloc, text, sheet) {
         Ok(_) => table_of(alloc, sheet, last),
         Err((refusal, _)) => Err(refusal),
     }
@@ -196,7 +161,7 @@ fn end_of_repeated<R: Threads + Sync>(
     end: &[u8],
 ) -> Result<ImportEnd, Refusal> {
     let text = repeated(alloc, part, count, end)?;
-    end_of(rt, alloc, &text)
+    end_of(rt, alloc, text.as_slice())
 }
 
 /// Whether a text of `repeated` is shown so at A1.
@@ -223,7 +188,7 @@ fn fields_are_entries(rt: HostRuntime) -> Result<(), Fail> {
 /// An empty field leaves its cell, and a record of empty fields is a row, but no edit.
 #[test]
 fn an_empty_field_leaves_its_cell(rt: HostRuntime) -> Result<(), Fail> {
-    let text = b"1,,3\n,,\n=[.A1]+[.C1]\n";
+    let text = b"1,,3\n,,\n=[.A1]+[.C1]\n".as_slice();
     assert!(rt; end_of(&rt, rt.alloc(), text)? == whole(3, 3, 2));
     assert!(rt; shows(&rt, rt.alloc(), text, "C3", b"1,,3\n,,\n4,,\n")?);
     Ok(())
@@ -295,11 +260,8 @@ fn the_most_that_is_taken(rt: HostRuntime) -> Result<(), Fail> {
 /// A source that fails in mid-file is `Device`, whatever came before.
 #[test]
 fn a_source_that_fails(rt: HostRuntime) -> Result<(), Fail> {
-    let mut fails = FailsAfter {
-        source: MemorySource::new(b"1,2\n=bad,"),
-        failed: false,
-    };
-    assert!(rt; end_from(&rt, rt.alloc(), &mut fails)? == untouched(Refusal::Device));
+    let fails = FailsAfter(b"1,2\n=bad,");
+    assert!(rt; end_of(&rt, rt.alloc(), fails)? == untouched(Refusal::Device));
     Ok(())
 }
 
@@ -309,8 +271,7 @@ fn end_of_line_feeds<R: Threads + Sync>(
     alloc: Global,
     count: usize,
 ) -> Result<ImportEnd, Refusal> {
-    let mut source = LineFeeds { left: count };
-    end_from(rt, alloc, &mut source)
+    end_of(rt, alloc, io::repeat(b'\n').take(count as u64))
 }
 
 /// 68,157,440 line feeds are a table with no record; one more is `Csv`, and so is a source that never seems to end.
@@ -372,16 +333,14 @@ fn import_again<R: Threads + Sync>(
         records: 10,
         fields: 2,
     });
-    let mut source = MemorySource::new(text);
-    let first = take_from(rt, alloc, &mut source, sheet);
+    let first = take_from(rt, alloc, text, sheet);
     if first == whole {
         return Ok(sheet.version() == 10 && stand(alloc, sheet, 10)?);
     }
     let before = sheet.version();
     let is_part = first == Err((Refusal::Memory, before as usize))
         && stand(alloc, sheet, before as usize)?;
-    let mut source = MemorySource::new(text);
-    let is_whole = take_from(rt, alloc, &mut source, sheet) == whole;
+    let is_whole = take_from(rt, alloc, text, sheet) == whole;
     Ok(
         is_part
             && is_whole

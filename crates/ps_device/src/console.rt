@@ -61,19 +61,6 @@ impl<W: Write + Drop, L: Ledger> ConsoleOutput<W, L> {
         })
     }
 
-    /// The writer, which has all that was put where nothing waits. It is part of the public interface, for whoever goes
-    /// on with the writer; the program ends with its output.
-    ///
-    /// Cost: O(1).
-    pub fn into_writer(self) -> W
-        ensures writer { result ≡ console_writer self }
-        ensures whole { console_waiting self ≡ []
-            → Keeps (⟦<ConsoleOutput<W, L> as Sink>⟧.contents self) (W.contents result) }
-    {
-        let ConsoleOutput { sink, .. } = self;
-        sink.into_writer()
-    }
-
     /// Gives the writer what waits.
     fn send(&mut self) -> Result<(), Failed>
         ensures same { Keeps (console_contents W.contents self.old) (console_contents W.contents self.new) }

@@ -7,7 +7,7 @@
 //! counted; so who is lent a device can say that a refusal as `Device` comes just where its count rose. What was put on
 //! a sink is what it has handed on, in order and whole, and then what waits; after a `settle` that is Ok nothing waits.
 //!
-//! The devices: over memory (`MemorySource`, `MemorySink`), over the readers and writers of std (`Reading`, `Writing`),
+//! The devices: a sink over memory (`MemorySink`), over the readers and writers of std (`Reading`, `Writing`),
 //! and the console (`ConsoleOutput`), which keeps what is put until it is settled. On a console over standard output,
 //! `put_all` of `ok 1` and of `ok 2`, each with its line feed, writes nothing; the `settle` after them is one write of
 //! ten bytes. Where that write fails, `settle` returns the error, one failure is counted, and no later call writes
@@ -27,7 +27,7 @@ mod stream;
 
 pub use console::ConsoleOutput;
 pub use device::{Failed, Sink, Source, hand_on, put_all};
-pub use memory::{MemorySink, MemorySource};
+pub use memory::MemorySink;
 pub use stream::{Reading, Writing};
 
 /// How many bytes are read at once, and how many wait at most before they are written.

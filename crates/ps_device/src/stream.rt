@@ -82,16 +82,6 @@ impl<W: Write + Drop, L: Ledger> Writing<W, L> {
         }
     }
 
-    /// The writer, for `ConsoleOutput::into_writer` and for whoever goes on with it.
-    ///
-    /// Cost: O(1).
-    pub fn into_writer(self) -> W
-        ensures { result ≡ writer_of self }
-    {
-        let Writing { writer, .. } = self;
-        writer
-    }
-
     /// Counts a call that failed with no call of the writer.
     pub(crate) fn fail(&mut self)
         ensures writer { self.new.writer ≡ self.old.writer }

@@ -9,6 +9,9 @@ ghosts-answered-L-Named g a = record { book = a.parts.book; opening = a.parts.sh
 abbrev pub ghosts-answered-L-DeskName : goal.ghosts-answered-L-DeskName
 ghosts-answered-L-DeskName g a = record { replica = a.parts.sheet.replica }
 
+abbrev pub ghosts-answered-I-Ledger : goal.ghosts-answered-I-Ledger
+ghosts-answered-I-Ledger g a = record { name = a.counts.input.name; parts = a.counts.input.parts }
+
 abbrev pub ghosts-answered-O-Ledger : goal.ghosts-answered-O-Ledger
 ghosts-answered-O-Ledger g a = record { name = a.counts.output.name; parts = a.counts.output.parts }
 

@@ -1,4 +1,0 @@
-use Rattle.checks_sessions.proofs.keeping.a_failed_write_comes_after_its_settle.Given as goal
-
-abbrev pub ghosts-by_lines : goal.ghosts-by_lines
-ghosts-by_lines g a = record { name = a.input.name; parts = a.input.parts }

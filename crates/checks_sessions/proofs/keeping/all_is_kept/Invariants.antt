@@ -1,4 +1,0 @@
-use Rattle.checks_sessions.proofs.keeping.all_is_kept.Given as goal
-
-abbrev pub ghosts-by_lines : goal.ghosts-by_lines
-ghosts-by_lines g a = record { name = a.input.name; parts = a.input.parts }
