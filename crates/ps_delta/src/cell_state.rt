@@ -130,4 +130,9 @@ impl Join for CellState {
     ghost idempotent = { joined_cell-idem };
 }
 
-impl Merge for CellState {}
+impl Merge for CellState {
+    #[inline(always)]
+    fn joined_with(&self, alloc: Global, other: &CellState) -> Result<CellState, Refusal> {
+        self.joined(alloc, other)
+    }
+}

@@ -97,6 +97,10 @@ impl Join for bool {
 }
 
 impl Merge for bool {
+    fn joined_with(&self, _alloc: Global, other: &bool) -> Result<bool, Refusal> {
+        Ok(*self || *other)
+    }
+
     fn append<K: Copy>(
         _alloc: Global,
         list: &mut Vec<(K, bool)>,

@@ -10,8 +10,17 @@ use ps_grid::{Refusal, Twin};
 use std::alloc::Global;
 use std::cmp::Ordering;
 
-/// A value of the lists that `merge_entries` merges.
+/// A value of lists that are merged: by key, as by `merge_entries`, or place by place.
 pub trait Merge: Join + Twin + Drop {
+    /// The join of this value and another one, made at once.
+    ///
+    /// Refused only when out of memory.
+    ///
+    /// Cost: as of `join`.
+    fn joined_with(&self, alloc: Global, other: &Self) -> Result<Self, Refusal>
+        ensures ok { IfOk result (λ v. v ≡ Self.joined self.now other.now) }
+        ensures memory { IfErr result (λ e. e ≡ Refusal.Memory) };
+
     /// Adds the entries at the end of the list, one by one; values that need no memory may go in at once.
     ///
     /// Refused only when out of memory.
@@ -85,8 +94,7 @@ pub fn merge_entries<K: Linear + Copy, X: Merge>(
                 j += 1;
             }
             Ordering::Equal => {
-                let mut both = mine[i].1.twin(alloc)?;
-                both.join(alloc, &theirs[j].1)?;
+                let both = mine[i].1.joined_with(alloc, &theirs[j].1)?;
                 all.push((mine[i].0, both))?;
                 i += 1;
                 j += 1;

@@ -44,9 +44,8 @@ impl Join for Count {
 
     ghost idempotent = { counts_is_join.idempotent };
 
-    fn join(&mut self, _alloc: Global, other: &Self) -> Result<(), Refusal> {
-        self.added = self.added.max(other.added);
-        self.subtracted = self.subtracted.max(other.subtracted);
+    fn join(&mut self, alloc: Global, other: &Self) -> Result<(), Refusal> {
+        *self = self.joined_with(alloc, other)?;
         Ok(())
     }
 
@@ -56,6 +55,13 @@ impl Join for Count {
 }
 
 impl Merge for Count {
+    fn joined_with(&self, _alloc: Global, other: &Count) -> Result<Count, Refusal> {
+        Ok(Count {
+            added: self.added.max(other.added),
+            subtracted: self.subtracted.max(other.subtracted),
+        })
+    }
+
     fn append<K: Copy>(
         _alloc: Global,
         list: &mut Vec<(K, Count)>,
