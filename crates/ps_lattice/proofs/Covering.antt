@@ -51,6 +51,13 @@ module _ {K X : Type 0} (R : K → K → Ordering) (f : X → X → X) (o : IsTo
   covered_is_below theirs mine ht hm all = same_map o same _ _ (λ q.
       get-joined theirs mine ht hm q ∙ covers_key theirs mine all q ∙ sym (get-from_sorted R theirs q (to_T _ ht)))
 
+  -- as where there is none
+  pub none_is_below : (theirs mine : List (K × X)) → map.is_sorted R theirs ≡ true → mine ≡ []
+      → joined_maps f (map.from_sorted {R = R} theirs) (map.from_sorted {R = R} mine) ≡ map.from_sorted {R = R} theirs
+  none_is_below theirs mine sorted none =
+      ap (λ es. joined_maps f (map.from_sorted {R = R} theirs) (map.from_sorted {R = R} es)) none
+      ∙ covered_is_below theirs [] sorted refl (λ k d low high. absurd (omega (arith, high)))
+
   -- and where it changes nothing, each entry is covered
   pub below_is_covered : (theirs mine : List (K × X)) → map.is_sorted R theirs ≡ true → map.is_sorted R mine ≡ true
       → (i : ℕ) (e : K × X) → i < length mine → e ≡ get_or mine i e

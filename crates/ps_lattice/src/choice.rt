@@ -365,6 +365,7 @@ impl Choice {
     ///
     /// Cost: as of `join`.
     #[tactic(auto, using(crate::proofs::Joining::seen_joined, crate::proofs::ChoiceLemmas::joined_in_range))]
+    #[inline(always)]
     pub fn joined(&self, alloc: Global, other: &Choice) -> Result<Choice, Refusal>
         ensures ok { IfOk result (λ c. c ≡ joined_choices self.now other.now) }
         ensures memory { IfErr result (λ e. e ≡ Refusal.Memory) }
@@ -392,7 +393,8 @@ impl Join for Choice {
         Ok(())
     }
 
+    #[inline(always)]
     fn below(&self, other: &Self) -> bool {
-        entries::is_below(self.pairs.items(), other.pairs.items())
+        shared::is_below(&self.pairs, &other.pairs)
     }
 }

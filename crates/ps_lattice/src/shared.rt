@@ -1,13 +1,13 @@
 //! A list that any number of owners share.
 
-ghost use Rattle.std.specs.Prelude.{◌≡◌, [], ◌∷◌, IsTrue, IfOk, IfErr};
+ghost use Rattle.std.specs.Prelude.{◌≡◌, ◌↔◌, [], ◌∷◌, IsTrue, IfOk, IfErr};
 ghost use Rattle.std.specs.FinMap as map;
 ghost use Rattle.ps_grid.specs.declared.refusal.Refusal.{Refusal};
 ghost use Rattle.ps_lattice.specs.Maps.{joined_maps};
 ghost use Rattle.ps_lattice.specs.Inside.Shared.{items_of};
 
 use crate::entries::{self, Merge};
-use crate::join::Linear;
+use crate::join::{Join, Linear};
 use ps_grid::Refusal;
 use std::alloc::Global;
 use std::sync::Arc;
@@ -44,6 +44,7 @@ impl<X: Drop> SharedList<X> {
     }
 
     /// The list, with one owner more.
+    #[inline]
     pub(crate) fn share(&self) -> Result<SharedList<X>, Refusal>
         ensures ok { IfOk result (λ s. items_of s ≡ items_of self.now) }
         ensures memory { IfErr result (λ e. e ≡ Refusal.Memory) }
@@ -67,7 +68,30 @@ impl<X: Drop> SharedList<X> {
 
 /// Both lists merged in the order of their keys; values at one key are joined. Where the one changes nothing in the
 /// other, that other one gets an owner more, and nothing is copied.
+// Most lists are empty. That is told here, inlined, and what merges isn't.
+#[inline(always)]
 pub(crate) fn joined<K: Linear + Copy, X: Merge + Copy>(
+    alloc: Global,
+    mine: &SharedList<(K, X)>,
+    theirs: &SharedList<(K, X)>,
+) -> Result<SharedList<(K, X)>, Refusal>
+    requires mine { IsTrue (map.is_sorted K.cmp (items_of mine.now)) }
+    requires theirs { IsTrue (map.is_sorted K.cmp (items_of theirs.now)) }
+    ensures ok { IfOk result (λ v. items_of v
+        ≡ map.entries (joined_maps X.joined (map.from_sorted {R = K.cmp} (items_of mine.now))
+        (map.from_sorted {R = K.cmp} (items_of theirs.now)))) }
+    ensures memory { IfErr result (λ e. e ≡ Refusal.Memory) }
+{
+    match (mine, theirs) {
+        (_, SharedList::Empty) => mine.share(),
+        (SharedList::Empty, _) => theirs.share(),
+        _ => merged(alloc, mine, theirs),
+    }
+}
+
+/// Both lists merged, as by `joined`.
+#[inline(never)]
+fn merged<K: Linear + Copy, X: Merge + Copy>(
     alloc: Global,
     mine: &SharedList<(K, X)>,
     theirs: &SharedList<(K, X)>,
@@ -87,4 +111,22 @@ pub(crate) fn joined<K: Linear + Copy, X: Merge + Copy>(
     }
     let all = entries::merge_entries(alloc, mine.items(), theirs.items())?;
     SharedList::new(alloc, all)
+}
+
+/// Whether joining the first list into the second one changes nothing, as it is at once where the first is empty.
+#[inline(always)]
+pub(crate) fn is_below<K: Linear + Copy, X: Join + Copy>(
+    mine: &SharedList<(K, X)>,
+    theirs: &SharedList<(K, X)>,
+) -> bool
+    requires mine { IsTrue (map.is_sorted K.cmp (items_of mine.now)) }
+    requires theirs { IsTrue (map.is_sorted K.cmp (items_of theirs.now)) }
+    ensures { IsTrue result
+        ↔ (joined_maps X.joined (map.from_sorted {R = K.cmp} (items_of theirs.now))
+        (map.from_sorted {R = K.cmp} (items_of mine.now)) ≡ map.from_sorted {R = K.cmp} (items_of theirs.now)) }
+{
+    match mine {
+        SharedList::Empty => true,
+        SharedList::Held(items) => entries::is_below(items, theirs.items()),
+    }
 }

@@ -302,6 +302,7 @@ impl Tally {
     ///
     /// Cost: as of `join`.
     #[tactic(auto, using(crate::proofs::Joining::seen_joined, crate::proofs::TallyLemmas::joined_in_range))]
+    #[inline(always)]
     pub fn joined(&self, alloc: Global, other: &Tally) -> Result<Tally, Refusal>
         ensures ok { IfOk result (λ t. t ≡ joined_tallies self.now other.now) }
         ensures memory { IfErr result (λ e. e ≡ Refusal.Memory) }
@@ -339,7 +340,8 @@ impl Join for Tally {
         Ok(())
     }
 
+    #[inline(always)]
     fn below(&self, other: &Self) -> bool {
-        entries::is_below(self.counts.items(), other.counts.items())
+        shared::is_below(&self.counts, &other.counts)
     }
 }
