@@ -8,10 +8,10 @@ ghost use Rattle.ps_session.specs.Peers.{PutsSome};
 ghost use Rattle.ps_session.specs.PushLine.{push_text};
 ghost use Rattle.ps_session.specs.declared.peer_pull.SyncFault.TheVariants.{Refused};
 
-use crate::peer::Peer;
+use crate::peer::{Peer, send_whole};
 use crate::peer_pull::{Due, SyncFault, next_due};
-use crate::push_line::send_push;
-use ps_device::{Failed, Sink, Source, hand_on};
+use crate::push_line::push_pieces;
+use ps_device::{Failed, Sink, Source};
 use ps_grid::Refusal;
 use std::alloc::Global;
 use std::thread::sleep;
@@ -34,9 +34,8 @@ fn write_push<O: Sink>(delta: &[u8], out: &mut O) -> Result<(), Failed>
     ensures calm { OnOk result (O.failures out.new ≡ O.failures out.old) }
     ensures failed { OnErr result (O.failures out.old < O.failures out.new) }
 {
-    send_push(delta, out)?;
-    hand_on(out)?;
-    Ok(())
+    let line = push_pieces(delta);
+    send_whole(line.as_slice(), out)
 }
 
 /// Pulls all that a peer has, from version 0 on, and then each change that it gets, and writes the line of each group

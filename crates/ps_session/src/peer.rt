@@ -1,5 +1,5 @@
 //! A peer that replies to each request by a line.
-ghost use Rattle.std.specs.Prelude.{◌≡◌, ◌<◌, ◌≤◌, ◌+◌, Err, IfOk, OnErr, OnOk, flat_map, length};
+ghost use Rattle.std.specs.Prelude.{◌≡◌, ◌<◌, ◌≤◌, ◌+◌, [], Err, IfOk, OnErr, OnOk, flat_map, length};
 ghost use Rattle.std.specs.Io.KnownBytes.{Appends};
 ghost use Rattle.ps_session.specs.Peers.{IsClosed, IsReplied, PutsSome, TakesLine};
 ghost use Rattle.ps_session.specs.Feeding.{without_return};
@@ -50,15 +50,16 @@ impl<S: Source + Drop, K: Sink + Drop> Model for Peer<S, K> {
     ghost invariant = { λ p. p.is_ready ≡ true → p.incoming.lines.pending ≡ Some [] };
 }
 
-/// Puts a request piece by piece, and hands all of it on.
-fn send_whole<K: Sink>(request: &[&[u8]], sink: &mut K) -> Result<(), Failed>
+/// Puts a line to a peer piece by piece, and hands all of it on.
+pub(crate) fn send_whole<K: Sink>(line: &[&[u8]], sink: &mut K) -> Result<(), Failed>
     ensures sent { OnOk result (Appends (K.contents sink.old) (K.contents sink.new)
-        (flat_map (λ piece. piece.now) request.now)) }
-    ensures put { PutsSome (K.contents sink.old) (K.contents sink.new) (flat_map (λ piece. piece.now) request.now) }
+        (flat_map (λ piece. piece.now) line.now)) }
+    ensures settled { OnOk result (K.waiting sink.new ≡ []) }
+    ensures put { PutsSome (K.contents sink.old) (K.contents sink.new) (flat_map (λ piece. piece.now) line.now) }
     ensures calm { OnOk result (K.failures sink.new ≡ K.failures sink.old) }
     ensures failed { OnErr result (K.failures sink.old < K.failures sink.new) }
 {
-    send_pieces(request, sink)?;
+    send_pieces(line, sink)?;
     hand_on(sink)?;
     Ok(())
 }

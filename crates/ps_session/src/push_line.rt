@@ -1,18 +1,15 @@
 //! The line that pushes a delta: how it is written, and what of it is the delta's.
-ghost use Rattle.std.specs.Prelude.{◌≡◌, ◌⊎◌, ◌<◌, ◌++◌, Err, IfErr, MatchOption, OnErr, OnOk, false, flat_map, length};
+ghost use Rattle.std.specs.Prelude.{◌≡◌, ◌⊎◌, ◌<◌, ◌++◌, Err, IfErr, MatchOption, OnOk, false, flat_map, length};
 ghost use Rattle.std.specs.Prelude.{nat_eq};
 ghost use Rattle.std.specs.List.{starts_with};
-ghost use Rattle.ps_device.specs.Device.{Sends};
 ghost use Rattle.ps_grid.specs.declared.refusal.Refusal.TheVariants as refusals;
 ghost use Rattle.ps_wire.specs.Line.{IsLine, delta_text};
 ghost use Rattle.ps_wire.specs.declared.TheConstants.{DELTA_LINE_LIMIT};
 ghost use Rattle.ps_session.specs.PushLine.{push_line, push_text, push_word};
 
-use crate::reply::send_pieces;
 use crate::verb::Verb;
 use crate::words::split_word;
 use ps_delta::Delta;
-use ps_device::{Failed, Sink};
 use ps_grid::Refusal;
 use ps_wire::encode;
 use std::alloc::Global;
@@ -55,14 +52,4 @@ pub(crate) fn push_pieces(delta: &[u8]) -> [&[u8]; 3]
     ensures { flat_map (λ piece. piece.now) result ≡ push_text delta.now }
 {
     [PUSH, delta, b"\n"]
-}
-
-/// Writes the line that pushes a delta's line, with its line feed.
-pub(crate) fn send_push<K: Sink>(delta: &[u8], sink: &mut K) -> Result<(), Failed>
-    ensures sent { Sends (K.contents sink.old) (K.contents sink.new) result (push_text delta.now) }
-    ensures calm { OnOk result (K.failures sink.new ≡ K.failures sink.old) }
-    ensures failed { OnErr result (K.failures sink.old < K.failures sink.new) }
-{
-    let pieces = push_pieces(delta);
-    send_pieces(pieces.as_slice(), sink)
 }
