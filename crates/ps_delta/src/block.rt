@@ -7,7 +7,7 @@ ghost use Rattle.ps_delta.specs.State.{empty_cell};
 use crate::cell_state::CellState;
 use crate::places;
 use ps_grid::{Refusal, Twin};
-use ps_lattice::Join;
+use ps_lattice::{Join, Merge};
 use std::alloc::Global;
 use std::marker::Model;
 use std::mem;
@@ -98,7 +98,7 @@ impl Join for Block {
     ghost joined = { joined_cells };
 
     fn join(&mut self, alloc: Global, other: &Block) -> Result<(), Refusal> {
-        self.cells = places::joined(alloc, &self.cells, &other.cells)?;
+        *self = self.joined_with(alloc, other)?;
         Ok(())
     }
 
@@ -111,4 +111,12 @@ impl Join for Block {
     ghost commutative = { joined_cells-comm };
 
     ghost idempotent = { joined_cells-idem };
+}
+
+impl Merge for Block {
+    fn joined_with(&self, alloc: Global, other: &Block) -> Result<Block, Refusal> {
+        Ok(Block {
+            cells: places::joined(alloc, &self.cells, &other.cells)?,
+        })
+    }
 }

@@ -4,25 +4,22 @@ ghost use Rattle.std.specs.Prelude.{◌≡◌, ◌↔◌, IsTrue, IfOk, IfErr};
 ghost use Rattle.ps_grid.specs.declared.refusal.Refusal.{Refusal};
 ghost use Rattle.ps_delta.specs.Places.{joined_places};
 
-use ps_grid::{Refusal, Twin};
-use ps_lattice::Join;
+use ps_grid::Refusal;
+use ps_lattice::{Join, Merge};
 use std::alloc::Global;
 
 /// Both lists joined place by place; past the end of one of them the items of the other one stay.
-pub(crate) fn joined<X: Join + Twin + Drop>(
-    alloc: Global,
-    mine: &[X],
-    theirs: &[X],
-) -> Result<Vec<X>, Refusal>
+pub(crate) fn joined<X: Merge>(alloc: Global, mine: &[X], theirs: &[X]) -> Result<Vec<X>, Refusal>
     ensures ok { IfOk result (λ v. v.items ≡ joined_places X.joined mine.now theirs.now) }
     ensures memory { IfErr result (λ e. e ≡ Refusal.Memory) }
 {
     let mut all = Vec::with_capacity(alloc, mine.len().max(theirs.len()))?;
     for (i, item) in mine.iter().enumerate() {
-        let mut both = item.twin(alloc)?;
-        if i < theirs.len() {
-            both.join(alloc, &theirs[i])?;
-        }
+        let both = if i < theirs.len() {
+            item.joined_with(alloc, &theirs[i])?
+        } else {
+            item.twin(alloc)?
+        };
         all.push(both)?;
     }
     for k in mine.len()..theirs.len() {
