@@ -488,7 +488,7 @@ fn exchange_twice(
     grid: &mut Grid,
     delta: &Delta,
 ) -> Result<(), Refusal> {
-    let mut raised = grid.raised(alloc, delta)?;
+    let mut raised = grid.raised(alloc, delta, Vec::new(alloc))?;
     exchange_and_back(rt, grid, &mut raised, delta);
     Ok(())
 }

@@ -56,7 +56,7 @@ pub(crate) fn begin(
     ensures same { state_at grid.new ≡ state_at grid.old }
     ensures memory { IfErr result (λ e. e ≡ Refusal.Memory) }
 {
-    let raised = grid.raised(alloc, delta)?;
+    let raised = grid.raised(alloc, delta, Vec::new(alloc))?;
     list_cells(&raised, &mut lists.touched)?;
     list_first(alloc, &raised, &mut lists.first)?;
     put_formulas(index, &raised)?;

@@ -89,7 +89,7 @@ impl Grid {
         ensures err { OnErr result (state_at self.new ≡ state_at self.old) }
         ensures memory { IfErr result (λ e. e ≡ Refusal.Memory) }
     {
-        let mut raised = self.raised(alloc, delta)?;
+        let mut raised = self.raised(alloc, delta, Vec::new(alloc))?;
         self.exchange(&mut raised);
         Ok(())
     }
@@ -132,7 +132,10 @@ impl Grid {
     /// The cells that a join of the delta would change, ascending, each with the state that it would have. The grid has
     /// room for them afterwards, so that `exchange` takes no memory.
     ///
-    /// Refused only when out of memory.
+    /// They come in the room of the given list, whose own items are dropped: a list that is given again and again asks
+    /// for memory only where a delta has more cells than all before.
+    ///
+    /// Refused only when out of memory, and then the list is gone too.
     ///
     /// Cost: for each cell of the delta, the counts and pairs that it has here and there; and 64 states for each block
     /// that is made.
@@ -140,13 +143,14 @@ impl Grid {
         &mut self,
         alloc: Global,
         delta: &Delta,
+        list: Vec<(Cell, CellState)>,
     ) -> Result<Vec<(Cell, CellState)>, Refusal>
         ensures raised { IfOk result (λ r. IsRaised (state_at self.old) (state_of delta.now) r.items) }
         ensures ready { IfOk result (λ r. HasRoomFor self.new r.items) }
         ensures same { state_at self.new ≡ state_at self.old }
         ensures memory { IfErr result (λ e. e ≡ Refusal.Memory) }
     {
-        let raised = raised_of(alloc, self, delta)?;
+        let raised = raised_of(alloc, self, delta, list)?;
         self.make_places(alloc, &raised)?;
         Ok(raised)
     }
@@ -201,13 +205,21 @@ impl Grid {
     }
 }
 
-/// The cells that a join of the delta would change in the grid, each with the state that it would have.
-fn raised_of(alloc: Global, grid: &Grid, delta: &Delta) -> Result<Vec<(Cell, CellState)>, Refusal>
+/// The cells that a join of the delta would change in the grid, each with the state that it would have, in the room of
+/// the given list.
+fn raised_of(
+    alloc: Global,
+    grid: &Grid,
+    delta: &Delta,
+    list: Vec<(Cell, CellState)>,
+) -> Result<Vec<(Cell, CellState)>, Refusal>
     ensures raised { IfOk result (λ r. IsRaised (state_at grid.now) (state_of delta.now) r.items) }
     ensures memory { IfErr result (λ e. e ≡ Refusal.Memory) }
 {
     let parts = delta.parts();
-    let mut raised = Vec::with_capacity(alloc, parts.len())?;
+    let mut raised = list;
+    raised.clear();
+    raised.reserve(parts.len())?;
     for change in parts {
         let here = grid.at(change.0);
         if !change.1.below(here) {

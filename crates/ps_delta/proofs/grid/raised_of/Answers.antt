@@ -6,7 +6,7 @@ use Rattle.ps_delta.proofs.grid.raised_of.Goals.{then-not-below+in_ok-state+in_o
 use Rattle.ps_delta.proofs.grid.raised_of.Goals as goal
 
 pub loop-change-init : goal.loop-change-init
-loop-change-init c = rw c.in_ok-raised.ensures.items (listed_none _)
+loop-change-init c = rw (c.reserve.ensures.items, c.clear.ensures.items) (listed_none _)
 
 pub loop-change-preserved : goal.loop-change-preserved
 loop-change-preserved c =
