@@ -115,17 +115,52 @@ fn readers_are_known_without_a_walk(rt: HostRuntime) {
     assert!(rt; found == Ok(true));
 }
 
-/// Whether the one cell that refers to A1 is known, and the two of A2 and those of a column with a range aren't.
+/// Whether the one cell that refers to A1 is known, and the two of A2 and those of a column with a range aren't, and
+/// the two are walked as those of a row.
 fn known_readers(alloc: Global) -> Result<bool, Refusal> {
     let lines = "B1 =[.A1]\nC1 =[.A2]\nD1 =[.A2]\nE1 =SUM([.F1:.F2])";
     let index = index_of(alloc, lines)?;
     Ok(
-        index.readers(cell("A1")?) == Readers::One(cell("B1")?)
-            && index.readers(cell("A2")?) == Readers::Several
-            && index.readers(cell("A3")?) == Readers::Nobody
-            && index.readers(cell("F1")?) == Readers::Several
-            && index.readers(cell("CZ1024")?) == Readers::Nobody,
+        one_reads(&index, cell("A1")?, cell("B1")?)
+            && row_reads(&index, cell("A2")?, "C1 D1")
+            && nobody_reads(&index, cell("A3")?)
+            && several_may_read(&index, cell("F1")?)
+            && nobody_reads(&index, cell("CZ1024")?),
     )
+}
+
+/// Whether it is known that no cell refers to this one.
+fn nobody_reads(index: &Index, to: Cell) -> bool {
+    matches!(index.readers(to), Readers::Nobody)
+}
+
+/// Whether it is known that this cell alone refers to the other.
+fn one_reads(index: &Index, to: Cell, reader: Cell) -> bool {
+    match index.readers(to) {
+        Readers::One(found) => found == reader,
+        _ => false,
+    }
+}
+
+/// Whether nothing is known of the cells that refer to this one.
+fn several_may_read(index: &Index, to: Cell) -> bool {
+    matches!(index.readers(to), Readers::Several)
+}
+
+/// Whether the cells that refer to a cell are given as a walk of its row, and are just those of these names, in this
+/// order.
+fn row_reads(index: &Index, to: Cell, names: &str) -> bool {
+    let Readers::Row(walk) = index.readers(to) else {
+        return false;
+    };
+    let mut names = names.split_ascii_whitespace();
+    for found in walk {
+        let name = names.next().unwrap_or("");
+        if Cell::read(name.as_bytes()) != Some(found) {
+            return false;
+        }
+    }
+    names.next().is_none()
 }
 
 /// A cell for which two formulas are put in comes once, and for as long as one of them is there.

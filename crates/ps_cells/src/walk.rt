@@ -1,6 +1,7 @@
 //! The walk of a recalculation: what the touched and the cyclic cells show, then level after level.
 
-ghost use Rattle.std.specs.Prelude.{◌≡◌, ◌+◌, ◌<◌, ◌≤◌, ◌||◌, ℕ, true, false, length, map, nat_eq};
+ghost use Rattle.std.specs.Prelude.{◌≡◌, ◌+◌, ◌<◌, ◌≤◌, ◌||◌, ℕ, List, true, false, length, map, nat_eq};
+ghost use Rattle.std.specs.Iterator.{AlwaysYields, IsFinite};
 ghost use Rattle.std.specs.List.{list_any, All, IsDistinct};
 ghost use Rattle.ps_grid.specs.Chains.{In};
 ghost use Rattle.ps_grid.specs.declared.parties.TheConstants.{WORKERS};
@@ -31,13 +32,15 @@ use std::mem;
 use std::sync::ledger::Ledger;
 use std::thread::Threads;
 
-/// Flags the cells that refer to a cell, by a walk of them.
-fn flag_each(index: &Index, cell: Cell, flags: &mut [bool])
+/// Flags the cells of a walk.
+fn flag_each<W: Iterator<Item = Cell> + Drop>(walk: W, flags: &mut [bool])
+    requires can { W.can_next walk }
+    requires ends { IsFinite (W.remaining walk) }
     requires whole { length flags.old ≡ CELLS }
-    ensures flagged { (c : ℕ) → flag_at flags.new c
-        ≡ (flag_at flags.old c || list_any (nat_eq c) (listed index.now cell)) }
+    ensures flagged { (cells : List ℕ) → AlwaysYields W.next_gives (λ c. c) walk cells
+        → (c : ℕ) → flag_at flags.new c ≡ (flag_at flags.old c || list_any (nat_eq c) cells) }
 {
-    for dependent in index.dependents(cell) {
+    for dependent in walk {
         flags[dependent.index()] = true;
     }
 }
@@ -51,7 +54,8 @@ fn flag_dependents(index: &Index, cell: Cell, flags: &mut [bool])
     match index.readers(cell) {
         Readers::Nobody => {}
         Readers::One(reader) => flags[reader.index()] = true,
-        Readers::Several => flag_each(index, cell, flags),
+        Readers::Row(walk) => flag_each(walk, flags),
+        Readers::Several => flag_each(index.dependents(cell), flags),
     }
 }
 

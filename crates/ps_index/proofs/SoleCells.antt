@@ -32,7 +32,7 @@ one_row s is (inr divides) =
 
 module _ (spans : List Span) (ends : List ℕ) (col : IsColumn spans ends LEVELS) (y : ℕ) (some : 1 ≤ y)
     (small : y ≤ ROWS) where
-  having_within : (i : ℕ) (d : Span) → i < length spans → holds (get_or spans i d) y ≡ true
+  pub having_within : (i : ℕ) (d : Span) → i < length spans → holds (get_or spans i d) y ≡ true
       → (get_or ends (y - 1) 0 ≤ i) × (i < get_or ends y 0)
   having_within i d within has =
       let one = one_row (get_or spans i d) (col.each i d within) (col.ranges i d within) in
@@ -40,7 +40,7 @@ module _ (spans : List Span) (ends : List ℕ) (col : IsColumn spans ends LEVELS
       let key = key_of_within (get_or spans i d).from (get_or spans i d).to (omega arith) in
       within_key spans ends LEVELS col y i d some small within (omega (arith, one, at.0, at.1, key.0, key.1))
 
-  within_having : (i : ℕ) (d : Span) → get_or ends (y - 1) 0 ≤ i → i < get_or ends y 0
+  pub within_having : (i : ℕ) (d : Span) → get_or ends (y - 1) 0 ≤ i → i < get_or ends y 0
       → holds (get_or spans i d) y ≡ true
   within_having i d from to =
       let within : i < length spans = omega (arith, col.within y small) in

@@ -3,8 +3,9 @@ use Rattle.std.proofs.Common.{◌≡◌, ℕ, zero, suc, ◌<◌, ◌-◌, ◌+�
 use Rattle.std.proofs.Common.{⊎_elim, eqb, ap, subst, ◌≤◌, ◌++◌, ◌∷◌, [], length, take, get_or}
 use Rattle.std.specs.Prelude.{Option, None, Some}
 use Rattle.std.specs.List.{list_any, filter, range_with_len, IsDistinct}
-use Rattle.std.specs.Iterator.{Yields, YieldsFirst}
-use Rattle.std.proofs.lemmas.Iterator.Consumers.{YieldsList-from_first, YieldsList-turn, YieldsList-end}
+use Rattle.std.specs.Iterator.{AlwaysYields, Yields, YieldsFirst}
+use Rattle.std.proofs.lemmas.Iterator.{YieldsList}
+use Rattle.std.proofs.lemmas.Iterator.Consumers.{YieldsList-at, YieldsList-from_first, YieldsList-turn, YieldsList-end}
 use Rattle.std.proofs.lemmas.List.{take_more, take_all, length_push, get_or_read}
 use Rattle.ps_grid.specs.Chains.{In}
 use Rattle.ps_grid.proofs.ChainLemmas.{In-cases}
@@ -15,7 +16,7 @@ use Rattle.ps_grid.specs.declared.size.TheConstants.{CELLS, COLUMNS, ROWS}
 use Rattle.ps_index.specs.Spans.{cells_from, refers_at}
 use Rattle.ps_formula.specs.References.{mentions}
 use Rattle.ps_index.specs.Stands.{Puts, Stands, refers, spans_of}
-use Rattle.ps_index.proofs.CellsPassing.{cells_from-any}
+use Rattle.ps_index.proofs.CellsPassing.{cells_from-any, cells_from-distinct}
 use Rattle.ps_index.proofs.PairsOfFormulas.{pairs}
 use Rattle.ps_index.specs.declared.span.Span.{Span}
 use Rattle.ps_region.specs.Listed.{listed}
@@ -66,33 +67,44 @@ pub record IsNext (all came : List ℕ) (e : ℕ) : Type 0 where
   pub push : length (came ++ e ∷ []) ≡ length came + 1
   pub more : take (length came + 1) all ≡ take (length came) all ++ e ∷ []
 
+-- an iterator that is seen as the list of what is left gives the cells that are listed for d
+pub walks_listed : (index : List (List Span)) (d : ℕ) {walk : List ℕ}
+    → walk ≡ cells_from (refers_at (spans_of index (column_of d)) (row_of d)) 0 CELLS
+    → AlwaysYields (YieldsFirst (λ (r : List ℕ). r)) (λ (x : ℕ). x) walk (listed index d)
+walks_listed index d {walk} list =
+    (YieldsList-from_first (λ (x : ℕ). x) (λ (r : List ℕ). r) (listed index d) (listed_is index d walk list)).runs
+
+-- each cell is listed once
+pub listed_once : (index : List (List Span)) (d : ℕ) → IsDistinct eqb (listed index d)
+unfolding listed
+listed_once index d = cells_from-distinct (refers_at (spans_of index (column_of d)) (row_of d)) 0 CELLS
+
 -- a loop over the cells that are listed for d
-module _ (index : List (List Span)) (d : ℕ) (came rest after : List ℕ) {walk start : List ℕ} {item : Option ℕ}
-    (is : start ≡ walk) (list : walk ≡ cells_from (refers_at (spans_of index (column_of d)) (row_of d)) 0 CELLS)
-    (once : IsDistinct eqb walk) (yielded : Yields (YieldsFirst (λ (r : List ℕ). r)) start came rest)
-    (steps : YieldsFirst (λ (r : List ℕ). r) rest item after) where
+module _ {S : Type 0} (gives : S → Option ℕ → S → Type 0) (index : List (List Span)) (d : ℕ) (came : List ℕ)
+    (rest after : S) {walk start : S} {item : Option ℕ} (is : start ≡ walk)
+    (walks : AlwaysYields gives (λ (x : ℕ). x) walk (listed index d))
+    (yielded : Yields gives start came rest) (steps : gives rest item after) where
+  road : YieldsList gives (λ (x : ℕ). x) start (listed index d)
+  road = YieldsList-at is (record { runs = walks })
+
   pub next_listed : (e : ℕ) → item ≡ Some e → IsNext (listed index d) came e
   next_listed e some =
       let all = listed index d in
-      let of = listed_is index d walk list in
-      let t = YieldsList-turn (YieldsList-from_first (λ (x : ℕ). x) (λ (r : List ℕ). r) all (is ∙ of)) came _ yielded
-      item after e some steps in
+      let t = YieldsList-turn road came _ yielded item after e some steps in
       let i = length came in
       let at : e ≡ get_or all i 0 = get_or_read all i e t.0 t.1 0 in
-      let distinct : IsDistinct eqb all = subst (λ xs. IsDistinct eqb xs) of once in
       record {
         below = t.0;
         at = at;
         inside = rw t.1 (in-get_or all i e t.0);
-        new = subst (λ x. list_any (eqb x) (take i all) ≡ false) (sym at) (in-take_apart all i distinct t.0);
+        new = subst (λ x. list_any (eqb x) (take i all) ≡ false) (sym at)
+            (in-take_apart all i (listed_once index d) t.0);
         push = length_push came e;
         more = take_more all i 0 t.0 ∙ ap (λ x. take i all ++ x ∷ []) (sym at);
       }
 
   pub none_listed : item ≡ None → length came ≡ length (listed index d)
-  none_listed none =
-      (YieldsList-end (YieldsList-from_first (λ (x : ℕ). x) (λ (r : List ℕ). r) (listed index d)
-      (is ∙ listed_is index d walk list)) came _ yielded item after none steps).1
+  none_listed none = (YieldsList-end road came _ yielded item after none steps).1
 
   pub all_listed : item ≡ None → take (length came) (listed index d) ≡ listed index d
   all_listed none =

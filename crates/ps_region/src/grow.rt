@@ -2,6 +2,7 @@
 
 ghost use Rattle.std.specs.Prelude.{◌≡◌, ◌⊎◌, ◌≢◌, ◌≤◌, ◌<◌, [], ◌∷◌, length, ℕ, true, false, not, nat_eq, ◌&&◌};
 ghost use Rattle.std.specs.Prelude.{slice_index, slice_index_or, slice_set, ◌+◌, vec_capacity};
+ghost use Rattle.std.specs.Iterator.{AlwaysYields, IsFinite};
 ghost use Rattle.std.specs.List.{list_any};
 ghost use Rattle.ps_grid.specs.declared.size.TheConstants.{CELLS as ALL};
 ghost use Rattle.ps_grid.specs.Chains.{In, InRegion};
@@ -83,6 +84,50 @@ fn enter_one<A: After>(
     }
 }
 
+/// Puts each cell of a walk, which are those that refer to the cell `d`, into the region, and counts its reference if `d`
+/// is a formula cell. Returns what is noted of them: the one cell where there is just one.
+fn enter_each<A: After, W: Iterator<Item = Cell> + Drop>(
+    change: &MarkedChange<'_, A>,
+    marks: &mut [bool],
+    left: &mut [u32],
+    members: &mut Vec<Cell>,
+    d: Cell,
+    walk: W,
+) -> u32
+    requires can { W.can_next walk }
+    requires ends { IsFinite (W.remaining walk) }
+    requires walks { AlwaysYields W.next_gives (λ e. e) walk (listed change.now.index.now d) }
+    requires fresh_length { length change.now.fresh.now ≡ ALL }
+    requires plain_length { length change.now.plain.now ≡ ALL }
+    requires marks_length { length marks.old ≡ ALL }
+    requires left_length { length left.old ≡ ALL }
+    requires known { (e : ℕ) → In (listed change.now.index.now d) e
+        → slice_index_or change.now.fresh.now e false ≡ false
+        → A.refers change.now.after.now e d ≡ true }
+    requires formula { slice_index_or change.now.plain.now d false ≡ not (A.formula change.now.after.now d) }
+    requires marked { Marked marks.old members.old.items }
+    requires room { ALL ≤ vec_capacity members.old }
+    requires small { (q : ℕ) → counted_in members.old.items left.old q < ALL }
+    ensures members { members.new.items ≡ with_all members.old.items (listed change.now.index.now d) }
+    ensures marked { Marked marks.new members.new.items }
+    ensures room { ALL ≤ vec_capacity members.new }
+    ensures counts { (q : ℕ) → counted_in members.new.items left.new q ≡ counted_in members.old.items left.old q
+        + as_one (list_any (nat_eq q) (listed change.now.index.now d)
+        && (A.formula change.now.after.now d && A.refers change.now.after.now q d)) }
+    ensures sole { HasSole (listed change.now.index.now d) result }
+{
+    let counted = has_formula(change.plain, d);
+    let mut noted = NONE;
+    for e in walk {
+        enter(marks, left, members, e);
+        if is_counted(change, counted, e, d) {
+            add_one(left, e);
+        }
+        noted = noted_with(noted, e);
+    }
+    noted
+}
+
 /// Puts each cell that refers to the cell `d` into the region, counts its reference if `d` is a formula cell, and notes
 /// the one such cell where there is just one. They are walked only where there may be several.
 fn enter_dependents<A: After>(
@@ -121,17 +166,12 @@ fn enter_dependents<A: After>(
             // known by its contract: the cell is in the grid
             sole[d.index()] = e.index() as u32;
         }
+        Readers::Row(walk) => {
+            sole[d.index()] = enter_each(change, marks, left, members, d, walk);
+        }
         Readers::Several => {
-            let counted = has_formula(change.plain, d);
-            let mut noted = NONE;
-            for e in change.index.dependents(d) {
-                enter(marks, left, members, e);
-                if is_counted(change, counted, e, d) {
-                    add_one(left, e);
-                }
-                noted = noted_with(noted, e);
-            }
-            sole[d.index()] = noted;
+            let walk = change.index.dependents(d);
+            sole[d.index()] = enter_each(change, marks, left, members, d, walk);
         }
     }
 }

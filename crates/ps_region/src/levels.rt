@@ -2,6 +2,7 @@
 
 ghost use Rattle.std.specs.Prelude.{◌≡◌, ◌≢◌, ◌-◌, ◌≤◌, ◌<◌, ◌∷◌, ◌++◌, [], length, ℕ, true, false, slice_index};
 ghost use Rattle.std.specs.Prelude.{slice_index_or, slice_set, filter, vec_capacity};
+ghost use Rattle.std.specs.Iterator.{AlwaysYields, IsFinite};
 ghost use Rattle.ps_grid.specs.declared.size.TheConstants.{CELLS as ALL};
 ghost use Rattle.ps_grid.specs.Chains.{In};
 ghost use Rattle.ps_region.specs.Inside.Cells.{HasSole};
@@ -14,6 +15,7 @@ use crate::after::After;
 use crate::change::{MarkedChange, still_refers};
 use crate::members::has_formula;
 use ps_grid::{CELLS, Cell};
+use ps_index::Readers;
 
 /// Whether a member is a formula cell of which no reference is left.
 fn is_ready_cell(plain: &[bool], left: &[u32], c: Cell) -> bool
@@ -99,6 +101,39 @@ fn release_sole<A: After>(
     }
 }
 
+/// Counts the reference of each cell of a walk, which are those that refer to the cell `d`, as settled.
+fn release_each<A: After, W: Iterator<Item = Cell> + Drop>(
+    change: &MarkedChange<'_, A>,
+    left: &mut [u32],
+    level: &mut [u32],
+    order: &mut Vec<Cell>,
+    d: Cell,
+    k: u32,
+    walk: W,
+)
+    requires can { W.can_next walk }
+    requires ends { IsFinite (W.remaining walk) }
+    requires walks { AlwaysYields W.next_gives (λ e. e) walk (listed change.now.index.now d) }
+    requires fresh_length { length change.now.fresh.now ≡ ALL }
+    requires left_length { length left.old ≡ ALL }
+    requires level_length { length level.old ≡ ALL }
+    requires known { (e : ℕ) → In (listed change.now.index.now d) e
+        → slice_index_or change.now.fresh.now e false ≡ false
+        → A.refers change.now.after.now e d ≡ true }
+    requires some { (c : ℕ) → A.refers change.now.after.now c d ≡ true → 0 < slice_index left.old c }
+    requires queued { Queued left.old order.old.items }
+    requires room { ALL ≤ vec_capacity order.old }
+    ensures released { Released (A.refers change.now.after.now) d k (listed change.now.index.now d)
+        left.old level.old order.old.items left.new level.new order.new.items }
+    ensures room { ALL ≤ vec_capacity order.new }
+{
+    for e in walk {
+        if still_refers(change, e, d) {
+            lower(left, level, order, e, k);
+        }
+    }
+}
+
 /// Counts each reference to the cell `d` as settled: by what is noted where at most one cell refers there, and else by
 /// a walk of the index.
 fn release<A: After>(
@@ -132,10 +167,9 @@ fn release<A: After>(
         }
         return;
     }
-    for e in change.index.dependents(d) {
-        if still_refers(change, e, d) {
-            lower(left, level, order, e, k);
-        }
+    match change.index.readers(d) {
+        Readers::Row(walk) => release_each(change, left, level, order, d, k, walk),
+        _ => release_each(change, left, level, order, d, k, change.index.dependents(d)),
     }
 }
 

@@ -2,6 +2,7 @@
 
 ghost use Rattle.std.specs.Prelude.{◌≡◌, ◌<◌, [], ◌∷◌, length, ℕ, true, false, nat_eq, ◌&&◌, slice_index};
 ghost use Rattle.std.specs.Prelude.{◌+◌, ◌==◌, not, slice_index_or};
+ghost use Rattle.std.specs.Iterator.{AlwaysYields, IsFinite};
 ghost use Rattle.std.specs.List.{IsDistinct, list_any};
 ghost use Rattle.ps_grid.specs.declared.size.TheConstants.{CELLS as ALL};
 ghost use Rattle.ps_grid.specs.Chains.{In};
@@ -53,7 +54,16 @@ fn raise_one<A: After>(
 }
 
 /// Counts the references of the region's cells to the cell `d`, by a walk of the cells that refer there.
-fn raise_each<A: After>(change: &MarkedChange<'_, A>, marks: &[bool], left: &mut [u32], d: Cell)
+fn raise_each<A: After, W: Iterator<Item = Cell> + Drop>(
+    change: &MarkedChange<'_, A>,
+    marks: &[bool],
+    left: &mut [u32],
+    d: Cell,
+    walk: W,
+)
+    requires can { W.can_next walk }
+    requires ends { IsFinite (W.remaining walk) }
+    requires walks { AlwaysYields W.next_gives (λ e. e) walk (listed change.now.index.now d) }
     requires fresh_length { length change.now.fresh.now ≡ ALL }
     requires marks_length { length marks.now ≡ ALL }
     requires left_length { length left.old ≡ ALL }
@@ -65,7 +75,7 @@ fn raise_each<A: After>(change: &MarkedChange<'_, A>, marks: &[bool], left: &mut
     ensures raised { (c : ℕ) → slice_index left.new c ≡ slice_index left.old c
         + as_one (slice_index_or marks.now c false && A.refers change.now.after.now c d) }
 {
-    for e in change.index.dependents(d) {
+    for e in walk {
         raise_one(change, marks, left, e, d);
     }
 }
@@ -87,7 +97,8 @@ fn raise<A: After>(change: &MarkedChange<'_, A>, marks: &[bool], left: &mut [u32
     match change.index.readers(d) {
         Readers::Nobody => {}
         Readers::One(e) => raise_one(change, marks, left, e, d),
-        Readers::Several => raise_each(change, marks, left, d),
+        Readers::Row(walk) => raise_each(change, marks, left, d, walk),
+        Readers::Several => raise_each(change, marks, left, d, change.index.dependents(d)),
     }
 }
 

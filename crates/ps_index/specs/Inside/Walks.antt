@@ -52,3 +52,15 @@ pub record IsAhead (spans : List Span) (y : ℕ) (starts ends : List ℕ) (runs 
 pub record IsMoved (spans : List Span) (y : ℕ) (starts ends : List ℕ) (runs least next : ℕ) : Type 0 where
   pub ahead : IsAhead spans y starts ends runs next
   pub none_passed : cells_from (refers_at spans y) least CELLS ≡ cells_from (refers_at spans y) next CELLS
+
+-- a walk of the cells from `least` on with a span that has row y, where those that are to come stand from a place up to
+-- another and all have the row
+pub record IsRowWalk (spans : List Span) (y place end least : ℕ) : Type 0 where
+  pub ordered : place ≤ end
+  pub within : end ≤ length spans
+  pub has_row : (i : ℕ) (d : Span) → place ≤ i → i < end → holds (get_or spans i d) y ≡ true
+  pub by_cell : (i j : ℕ) (d : Span) → place ≤ i → i ≤ j → j < end → cell_of spans i d ≤ cell_of spans j d
+  pub whole : (i : ℕ) (d : Span) → i < length spans → holds (get_or spans i d) y ≡ true
+      → least ≤ cell_of spans i d
+      → (place ≤ i) × (i < end)
+  pub in_grid : (i : ℕ) (d : Span) → i < length spans → cell_of spans i d < CELLS

@@ -1,7 +1,7 @@
 use Rattle.std.proofs.Common.{◌≡◌, ◌<◌, ◌||◌, ℕ, [], ◌∷◌, length, sym, ap, ◌∙◌, eqb, arith}
 use Rattle.std.specs.List.{list_any}
 use Rattle.ps_region.specs.Listed.{listed}
-use Rattle.ps_region.proofs.ListedLemmas.{listed_is}
+use Rattle.ps_region.proofs.ListedLemmas.{listed_is, walks_listed}
 use Rattle.ps_cells.specs.Inside.Steps.{flag_at}
 use Rattle.ps_cells.proofs.FlagTables.{flags_pushed, flags_start}
 use Rattle.ps_cells.proofs.walk.flag_dependents.Goals as goal
@@ -28,3 +28,15 @@ returns-in-One c =
       flagged = λ q. flags_pushed (flag_at flags) flags [] c.index.result low (flags_start (flag_at flags)) q
           ∙ ap (λ xs. flag_at flags q || list_any (eqb q) xs) here;
     }
+
+pub returns-in-Row : goal.returns-in-Row
+returns-in-Row c = record {
+  flagged = c.flag_each.ensures.flagged (listed c.args.index.now c.args.cell)
+      (walks_listed c.args.index.now c.args.cell (c.readers.ensures.row c.in-Row.walk c.in-Row.is));
+}
+
+pub returns-in-Several : goal.returns-in-Several
+returns-in-Several c = record {
+  flagged = c.flag_each-in-Several.ensures.flagged (listed c.args.index.now c.args.cell)
+      (walks_listed c.args.index.now c.args.cell c.dependents.ensures.list);
+}

@@ -4,7 +4,7 @@ use Rattle.ps_grid.specs.Chains.{In}
 use Rattle.ps_grid.proofs.ChainLemmas.{In-self}
 use Rattle.ps_region.specs.Listed.{listed}
 use Rattle.ps_region.specs.Inside.Counts.{as_one}
-use Rattle.ps_region.proofs.ListedLemmas.{listed_is}
+use Rattle.ps_region.proofs.ListedLemmas.{listed_is, walks_listed}
 use Rattle.ps_region.proofs.CountLemmas.{listed_alone}
 use Rattle.ps_region.proofs.outside.raise.Goals as goal
 
@@ -42,3 +42,11 @@ returns-in-One g c = record {
       (get_or c.args.marks.now q false)
       (g.A.After.refers c.args.change.now.after.now q c.args.d) (c.requires.lists_all q));
 }
+
+pub raise_each-requires-clause-walks : goal.raise_each-requires-clause-walks
+raise_each-requires-clause-walks g c =
+    walks_listed c.args.change.now.index.now c.args.d (c.readers.ensures.row c.in-Row.walk c.in-Row.is)
+
+pub raise_each-requires-in-Several-clause-walks : goal.raise_each-requires-in-Several-clause-walks
+raise_each-requires-in-Several-clause-walks g c =
+    walks_listed c.args.change.now.index.now c.args.d c.dependents.ensures.list

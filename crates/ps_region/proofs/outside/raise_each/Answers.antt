@@ -9,28 +9,28 @@ use Rattle.ps_region.proofs.outside.raise_each.Goals as goal
 
 pub raise_one-requires-clause-known : goal.raise_one-requires-clause-known
 raise_one-requires-clause-known g c =
-    let n = next_listed c.args.change.now.index.now c.args.d c.loop-e.yielded _ _
-    c.into_iter-e-iterator.ensures.into_iter_gives c.dependents-e-items.ensures.list
-    c.dependents-e-items.ensures.once c.loop-e.yielded_by c.next.ensures.steps c.in-Some.e c.in-Some.is in
+    let n = next_listed g.W.Iterator.next_gives c.args.change.now.index.now c.args.d c.loop-e.yielded _ _
+    c.into_iter-e-iterator.ensures.into_iter_gives c.requires.walks c.loop-e.yielded_by c.next.ensures.steps
+    c.in-Some.e c.in-Some.is in
     c.requires.known c.in-Some.e n.inside
 
 pub raise_one-requires-clause-small : goal.raise_one-requires-clause-small
 raise_one-requires-clause-small g c = λ on.
-    let n = next_listed c.args.change.now.index.now c.args.d c.loop-e.yielded _ _
-    c.into_iter-e-iterator.ensures.into_iter_gives c.dependents-e-items.ensures.list
-    c.dependents-e-items.ensures.once c.loop-e.yielded_by c.next.ensures.steps c.in-Some.e c.in-Some.is in
+    let n = next_listed g.W.Iterator.next_gives c.args.change.now.index.now c.args.d c.loop-e.yielded _ _
+    c.into_iter-e-iterator.ensures.into_iter_gives c.requires.walks c.loop-e.yielded_by c.next.ensures.steps
+    c.in-Some.e c.in-Some.is in
     let was = rw n.new at (c.loop-e.invariant.raised c.in-Some.e) in
     let small = c.requires.small c.in-Some.e on in
     omega (arith, was, small)
 
 pub loop-e-preserved : goal.loop-e-preserved
 loop-e-preserved g c =
-    let n = next_listed c.args.change.now.index.now c.args.d c.loop-e.yielded _ _
-    c.into_iter-e-iterator.ensures.into_iter_gives c.dependents-e-items.ensures.list
-    c.dependents-e-items.ensures.once c.loop-e.yielded_by c.next.ensures.steps c.in-Some.e c.in-Some.is in
+    let n = next_listed g.W.Iterator.next_gives c.args.change.now.index.now c.args.d c.loop-e.yielded _ _
+    c.into_iter-e-iterator.ensures.into_iter_gives c.requires.walks c.loop-e.yielded_by c.next.ensures.steps
+    c.in-Some.e c.in-Some.is in
     record {
-      can_next = tt;
-      is_finite = tt;
+      can_next = rw c.in-Some.is at c.next.ensures.goes.keeps;
+      is_finite = (rw c.in-Some.is at (c.next.ensures.goes.on c.loop-e.invariant.is_finite)).1;
       raised = λ q. rw (n.push, n.more)
           (raised_more (λ x. get_or c.args.marks.now x false && g.A.After.refers c.args.change.now.after.now x c.args.d)
           (take (length c.loop-e.yielded) (listed c.args.change.now.index.now c.args.d)) c.args.left.now c.loop-e.left
@@ -40,9 +40,9 @@ loop-e-preserved g c =
 pub returns : goal.returns
 returns g c =
     let all =
-    all_listed c.args.change.now.index.now c.args.d c.loop-e.yielded _ _
-    c.into_iter-e-iterator.ensures.into_iter_gives c.dependents-e-items.ensures.list
-    c.dependents-e-items.ensures.once c.loop-e.yielded_by c.next.ensures.steps c.in-None.is in
+    all_listed g.W.Iterator.next_gives c.args.change.now.index.now c.args.d c.loop-e.yielded _ _
+    c.into_iter-e-iterator.ensures.into_iter_gives c.requires.walks c.loop-e.yielded_by c.next.ensures.steps
+    c.in-None.is in
     record {
       raised = λ q. c.loop-e.invariant.raised q
           ∙ ap (λ b. get_or c.args.left.now q 0 + as_one b)

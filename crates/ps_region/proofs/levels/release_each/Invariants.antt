@@ -2,7 +2,7 @@ use Rattle.std.proofs.Common.{◌≤◌, length, take, vec_capacity}
 use Rattle.ps_grid.specs.declared.size.TheConstants.{CELLS}
 use Rattle.ps_region.specs.Inside.Counts.{Released}
 use Rattle.ps_region.specs.Listed.{listed}
-use Rattle.ps_region.proofs.levels.release.Given as goal
+use Rattle.ps_region.proofs.levels.release_each.Given as goal
 
 abbrev pub invariant-loop-e : goal.invariant-loop-e
 invariant-loop-e g l = record {

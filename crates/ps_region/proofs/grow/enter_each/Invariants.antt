@@ -6,7 +6,7 @@ use Rattle.ps_grid.specs.declared.size.TheConstants.{CELLS}
 use Rattle.ps_region.specs.Inside.Cells.{HasSole, Marked, with_all}
 use Rattle.ps_region.specs.Inside.Counts.{as_one, counted_in}
 use Rattle.ps_region.specs.Listed.{listed}
-use Rattle.ps_region.proofs.grow.enter_dependents.Given as goal
+use Rattle.ps_region.proofs.grow.enter_each.Given as goal
 
 abbrev pub invariant-loop-e : goal.invariant-loop-e
 invariant-loop-e g l = record {

@@ -1,0 +1,103 @@
+//! The walk of the cells that refer to a row of a column where no span has more rows than one.
+
+ghost use Rattle.std.specs.Prelude.{◌≡◌, ℕ, ◌<◌, ◌≤◌, length};
+ghost use Rattle.std.specs.Iterator.{YieldsFirst, item_count};
+ghost use Rattle.ps_grid.specs.declared.size.TheConstants.{CELLS as ALL};
+ghost use Rattle.ps_index.specs.Inside.Columns.{IsColumn};
+ghost use Rattle.ps_index.specs.Spans.{cell_of, cells_from, refers_at};
+ghost use Rattle.ps_index.specs.declared.span.Span.{Span as TheSpan};
+
+use crate::nodes::LEVELS;
+use crate::span::Span;
+use ps_grid::{Cell, ROWS};
+use std::marker::Model;
+
+/// A walk of the cells that refer to a cell of a column without ranges: in order, and so each once. A contract sees it
+/// as the list of those that are still to come.
+///
+/// Cost: a step looks at one span, and at one more for each further formula of a cell that came already.
+#[derive(Drop)]
+pub struct RowReaders<'a> {
+    /// the spans of the column
+    spans: &'a [Span],
+    /// the row that is referred to; all its spans stand together
+    row: usize,
+    /// the place of the next span
+    place: usize,
+    /// the place after the row's last span
+    end: usize,
+    /// the cells below this one came already
+    least: usize,
+}
+
+impl<'a> Model for RowReaders<'a> {
+    ghost use Rattle.std.specs.Prelude.{List, ℕ};
+    ghost use Rattle.ps_grid.specs.declared.size.TheConstants.{CELLS};
+    ghost use Rattle.ps_index.specs.Inside.Walks.{IsRowWalk};
+    ghost use Rattle.ps_index.specs.Spans.{cells_from, refers_at};
+
+    ghost Value = { List ℕ };
+
+    ghost view = { λ w. cells_from (refers_at w.spans.now w.row) w.least CELLS };
+
+    ghost invariant = { λ w. IsRowWalk w.spans.now w.row w.place w.end w.least };
+}
+
+impl<'a> RowReaders<'a> {
+    /// The walk of the cells that refer to a row, at its beginning.
+    #[inline]
+    pub(crate) fn new(spans: &'a [Span], column: &[u32], row: usize) -> RowReaders<'a>
+        requires column { IsColumn spans.now column.now LEVELS }
+        requires some { 1 ≤ row }
+        requires in_grid { row ≤ ROWS }
+        ensures { result ≡ cells_from (refers_at spans.now row) 0 ALL }
+    {
+        RowReaders {
+            spans,
+            row,
+            place: column[row - 1] as usize,
+            end: column[row] as usize,
+            least: 0,
+        }
+    }
+}
+
+impl Iterator for RowReaders<'_> {
+    type Item = Cell;
+
+    ghost next_gives = { YieldsFirst (λ rest. rest) };
+
+    ghost remaining = { item_count (λ rest. rest) };
+
+    #[inline]
+    fn next(&mut self) -> Option<Cell> {
+        let place = first_from(self.spans, self.least, self.place, self.end);
+        if place == self.end {
+            return None;
+        }
+        let cell = self.spans[place].cell;
+        self.place = place + 1;
+        self.least = cell.index() + 1;
+        Some(cell)
+    }
+}
+
+/// The first of these places whose span has a cell that isn't below `least`.
+#[inline]
+fn first_from(spans: &[Span], least: usize, from: usize, to: usize) -> usize
+    requires ordered { from ≤ to }
+    requires within { to ≤ length spans.now }
+    ensures from { from ≤ result }
+    ensures to { result ≤ to }
+    ensures passed { (i : ℕ) (d : TheSpan) → from ≤ i → i < result → cell_of spans.now i d < least }
+    ensures from_least { result < to → (d : TheSpan) → least ≤ cell_of spans.now result d }
+{
+    let mut place = from;
+    while place < to {
+        if least <= spans[place].cell.index() {
+            return place;
+        }
+        place += 1;
+    }
+    place
+}
