@@ -91,139 +91,214 @@ runs_push column Looked More starts ends runs key is room len len' some small on
 
 -- ---- the heads
 
-pub head_start : (spans : List Span) (y : ℕ) (starts ends : List ℕ) (least : ℕ)
-    → IsHead spans y starts starts ends 0 least CELLS
-head_start spans y starts ends least = record {
-  forward = λ (r : ℕ) (lt : r < 0). absurd (omega arith);
-  rising = λ (r : ℕ) (lt : r < 0). absurd (omega arith);
-  passed = λ (r i : ℕ) (d : Span) (lt : r < 0). absurd (omega arith);
+abbrev any_span : List Span → ℕ → Span
+any_span spans i = record { from = 0; to = 0; cell = 0 }
+
+-- a run goes on past spans whose cells came already
+pub walk_past : (spans : List Span) (y : ℕ) (starts ends : List ℕ) (runs least r start : ℕ)
+    → IsWalk spans y starts ends runs least → r < runs → r < length starts → get_or starts r 0 ≤ start
+    → start ≤ get_or ends r 0
+    → ((i : ℕ) (d : Span) → get_or starts r 0 ≤ i → i < start → holds (get_or spans i d) y ≡ true
+    → cell_of spans i d < least)
+    → IsWalk spans y (set starts r start) ends runs least
+walk_past spans y starts ends runs least r start walk lt len from to gone = record {
+  few = walk.few;
+  rising = λ (q : ℕ) (less : q < runs). elim (at_run q) [
+    | inl h ↦ (let e : get_or ends q 0 ≡ get_or ends r 0 = ap (λ z. get_or ends z 0) h.0 in omega (arith, h.1))
+    | inr h ↦ (let f : get_or starts q 0 ≤ get_or ends q 0 = walk.rising q less in omega (arith, h.1))
+  ];
+  within = walk.within;
+  by_cell = λ (q i j : ℕ) (d : Span) (less : q < runs) (lo : get_or (set starts r start) q 0 ≤ i) (le : i ≤ j)
+      (hi : j < get_or ends q 0). elim (at_run q) [
+        | inl h ↦ (let e : get_or ends q 0 ≡ get_or ends r 0 = ap (λ z. get_or ends z 0) h.0 in
+            walk.by_cell r i j d lt (omega (arith, h.1)) le (omega arith))
+        | inr h ↦ walk.by_cell q i j d less (omega (arith, h.1)) le hi
+      ];
+  whole = λ (i : ℕ) (d : Span) (inside : i < length spans) (has : holds (get_or spans i d) y ≡ true)
+      (le : least ≤ cell_of spans i d).
+      let found = walk.whole i d inside has le in (
+        found.0,
+        found.1,
+        elim (at_run found.0) [
+          | inl h ↦ (let e : get_or starts found.0 0 ≡ get_or starts r 0 = ap (λ z. get_or starts z 0) h.0 in
+              elim (cases_lt i start) [
+                | inl less ↦ absurd (let low : cell_of spans i d < least =
+                    gone i d (omega (arith, found.2)) less has in omega arith)
+                | inr ge ↦ omega (arith, h.1)
+              ])
+          | inr h ↦ omega (arith, h.1, found.2)
+        ],
+        found.3,
+      );
+  in_grid = walk.in_grid;
+}
+  where
+    at_run : (q : ℕ) → ((q ≡ r) × (get_or (set starts r start) q 0 ≡ start))
+        ⊎ ((q ≡ r → ⊥) × (get_or (set starts r start) q 0 ≡ get_or starts q 0))
+    at_run q = elim (cases_eq q r) [
+      | inl e ↦ inl (e, ap (λ z. get_or (set starts r start) z 0) e ∙ get_or-set_same starts r start 0 len)
+      | inr other ↦ inr (other, get_or-set_other starts r q start 0 other)
+    ]
+
+-- a run of which nothing is left is taken out, and the last one comes into its place
+pub walk_without : (spans : List Span) (y : ℕ) (starts ends : List ℕ) (last least r : ℕ)
+    → IsWalk spans y starts ends (last + 1) least → r ≤ last → r < length starts → r < length ends
+    → ((i : ℕ) (d : Span) → get_or starts r 0 ≤ i → i < get_or ends r 0 → holds (get_or spans i d) y ≡ true
+    → cell_of spans i d < least)
+    → IsWalk spans y (set starts r (get_or starts last 0)) (set ends r (get_or ends last 0)) last least
+walk_without spans y starts ends last least r walk le_last len len' gone = record {
+  few = omega (arith, walk.few);
+  rising = λ (q : ℕ) (less : q < last). elim (at_run q) [
+    | inl h ↦ omega (arith, h.1, h.2, walk.rising last (omega arith))
+    | inr h ↦ omega (arith, h.1, h.2, walk.rising q (omega arith))
+  ];
+  within = λ (q : ℕ) (less : q < last). elim (at_run q) [
+    | inl h ↦ omega (arith, h.2, walk.within last (omega arith))
+    | inr h ↦ omega (arith, h.2, walk.within q (omega arith))
+  ];
+  by_cell = λ (q i j : ℕ) (d : Span) (less : q < last) (lo : get_or (set starts r (get_or starts last 0)) q 0 ≤ i)
+      (le : i ≤ j) (hi : j < get_or (set ends r (get_or ends last 0)) q 0). elim (at_run q) [
+        | inl h ↦ walk.by_cell last i j d (omega arith) (omega (arith, h.1)) le (omega (arith, h.2))
+        | inr h ↦ walk.by_cell q i j d (omega arith) (omega (arith, h.1)) le (omega (arith, h.2))
+      ];
+  whole = λ (i : ℕ) (d : Span) (inside : i < length spans) (has : holds (get_or spans i d) y ≡ true)
+      (le : least ≤ cell_of spans i d).
+      let found = walk.whole i d inside has le in
+      elim (cases_eq found.0 r) [
+        | inl e ↦ absurd (
+            let s : get_or starts found.0 0 ≡ get_or starts r 0 = ap (λ z. get_or starts z 0) e in
+            let t : get_or ends found.0 0 ≡ get_or ends r 0 = ap (λ z. get_or ends z 0) e in
+            let low : cell_of spans i d < least = gone i d (omega (arith, found.2)) (omega (arith, found.3)) has in
+            omega arith)
+        | inr other ↦ (elim (cases_lt found.0 last) [
+          | inl less ↦ (elim (at_run found.0) [
+            | inl h ↦ absurd (other h.0)
+            | inr h ↦ (found.0, less, omega (arith, h.1, found.2), omega (arith, h.2, found.3))
+          ])
+          | inr ge ↦ (let e : found.0 ≡ last = omega (arith, found.1) in
+              let s : get_or starts found.0 0 ≡ get_or starts last 0 = ap (λ z. get_or starts z 0) e in
+              let t : get_or ends found.0 0 ≡ get_or ends last 0 = ap (λ z. get_or ends z 0) e in
+              let apart : r ≡ last → ⊥ = λ (q : r ≡ last). other (e ∙ sym q) in (
+                r,
+                omega (arith, apart),
+                omega (arith, get_or-set_same starts r (get_or starts last 0) 0 len, found.2),
+                omega (arith, get_or-set_same ends r (get_or ends last 0) 0 len', found.3),
+              ))
+        ])
+      ];
+  in_grid = walk.in_grid;
+}
+  where
+    at_run : (q : ℕ) → ((q ≡ r) × (get_or (set starts r (get_or starts last 0)) q 0 ≡ get_or starts last 0)
+        × (get_or (set ends r (get_or ends last 0)) q 0 ≡ get_or ends last 0))
+        ⊎ ((q ≡ r → ⊥) × (get_or (set starts r (get_or starts last 0)) q 0 ≡ get_or starts q 0)
+        × (get_or (set ends r (get_or ends last 0)) q 0 ≡ get_or ends q 0))
+    at_run q = elim (cases_eq q r) [
+      | inl e ↦ inl (
+        e,
+        ap (λ z. get_or (set starts r (get_or starts last 0)) z 0) e
+            ∙ get_or-set_same starts r (get_or starts last 0) 0 len,
+        ap (λ z. get_or (set ends r (get_or ends last 0)) z 0) e ∙ get_or-set_same ends r (get_or ends last 0) 0 len',
+      )
+      | inr other ↦ inr (
+        other,
+        get_or-set_other starts r q (get_or starts last 0) 0 other,
+        get_or-set_other ends r q (get_or ends last 0) 0 other,
+      )
+    ]
+
+pub head_start : (spans : List Span) (y : ℕ) (starts ends : List ℕ) (runs least : ℕ)
+    → IsWalk spans y starts ends runs least → IsHead spans y starts ends runs least 0 CELLS
+head_start spans y starts ends runs least walk = record {
+  walk = walk;
   lowest = λ (r : ℕ) (d : Span) (lt : r < 0). absurd (omega arith);
   there = inl refl;
 }
 
-module _ (spans : List Span) (y : ℕ) (before starts ends : List ℕ) (n least first start : ℕ)
-    (is : IsHead spans y before starts ends n least first) (len : n < length starts)
-    (same : get_or starts n 0 ≡ get_or before n 0)
-    (from : get_or starts n 0 ≤ start) (to : start ≤ get_or ends n 0)
-    (gone : (i : ℕ) (d : Span) → get_or starts n 0 ≤ i → i < start → holds (get_or spans i d) y ≡ true
-    → cell_of spans i d < least) where
-  at_r : (r : ℕ) → r < n + 1 → ((r < n) × (get_or (set starts n start) r 0 ≡ get_or starts r 0))
-      ⊎ ((r ≡ n) × (get_or (set starts n start) r 0 ≡ start))
-  at_r r lt = elim (cases_lt r n) [
-    | inl below ↦ inl (below, get_set starts n r start len below)
-    | inr above ↦ (let e : r ≡ n = omega arith in
-        inr (e, ap (λ q. get_or (set starts n start) q 0) e ∙ get_or-set_same starts n start 0 len))
-  ]
+-- the next run has a first span
+pub head_found : (spans : List Span) (y : ℕ) (starts ends : List ℕ) (runs least run first start cell : ℕ)
+    → IsHead spans y starts ends runs least run first → run < runs → run < length starts
+    → get_or starts run 0 ≤ start → start < get_or ends run 0
+    → ((i : ℕ) (d : Span) → get_or starts run 0 ≤ i → i < start → holds (get_or spans i d) y ≡ true
+    → cell_of spans i d < least)
+    → ((d : Span) → cell_of spans start d ≡ cell) → ((d : Span) → holds (get_or spans start d) y ≡ true)
+    → least ≤ cell → IsHead spans y (set starts run start) ends runs least (run + 1) (min first cell)
+head_found spans y starts ends runs least run first start cell is lt len from to gone at has from_least = record {
+  walk = walk_past spans y starts ends runs least run start is.walk lt len from (omega arith) gone;
+  lowest = λ (r : ℕ) (d : Span) (less : r < run + 1) (some : get_or (set starts run start) r 0 < get_or ends r 0).
+      elim (cases_lt r run) [
+        | inl below ↦ (let e : get_or (set starts run start) r 0 ≡ get_or starts r 0 = get_set starts run r start len below in
+            let l : first ≤ cell_of spans (get_or starts r 0) d = is.lowest r d below (omega arith) in
+            rw e (omega arith))
+        | inr above ↦ (let e : r ≡ run = omega arith in
+            let now : get_or (set starts run start) r 0 ≡ start =
+            ap (λ q. get_or (set starts run start) q 0) e ∙ get_or-set_same starts run start 0 len in
+            rw now (omega (arith, at d)))
+      ];
+  there = elim (cases_lt cell first) [
+    | inl less ↦ (let e : min first cell ≡ cell = omega arith in
+        rw e (inr (start, omega (arith, is.walk.within run lt), λ (d : Span). (has d, at d, from_least))))
+    | inr ge ↦ (let e : min first cell ≡ first = omega arith in rw e (is.there))
+  ];
+}
 
-  head_more : (first' : ℕ) → first' ≤ first
-      → ((d : Span) → start < get_or ends n 0 → first' ≤ cell_of spans start d)
-      → ((first' ≡ CELLS) ⊎ ((i : ℕ) × (i < length spans)
-      × ((d : Span) → (holds (get_or spans i d) y ≡ true) × (cell_of spans i d ≡ first') × (least ≤ first'))))
-      → IsHead spans y before (set starts n start) ends (n + 1) least first'
-  head_more first' le low there = record {
-    forward = λ (r : ℕ) (lt : r < n + 1). elim (at_r r lt) [
-      | inl h ↦ (let f : get_or before r 0 ≤ get_or starts r 0 = is.forward r h.0 in omega (arith, h.1))
-      | inr h ↦ (let e : get_or before r 0 ≡ get_or before n 0 = ap (λ q. get_or before q 0) h.0 in omega (arith, h.1))
-    ];
-    rising = λ (r : ℕ) (lt : r < n + 1). elim (at_r r lt) [
-      | inl h ↦ (let f : get_or starts r 0 ≤ get_or ends r 0 = is.rising r h.0 in omega (arith, h.1))
-      | inr h ↦ (let e : get_or ends r 0 ≡ get_or ends n 0 = ap (λ q. get_or ends q 0) h.0 in omega (arith, h.1))
-    ];
-    passed = λ (r i : ℕ) (d : Span) (lt : r < n + 1) (lo : get_or before r 0 ≤ i)
-        (hi : i < get_or (set starts n start) r 0)
-        (has : holds (get_or spans i d) y ≡ true). elim (at_r r lt) [
-          | inl h ↦ is.passed r i d h.0 lo (omega (arith, h.1)) has
-          | inr h ↦ (let e : get_or before r 0 ≡ get_or before n 0 = ap (λ q. get_or before q 0) h.0 in
-              gone i d (omega arith) (omega (arith, h.1)) has)
-        ];
-    lowest = λ (r : ℕ) (d : Span) (lt : r < n + 1) (some : get_or (set starts n start) r 0 < get_or ends r 0).
-        elim (at_r r lt) [
-          | inl h ↦ (let l : first ≤ cell_of spans (get_or starts r 0) d = is.lowest r d h.0 (omega (arith, h.1)) in
-              rw (h.1) (omega arith))
-          | inr h ↦ (let e : get_or ends r 0 ≡ get_or ends n 0 = ap (λ q. get_or ends q 0) h.0 in
-              rw (h.1) (low d (omega (arith, h.1))))
-        ];
-    there = there;
-  }
-
-  -- the run has come to its end
-  pub head_end : start ≡ get_or ends n 0 → IsHead spans y before (set starts n start) ends (n + 1) least first
-  head_end done = head_more first (omega arith) (λ (d : Span) (lt : start < get_or ends n 0). absurd (omega arith))
-      is.there
-
-  -- the run has a first span
-  pub head_found : (cell : ℕ) → start < length spans → ((d : Span) → cell_of spans start d ≡ cell)
-      → ((d : Span) → holds (get_or spans start d) y ≡ true) → least ≤ cell
-      → IsHead spans y before (set starts n start) ends (n + 1) least (min first cell)
-  head_found cell within at has from_least = elim (cases_lt cell first) [
-    | inl lt ↦ (let e : min first cell ≡ cell = omega arith in rw e
-        (head_more cell (omega arith) (λ (d : Span) (lt' : start < get_or ends n 0). omega (arith, at d))
-        (inr (start, within, λ (d : Span). (has d, at d, from_least)))))
-    | inr ge ↦ (let e : min first cell ≡ first = omega arith in rw e
-        (head_more first (omega arith) (λ (d : Span) (lt' : start < get_or ends n 0). omega (arith, at d)) is.there))
-  ]
+-- nothing is left of it
+pub head_dropped : (spans : List Span) (y : ℕ) (starts ends : List ℕ) (last least run first : ℕ)
+    → IsHead spans y starts ends (last + 1) least run first → run ≤ last → run < length starts → run < length ends
+    → ((i : ℕ) (d : Span) → get_or starts run 0 ≤ i → i < get_or ends run 0 → holds (get_or spans i d) y ≡ true
+    → cell_of spans i d < least)
+    → IsHead spans y (set starts run (get_or starts last 0)) (set ends run (get_or ends last 0)) last least run first
+head_dropped spans y starts ends last least run first is le len len' gone = record {
+  walk = walk_without spans y starts ends last least run is.walk le len len' gone;
+  lowest = λ (r : ℕ) (d : Span) (lt : r < run)
+      (some : get_or (set starts run (get_or starts last 0)) r 0 < get_or (set ends run (get_or ends last 0)) r 0).
+      let s : get_or (set starts run (get_or starts last 0)) r 0 ≡ get_or starts r 0 =
+      get_set starts run r (get_or starts last 0) len lt in
+      let t : get_or (set ends run (get_or ends last 0)) r 0 ≡ get_or ends r 0 =
+      get_set ends run r (get_or ends last 0) len' lt in
+      rw s (is.lowest r d lt (omega arith));
+  there = is.there;
+}
 
 -- ---- the walk
 
-abbrev any_span : List Span → ℕ → Span
-any_span spans i = record { from = 0; to = 0; cell = 0 }
-
-module _ (spans : List Span) (y : ℕ) (before starts ends : List ℕ) (runs least first : ℕ)
-    (walk : IsWalk spans y before ends runs least) (head : IsHead spans y before starts ends runs least first) where
-  -- what is still to come is in what is left of a run
-  left_over : (i : ℕ) (d : Span) → i < length spans → holds (get_or spans i d) y ≡ true → least ≤ cell_of spans i d
-      → (r : ℕ) × (r < runs) × (get_or starts r 0 ≤ i) × (i < get_or ends r 0)
-  left_over i d within has le =
-      let found = walk.whole i d within has le in (
-        found.0,
-        found.1,
-        elim (cases_lt i (get_or starts found.0 0)) [
-          | inl lt ↦ absurd (let gone : cell_of spans i d < least = head.passed found.0 i d found.1 found.2 lt has in
-              omega arith)
-          | inr ge ↦ ge
-        ],
-        found.3,
-      )
-
+module _ (spans : List Span) (y : ℕ) (starts ends : List ℕ) (runs least run first : ℕ)
+    (head : IsHead spans y starts ends runs least run first) (all : runs ≤ run) where
   not_before : (q : ℕ) → least ≤ q → q < first → refers_at spans y q ≡ false
   not_before q from to = elim (true_or_false (refers_at spans y q)) [
     | inr e ↦ e
     | inl e ↦ absurd (
         let found = refers_at-some spans y q e in
-        let run = left_over found.0 (any_span spans found.0) found.1 (found.2 (any_span spans found.0)).0
-        (let c = (found.2 (any_span spans found.0)).1 in omega (arith, c)) in
-        let low : first ≤ cell_of spans (get_or starts run.0 0) (any_span spans found.0) =
-        head.lowest run.0 (any_span spans found.0) run.1 (omega (arith, run.2, run.3)) in
-        let order : cell_of spans (get_or starts run.0 0) (any_span spans found.0) ≤ cell_of spans found.0
-        (any_span spans found.0) =
-        walk.by_cell run.0 (get_or starts run.0 0) found.0 (any_span spans found.0) run.1
-        (head.forward run.0 run.1) run.2 run.3 in
-        omega (arith, (found.2 (any_span spans found.0)).1))
+        let d = any_span spans found.0 in
+        let left = head.walk.whole found.0 d found.1 (found.2 d).0
+        (let c = (found.2 d).1 in omega (arith, c)) in
+        let low : first ≤ cell_of spans (get_or starts left.0 0) d =
+        head.lowest left.0 d (omega (arith, left.1)) (omega (arith, left.2, left.3)) in
+        let order : cell_of spans (get_or starts left.0 0) d ≤ cell_of spans found.0 d =
+        head.walk.by_cell left.0 (get_or starts left.0 0) found.0 d left.1 (omega arith) left.2 left.3 in
+        omega (arith, (found.2 d).1))
   ]
 
   first_in_grid : first ≤ CELLS
   first_in_grid = elim head.there [
     | inl e ↦ omega arith
-    | inr h ↦ (let d = any_span spans h.0 in let c : cell_of spans h.0 d < CELLS = walk.in_grid h.0 d h.1 in
+    | inr h ↦ (let d = any_span spans h.0 in let c : cell_of spans h.0 d < CELLS = head.walk.in_grid h.0 d h.1 in
         omega (arith, (h.2 d).1))
   ]
 
   IsWalk-next : IsWalk spans y starts ends runs (first + 1)
   IsWalk-next = record {
-    few = walk.few;
-    rising = head.rising;
-    within = walk.within;
-    by_cell = λ (r i j : ℕ) (d : Span) (lt : r < runs) (from : get_or starts r 0 ≤ i) (le : i ≤ j)
-        (to : j < get_or ends r 0).
-        (let f : get_or before r 0 ≤ get_or starts r 0 = head.forward r lt in
-        walk.by_cell r i j d lt (omega arith) le to);
+    few = head.walk.few;
+    rising = head.walk.rising;
+    within = head.walk.within;
+    by_cell = head.walk.by_cell;
     whole = λ (i : ℕ) (d : Span) (within : i < length spans) (has : holds (get_or spans i d) y ≡ true)
         (le : first + 1 ≤ cell_of spans i d).
-        left_over i d within has (elim head.there [
-          | inl e ↦ absurd (let c : cell_of spans i d < CELLS = walk.in_grid i d within in omega arith)
+        head.walk.whole i d within has (elim head.there [
+          | inl e ↦ absurd (let c : cell_of spans i d < CELLS = head.walk.in_grid i d within in omega arith)
           | inr h ↦ (let l : least ≤ first = (h.2 d).2 in omega arith)
         ]);
-    in_grid = walk.in_grid;
+    in_grid = head.walk.in_grid;
   }
 
   -- the walk with the head as its next cell
@@ -232,7 +307,7 @@ module _ (spans : List Span) (y : ℕ) (before starts ends : List ℕ) (runs lea
     later = IsWalk-next;
     found = elim head.there [
       | inl e ↦ inl e
-      | inr h ↦ (let d = any_span spans h.0 in let c : cell_of spans h.0 d < CELLS = walk.in_grid h.0 d h.1 in
+      | inr h ↦ (let d = any_span spans h.0 in let c : cell_of spans h.0 d < CELLS = head.walk.in_grid h.0 d h.1 in
           inr (omega (arith, (h.2 d).1), refers_at-true spans y first h.0 h.1 (λ (d : Span). ((h.2 d).0, (h.2 d).1))))
     ];
   }
@@ -259,20 +334,29 @@ module _ (spans : List Span) (y : ℕ) (starts ends : List ℕ) (least start : �
     → cell_of spans i d < least) where
   -- it has come to its end
   pub only_end : start ≡ get_or ends 0 0 → IsMoved spans y (set starts 0 start) ends 1 least CELLS
-  only_end done = IsMoved-head spans y starts (set starts 0 start) ends 1 least CELLS walk
-      (head_end spans y starts starts ends 0 least CELLS start (head_start spans y starts ends least) len refl from to
-      gone done)
+  only_end done =
+      let now : get_or (set starts 0 start) 0 0 ≡ start = get_or-set_same starts 0 start 0 len in
+      IsMoved-head spans y (set starts 0 start) ends 1 least 1 CELLS
+      (record {
+        walk = walk_past spans y starts ends 1 least 0 start walk (omega arith) len from to gone;
+        lowest = λ (r : ℕ) (d : Span) (lt : r < 1) (some : get_or (set starts 0 start) r 0 < get_or ends r 0).
+            absurd (let e : r ≡ 0 = omega arith in
+            let more : get_or (set starts 0 start) 0 0 < get_or ends 0 0 = rw e at some in omega arith);
+        there = inl refl;
+      })
+      (omega arith)
 
   -- it has a first span
-  only_at : (cell : ℕ) → start < length spans → ((d : Span) → cell_of spans start d ≡ cell)
+  only_at : (cell : ℕ) → start < length spans → start < get_or ends 0 0 → ((d : Span) → cell_of spans start d ≡ cell)
       → ((d : Span) → holds (get_or spans start d) y ≡ true) → least ≤ cell → cell < CELLS
       → IsMoved spans y (set starts 0 start) ends 1 least cell
-  only_at cell within at has from_least small =
+  only_at cell within more at has from_least small =
       let e : min CELLS cell ≡ cell = omega arith in
-      IsMoved-head spans y starts (set starts 0 start) ends 1 least cell walk
-      (subst (λ n. IsHead spans y starts (set starts 0 start) ends 1 least n) e
-      (head_found spans y starts starts ends 0 least CELLS start (head_start spans y starts ends least) len refl from to
-      gone cell within at has from_least))
+      IsMoved-head spans y (set starts 0 start) ends 1 least 1 cell
+      (subst (λ n. IsHead spans y (set starts 0 start) ends 1 least 1 n) e
+      (head_found spans y starts ends 1 least 0 CELLS start cell (head_start spans y starts ends 1 least walk)
+      (omega arith) len from more gone at has from_least))
+      (omega arith)
 
   -- and goes on past that
   pub only_found : (cell : ℕ) → start < get_or ends 0 0 → ((d : Span) → cell_of spans start d ≡ cell)
@@ -282,7 +366,7 @@ module _ (spans : List Span) (y : ℕ) (starts ends : List ℕ) (least start : �
       let d = any_span spans start in
       let within : start < length spans = omega (arith, walk.within 0 (omega arith)) in
       let small : cell < CELLS = omega (arith, walk.in_grid start d within, at d) in
-      let there = only_at cell within at has from_least small in
+      let there = only_at cell within more at has from_least small in
       let now : get_or (set starts 0 start) 0 0 ≡ start = get_or-set_same starts 0 start 0 len in
       let next : get_or (set starts 0 (start + 1)) 0 0 ≡ start + 1 = get_or-set_same starts 0 (start + 1) 0 len in
       let later : IsWalk spans y (set starts 0 start) ends 1 (cell + 1) = there.ahead.later in

@@ -20,17 +20,6 @@ pub record IsRuns (column : List ℕ) (Looked : ℕ → Type 0) (starts ends : L
       → (r : ℕ) × (r < runs) × (get_or starts r 0 ≡ get_or column (key - 1) 0)
       × (get_or ends r 0 ≡ get_or column key 0)
 
--- the runs of a walk, each now at its first span that has row y and a cell from `least` on, and the least such cell
-pub record IsHead (spans : List Span) (y : ℕ) (before starts ends : List ℕ) (runs least first : ℕ) : Type 0 where
-  pub forward : (r : ℕ) → r < runs → get_or before r 0 ≤ get_or starts r 0
-  pub rising : (r : ℕ) → r < runs → get_or starts r 0 ≤ get_or ends r 0
-  pub passed : (r i : ℕ) (d : Span) → r < runs → get_or before r 0 ≤ i → i < get_or starts r 0
-      → holds (get_or spans i d) y ≡ true → cell_of spans i d < least
-  pub lowest : (r : ℕ) (d : Span) → r < runs → get_or starts r 0 < get_or ends r 0
-      → first ≤ cell_of spans (get_or starts r 0) d
-  pub there : (first ≡ CELLS) ⊎ ((i : ℕ) × (i < length spans)
-      × ((d : Span) → (holds (get_or spans i d) y ≡ true) × (cell_of spans i d ≡ first) × (least ≤ first)))
-
 -- a walk of the cells from `least` on with a span that has row y: of run r, the spans from `at r` on are to come
 pub record IsWalk (spans : List Span) (y : ℕ) (starts ends : List ℕ) (runs least : ℕ) : Type 0 where
   pub few : runs ≤ 11
@@ -42,6 +31,14 @@ pub record IsWalk (spans : List Span) (y : ℕ) (starts ends : List ℕ) (runs l
       → least ≤ cell_of spans i d
       → (r : ℕ) × (r < runs) × (get_or starts r 0 ≤ i) × (i < get_or ends r 0)
   pub in_grid : (i : ℕ) (d : Span) → i < length spans → cell_of spans i d < CELLS
+
+-- a walk whose runs before `run` are each at a span that has row y and a cell from `least` on, and the least such cell
+pub record IsHead (spans : List Span) (y : ℕ) (starts ends : List ℕ) (runs least run first : ℕ) : Type 0 where
+  pub walk : IsWalk spans y starts ends runs least
+  pub lowest : (r : ℕ) (d : Span) → r < run → get_or starts r 0 < get_or ends r 0
+      → first ≤ cell_of spans (get_or starts r 0) d
+  pub there : (first ≡ CELLS) ⊎ ((i : ℕ) × (i < length spans)
+      × ((d : Span) → (holds (get_or spans i d) y ≡ true) × (cell_of spans i d ≡ first) × (least ≤ first)))
 
 -- a walk whose next cell is found already, CELLS if there is none
 pub record IsAhead (spans : List Span) (y : ℕ) (starts ends : List ℕ) (runs next : ℕ) : Type 0 where
