@@ -119,7 +119,7 @@ impl Cells {
         let Some(olds) = mem::replace(&mut self.staged, None) else {
             unreachable!()
         };
-        self.tables.leave(&olds);
+        self.tables.leave(olds);
     }
 
     /// Takes the staged change back: the cells hold and show what they did. It takes no memory.

@@ -13,6 +13,7 @@ use ps_grid::{Cell, Refusal};
 use ps_index::Index;
 use ps_shown::Kept;
 use std::alloc::Global;
+use std::mem;
 
 /// Lists of the touched cells of a change. They are kept from one change to the next, so that a change asks for memory
 /// only where it touches more cells than all before.
@@ -22,6 +23,8 @@ pub(crate) struct Lists {
     pub(crate) touched: Vec<Cell>,
     /// the touched cells, each with what it shows at first; between two changes nothing is kept there
     pub(crate) first: Vec<(Cell, Kept)>,
+    /// nothing, in the room for the touched cells with their states; that goes out with these while a change is staged
+    spare: Vec<(Cell, CellState)>,
 }
 
 impl Lists {
@@ -30,14 +33,23 @@ impl Lists {
         Lists {
             touched: Vec::new(alloc),
             first: Vec::new(alloc),
+            spare: Vec::new(alloc),
         }
+    }
+
+    /// Keeps the room of a list for the next change. Its cells and their states are dropped; it takes no memory.
+    pub(crate) fn keep_room(&mut self, list: Vec<(Cell, CellState)>) {
+        let mut list = list;
+        list.clear();
+        self.spare = list;
     }
 }
 
 /// Begins the change that a delta makes: its formulas are put into the index beside the old ones. The touched cells,
 /// ascending, each with its new state.
 ///
-/// Refused only when out of memory, and then the index stands for what it stood for.
+/// Refused only when out of memory, and then the index stands for what it stood for; the room that was spare is given
+/// back then.
 pub(crate) fn begin(
     alloc: Global,
     grid: &mut Grid,
@@ -56,7 +68,8 @@ pub(crate) fn begin(
     ensures same { state_at grid.new ≡ state_at grid.old }
     ensures memory { IfErr result (λ e. e ≡ Refusal.Memory) }
 {
-    let raised = grid.raised(alloc, delta, Vec::new(alloc))?;
+    let spare = mem::replace(&mut lists.spare, Vec::new(alloc));
+    let raised = grid.raised(alloc, delta, spare)?;
     list_cells(&raised, &mut lists.touched)?;
     list_first(alloc, &raised, &mut lists.first)?;
     put_formulas(index, &raised)?;

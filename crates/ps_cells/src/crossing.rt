@@ -4,7 +4,6 @@
 ghost use denote.Param.Send.{IsSend, IsSync};
 ghost use Rattle.ps_cells.specs.contracts.cells.Cells as cells;
 
-use crate::change::Lists;
 use crate::level::Level;
 use crate::screen::Screen;
 use ps_delta::{CellState, Grid};
@@ -28,6 +27,5 @@ pub fn cells_cross()
     crosses::<Index>();
     crosses::<Screen>();
     crosses::<Region>();
-    crosses::<Lists>();
     crosses::<Level>();
 }

@@ -140,16 +140,17 @@ impl Tables {
         Ok((work, raised))
     }
 
-    /// Leaves a change as it was made. It takes no memory.
-    pub(crate) fn leave(&mut self, olds: &[(Cell, CellState)])
-        requires pending { (s : State) × IsPending s self.old olds.now }
+    /// Leaves a change as it was made, where these were the states of the touched cells. It takes no memory.
+    pub(crate) fn leave(&mut self, olds: Vec<(Cell, CellState)>)
+        requires pending { (s : State) × IsPending s self.old olds.items }
         ensures whole { IsWhole self.new }
         ensures grid { self.new.grid ≡ self.old.grid }
         ensures shown { self.new.shown.kept ≡ self.old.shown.kept }
         ensures workers { self.new.workers ≡ self.old.workers }
     {
-        take_formulas(&mut self.index, olds);
+        take_formulas(&mut self.index, &olds);
         self.shown.keep();
+        self.lists.keep_room(olds);
     }
 
     /// Takes a change back, where these were the states of the touched cells. It takes no memory.
@@ -166,6 +167,7 @@ impl Tables {
         self.shown.take_back();
         keep_cyclic(&self.shown, &mut self.cyclic);
         self.source = None;
+        self.lists.keep_room(olds);
     }
 
     /// Settles what the cells show, after the touched cells got what they hold.

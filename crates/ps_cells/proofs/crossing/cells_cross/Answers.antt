@@ -20,6 +20,7 @@ use Rattle.ps_cells.specs.contracts.cells.Cells.TheInside as cells_inside
 use Rattle.ps_cells.specs.contracts.tables.Tables as tables
 use Rattle.ps_cells.specs.contracts.change.Lists as lists
 use Rattle.ps_delta.specs.contracts.cell_state.CellState as cell_state
+use Rattle.ps_shown.specs.contracts.kept.Kept as kept
 use Rattle.ps_cells.specs.contracts.level.Level as level
 use Rattle.ps_cells.specs.contracts.screen.Screen as screen
 use Rattle.ps_cells.proofs.crossing.cells_cross.Goals as goal
@@ -74,6 +75,26 @@ olds_send a =
     crossing.Vec-send (Tuple (cell.the_row ∷ cell_state.the_row ∷ []))
     (pair_send cell.the_row cell_state.the_row cell_send a)
 
+kept_send : IsSend kept.the_row
+kept_send = search (crosses, sendable) depth 30
+
+first_send : IsSend (Vec.the_row (Tuple (cell.the_row ∷ kept.the_row ∷ [])) Global.the_row ghosts)
+first_send =
+    crossing.Vec-send (Tuple (cell.the_row ∷ kept.the_row ∷ []))
+    (pair_send cell.the_row kept.the_row cell_send kept_send)
+
+lists_send : IsSend cell_state.the_row → IsSend lists.the_row
+lists_send a = declared_send lists.the_type (
+  as_row_send (Vec.the_field cell.the_row Global.the_row ghosts) list_send,
+  (
+    as_row_send (Vec.the_field (Tuple (cell.the_row ∷ kept.the_row ∷ [])) Global.the_row ghosts) first_send,
+    (
+      as_row_send (Vec.the_field (Tuple (cell.the_row ∷ cell_state.the_row ∷ [])) Global.the_row ghosts) (olds_send a),
+      tt,
+    ),
+  ),
+)
+
 abbrev staged_row : RattleType
 staged_row = as_row (Option.the_field olds_row)
 
@@ -91,8 +112,6 @@ returns c =
     let i : IsSend index.the_row = record { owned = c.crosses-3.ensures.send.owned; leaving = λ k x w. tt } in
     let s : IsSend screen.the_row = record { owned = c.crosses-4.ensures.send.owned; leaving = λ k x w. tt } in
     let r : IsSend region.the_row = record { owned = c.crosses-5.ensures.send.owned; leaving = λ k x w. tt } in
-    let o : IsSend lists.the_row =
-    record { owned = c.crosses-6.ensures.send.owned; leaving = λ k x w. (tt, (tt, tt)) } in
     let l : IsSend level.the_row =
-    record { owned = c.crosses-7.ensures.send.owned; leaving = λ k x w. (tt, (tt, tt)) } in
-    view_send _ _ _ _ _ (cells_send (tables_send g i s r o l) (staged_send (olds_send a)))
+    record { owned = c.crosses-6.ensures.send.owned; leaving = λ k x w. (tt, (tt, tt)) } in
+    view_send _ _ _ _ _ (cells_send (tables_send g i s r (lists_send a) l) (staged_send (olds_send a)))
