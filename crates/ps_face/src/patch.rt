@@ -101,6 +101,9 @@ impl Patch {
 
     /// Each cell whose shown value changes, with what it shows then.
     ///
+    /// Nothing in the program calls it: the copies take the changes out. It is part of the public interface, as the
+    /// number and the delta are.
+    ///
     /// Cost: constant.
     pub fn changes(&self) -> &[(Cell, Kept)]
         ensures changes { map valued result.now ≡ self.now.changes }
