@@ -42,18 +42,6 @@ impl<K: Sink + Drop, L: Ledger> HeldOutput<K, L> {
         }
     }
 
-    /// The sink, which has all that was put where nothing waits.
-    ///
-    /// Nothing in the program calls it. It is part of the public interface: whoever lent the sink has it back.
-    ///
-    /// Cost: O(1).
-    pub fn into_sink(self) -> K
-        ensures { result ≡ sink_of self }
-    {
-        let HeldOutput { sink, .. } = self;
-        sink
-    }
-
     /// Gives the sink what waits, and settles it.
     fn send_on(&mut self) -> Result<(), Failed>
         ensures same { Keeps (held_contents K.contents self.old) (held_contents K.contents self.new) }
