@@ -1,4 +1,5 @@
-//! What is true of the answers of seats.
+//! What is true of the answers of seats, as a function that does nothing: it is its contract. It is part of the public
+//! interface.
 
 ghost use Rattle.ps_desk.specs.Seats.{SeatsAnswerLines};
 

@@ -1,4 +1,4 @@
-//! Laws of sessions.
+//! Laws of sessions, as functions that do nothing: each is its contract. They are part of the public interface.
 
 ghost use Rattle.ps_session.specs.EditLines.{EditLinesFit, EditsAreLawful, PullsHandOut};
 ghost use Rattle.ps_session.specs.Laws.{DividesOneWay, TranscriptIsDecided};

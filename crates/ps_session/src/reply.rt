@@ -43,7 +43,14 @@ impl Reply {
         match self {
             Reply::Refused(refusal) => Outcome::Refused(*refusal),
             Reply::DoneElsewhere(_) => Outcome::Elsewhere,
-            _ => Outcome::Answered,
+            Reply::Done(_)
+            | Reply::Shown(_)
+            | Reply::Rows(..)
+            | Reply::Entry(_)
+            | Reply::Entries(..)
+            | Reply::Delta(..)
+            | Reply::End(_)
+            | Reply::Replica(_) => Outcome::Answered,
         }
     }
 }
