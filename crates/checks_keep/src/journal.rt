@@ -1,5 +1,6 @@
 //! What no clause says: that calls succeed, and that files of the system are what they are told.
 
+use crate::lent::{LentDevice, LentFile, no_device};
 use ps_keep::{FileFault, FoundFile, Journal, MemoryDevice, MemoryFile, first_line, open};
 use std::alloc::{AllocError, Global};
 use std::fs;
@@ -13,13 +14,15 @@ fn file(alloc: Global, bytes: &[u8], calls: u64) -> Result<MemoryFile, AllocErro
     })
 }
 
-/// The journal of such a file, if it is opened.
-fn opened(
+/// The journal of such a file, if it is opened, with its device in this place.
+fn opened<'a>(
     alloc: Global,
     bytes: &[u8],
     calls: u64,
-) -> Result<Option<Journal<MemoryDevice>>, AllocError> {
-    match open(alloc, file(alloc, bytes, calls)?) {
+    place: &'a mut MemoryDevice,
+) -> Result<Option<Journal<LentDevice<'a>>>, AllocError> {
+    let file = file(alloc, bytes, calls)?;
+    match open(alloc, LentFile { file, place }) {
         Ok(journal) => Ok(Some(journal)),
         Err(_) => Ok(None),
     }
@@ -47,16 +50,16 @@ fn lines_are_read(rt: HostRuntime) -> Result<(), Fail> {
 #[test]
 fn the_torn_end_is_cut(rt: HostRuntime) -> Result<(), Fail> {
     let alloc = rt.alloc();
-    match opened(alloc, b"ab\ncd\ne", 9)? {
+    let mut device = no_device(alloc);
+    match opened(alloc, b"ab\ncd\ne", 9, &mut device)? {
         Some(mut journal) => {
             journal.note(b"fg")?;
             assert!(rt; journal.settle().is_ok());
-            let device = journal.into_device();
-            assert_eq!(rt; device.bytes.as_slice(), b"ab\ncd\nfg\n".as_slice());
-            assert_eq!(rt; device.synced, 9);
         }
         None => assert!(rt; false),
     }
+    assert_eq!(rt; device.bytes.as_slice(), b"ab\ncd\nfg\n".as_slice());
+    assert_eq!(rt; device.synced, 9);
     Ok(())
 }
 
@@ -66,22 +69,19 @@ fn the_torn_end_is_cut(rt: HostRuntime) -> Result<(), Fail> {
 fn a_crash_leaves_a_beginning(rt: HostRuntime) -> Result<(), Fail> {
     let alloc = rt.alloc();
     for left in 0..3usize {
-        match opened(alloc, b"", 2)? {
+        let mut device = no_device(alloc);
+        match opened(alloc, b"", 2, &mut device)? {
             Some(mut journal) => {
                 journal.note(b"a")?;
                 assert!(rt; journal.settle().is_err());
-                let device = journal.into_device();
-                assert_eq!(rt; device.bytes.len(), 2);
-                if device.synced <= left && left <= device.bytes.len() {
-                    let file = device.crash(left);
-                    assert_eq!(rt; file.bytes.len(), left);
-                    assert!(rt; first_line(&file.bytes).is_some() == (left == 2));
-                } else {
-                    assert!(rt; false);
-                }
             }
             None => assert!(rt; false),
         }
+        assert_eq!(rt; device.bytes.len(), 2);
+        assert_eq!(rt; device.synced, 0);
+        device.bytes.truncate(left);
+        assert_eq!(rt; device.bytes.len(), left);
+        assert!(rt; first_line(&device.bytes).is_some() == (left == 2));
     }
     Ok(())
 }
@@ -90,7 +90,8 @@ fn a_crash_leaves_a_beginning(rt: HostRuntime) -> Result<(), Fail> {
 #[test]
 fn a_failed_sync_stops_the_journal(rt: HostRuntime) -> Result<(), Fail> {
     let alloc = rt.alloc();
-    match opened(alloc, b"", 2)? {
+    let mut device = no_device(alloc);
+    match opened(alloc, b"", 2, &mut device)? {
         Some(mut journal) => {
             journal.note(b"a")?;
             assert!(rt; journal.settle().is_err());

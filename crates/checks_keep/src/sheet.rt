@@ -1,10 +1,11 @@
 //! A sheet that is kept: which bytes its file has, and what a start reads after a crash anywhere. The expected lines
 //! are worked by hand from the rules of edits and of delta lines.
-ghost use Rattle.std.specs.Prelude.{◌≡◌, IfOk, OnOk, false};
+ghost use Rattle.std.specs.Prelude.{◌≡◌, OnOk, false};
 ghost use mathlib.Core.List.{IsPrefix};
 ghost use Rattle.ps_grid.specs.Blanks.{IsBlankOf};
 ghost use Rattle.ps_kept.specs.Kept.{IsNoted};
 
+use crate::lent::{LentDevice, LentFile, no_device};
 use ps_content::read_entry;
 use ps_eval::Meter;
 use ps_grid::{Cell, Refusal};
@@ -78,32 +79,6 @@ const SHOWN: [[i64; 3]; 10] = [
     [6, 12, 5],
 ];
 
-/// A sheet with its keeper, or why there is none.
-type Opened = Result<(Sheet, SheetKeeper<MemoryDevice>), (KeepFault, Option<MemoryFile>)>;
-
-fn opened_with<L: Ledger, R: Threads + Sync>(
-    rt: &R,
-    blank: Blank,
-    alloc: Global,
-    file: MemoryFile,
-) -> Opened
-    requires { IsBlankOf blank L.name L.parts }
-    ensures fits { IfOk result (λ r. IsNoted r.0.replica r.0.history r.1 × (r.1.has_failed ≡ false)) }
-{
-    let mut meter = Meter::<L>::new(blank);
-    open_kept(rt, alloc, file, 1, 1, &mut meter)
-}
-
-/// The sheet of replica 1 that is read of a file of these bytes, whose calls go well so often.
-fn opened<R: Threads + Sync>(rt: &R, alloc: Global, bytes: &[u8], calls: u64) -> Opened
-    ensures fits { IfOk result (λ r. IsNoted r.0.replica r.0.history r.1 × (r.1.has_failed ≡ false)) }
-{
-    match bytes.to_vec(alloc) {
-        Ok(bytes) => opened_with::<Brand, R>(rt, Blank::new(1), alloc, MemoryFile { bytes, calls }),
-        Err(_) => Err((KeepFault::Memory, None)),
-    }
-}
-
 fn cell(name: &[u8]) -> Result<Cell, Refusal> {
     Cell::read(name).ok_or(Refusal::Cell)
 }
@@ -149,7 +124,7 @@ fn keep_line<L: Ledger, R: Threads + Sync>(
     rt: &R,
     alloc: Global,
     sheet: &mut Sheet,
-    keeper: &mut SheetKeeper<MemoryDevice>,
+    keeper: &mut SheetKeeper<LentDevice<'_>>,
     step: Step,
     meter: &mut Meter<L>,
 ) -> Result<(), Refusal>
@@ -175,14 +150,14 @@ struct Ran {
     kept: usize,
 }
 
-/// Carries the script out, up to the first line that can't be kept.
+/// Carries the script out, up to the first line that can't be kept: how many lines were.
 fn run_script<L: Ledger, R: Threads + Sync>(
     rt: &R,
     alloc: Global,
     mut sheet: Sheet,
-    mut keeper: SheetKeeper<MemoryDevice>,
+    mut keeper: SheetKeeper<LentDevice<'_>>,
     meter: &mut Meter<L>,
-) -> Ran
+) -> usize
     requires fits { IsNoted sheet.replica sheet.history keeper × (keeper.has_failed ≡ false) }
 {
     let mut kept = 0;
@@ -192,10 +167,7 @@ fn run_script<L: Ledger, R: Threads + Sync>(
             Err(_) => break,
         }
     }
-    Ran {
-        device: keeper.into_journal().into_device(),
-        kept,
-    }
+    kept
 }
 
 fn kept_with<L: Ledger, R: Threads + Sync>(
@@ -211,10 +183,16 @@ fn kept_with<L: Ledger, R: Threads + Sync>(
         bytes: Vec::new(alloc),
         calls,
     };
-    match open_kept(rt, alloc, file, 1, 1, &mut meter) {
-        Ok((sheet, keeper)) => Some(run_script(rt, alloc, sheet, keeper, &mut meter)),
-        Err(_) => None,
-    }
+    let mut device = no_device(alloc);
+    let found = LentFile {
+        file,
+        place: &mut device,
+    };
+    let kept = match open_kept(rt, alloc, found, 1, 1, &mut meter) {
+        Ok((sheet, keeper)) => run_script(rt, alloc, sheet, keeper, &mut meter),
+        Err(_) => return None,
+    };
+    Some(Ran { device, kept })
 }
 
 /// The script, kept in an empty file whose calls go well so often; none where the start is refused.
@@ -242,19 +220,52 @@ fn number_in(sheet: &Sheet, name: &[u8]) -> i64 {
     }
 }
 
-/// What a start reads of a file of these bytes; none where it is refused.
-fn started<R: Threads + Sync>(rt: &R, alloc: Global, bytes: &[u8]) -> Option<Start> {
-    match opened(rt, alloc, bytes, 9) {
-        Ok((sheet, keeper)) => Some(Start {
-            changes: sheet.version(),
-            shown: [
+/// What a start reads of a file, or why it is refused, and the file that comes back.
+type Started = Result<Start, (KeepFault, Option<MemoryFile>)>;
+
+/// The file that came back, without the place for its device.
+fn file_of(found: Option<LentFile<'_>>) -> Option<MemoryFile> {
+    let LentFile { file, .. } = found?;
+    Some(file)
+}
+
+fn started_with<L: Ledger, R: Threads + Sync>(
+    rt: &R,
+    blank: Blank,
+    alloc: Global,
+    bytes: Vec<u8>,
+) -> Started
+    requires { IsBlankOf blank L.name L.parts }
+{
+    let mut meter = Meter::<L>::new(blank);
+    let mut device = no_device(alloc);
+    let found = LentFile {
+        file: MemoryFile { bytes, calls: 9 },
+        place: &mut device,
+    };
+    let (changes, shown) = match open_kept(rt, alloc, found, 1, 1, &mut meter) {
+        Ok((sheet, _keeper)) => (
+            sheet.version(),
+            [
                 number_in(&sheet, b"A1"),
                 number_in(&sheet, b"B1"),
                 number_in(&sheet, b"C1"),
             ],
-            device: keeper.into_journal().into_device(),
-        }),
-        Err(_) => None,
+        ),
+        Err((fault, found)) => return Err((fault, file_of(found))),
+    };
+    Ok(Start {
+        changes,
+        shown,
+        device,
+    })
+}
+
+/// What a start at replica 1 reads of a file of these bytes.
+fn started<R: Threads + Sync>(rt: &R, alloc: Global, bytes: &[u8]) -> Started {
+    match bytes.to_vec(alloc) {
+        Ok(bytes) => started_with::<Brand, R>(rt, Blank::new(1), alloc, bytes),
+        Err(_) => Err((KeepFault::Memory, None)),
     }
 }
 
@@ -264,7 +275,7 @@ fn refusal_of<R: Threads + Sync>(
     alloc: Global,
     bytes: &[u8],
 ) -> Option<(KeepFault, MemoryFile)> {
-    match opened(rt, alloc, bytes, 9) {
+    match started(rt, alloc, bytes) {
         Err((fault, Some(file))) => Some((fault, file)),
         _ => None,
     }
@@ -302,8 +313,8 @@ fn is_start_of(start: &Start, bytes: &[u8], least: usize) -> bool {
 /// A start reads what a beginning of the file tells.
 fn reads<R: Threads + Sync>(rt: &R, alloc: Global, bytes: &[u8], least: usize) -> bool {
     match started(rt, alloc, bytes) {
-        Some(start) => is_start_of(&start, bytes, least),
-        None => false,
+        Ok(start) => is_start_of(&start, bytes, least),
+        Err(_) => false,
     }
 }
 
@@ -402,11 +413,11 @@ fn what_is_refused(rt: HostRuntime) -> Result<(), Fail> {
 fn other_spellings(rt: HostRuntime) -> Result<(), Fail> {
     let text = b"replica 1\npush [ [\"A\\u0031\", [1, 1, \"5\"], [], []] ]\r\n";
     match started(&rt, rt.alloc(), text) {
-        Some(start) => {
+        Ok(start) => {
             assert!(rt; start.changes == 1 && start.shown == [5, 0, 0]);
             assert!(rt; start.device.bytes.as_slice() == text.as_slice());
         }
-        None => assert!(rt; false),
+        Err(_) => assert!(rt; false),
     }
     Ok(())
 }
@@ -415,11 +426,10 @@ fn other_spellings(rt: HostRuntime) -> Result<(), Fail> {
 /// the next one reads the file.
 #[test]
 fn refused_open_kept(rt: HostRuntime) -> Result<(), Fail> {
-    let alloc = rt.alloc();
     for _ in 0..2 {
-        match opened(&rt, alloc, FILE.as_bytes(), 9) {
-            Ok((sheet, _)) => {
-                assert!(rt; sheet.version() as usize == SCRIPT.len());
+        match started(&rt, rt.alloc(), FILE.as_bytes()) {
+            Ok(start) => {
+                assert!(rt; start.changes as usize == SCRIPT.len());
                 return Ok(());
             }
             Err((KeepFault::Memory, Some(file))) => {

@@ -7,12 +7,13 @@ use ps_keep::{Device, Found, MemoryDevice, MemoryFile};
 use std::alloc::Global;
 use std::sync::{Barrier, Mutex, Wait};
 
-/// What a device has, and how often it was synced.
+/// What a device has, how often it was synced, and whether it failed.
 #[derive(Drop)]
 pub(crate) struct Log {
     pub(crate) bytes: Vec<u8>,
     pub(crate) synced: usize,
     pub(crate) syncs: u64,
+    pub(crate) is_broken: bool,
 }
 
 impl Log {
@@ -22,6 +23,7 @@ impl Log {
             bytes: Vec::new(alloc),
             synced: 0,
             syncs: 0,
+            is_broken: false,
         })
     }
 }
@@ -37,19 +39,17 @@ pub(crate) struct WatchedFile<'a, T: Wait> {
 }
 
 impl<'a, T: Wait> WatchedFile<'a, T> {
-    /// A file of these bytes, whose calls go well.
+    /// A file of these bytes, whose calls go well so often.
     pub(crate) fn new(
         rt: &'a T,
         bytes: Vec<u8>,
+        calls: u64,
         log: &'a Mutex<Log>,
         meeting: Option<&'a Barrier>,
     ) -> WatchedFile<'a, T>
         ensures { result.file.bytes.items ≡ bytes.items }
     {
-        let file = MemoryFile {
-            bytes,
-            calls: u64::MAX,
-        };
+        let file = MemoryFile { bytes, calls };
         WatchedFile {
             file,
             rt,
@@ -103,6 +103,7 @@ impl<T: Wait> Watched<'_, T> {
         let _ = log.bytes.extend_from_slice(&self.inner.bytes);
         log.synced = self.inner.synced;
         log.syncs = log.syncs.saturating_add(syncs);
+        log.is_broken = self.inner.is_broken;
     }
 }
 

@@ -6,14 +6,15 @@ ghost use Rattle.ps_keep.specs.Journals.{IsJournal};
 ghost use Rattle.ps_kept.specs.Kept.{TellHistory};
 
 use crate::desks::{begin, count_lines, empty_file, line_at};
+use crate::devices::{Log, Watched, WatchedFile};
 use crate::sessions::{Job, close, sessions};
 use ps_desk::{Desk, DeskName, Parts};
-use ps_keep::{Journal, MemoryDevice, MemoryFile};
+use ps_keep::Journal;
 use ps_kept_desk::{DeskKeeper, Ended};
 use std::alloc::Global;
 use std::marker::Brand;
 use std::process::Abort;
-use std::sync::Wait;
+use std::sync::{Mutex, Wait};
 use std::thread::Threads;
 
 const SEATS: usize = 4;
@@ -24,12 +25,12 @@ const EDITS: u16 = 6;
 const NAMES: [&str; SEATS] = ["A", "B", "C", "D"];
 
 /// A desk after a session for each pass, and what was acknowledged.
-fn race<L: DeskName + Send + Sync, T: Abort + Threads + Wait + Sync>(
-    rt: &T,
+fn race<'a, L: DeskName + Send + Sync, T: Abort + Threads + Wait + Sync>(
+    rt: &'a T,
     alloc: Global,
     parts: Parts,
-    journal: Journal<MemoryDevice>,
-) -> (Ended<MemoryDevice>, Vec<(u64, u64, u16)>)
+    journal: Journal<Watched<'a, T>>,
+) -> (Ended<Watched<'a, T>>, Vec<(u64, u64, u16)>)
     requires named { IsNamed L.name L.parts L.book L.opening L.replica parts }
     requires told { TellHistory L.replica journal.lines L.opening }
     requires kept { journal.kept ≡ journal.lines }
@@ -65,21 +66,23 @@ fn stand(rt: &impl Abort, alloc: Global, lines: &[u8], edits: &[(u64, u64, u16)]
 }
 
 /// What the device has on the disk after the desk is closed, and whether all is as it was told.
-fn check(rt: &impl Abort, alloc: Global, ended: Ended<MemoryDevice>, edits: &[(u64, u64, u16)]) {
-    let Ended {
-        sheet,
-        journal,
-        settled,
-    } = ended;
-    let device = journal.into_device();
+fn check<T: Abort + Wait>(
+    rt: &T,
+    alloc: Global,
+    ended: Ended<Watched<'_, T>>,
+    edits: &[(u64, u64, u16)],
+    log: &Mutex<Log>,
+) {
+    let guard = log.lock(rt);
+    let device = &*guard;
     let kept = device
         .bytes
         .get(..device.synced)
         .expect(rt, "what is synced");
     assert!(rt; stand(rt, alloc, kept, edits));
-    assert!(rt; device.is_broken == settled.is_err());
+    assert!(rt; device.is_broken == ended.settled.is_err());
     let all = SEATS as u64 * EDITS as u64;
-    assert!(rt; sheet.version() == all);
+    assert!(rt; ended.sheet.version() == all);
     assert!(rt; device.is_broken || count_lines(kept) == 1 + all);
 }
 
@@ -89,10 +92,11 @@ fn check(rt: &impl Abort, alloc: Global, ended: Ended<MemoryDevice>, edits: &[(u
 fn each_call_fails_in_turn(rt: HostRuntime) {
     let alloc = rt.alloc();
     for calls in 1..=20 {
-        let bytes = empty_file(&rt, alloc);
-        let (sheet, journal) = begin(&rt, alloc, MemoryFile { bytes, calls });
+        let log = Log::new(alloc);
+        let file = WatchedFile::new(&rt, empty_file(&rt, alloc), calls, &log, None);
+        let (sheet, journal) = begin(&rt, alloc, file);
         let parts = Parts::new(sheet, SEATS);
         let (ended, edits) = race::<Brand, HostRuntime>(&rt, alloc, parts, journal);
-        check(&rt, alloc, ended, &edits);
+        check(&rt, alloc, ended, &edits, &log);
     }
 }

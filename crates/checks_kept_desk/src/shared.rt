@@ -52,7 +52,7 @@ fn one_sync_serves_all_that_wait(rt: HostRuntime) {
     let alloc = rt.alloc();
     let log = Log::new(alloc);
     let all = Barrier::new(SEATS);
-    let file = WatchedFile::new(&rt, empty_file(&rt, alloc), &log, None);
+    let file = WatchedFile::new(&rt, empty_file(&rt, alloc), u64::MAX, &log, None);
     let (sheet, journal) = begin(&rt, alloc, file);
     let parts = Parts::new(sheet, SEATS);
     let job = Job::Together(&all);
@@ -68,7 +68,7 @@ fn edits_go_on_during_a_sync(rt: HostRuntime) {
     let alloc = rt.alloc();
     let log = Log::new(alloc);
     let meeting = Barrier::new(2);
-    let file = WatchedFile::new(&rt, empty_file(&rt, alloc), &log, Some(&meeting));
+    let file = WatchedFile::new(&rt, empty_file(&rt, alloc), u64::MAX, &log, Some(&meeting));
     let (sheet, journal) = begin(&rt, alloc, file);
     let parts = Parts::new(sheet, 2);
     let job = Job::Meanwhile(&meeting);

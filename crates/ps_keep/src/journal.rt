@@ -117,15 +117,4 @@ impl<D: Device + Drop> Journal<D> {
         self.waiting.clear();
         Ok(())
     }
-    /// Gives the file back as it is: without the lines that weren't settled, but for what a failed settle wrote of
-    /// them. It is part of the public interface: a program that keeps its file to the end has no need of it.
-    ///
-    /// Cost: constant.
-    pub fn into_device(self) -> D
-        ensures written { D.written result ≡ self.written }
-        ensures synced { D.synced result ≡ self.synced }
-    {
-        let Journal { device, .. } = self;
-        device
-    }
 }

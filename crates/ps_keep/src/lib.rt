@@ -13,9 +13,10 @@
 //! a crash leaves of the file: its lines begin with all that were acknowledged, and are a beginning of those that were
 //! noted. Only [`open`] cuts a file, and it takes it: so whoever reads a file first and refuses it leaves it as it was.
 //!
-//! The devices: memory ([`MemoryFile`], [`MemoryDevice`]), which can fail and crash, and a file of the system
+//! The devices: memory ([`MemoryFile`], [`MemoryDevice`]), which can be made to fail, and a file of the system
 //! ([`FoundFile`], [`KeptFile`]). Of the latter, clauses say what its calls were told; that the system keeps what it
-//! synced, in order, is trusted.
+//! synced, in order, is trusted. A journal has its device to its end: whoever looks at that afterwards lends it, by a
+//! [`Found`] of their own.
 //!
 //! From a file of `ab`, `cd` and a piece `e`, [`first_line`] reads `ab`, then `cd`, then none, and [`open`] cuts `e`
 //! off; after a note of `fg` and a settle the file is `ab`, `cd` and `fg`, each with its line feed.

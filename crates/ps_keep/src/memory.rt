@@ -1,6 +1,5 @@
-//! A file in memory, that can be made to fail and to crash.
-ghost use Rattle.std.specs.Prelude.{◌≡◌, ◌≤◌, length, vec_len};
-ghost use Rattle.ps_keep.specs.Crash.{IsLeft};
+//! A file in memory, that can be made to fail, and that shows what a crash leaves of it.
+ghost use Rattle.std.specs.Prelude.{◌≡◌, ◌≤◌, vec_len};
 
 use crate::device::{Device, Found};
 use ps_device::Failed;
@@ -20,23 +19,6 @@ pub struct MemoryDevice {
 }
 
 impl MemoryDevice {
-    /// A crash, that leaves so many of the bytes. It is there for tests.
-    ///
-    /// Cost: constant.
-    pub fn crash(self, count: usize) -> MemoryFile
-        requires synced { self.synced ≤ count }
-        requires within { count ≤ length self.bytes.items }
-        ensures { IsLeft self.bytes.items self.synced result.bytes.items }
-    {
-        let MemoryDevice {
-            mut bytes,
-            calls,
-            ..
-        } = self;
-        bytes.truncate(count);
-        MemoryFile { bytes, calls }
-    }
-
     /// Counts a call; false where it is to fail.
     fn goes_well(&mut self) -> bool
         ensures { self.new ≡ record self.old { calls = self.new.calls } }

@@ -1,0 +1,60 @@
+//! A file of memory whose device is lent, so that a test sees what it has once nobody writes to it any more.
+
+use ps_device::Failed;
+use ps_keep::{Device, Found, MemoryDevice, MemoryFile};
+use std::alloc::Global;
+
+/// A device without a byte, to be lent to a [`LentFile`].
+pub(crate) fn no_device(alloc: Global) -> MemoryDevice {
+    MemoryDevice {
+        bytes: Vec::new(alloc),
+        synced: 0,
+        calls: 0,
+        is_broken: false,
+    }
+}
+
+/// A file of memory, and the place for its device once it is opened for appending.
+#[derive(Drop)]
+pub(crate) struct LentFile<'a> {
+    pub(crate) file: MemoryFile,
+    pub(crate) place: &'a mut MemoryDevice,
+}
+
+impl<'a> Found for LentFile<'a> {
+    type Device = LentDevice<'a>;
+
+    ghost bytes = { λ f. f.file.bytes.items };
+
+    fn bytes(&self) -> &[u8] {
+        self.file.bytes()
+    }
+
+    fn keep(self, count: usize) -> Result<LentDevice<'a>, Failed> {
+        let LentFile { file, place } = self;
+        *place = file.keep(count)?;
+        Ok(LentDevice { device: place })
+    }
+}
+
+/// A device of memory that is lent.
+#[derive(Drop)]
+pub(crate) struct LentDevice<'a> {
+    device: &'a mut MemoryDevice,
+}
+
+impl Device for LentDevice<'_> {
+    ghost written = { λ d. d.device.now.bytes.items };
+
+    ghost synced = { λ d. d.device.now.synced };
+
+    ghost has_failed = { λ d. d.device.now.is_broken };
+
+    fn append(&mut self, bytes: &[u8]) -> Result<(), Failed> {
+        self.device.append(bytes)
+    }
+
+    fn sync(&mut self) -> Result<(), Failed> {
+        self.device.sync()
+    }
+}
