@@ -57,7 +57,7 @@ fn until<'a, C: Clock>(clock: &'a C, stream: &'a TcpStream, seconds: u64) -> Opt
 }
 
 /// Answers what a connection asks for.
-pub fn attend<R: Net<Stream = TcpStream> + Wait + Clock>(
+pub(crate) fn attend<R: Net<Stream = TcpStream> + Wait + Clock>(
     rt: &R,
     alloc: Global,
     gateway: Gateway,

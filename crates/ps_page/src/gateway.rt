@@ -43,8 +43,11 @@ pub fn serve_page<
     })
 }
 
-/// The next connection; an error where none can be accepted any more.
-fn accept<R: Wait>(rt: &R, listener: &TcpListener) -> io::Result<TcpStream> {
+/// The next connection of a listener. A call that was interrupted, or whose client has gone meanwhile, is made again.
+/// Any other failure is returned, also that of a listener that doesn't wait and to which nobody has come.
+///
+/// Cost: a call of the system, and one more for each that is made again.
+pub fn accept<R: Wait>(rt: &R, listener: &TcpListener) -> io::Result<TcpStream> {
     for _ in rt.forever() {
         match listener.accept() {
             Ok((stream, _)) => return Ok(stream),

@@ -3,6 +3,7 @@
 //! It knows no sheet. A browser sends a message, the gateway hands it to a session of the server as one line, and the
 //! reply goes back as one message ([`relay_lines`]). [`serve_page`] accepts the connections, serves the page ([`PAGE`])
 //! and opens WebSockets, each of which has a session at the server that is kept for the next browser.
+//! [`accept`] is for any listener.
 //!
 //! The contracts to use are those of [`answer_to`], [`read_head`] and [`relay_lines`]. A request is answered by what
 //! its method, path, `Host` and `Origin` ask for, once its head is whole ([`HEAD_LIMIT`]); a WebSocket is opened only
@@ -24,7 +25,7 @@ mod relay;
 mod response;
 mod session;
 
-pub use gateway::{Gateway, serve_page};
+pub use gateway::{Gateway, accept, serve_page};
 pub use head::{Answer, HEAD_LIMIT, MOST_FIELDS, Refused, answer_to, read_head};
 pub use page::PAGE;
 pub use relay::{End, relay_lines};

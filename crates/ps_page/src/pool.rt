@@ -8,14 +8,14 @@ use std::sync::{Mutex, Wait};
 use std::time::Duration;
 
 /// A session over a connection.
-pub type Connected = ServerSession<BufReader<TcpStream>, TcpStream>;
+pub(crate) type Connected = ServerSession<BufReader<TcpStream>, TcpStream>;
 
 /// How long a reply may take.
 const REPLY_SECONDS: u64 = 30;
 
 /// Why a browser has no session.
 #[derive(Clone, Copy, Debug, PartialEq, Eq)]
-pub enum Lack {
+pub(crate) enum Lack {
     /// All of them are in use.
     Room,
     /// The server can't be reached.
@@ -24,7 +24,7 @@ pub enum Lack {
 
 /// The sessions that wait for a browser, and how many there are in all.
 #[derive(Drop)]
-pub struct Pool {
+pub(crate) struct Pool {
     idle: Vec<Connected>,
     open: usize,
     most: usize,
@@ -32,7 +32,7 @@ pub struct Pool {
 
 impl Pool {
     /// No session yet, and at most so many.
-    pub fn new(alloc: Global, most: usize) -> Pool {
+    pub(crate) fn new(alloc: Global, most: usize) -> Pool {
         Pool {
             idle: Vec::new(alloc),
             open: 0,
@@ -72,7 +72,7 @@ impl Pool {
 }
 
 /// A session for a browser: one that waits and is still there, or a new one.
-pub fn take_session<R: Net<Stream = TcpStream> + Wait>(
+pub(crate) fn take_session<R: Net<Stream = TcpStream> + Wait>(
     rt: &R,
     alloc: Global,
     from: u16,
@@ -116,13 +116,13 @@ fn is_there(alloc: Global, session: &mut Connected) -> bool {
 }
 
 /// Gives a session back that waits for a line.
-pub fn give_session<R: Wait>(rt: &R, pool: &Mutex<Pool>, session: Connected) {
+pub(crate) fn give_session<R: Wait>(rt: &R, pool: &Mutex<Pool>, session: Connected) {
     pool.lock(rt).give(session);
 }
 
 /// Ends a session that failed, and those that wait, since their server has mostly gone with it: so a server that is
 /// there again is found at the next try.
-pub fn end_session<R: Wait>(rt: &R, pool: &Mutex<Pool>, session: Connected) {
+pub(crate) fn end_session<R: Wait>(rt: &R, pool: &Mutex<Pool>, session: Connected) {
     drop(session);
     let mut pool = pool.lock(rt);
     pool.start_anew();

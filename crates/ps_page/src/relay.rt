@@ -22,6 +22,8 @@ pub enum End {
 }
 
 /// Hands each message of a browser to a session as a line, and each reply back as a message, until one of them ends.
+///
+/// Cost: linear in the bytes of the messages and of the replies, but for the time that both sides take.
 pub fn relay_lines<S: Read + Write + Drop, R: BufRead + Drop, W: Write + Drop>(
     alloc: Global,
     socket: &mut WebSocket<S, NoMask>,

@@ -8,6 +8,8 @@ use crate::page::PAGE_HEAD;
 use std::io::{Result, Write};
 
 /// Writes the page.
+///
+/// Cost: linear in the bytes of the page.
 pub fn respond_page<W: Write>(writer: &mut W, page: &[u8]) -> Result<()>
     ensures { OnOk result (Appends (W.contents writer.old) (W.contents writer.new) (PAGE_HEAD.now ++ page.now)) }
 {
@@ -35,6 +37,8 @@ fn refusal_text(refused: Refused) -> &'static [u8] {
 }
 
 /// Writes the response that refuses a request.
+///
+/// Cost: constant.
 pub fn respond<W: Write>(writer: &mut W, refused: Refused) -> Result<()> {
     writer.write_all(refusal_text(refused))?;
     writer.flush()

@@ -24,6 +24,8 @@ pub struct ServerSession<R: BufRead + Drop, W: Write + Drop> {
 }
 
 /// Whether a line is one request, to which a session has one reply.
+///
+/// Cost: linear in the bytes of the line.
 pub fn is_request(line: &[u8]) -> bool
     ensures { result ≡ is_request line.now }
 {
@@ -101,6 +103,8 @@ fn put_all<W: Write>(writer: &mut W, bytes: &[u8]) -> Result<(), SessionFault>
 
 impl<R: BufRead + Drop, W: Write + Drop> ServerSession<R, W> {
     /// A session over these two.
+    ///
+    /// Cost: constant.
     pub fn new(reader: R, writer: W) -> ServerSession<R, W>
         ensures { result ≡ record { reader = reader; writer = writer } }
     {
