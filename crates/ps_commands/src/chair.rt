@@ -210,6 +210,7 @@ fn begin<
 ) -> Holder<L>
     ensures { MatchResult result (λ h. h.promise.0.value ≡ pass) (λ p. IsAttended L.replica L.opening pass p) }
 {
+    // for the facts that threads may share the desk and the keeper
     desk_crosses::<L, W>();
     keeper_crosses::<L, D>();
     let desk = at.desk;

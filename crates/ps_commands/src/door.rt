@@ -1,6 +1,8 @@
 //! The door of a server: its listener, and the connections that wait for a seat.
 
 use crate::serving::Entrance;
+use ps_grid::Refusal;
+use ps_page::accept;
 use std::alloc::{AllocError, Global};
 use std::io::{ErrorKind, Read, Write};
 use std::net::{Shutdown, TcpListener, TcpStream};
@@ -13,9 +15,6 @@ const WAITING: usize = 512;
 
 /// The pause between two looks at what has changed, in milliseconds, while a connection waits for a seat.
 const PAUSE: u64 = 5;
-
-/// What a connection is told that gets no seat.
-const NO_SEAT: &[u8] = b"err 21 seat\n";
 
 /// How many pieces of what it sent are read from a connection that gets no seat.
 const PIECES: usize = 64;
@@ -40,6 +39,8 @@ pub(crate) struct Door<'a> {
     idle: Option<Duration>,
     /// whether it never waits for a connection, so that it can be closed at any time
     is_watchful: bool,
+    /// the line that a connection is told that gets no seat
+    no_seat: String,
 }
 
 impl<'a> Door<'a> {
@@ -56,6 +57,7 @@ impl<'a> Door<'a> {
             patience: entrance.serving.wait,
             idle: entrance.serving.idle,
             is_watchful,
+            no_seat: format!(in alloc; "{}\n", Refusal::Seat)?,
         })
     }
 
@@ -82,11 +84,18 @@ impl<'a> Door<'a> {
         }
     }
 
-    /// The next connection. Where nobody waits for a seat and it isn't watchful, it waits for one to come.
+    /// The next connection, if there is one. Where nobody waits for a seat and it isn't watchful, it waits for one to
+    /// come.
     fn come<R: Wait>(&mut self, rt: &R) -> io::Result<Option<TcpStream>> {
         let waits = self.waiting.is_empty() && !self.is_watchful;
         self.wait_for_one(waits)?;
-        accept(rt, self.listener)
+        match accept(rt, self.listener) {
+            Ok(stream) => Ok(Some(stream)),
+            Err(error) => match error.kind() {
+                ErrorKind::WouldBlock => Ok(None),
+                _ => Err(error),
+            },
+        }
     }
 
     /// Whether an `accept` is to wait for a connection.
@@ -108,7 +117,7 @@ impl<'a> Door<'a> {
             Ok(since) if self.waiting.len() < self.waiting.capacity() => self
                 .waiting
                 .push_reserved(Waiting { stream, since }),
-            _ => turn_away(stream),
+            _ => turn_away(stream, self.no_seat.as_bytes()),
         }
     }
 
@@ -144,7 +153,7 @@ impl<'a> Door<'a> {
 
     fn turn_away_first(&mut self) {
         if let Some(stream) = self.next() {
-            turn_away(stream);
+            turn_away(stream, self.no_seat.as_bytes());
         }
     }
 
@@ -157,26 +166,10 @@ impl<'a> Door<'a> {
     }
 }
 
-/// The next connection, if one has come or an `accept` waits for it. A call that was interrupted, or whose client has
-/// gone meanwhile, is made again.
-fn accept<R: Wait>(rt: &R, listener: &TcpListener) -> io::Result<Option<TcpStream>> {
-    for _ in rt.forever() {
-        match listener.accept() {
-            Ok((stream, _)) => return Ok(Some(stream)),
-            Err(error) => match error.kind() {
-                ErrorKind::Interrupted | ErrorKind::ConnectionAborted => {}
-                ErrorKind::WouldBlock => return Ok(None),
-                _ => return Err(error),
-            },
-        }
-    }
-    unreachable!()
-}
-
-/// Tells a connection that it gets no seat, and closes it.
-fn turn_away(mut stream: TcpStream) {
+/// Tells a connection that it gets no seat, by this line, and closes it.
+fn turn_away(mut stream: TcpStream, no_seat: &[u8]) {
     let _ = stream.set_nonblocking(true);
-    let _ = stream.write(NO_SEAT);
+    let _ = stream.write(no_seat);
     let _ = stream.shutdown(Shutdown::Write);
     // (a connection with bytes that were never read would be reset, and its peer could miss what it is told)
     let mut piece = [0u8; 4096];

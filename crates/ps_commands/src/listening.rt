@@ -39,23 +39,12 @@ fn serving_of(options: ServeOptions<'_>) -> Serving
     ensures seats { result.seats ≡ options.entry.seats }
 {
     Serving {
-        sessions: widened(options.sessions),
+        sessions: options.sessions.map(u64::from),
         seats: usize::from(options.seats),
         wait: Duration::from_secs(u64::from(options.wait)),
-        idle: match options.idle {
-            Some(seconds) => Some(Duration::from_secs(u64::from(seconds))),
-            None => None,
-        },
-    }
-}
-
-/// The same number.
-fn widened(number: Option<u32>) -> Option<u64>
-    ensures { result ≡ number }
-{
-    match number {
-        Some(number) => Some(u64::from(number)),
-        None => None,
+        idle: options
+            .idle
+            .map(|seconds| Duration::from_secs(u64::from(seconds))),
     }
 }
 

@@ -129,6 +129,7 @@ pub fn answer_kept<
     ensures memory { result ≡ Err (Refused Refusal.Memory)
         → (source.new ≡ source.old) × (sink.new ≡ sink.old) × (keeper.new ≡ keeper.old) }
 {
+    // for the law that what is noted is a beginning of a longer history still
     longer_histories_fit();
     let mut sheet = sheet;
     let done = run_kept(resources, source, sink, &mut sheet, meter, watcher, keeper);
