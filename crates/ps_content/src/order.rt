@@ -17,7 +17,8 @@ impl Content {
     {
         match self {
             Content::Number(number) => *number,
-            _ => 0,
+            Content::Blank | Content::Text(_) | Content::Formula(_) => 0,
+            Content::Tally | Content::Choice => 0,
         }
     }
 
@@ -35,7 +36,8 @@ impl Content {
     {
         match self {
             Content::Text(label) => label.label().bytes(),
-            _ => &[],
+            Content::Blank | Content::Number(_) | Content::Formula(_) => &[],
+            Content::Tally | Content::Choice => &[],
         }
     }
 

@@ -28,7 +28,9 @@ fn level_of(operator: Operator) -> usize
     match operator {
         Operator::Times => 0,
         Operator::Plus | Operator::Minus => 1,
-        _ => 2,
+        Operator::Equal | Operator::NotEqual => 2,
+        Operator::Less | Operator::LessOrEqual => 2,
+        Operator::Greater | Operator::GreaterOrEqual => 2,
     }
 }
 
