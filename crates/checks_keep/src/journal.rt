@@ -46,7 +46,7 @@ fn lines_are_read(rt: HostRuntime) -> Result<(), Fail> {
     Ok(())
 }
 
-/// Two whole lines and a piece: the file is the lines, and what is settled after them.
+/// Two whole lines and a piece: the file is the lines, and what is synced after them.
 #[test]
 fn the_torn_end_is_cut(rt: HostRuntime) -> Result<(), Fail> {
     let alloc = rt.alloc();
@@ -54,7 +54,7 @@ fn the_torn_end_is_cut(rt: HostRuntime) -> Result<(), Fail> {
     match opened(alloc, b"ab\ncd\ne", 9, &mut device)? {
         Some(mut journal) => {
             journal.note(b"fg")?;
-            assert!(rt; journal.settle().is_ok());
+            assert!(rt; journal.sync().is_ok());
         }
         None => assert!(rt; false),
     }
@@ -63,7 +63,7 @@ fn the_torn_end_is_cut(rt: HostRuntime) -> Result<(), Fail> {
     Ok(())
 }
 
-/// A crash amid a settle leaves none, a part or all of what was written: the next start reads the line where all is
+/// A crash amid a sync leaves none, a part or all of what was written: the next start reads the line where all is
 /// there, and no line else.
 #[test]
 fn a_crash_leaves_a_beginning(rt: HostRuntime) -> Result<(), Fail> {
@@ -73,7 +73,7 @@ fn a_crash_leaves_a_beginning(rt: HostRuntime) -> Result<(), Fail> {
         match opened(alloc, b"", 2, &mut device)? {
             Some(mut journal) => {
                 journal.note(b"a")?;
-                assert!(rt; journal.settle().is_err());
+                assert!(rt; journal.sync().is_err());
             }
             None => assert!(rt; false),
         }
@@ -86,7 +86,7 @@ fn a_crash_leaves_a_beginning(rt: HostRuntime) -> Result<(), Fail> {
     Ok(())
 }
 
-/// The third call fails, a sync; from then on each settle does.
+/// The third call fails, a sync; from then on each sync does.
 #[test]
 fn a_failed_sync_stops_the_journal(rt: HostRuntime) -> Result<(), Fail> {
     let alloc = rt.alloc();
@@ -94,15 +94,15 @@ fn a_failed_sync_stops_the_journal(rt: HostRuntime) -> Result<(), Fail> {
     match opened(alloc, b"", 2, &mut device)? {
         Some(mut journal) => {
             journal.note(b"a")?;
-            assert!(rt; journal.settle().is_err());
-            assert!(rt; journal.settle().is_err());
+            assert!(rt; journal.sync().is_err());
+            assert!(rt; journal.sync().is_err());
         }
         None => assert!(rt; false),
     }
     Ok(())
 }
 
-/// Lines that are settled stand in the file; while a journal has it nobody else opens it; a torn end is cut off it. A
+/// Lines that are synced stand in the file; while a journal has it nobody else opens it; a torn end is cut off it. A
 /// folder is no file.
 #[test]
 fn a_file_of_the_system(rt: HostRuntime) -> Result<(), Fail> {
@@ -114,7 +114,7 @@ fn a_file_of_the_system(rt: HostRuntime) -> Result<(), Fail> {
             Ok(mut journal) => {
                 journal.note(b"ab")?;
                 journal.note(b"cd")?;
-                assert!(rt; journal.settle().is_ok());
+                assert!(rt; journal.sync().is_ok());
                 match FoundFile::open(&rt, alloc, path) {
                     Err(FileFault::Busy) => {}
                     _ => assert!(rt; false),

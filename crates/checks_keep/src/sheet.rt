@@ -137,7 +137,7 @@ fn keep_line<L: Ledger, R: Threads + Sync>(
         Err(refusal) => return Err(refusal),
     }
     longer_histories_fit();
-    match keeper.settle(alloc, sheet) {
+    match keeper.sync(alloc, sheet) {
         Ok(()) => Ok(()),
         Err(_) => Err(Refusal::Device),
     }

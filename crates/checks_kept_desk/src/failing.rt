@@ -80,14 +80,14 @@ fn check<T: Abort + Wait>(
         .get(..device.synced)
         .expect(rt, "what is synced");
     assert!(rt; stand(rt, alloc, kept, edits));
-    assert!(rt; device.is_broken == ended.settled.is_err());
+    assert!(rt; device.is_broken == ended.synced.is_err());
     let all = SEATS as u64 * EDITS as u64;
     assert!(rt; ended.sheet.version() == all);
     assert!(rt; device.is_broken || count_lines(kept) == 1 + all);
 }
 
 /// Whichever call of the device fails, and where none does: each edit that was acknowledged is on the disk, at its
-/// number, and once a settle failed each later one of the same session did.
+/// number, and once a sync failed each later one of the same session did.
 #[test]
 fn each_call_fails_in_turn(rt: HostRuntime) {
     let alloc = rt.alloc();

@@ -31,7 +31,7 @@ pub(crate) struct Left<L: DeskName> {
     acknowledged: Vec<(u64, u64, u16)>,
 }
 
-/// Edits a column down, and has each edit kept. Once a settle failed, each later one fails too.
+/// Edits a column down, and has each edit kept. Once a sync failed, each later one fails too.
 fn edit_down<L: DeskName, D: Device + Drop, W: Wait + Drop, T: Abort + Threads + Wait + Sync>(
     rt: &T,
     alloc: Global,
@@ -44,7 +44,7 @@ fn edit_down<L: DeskName, D: Device + Drop, W: Wait + Drop, T: Abort + Threads +
     let mut failed = false;
     for row in 1..=rows {
         let number = enter(rt, alloc, seat, column, row);
-        if own.settle(alloc, &*seat).is_err() {
+        if own.sync(alloc, &*seat).is_err() {
             failed = true;
         } else {
             assert!(rt; !failed);
@@ -77,12 +77,12 @@ fn session<L: DeskName, D: Device + Drop, W: Wait + Drop, T: Abort + Threads + W
         Job::Together(all) => {
             enter(rt, alloc, &mut seat, column, 1);
             all.wait(rt);
-            assert!(rt; own.settle(alloc, &seat).is_ok());
+            assert!(rt; own.sync(alloc, &seat).is_ok());
         }
         Job::Meanwhile(meeting) => {
             if column == 0 {
                 enter(rt, alloc, &mut seat, column, 1);
-                assert!(rt; own.settle(alloc, &seat).is_ok());
+                assert!(rt; own.sync(alloc, &seat).is_ok());
             } else {
                 meeting.wait(rt);
                 enter(rt, alloc, &mut seat, column, 1);

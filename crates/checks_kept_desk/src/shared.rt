@@ -42,7 +42,7 @@ fn syncs<'a, L: DeskName + Send + Sync, T: Abort + Threads + Wait + Sync>(
     let left = sessions(rt, alloc, &keeper, &desk, passes, job);
     let by_sessions = log.lock(rt).syncs;
     let (ended, _) = close(rt, alloc, keeper, desk, left);
-    assert!(rt; ended.settled.is_ok());
+    assert!(rt; ended.synced.is_ok());
     (by_sessions, log.lock(rt).syncs, ended.sheet.version())
 }
 

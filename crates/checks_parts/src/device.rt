@@ -172,7 +172,7 @@ fn gives_on(alloc: Global, bytes: &[u8]) -> bool {
     handed.is_ok() && writer.given.as_slice() == bytes
 }
 
-/// A settle flushes the writer.
+/// A flush flushes the writer.
 #[test]
 fn flushed(rt: HostRuntime) {
     assert!(rt; gives_on(rt.alloc(), b"ok 1\n"));
@@ -232,7 +232,7 @@ fn bytes_of(alloc: Global, count: usize) -> Result<Vec<u8>, Refusal> {
     Ok(bytes)
 }
 
-/// Puts the bytes and settles, and does so again: whether each of the four was Ok, and whether a put of no byte is
+/// Puts the bytes and flushes, and does so again: whether each of the four was Ok, and whether a put of no byte is
 /// then.
 fn rounds<L: Ledger>(
     alloc: Global,
@@ -244,11 +244,11 @@ fn rounds<L: Ledger>(
 {
     let mut sink = ConsoleOutput::<&mut FailsOnce, L>::new(alloc, writer, blank)?;
     let put = put_all(&mut sink, bytes).is_ok();
-    let settled = sink.settle().is_ok();
+    let flushed = sink.flush().is_ok();
     let put_again = put_all(&mut sink, bytes).is_ok();
-    let settled_again = hand_on(&mut sink).is_ok();
+    let flushed_again = hand_on(&mut sink).is_ok();
     let nothing = sink.put(b"").is_ok();
-    Ok([put, settled, put_again, settled_again, nothing])
+    Ok([put, flushed, put_again, flushed_again, nothing])
 }
 
 /// The same over a new ledger.
@@ -283,7 +283,7 @@ fn oks_where_a_call_fails(
 
 /// Whichever call of the writer fails: it has all that came before, nothing comes after, and the sink stays failed.
 ///
-/// 65,536 of 100,000 bytes are sent as the room fills up, in three writes; the settle takes two more and a flush.
+/// 65,536 of 100,000 bytes are sent as the room fills up, in three writes; the flush takes two more and a flush.
 #[test]
 fn each_call_of_the_writer_fails(rt: HostRuntime) -> Result<(), Refusal> {
     let alloc = rt.alloc();
@@ -324,7 +324,7 @@ fn a_writer_takes_none(rt: HostRuntime) {
     assert!(rt; fails_at_none(rt.alloc()) == Ok(true));
 }
 
-/// How many bytes three puts take, of a piece, of its rest and of four more, before a settle.
+/// How many bytes three puts take, of a piece, of its rest and of four more, before a flush.
 fn taken_of<L: Ledger>(
     alloc: Global,
     writer: &mut FailsOnce,
@@ -337,7 +337,7 @@ fn taken_of<L: Ledger>(
     let first = sink.put(piece).map_err(|_| Refusal::Device)?;
     let second = sink.put(&piece[first..]).map_err(|_| Refusal::Device)?;
     let third = sink.put(b"last").map_err(|_| Refusal::Device)?;
-    sink.settle().map_err(|_| Refusal::Device)?;
+    sink.flush().map_err(|_| Refusal::Device)?;
     Ok([first, second, third])
 }
 
@@ -362,7 +362,7 @@ fn a_piece_larger_than_the_room(rt: HostRuntime) {
     assert!(rt; takes_up_to_the_room(rt.alloc()) == Ok(true));
 }
 
-/// Puts a reply so many times, then settles.
+/// Puts a reply so many times, then flushes.
 fn replies<L: Ledger>(
     alloc: Global,
     writer: &mut FailsOnce,
@@ -376,7 +376,7 @@ fn replies<L: Ledger>(
     for _ in 0..count {
         put_all(&mut sink, reply).map_err(|_| Refusal::Device)?;
     }
-    sink.settle().map_err(|_| Refusal::Device)
+    sink.flush().map_err(|_| Refusal::Device)
 }
 
 /// Whether 25,000 replies come whole and in order, in five calls of the writer.
@@ -390,7 +390,7 @@ fn replies_come_whole(alloc: Global) -> Result<bool, Refusal> {
     Ok(is_whole && writer.kept.len() == 200_000 && writer.calls == 5)
 }
 
-/// More replies than the room holds, before one settle, come whole and in order, in a write for each 65,536 bytes.
+/// More replies than the room holds, before one flush, come whole and in order, in a write for each 65,536 bytes.
 #[test]
 fn more_replies_than_the_room(rt: HostRuntime) {
     assert!(rt; replies_come_whole(rt.alloc()) == Ok(true));

@@ -16,10 +16,10 @@ use std::sync::ledger::{Blank, Ledger};
 use std::test::Fail;
 use std::thread::Threads;
 
-/// A keeper that counts how often it is settled, and the changes that were there then; one of its settles fails.
+/// A keeper that counts how often it is synced, and the changes that were there then; one of its syncs fails.
 #[derive(Drop)]
 struct Counting {
-    settles: u64,
+    syncs: u64,
     fails_at: u64,
     kept: u64,
 }
@@ -31,9 +31,9 @@ impl Keeper<Sheet> for Counting {
 
     ghost can_fail = { ⊤ };
 
-    fn settle(&mut self, _alloc: Global, board: &Sheet) -> Result<(), Failed> {
-        self.settles = self.settles.saturating_add(1);
-        if self.settles == self.fails_at {
+    fn sync(&mut self, _alloc: Global, board: &Sheet) -> Result<(), Failed> {
+        self.syncs = self.syncs.saturating_add(1);
+        if self.syncs == self.fails_at {
             return Err(Failed);
         }
         self.kept = self.kept.max(board.version());
@@ -81,19 +81,19 @@ impl Read for ByLines<'_> {
     }
 }
 
-/// Which settle fails, and how many writes don't.
+/// Which sync fails, and how many writes don't.
 #[derive(Clone, Copy)]
 struct Plan {
     fails_at: u64,
     writes: u64,
 }
 
-/// What a session came to: what was handed on, how often its keeper was settled, how many changes that covers.
+/// What a session came to: what was handed on, how often its keeper was synced, how many changes that covers.
 #[derive(Drop)]
 struct Outcome {
     ended: Result<u64, RunFault>,
     handed: Vec<u8>,
-    settles: u64,
+    syncs: u64,
     kept: u64,
 }
 
@@ -135,7 +135,7 @@ fn kept_counted<R: Threads + Sync, T: Read + Drop, J: Ledger, K: Ledger, N: Ledg
     let mut sink = HeldOutput::<Writing<&mut Recorder, K>, N>::new(alloc, writing, holds);
     let mut meter = Meter::<L>::new(evaluations);
     let mut keeper = Counting {
-        settles: 0,
+        syncs: 0,
         fails_at: plan.fails_at,
         kept: 0,
     };
@@ -152,7 +152,7 @@ fn kept_counted<R: Threads + Sync, T: Read + Drop, J: Ledger, K: Ledger, N: Ledg
     Ok(Outcome {
         ended,
         handed: recorder.bytes,
-        settles: keeper.settles,
+        syncs: keeper.syncs,
         kept: keeper.kept,
     })
 }
@@ -188,20 +188,20 @@ const REPLIES: [&[u8]; 5] = [
 /// How many changes there are after them.
 const CHANGES: [u64; 5] = [0, 1, 2, 2, 2];
 
-/// Whichever settle fails, the replies to the lines before it are out, and no more; and it isn't tried again. There is
-/// one settle before the first read, one after each line, and one at the end.
+/// Whichever sync fails, the replies to the lines before it are out, and no more; and it isn't tried again. There is
+/// one sync before the first read, one after each line, and one at the end.
 #[test]
-fn a_failed_settle_ends_it(rt: HostRuntime) -> Result<(), Fail> {
+fn a_failed_sync_ends_it(rt: HostRuntime) -> Result<(), Fail> {
     let alloc = rt.alloc();
-    for settles in 1..7u64 {
+    for syncs in 1..7u64 {
         let plan = Plan {
-            fails_at: settles,
+            fails_at: syncs,
             writes: u64::MAX,
         };
         let found = kept_run(&rt, alloc, ByLines(TEXT), plan);
         let found = found.ok().ok_or("memory")?;
-        let answered = settles.saturating_sub(2) as usize;
-        assert!(rt; found.ended == Err(RunFault::Keep) && found.settles == settles);
+        let answered = syncs.saturating_sub(2) as usize;
+        assert!(rt; found.ended == Err(RunFault::Keep) && found.syncs == syncs);
         assert!(rt;
             found.handed.as_slice() == REPLIES[answered] && found.kept == CHANGES[answered]
         );
@@ -219,17 +219,17 @@ fn all_is_kept(rt: HostRuntime) -> Result<(), Fail> {
     };
     let found = kept_run(&rt, alloc, ByLines(TEXT), plan);
     let found = found.ok().ok_or("memory")?;
-    assert!(rt; found.ended == Ok(4) && found.settles == 6);
+    assert!(rt; found.ended == Ok(4) && found.syncs == 6);
     assert!(rt; found.handed.as_slice() == REPLIES[4] && found.kept == CHANGES[4]);
     let found = kept_run(&rt, alloc, TEXT, plan).ok().ok_or("memory")?;
-    assert!(rt; found.ended == Ok(4) && found.settles == 3);
+    assert!(rt; found.ended == Ok(4) && found.syncs == 3);
     assert!(rt; found.handed.as_slice() == REPLIES[4] && found.kept == CHANGES[4]);
     Ok(())
 }
 
 /// Whichever write fails, what its replies show is kept.
 #[test]
-fn a_failed_write_comes_after_its_settle(rt: HostRuntime) -> Result<(), Fail> {
+fn a_failed_write_comes_after_its_sync(rt: HostRuntime) -> Result<(), Fail> {
     let alloc = rt.alloc();
     for writes in 0..4usize {
         let plan = Plan {
@@ -238,7 +238,7 @@ fn a_failed_write_comes_after_its_settle(rt: HostRuntime) -> Result<(), Fail> {
         };
         let found = kept_run(&rt, alloc, ByLines(TEXT), plan);
         let found = found.ok().ok_or("memory")?;
-        assert!(rt; found.ended == Err(RunFault::Sink) && found.settles == writes as u64 + 2);
+        assert!(rt; found.ended == Err(RunFault::Sink) && found.syncs == writes as u64 + 2);
         assert!(rt;
             found.handed.as_slice() == REPLIES[writes] && found.kept == CHANGES[writes + 1]
         );
@@ -260,10 +260,10 @@ fn put_table(text: &mut Vec<u8>, digit: u8) -> Result<(), Fail> {
     Ok(())
 }
 
-/// Amid a piece there is a settle wherever 65,536 bytes of replies wait, as after each table of a whole sheet; then
+/// Amid a piece there is a sync wherever 65,536 bytes of replies wait, as after each table of a whole sheet; then
 /// there is one at the end of the piece, and one at that of the input.
 #[test]
-fn many_replies_are_settled_amid_a_piece(rt: HostRuntime) -> Result<(), Fail> {
+fn many_replies_are_handed_on_amid_a_piece(rt: HostRuntime) -> Result<(), Fail> {
     let alloc = rt.alloc();
     let text = b"set A1 5\nrows A1:CZ1024\nset A1 6\nrows A1:CZ1024\nget A1\n".as_slice();
     let mut replies = Vec::new(alloc);
@@ -282,7 +282,7 @@ fn many_replies_are_settled_amid_a_piece(rt: HostRuntime) -> Result<(), Fail> {
             writes: u64::MAX,
         };
         let found = kept_run(&rt, alloc, text, plan).ok().ok_or("memory")?;
-        assert!(rt; found.ended == Err(RunFault::Keep) && found.settles == plan.fails_at);
+        assert!(rt; found.ended == Err(RunFault::Keep) && found.syncs == plan.fails_at);
         assert!(rt; found.handed.len() == handed[before]);
         assert!(rt; replies.as_slice().starts_with(found.handed.as_slice()));
         assert!(rt; found.kept == kept[before]);

@@ -66,8 +66,8 @@ pub fn attend_lines<
         × Answered (SeatLines L.replica L.opening) pass (K.contents sink.old) read result.pass (K.contents sink.new) }
     ensures memory { result.ended ≡ Err RunFault.Memory
         → (source.new ≡ source.old) × (sink.new ≡ sink.old) × (result.pass ≡ pass) }
-    ensures settled { OnOk result.ended (K.waiting sink.new ≡ []) }
-    ensures source_settled { result.ended ≡ Err RunFault.Source → K.waiting sink.new ≡ [] }
+    ensures flushed { OnOk result.ended (K.waiting sink.new ≡ []) }
+    ensures source_flushed { result.ended ≡ Err RunFault.Source → K.waiting sink.new ≡ [] }
     ensures calm { OnOk result.ended ((S.failures source.new ≡ S.failures source.old)
         × (K.failures sink.new ≡ K.failures sink.old)) }
     ensures sink_failed { result.ended ≡ Err RunFault.Sink → K.failures sink.old < K.failures sink.new }
@@ -100,7 +100,7 @@ pub struct KeptSeat<'a, L: DeskName, W: Wait + Drop, D: Device + Drop> {
 /// At any end, also after a fault, there is a state of the seat, between the lines that were carried out, whose list is
 /// a beginning of the one that is kept, and what was handed on are replies to the lines up to it (`IsCovered`).
 ///
-/// Cost: that of [`talk_kept`]. It may wait while another session settles.
+/// Cost: that of [`talk_kept`]. It may wait while another session syncs.
 pub fn attend_kept<
     L: DeskName,
     W: Wait + Drop,
@@ -125,7 +125,7 @@ pub fn attend_kept<
         (IsAtEnd (S.remaining source.new)) at.entry.pass (held_contents K.contents sink.old) read
         result.pass (held_contents K.contents sink.new) (held_waiting K.waiting sink.new) }
     ensures kept { OnOk result.ended (IsPrefix result.pass.list result.kept) }
-    ensures settled { OnOk result.ended (held_waiting K.waiting sink.new ≡ []) }
+    ensures flushed { OnOk result.ended (held_waiting K.waiting sink.new ≡ []) }
     ensures attended { IsAttended L.replica L.opening at.entry.pass result.pass }
 {
     let KeptSeat { desk, keeper, pass } = at;

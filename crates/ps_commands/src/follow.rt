@@ -36,7 +36,7 @@ pub fn follow_on<R: Net<Stream = TcpStream>, C: Clock, K: Sink>(
         → (first : PeerView) × (last : PeerView) × IsUntilClosed first last (K.contents out.old) (K.contents out.new)) }
     ensures halted { IfErr result (λ fault. (out.new ≡ out.old) ⊎ ((first : PeerView) × (last : PeerView)
         × IsHalted (K.failures out.old < K.failures out.new) first last (K.contents out.old) (K.contents out.new))) }
-    ensures settled { K.waiting out.old ≡ []
+    ensures flushed { K.waiting out.old ≡ []
         → (K.waiting out.new ≡ []) ⊎ (K.failures out.old < K.failures out.new) }
     ensures calm { OnOk result (K.failures out.new ≡ K.failures out.old) }
 {
@@ -77,7 +77,7 @@ fn follow_stream<C: Clock, K: Sink, I: Ledger, O: Ledger>(
         → (first : PeerView) × (last : PeerView) × IsUntilClosed first last (K.contents out.old) (K.contents out.new)) }
     ensures halted { IfErr result (λ fault. (out.new ≡ out.old) ⊎ ((first : PeerView) × (last : PeerView)
         × IsHalted (K.failures out.old < K.failures out.new) first last (K.contents out.old) (K.contents out.new))) }
-    ensures settled { K.waiting out.old ≡ []
+    ensures flushed { K.waiting out.old ≡ []
         → (K.waiting out.new ≡ []) ⊎ (K.failures out.old < K.failures out.new) }
     ensures calm { OnOk result (K.failures out.new ≡ K.failures out.old) }
 {

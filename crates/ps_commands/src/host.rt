@@ -13,7 +13,7 @@ use std::sync::atomic::{AtomicBool, Ordering};
 #[derive(Drop)]
 pub(crate) struct Host<L: DeskName, D: Device + Drop> {
     keeper: Option<DeskKeeper<L, D>>,
-    /// a settle failed
+    /// a sync failed
     is_stopped: AtomicBool,
     /// a session was pushed changes of the desk's own replica that were new
     is_elsewhere: AtomicBool,

@@ -125,7 +125,7 @@ pub fn keep_sheet<R: Threads + Sync, F: Found + Drop, L: Ledger>(
     ensures replica { IfOk result (λ r. r.0.replica ≡ options.replica) }
     ensures workers { IfOk result (λ r. r.0.workers ≡ options.workers) }
     ensures sheet { IfOk result (λ r. IsSheet r.0) }
-    ensures settled { IfOk result (λ r. r.1.kept ≡ r.1.lines) }
+    ensures synced { IfOk result (λ r. r.1.kept ≡ r.1.lines) }
     ensures open { IfOk result (λ r. r.1.has_failed ≡ false) }
     ensures told { IfOk result (λ r. TellHistory options.replica r.1.lines r.0.history) }
     ensures journal { IfOk result (λ r. IsJournal r.1) }
@@ -168,7 +168,7 @@ pub fn open_kept_sheet<R: Files<File = File> + Threads + Sync, L: Ledger>(
     ensures replica { IfOk result (λ r. r.0.replica ≡ options.replica) }
     ensures workers { IfOk result (λ r. r.0.workers ≡ options.workers) }
     ensures sheet { IfOk result (λ r. IsSheet r.0) }
-    ensures settled { IfOk result (λ r. r.1.kept ≡ r.1.lines) }
+    ensures synced { IfOk result (λ r. r.1.kept ≡ r.1.lines) }
     ensures open { IfOk result (λ r. r.1.has_failed ≡ false) }
     ensures told { IfOk result (λ r. TellHistory options.replica r.1.lines r.0.history) }
     ensures journal { IfOk result (λ r. IsJournal r.1) }

@@ -64,7 +64,7 @@ pub fn serve<
         × IsServed options.entry.seats closed.sessions first closed.sheet) }
     ensures told { IfOk result (λ closed. Appends (K.contents out.old) (K.contents out.new)
         (listening_text options.entry.port ++ closed_text (length closed.sheet.history))) }
-    ensures settled { OnOk result (K.waiting out.new ≡ []) }
+    ensures flushed { OnOk result (K.waiting out.new ≡ []) }
     ensures calm { OnOk result (K.failures out.new ≡ K.failures out.old) }
     ensures untold { IfErr result (λ f. (out.new ≡ out.old)
         ⊎ (Appends (K.contents out.old) (K.contents out.new) (listening_text options.entry.port)
@@ -120,7 +120,7 @@ pub fn serve_kept<
     ensures journal { IfOk result (λ closed. IsJournal closed.journal) }
     ensures told { IfOk result (λ closed. Appends (K.contents out.old) (K.contents out.new)
         (listening_text options.entry.port ++ closed_text (length closed.sheet.history))) }
-    ensures settled { OnOk result (K.waiting out.new ≡ []) }
+    ensures flushed { OnOk result (K.waiting out.new ≡ []) }
     ensures calm { OnOk result (K.failures out.new ≡ K.failures out.old) }
 {
     let listener = match listen(rt, options.port) {

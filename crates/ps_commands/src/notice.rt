@@ -12,7 +12,7 @@ use std::io::Write;
 /// Writes a word with its space, a number and a line feed, and hands all of it on.
 pub(crate) fn tell<K: Sink>(word: &[u8], number: u64, out: &mut K) -> Result<(), Failed>
     ensures told { OnOk result (Appends (K.contents out.old) (K.contents out.new) (notice word.now number)) }
-    ensures settled { OnOk result (K.waiting out.new ≡ []) }
+    ensures flushed { OnOk result (K.waiting out.new ≡ []) }
     ensures calm { OnOk result (K.failures out.new ≡ K.failures out.old) }
     ensures failed { OnErr result (K.failures out.old < K.failures out.new) }
 {
@@ -28,7 +28,7 @@ pub(crate) fn tell_between<K: Sink>(
 ) -> Result<(), Failed>
     ensures told { OnOk result (Appends (K.contents out.old) (K.contents out.new)
         (first.now ++ decimal number ++ last.now)) }
-    ensures settled { OnOk result (K.waiting out.new ≡ []) }
+    ensures flushed { OnOk result (K.waiting out.new ≡ []) }
     ensures calm { OnOk result (K.failures out.new ≡ K.failures out.old) }
     ensures failed { OnErr result (K.failures out.old < K.failures out.new) }
 {

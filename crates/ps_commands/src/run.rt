@@ -59,7 +59,7 @@ pub fn answer_lines<R: Threads + Sync, S: Source, K: Sink, L: Ledger, W: Watcher
         × IsOpened options.replica first
         × Consumes (S.remaining source.old) (S.remaining source.new) read × IsAtEnd (S.remaining source.new)
         × Transcribed SheetLines first (K.contents sink.old) read last (K.contents sink.new) answered) }
-    ensures settled { OnOk result (K.waiting sink.new ≡ []) }
+    ensures flushed { OnOk result (K.waiting sink.new ≡ []) }
     ensures calm { OnOk result ((S.failures source.new ≡ S.failures source.old)
         × (K.failures sink.new ≡ K.failures sink.old)) }
     ensures refused { IfErr result (λ f. (f ≡ Refused Refusal.Memory) ⊎ (f ≡ Refused Refusal.Device)) }
@@ -123,7 +123,7 @@ pub fn answer_kept<
         × IsCovered SheetLines (λ state. IsKept state.replica state.history keeper.new)
         (IsAtEnd (S.remaining source.new)) sheet (held_contents K.contents sink.old) read
         last (held_contents K.contents sink.new) (held_waiting K.waiting sink.new) }
-    ensures settled { OnOk result (held_waiting K.waiting sink.new ≡ []) }
+    ensures flushed { OnOk result (held_waiting K.waiting sink.new ≡ []) }
     ensures calm { OnOk result (S.failures source.new ≡ S.failures source.old) }
     ensures refused { IfErr result (λ f. (f ≡ Refused Refusal.Memory) ⊎ (f ≡ Refused Refusal.Device)) }
     ensures memory { result ≡ Err (Refused Refusal.Memory)

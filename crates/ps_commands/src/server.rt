@@ -69,7 +69,7 @@ pub fn serve_on<R: Threads + Wait + Clock + Sync, K: Sink>(
     ensures served { IfOk result (λ closed. IsServed serving.seats closed.sessions sheet closed.sheet) }
     ensures told { IfOk result (λ closed. Appends (K.contents out.old) (K.contents out.new)
         (closed_text (length closed.sheet.history))) }
-    ensures settled { OnOk result (K.waiting out.new ≡ []) }
+    ensures flushed { OnOk result (K.waiting out.new ≡ []) }
     ensures calm { OnOk result (K.failures out.new ≡ K.failures out.old) }
     ensures untold { IfErr result (λ f. (out.new ≡ out.old)
         ⊎ ((f ≡ Refused Device) × (K.failures out.old < K.failures out.new))) }
@@ -108,10 +108,10 @@ pub fn serve_on<R: Threads + Wait + Clock + Sync, K: Sink>(
 /// At the end the journal's kept lines tell all of the closed sheet's history. Where the journal's device fails, or
 /// there is no memory for a line, nothing is handed on any more that isn't kept, and the sessions are ended. Then it is
 /// refused as `Device`, without `closed`; but where memory alone lacked, no session was left to be begun, and the last
-/// settle, at the close, goes well, the end is as if it had been there. Else it is refused as `serve_on` is. The warner
+/// sync, at the close, goes well, the end is as if it had been there. Else it is refused as `serve_on` is. The warner
 /// warns soon after a session was pushed changes that are the sheet's replica's own, and new.
 ///
-/// Cost: that of `serve_on`, and of the settles, one for all sessions that wait at a time.
+/// Cost: that of `serve_on`, and of the syncs, one for all sessions that wait at a time.
 pub fn serve_kept_on<
     R: Threads + Wait + Clock + Sync,
     D: Device + Drop + Send,
@@ -136,7 +136,7 @@ pub fn serve_kept_on<
     ensures journal { IfOk result (λ closed. IsJournal closed.journal) }
     ensures told { IfOk result (λ closed. Appends (K.contents out.old) (K.contents out.new)
         (closed_text (length closed.sheet.history))) }
-    ensures settled { OnOk result (K.waiting out.new ≡ []) }
+    ensures flushed { OnOk result (K.waiting out.new ≡ []) }
     ensures calm { OnOk result (K.failures out.new ≡ K.failures out.old) }
     ensures untold { IfErr result (λ f. (out.new ≡ out.old)
         ⊎ ((f ≡ Refused Device) × (K.failures out.old < K.failures out.new))) }
@@ -181,7 +181,7 @@ fn serve_sheet<R: Threads + Wait + Clock + Sync, D: Device + Drop + Send, K: Sin
     ensures journal { IfOk result (λ closed. IfSome closed.journal (λ j. IsJournal j)) }
     ensures told { IfOk result (λ closed. Appends (K.contents out.old) (K.contents out.new)
         (closed_text (length closed.sheet.history))) }
-    ensures settled { OnOk result (K.waiting out.new ≡ []) }
+    ensures flushed { OnOk result (K.waiting out.new ≡ []) }
     ensures calm { OnOk result (K.failures out.new ≡ K.failures out.old) }
     ensures untold { IfErr result (λ f. (out.new ≡ out.old)
         ⊎ ((f ≡ Refused Device) × (K.failures out.old < K.failures out.new))) }
@@ -307,9 +307,9 @@ fn close<L: DeskName, W: Wait + Drop, D: Device + Drop, V: Wait>(
     let Ended {
         sheet,
         journal,
-        settled,
+        synced,
     } = keeper.close(wait, alloc, desk, passes, told.as_slice());
-    match settled {
+    match synced {
         Ok(()) => Ok((sheet, Some(journal))),
         Err(_) => Err(Refusal::Device),
     }

@@ -150,7 +150,7 @@ fn end_all<L: DeskName, R: Threads>(rt: &R, chairs: Vec<Chair<'_, L>>, back: &mu
 ///
 /// Refused as `Device` where a connection can't be accepted, or what the sessions have seen can't be kept while some
 /// are still to be begun, once those that were begun have ended, and out of memory before the first is accepted. Where
-/// none is still to be begun, the last settle tells whether all is kept.
+/// none is still to be begun, the last sync tells whether all is kept.
 pub(crate) fn serve_all<
     L: DeskName + Send + Sync,
     W: Wait + Drop + Send,

@@ -54,7 +54,7 @@ pub fn sync_on<R: Net<Stream = TcpStream>, K: Sink>(
     out: &mut K,
 ) -> Result<(), ProgramFault>
     ensures told { OnOk result ((lines : ℕ) × Appends (K.contents out.old) (K.contents out.new) (synced_text lines)) }
-    ensures settled { OnOk result (K.waiting out.new ≡ []) }
+    ensures flushed { OnOk result (K.waiting out.new ≡ []) }
     ensures calm { OnOk result (K.failures out.new ≡ K.failures out.old) }
     ensures untold { IfErr result (λ f. f ≢ Refused Refusal.Device → out.new ≡ out.old) }
 {

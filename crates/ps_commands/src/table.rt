@@ -44,7 +44,7 @@ pub fn table_on<R: Threads + Sync, S: Source, K: Sink, L: Ledger, W: TableWatche
     ensures calm { OnOk result ((S.failures source.new ≡ S.failures source.old)
         × (K.failures sink.new ≡ K.failures sink.old)) }
     ensures refused { IfErr result (λ f. IsCauseOf (S.remaining source.old) (S.remaining source.new) f) }
-    ensures settled { OnOk result (K.waiting sink.new ≡ []) }
+    ensures flushed { OnOk result (K.waiting sink.new ≡ []) }
     ensures device { result ≡ Err (Refused Refusal.Device)
         → ((S.failures source.old < S.failures source.new) × (sink.new ≡ sink.old))
         ⊎ ((K.failures sink.old < K.failures sink.new) × (bytes : List ℕ) × (text : List ℕ) × (count : ℕ)
@@ -107,7 +107,7 @@ fn put_table<K: Sink>(
     requires some { 0 < imported.records → 0 < imported.fields }
     ensures written { OnOk result (Appends (K.contents sink.old) (K.contents sink.new)
         (table_of entries imported.records imported.fields sheet.now)) }
-    ensures settled { OnOk result (K.waiting sink.new ≡ []) }
+    ensures flushed { OnOk result (K.waiting sink.new ≡ []) }
     ensures calm { OnOk result (K.failures sink.new ≡ K.failures sink.old) }
     ensures device { IfErr result (λ e. e ≡ Refusal.Device → (count : ℕ)
         × Appends (K.contents sink.old) (K.contents sink.new)

@@ -16,9 +16,9 @@ failed_put (Ok zero) (b ∷ bs) = 1
 failed_put (Ok (suc count)) piece = 0
 
 -- how many failures a handing on was: one where it returned an error
-abbrev pub failed_settle : {E : Type 0} → Result (Unit {0}) E → ℕ
-failed_settle (Ok done) = 0
-failed_settle (Err error) = 1
+abbrev pub failed_flush : {E : Type 0} → Result (Unit {0}) E → ℕ
+failed_flush (Ok done) = 0
+failed_flush (Err error) = 1
 
 -- all the bytes were written, or at an error some of them, from the first on, and not all
 abbrev pub Sends : {E : Type 0} → Option (List ℕ) → Option (List ℕ) → Result (Unit {0}) E → List ℕ → Type 0

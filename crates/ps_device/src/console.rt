@@ -1,11 +1,11 @@
 //! A console's output: bytes that wait in memory until they are handed on.
 //!
-//! A batch of lines costs one write a piece of input, and a peer that waits for a reply has it, as a session settles
+//! A batch of lines costs one write a piece of input, and a peer that waits for a reply has it, as a session flushes
 //! its sink before each read.
 ghost use Rattle.std.specs.Prelude.{◌≡◌, ◌<◌, ◌≤◌, ◌+◌, [], IfErr, IfOk, IsErr, IsOk, IsTrue, OnOk, drop, false};
 ghost use Rattle.std.specs.Prelude.{is_err, length, vec_capacity, vec_len};
 ghost use Rattle.std.specs.Io.KnownBytes.{Keeps, WriteAppends, append_known};
-ghost use Rattle.ps_device.specs.Device.{failed_put, failed_settle};
+ghost use Rattle.ps_device.specs.Device.{failed_put, failed_flush};
 ghost use Rattle.ps_device.specs.declared.TheConstants.{PIECE_BYTES};
 ghost use Rattle.ps_grid.specs.Blanks.{IsBlankOf};
 
@@ -17,10 +17,10 @@ use std::alloc::Global;
 use std::io::Write;
 use std::sync::ledger::{Blank, Ledger};
 
-/// A sink over a writer, that keeps what is put until it is settled, or until the room is full.
+/// A sink over a writer, that keeps what is put until it is flushed, or until the room is full.
 ///
 /// What was put is what the writer was given, in order and whole, and then what waits. After a failure nothing more is
-/// written, and every further call fails. A settle flushes the writer too, which no clause shows.
+/// written, and every further call fails. A flush flushes the writer too, which no clause shows.
 #[derive(Drop)]
 pub struct ConsoleOutput<W: Write + Drop, L: Ledger> {
     /// the writer, and the count of all failures
@@ -65,7 +65,7 @@ impl<W: Write + Drop, L: Ledger> ConsoleOutput<W, L> {
     fn send(&mut self) -> Result<(), Failed>
         ensures same { Keeps (console_contents W.contents self.old) (console_contents W.contents self.new) }
         ensures sent { OnOk result (self.new.bytes.items ≡ []) }
-        ensures counted { self.new.sink.failed ≡ self.old.sink.failed + failed_settle result }
+        ensures counted { self.new.sink.failed ≡ self.old.sink.failed + failed_flush result }
         ensures stops { has_failed self.new ≡ is_err result }
     {
         // what fails on the way leaves it so
@@ -149,10 +149,10 @@ impl<W: Write + Drop, L: Ledger> Sink for ConsoleOutput<W, L> {
     /// Gives the writer what waits, and flushes it.
     ///
     /// Cost: as many calls of the writer as it wants for the bytes, and one more.
-    fn settle(&mut self) -> Result<(), Failed>
+    fn flush(&mut self) -> Result<(), Failed>
         ensures same { Keeps (console_contents W.contents self.old) (console_contents W.contents self.new) }
-        ensures settled { OnOk result (console_waiting self.new ≡ []) }
-        ensures counted { self.new.sink.failed ≡ self.old.sink.failed + failed_settle result }
+        ensures flushed { OnOk result (console_waiting self.new ≡ []) }
+        ensures counted { self.new.sink.failed ≡ self.old.sink.failed + failed_flush result }
         ensures stops { has_failed self.new ≡ is_err result }
         ensures stopped { IsTrue (has_failed self.old)
             → IsErr result × (console_writer self.new ≡ console_writer self.old) }
@@ -162,7 +162,7 @@ impl<W: Write + Drop, L: Ledger> Sink for ConsoleOutput<W, L> {
             return Err(Failed);
         }
         self.send()?;
-        let flushed = self.sink.settle();
+        let flushed = self.sink.flush();
         self.is_stopped = flushed.is_err();
         flushed
     }

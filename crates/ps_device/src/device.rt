@@ -1,7 +1,7 @@
 //! Where bytes come from and where they go.
 ghost use Rattle.std.specs.Prelude.{◌≡◌, ℕ, ◌+◌, ◌<◌, ◌≤◌, List, [], Option, length, IfOk, OnOk, OnErr};
 ghost use Rattle.std.specs.Io.KnownBytes.{Keeps, ReadConsumes, WriteAppends};
-ghost use Rattle.ps_device.specs.Device.{failed_take, failed_put, failed_settle, HoldsBack, Sends};
+ghost use Rattle.ps_device.specs.Device.{failed_take, failed_put, failed_flush, HoldsBack, Sends};
 
 /// A device failed.
 #[derive(Clone, Copy, Debug, PartialEq, Eq)]
@@ -47,7 +47,7 @@ pub trait Sink {
     /// How many calls failed so far.
     ghost failures: { Self → ℕ };
 
-    /// It holds back all that is put, until it is settled.
+    /// It holds back all that is put, until it is flushed.
     ghost holds_back: { Type 0 };
 
     /// Takes bytes from the front of the piece and returns how many.
@@ -63,10 +63,10 @@ pub trait Sink {
     /// Hands on all that waits. Nothing that was put is lost by it, also where it fails.
     ///
     /// Cost: linear in the bytes that wait, but for the time that the device takes.
-    fn settle(&mut self) -> Result<(), Failed>
+    fn flush(&mut self) -> Result<(), Failed>
         ensures same { Keeps (contents self.old) (contents self.new) }
-        ensures settled { OnOk result (waiting self.new ≡ []) }
-        ensures counted { failures self.new ≡ failures self.old + failed_settle result };
+        ensures flushed { OnOk result (waiting self.new ≡ []) }
+        ensures counted { failures self.new ≡ failures self.old + failed_flush result };
 }
 
 /// Puts all of these bytes, or those before a failure of the sink.
@@ -93,13 +93,13 @@ pub fn put_all<K: Sink>(sink: &mut K, bytes: &[u8]) -> Result<(), Failed>
 
 /// Hands on all that waits.
 ///
-/// Cost: that of a call of [`Sink::settle`].
+/// Cost: that of a call of [`Sink::flush`].
 pub fn hand_on<K: Sink>(sink: &mut K) -> Result<(), Failed>
     ensures same { Keeps (K.contents sink.old) (K.contents sink.new) }
-    ensures settled { OnOk result (K.waiting sink.new ≡ []) }
+    ensures flushed { OnOk result (K.waiting sink.new ≡ []) }
     ensures calm { OnOk result (K.failures sink.new ≡ K.failures sink.old) }
     ensures failed { OnErr result (K.failures sink.old < K.failures sink.new) }
 {
-    sink.settle()?;
+    sink.flush()?;
     Ok(())
 }

@@ -5,15 +5,15 @@
 //!
 //! The contract to use is that of the two traits. A call of a device either moves bytes or fails, and each failure is
 //! counted; so who is lent a device can say that a refusal as `Device` comes just where its count rose. What was put on
-//! a sink is what it has handed on, in order and whole, and then what waits; after a `settle` that is Ok nothing waits.
+//! a sink is what it has handed on, in order and whole, and then what waits; after a `flush` that is Ok nothing waits.
 //!
 //! The devices: a sink over memory (`MemorySink`), over the readers and writers of std (`Reading`, `Writing`),
-//! and the console (`ConsoleOutput`), which keeps what is put until it is settled. On a console over standard output,
-//! `put_all` of `ok 1` and of `ok 2`, each with its line feed, writes nothing; the `settle` after them is one write of
-//! ten bytes. Where that write fails, `settle` returns the error, one failure is counted, and no later call writes
+//! and the console (`ConsoleOutput`), which keeps what is put until it is flushed. On a console over standard output,
+//! `put_all` of `ok 1` and of `ok 2`, each with its line feed, writes nothing; the `flush` after them is one write of
+//! ten bytes. Where that write fails, `flush` returns the error, one failure is counted, and no later call writes
 //! anything.
 //!
-//! No clause shows what a flush of a writer does, since std's `Write` says nothing of it: that a settled byte has left
+//! No clause shows what a flush of a writer does, since std's `Write` says nothing of it: that a flushed byte has left
 //! the writer's own memory is only tested.
 //!
 //! Cost: a call is one call of its reader or writer, more where a signal interrupts or a writer takes a part; a console

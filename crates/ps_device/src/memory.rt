@@ -49,7 +49,7 @@ impl<L: Ledger> Sink for MemorySink<L> {
         Ok(piece.len())
     }
 
-    fn settle(&mut self) -> Result<(), Failed> {
+    fn flush(&mut self) -> Result<(), Failed> {
         Ok(())
     }
 }

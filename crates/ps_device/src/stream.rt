@@ -117,7 +117,7 @@ impl<W: Write + Drop, L: Ledger> Sink for Writing<W, L> {
         Err(Failed)
     }
 
-    fn settle(&mut self) -> Result<(), Failed> {
+    fn flush(&mut self) -> Result<(), Failed> {
         while self.tries > 0 {
             self.tries -= 1;
             match self.writer.flush() {

@@ -37,22 +37,22 @@ pub one_line : (line : List ℕ) → IsLine line → whole_lines (line ++ 10 ∷
 one_line line is = whole_of_text (line ∷ []) (is, tt)
 
 -- a line that is noted is the last line
-pub noted_last : (settled waiting line : List ℕ) → IsWhole settled → IsWhole waiting → IsLine line
-    → whole_lines (settled ++ ((waiting ++ line) ++ 10 ∷ [])) ≡ whole_lines (settled ++ waiting) ++ line ∷ []
-noted_last settled waiting line v w is =
-    let shape : settled ++ ((waiting ++ line) ++ 10 ∷ []) ≡ (settled ++ waiting) ++ (line ++ 10 ∷ []) =
-    ap (λ (l : List ℕ). settled ++ l) (append_assoc waiting line (10 ∷ []))
-    ∙ sym (append_assoc settled waiting (line ++ 10 ∷ [])) in
-    ap whole_lines shape ∙ lines-append (settled ++ waiting) (line ++ 10 ∷ []) (whole-append settled waiting v w)
+pub noted_last : (durable waiting line : List ℕ) → IsWhole durable → IsWhole waiting → IsLine line
+    → whole_lines (durable ++ ((waiting ++ line) ++ 10 ∷ [])) ≡ whole_lines (durable ++ waiting) ++ line ∷ []
+noted_last durable waiting line v w is =
+    let shape : durable ++ ((waiting ++ line) ++ 10 ∷ []) ≡ (durable ++ waiting) ++ (line ++ 10 ∷ []) =
+    ap (λ (l : List ℕ). durable ++ l) (append_assoc waiting line (10 ∷ []))
+    ∙ sym (append_assoc durable waiting (line ++ 10 ∷ [])) in
+    ap whole_lines shape ∙ lines-append (durable ++ waiting) (line ++ 10 ∷ []) (whole-append durable waiting v w)
     (whole_one line is)
-    ∙ ap (λ (ls : List (List ℕ)). whole_lines (settled ++ waiting) ++ ls) (one_line line is)
+    ∙ ap (λ (ls : List (List ℕ)). whole_lines (durable ++ waiting) ++ ls) (one_line line is)
 
-module _ (settled waiting written : List ℕ) (safe : ℕ) (has_failed : Bool) (h : Holds settled waiting written safe
+module _ (durable waiting written : List ℕ) (safe : ℕ) (has_failed : Bool) (h : Holds durable waiting written safe
     has_failed) where
   abbrev pub view : JournalView
   view = record {
-    kept = whole_lines settled;
-    lines = whole_lines (settled ++ waiting);
+    kept = whole_lines durable;
+    lines = whole_lines (durable ++ waiting);
     written = written;
     synced = safe;
     has_failed = has_failed;
@@ -60,44 +60,44 @@ module _ (settled waiting written : List ℕ) (safe : ℕ) (has_failed : Bool) (
 
   pub holds_journal : IsJournal view
   holds_journal = record {
-    each = whole_are (settled ++ waiting);
-    begins = (whole_lines waiting, sym (lines-append settled waiting h.whole h.waits));
-    holds = subst (λ (l : List ℕ). IsPrefix l written) (sym (whole_is settled h.whole)) h.kept;
-    noted = subst (IsPrefix written) (sym (whole_is (settled ++ waiting) (whole-append settled waiting h.whole
+    each = whole_are (durable ++ waiting);
+    begins = (whole_lines waiting, sym (lines-append durable waiting h.whole h.waits));
+    holds = subst (λ (l : List ℕ). IsPrefix l written) (sym (whole_is durable h.whole)) h.kept;
+    noted = subst (IsPrefix written) (sym (whole_is (durable ++ waiting) (whole-append durable waiting h.whole
         h.waits))) h.noted;
-    synced = subst (λ (l : List ℕ). length l ≤ safe) (sym (whole_is settled h.whole)) h.synced;
+    synced = subst (λ (l : List ℕ). length l ≤ safe) (sym (whole_is durable h.whole)) h.synced;
   }
 
   -- also a file that was given more since is what a crash at any moment leaves something of
-  pub holds_moment : (later : List ℕ) → IsPrefix settled later → IsPrefix later (settled ++ waiting)
-      → SurvivesCrashes later safe (whole_lines settled) (whole_lines (settled ++ waiting))
+  pub holds_moment : (later : List ℕ) → IsPrefix durable later → IsPrefix later (durable ++ waiting)
+      → SurvivesCrashes later safe (whole_lines durable) (whole_lines (durable ++ waiting))
   holds_moment later kept noted =
       let j = holds_journal in
-      survives (whole_lines settled) (whole_lines (settled ++ waiting)) later safe j.each j.begins
-      (subst (λ (l : List ℕ). IsPrefix l later) (sym (whole_is settled h.whole)) kept)
-      (subst (IsPrefix later) (sym (whole_is (settled ++ waiting) (whole-append settled waiting h.whole h.waits)))
+      survives (whole_lines durable) (whole_lines (durable ++ waiting)) later safe j.each j.begins
+      (subst (λ (l : List ℕ). IsPrefix l later) (sym (whole_is durable h.whole)) kept)
+      (subst (IsPrefix later) (sym (whole_is (durable ++ waiting) (whole-append durable waiting h.whole h.waits)))
       noted)
       j.synced
 
   -- a line more waits
-  pub note_holds : (line : List ℕ) → IsLine line → Holds settled ((waiting ++ line) ++ 10 ∷ []) written safe has_failed
+  pub note_holds : (line : List ℕ) → IsLine line → Holds durable ((waiting ++ line) ++ 10 ∷ []) written safe has_failed
   note_holds line is = record {
     whole = h.whole;
     waits = subst IsWhole (sym (append_assoc waiting line (10 ∷ []))) (whole-append waiting (line ++ 10 ∷ []) h.waits
         (whole_one line is));
     synced = h.synced;
     kept = h.kept;
-    noted = prefix_trans written (settled ++ waiting) (settled ++ ((waiting ++ line) ++ 10 ∷ [])) h.noted (
+    noted = prefix_trans written (durable ++ waiting) (durable ++ ((waiting ++ line) ++ 10 ∷ [])) h.noted (
       line ++ 10 ∷ [],
-      append_assoc settled waiting (line ++ 10 ∷ [])
-          ∙ ap (λ (l : List ℕ). settled ++ l) (sym (append_assoc waiting line (10 ∷ []))),
+      append_assoc durable waiting (line ++ 10 ∷ [])
+          ∙ ap (λ (l : List ℕ). durable ++ l) (sym (append_assoc waiting line (10 ∷ []))),
     );
     same = h.same;
   }
 
   -- a part of what waits was given to the file, which has no fewer bytes on the disk
   pub part_holds : (later : List ℕ) (count more : ℕ) (failed : Bool) → has_failed ≡ false → later
-      ≡ written ++ take count waiting → safe ≤ more → failed ≡ true → Holds settled waiting later more failed
+      ≡ written ++ take count waiting → safe ≤ more → failed ≡ true → Holds durable waiting later more failed
   part_holds later count more failed calm is le stopped = record {
     whole = h.whole;
     waits = h.waits;
@@ -106,8 +106,8 @@ module _ (settled waiting written : List ℕ) (safe : ℕ) (has_failed : Bool) (
     noted = (
       drop count waiting,
       ap (λ (l : List ℕ). l ++ drop count waiting) (is ∙ ap (λ (l : List ℕ). l ++ take count waiting) (h.same calm))
-          ∙ append_assoc settled (take count waiting) (drop count waiting)
-          ∙ ap (λ (l : List ℕ). settled ++ l) (take-append-drop count waiting),
+          ∙ append_assoc durable (take count waiting) (drop count waiting)
+          ∙ ap (λ (l : List ℕ). durable ++ l) (take-append-drop count waiting),
     );
     same = λ not. absurd (differ (sym stopped ∙ not));
   }
@@ -117,13 +117,13 @@ module _ (settled waiting written : List ℕ) (safe : ℕ) (has_failed : Bool) (
 
   -- all that waited was given to the file
   pub appended_moment : (later : List ℕ) → has_failed ≡ false → later ≡ written ++ waiting
-      → SurvivesCrashes later safe (whole_lines settled) (whole_lines (settled ++ waiting))
+      → SurvivesCrashes later safe (whole_lines durable) (whole_lines (durable ++ waiting))
   appended_moment later calm is =
-      let whole : later ≡ settled ++ waiting = is ∙ ap (λ (l : List ℕ). l ++ waiting) (h.same calm) in
+      let whole : later ≡ durable ++ waiting = is ∙ ap (λ (l : List ℕ). l ++ waiting) (h.same calm) in
       holds_moment later (waiting, sym whole) ([], append-nil later ∙ whole)
 
   pub appended_holds : (later : List ℕ) (more : ℕ) → has_failed ≡ false → later ≡ written ++ waiting → safe ≤ more
-      → Holds settled waiting later more true
+      → Holds durable waiting later more true
   appended_holds later more calm is le =
       part_holds later (length waiting) more true calm (is
       ∙ ap (λ (l : List ℕ). written ++ l) (sym (take-length waiting))) le refl
@@ -133,7 +133,7 @@ module _ (settled waiting written : List ℕ) (safe : ℕ) (has_failed : Bool) (
       → Holds later [] later more false
   all_holds later more calm is le = record {
     whole = subst IsWhole (sym (is
-        ∙ ap (λ (l : List ℕ). l ++ waiting) (h.same calm))) (whole-append settled waiting h.whole h.waits);
+        ∙ ap (λ (l : List ℕ). l ++ waiting) (h.same calm))) (whole-append durable waiting h.whole h.waits);
     waits = whole_none;
     synced = le;
     kept = ([], append-nil later);

@@ -28,12 +28,12 @@ pub record IsWhole (bytes : List ℕ) : Type 0 where
   pub each : AreLines lines
   pub is : bytes ≡ text lines
 
--- what a journal is made of: the file as it was when it was last settled, the bytes that wait since then, and the file
+-- what a journal is made of: the file as it was after the last sync, the bytes that wait since then, and the file
 -- as it is
-pub record Holds (settled waiting written : List ℕ) (safe : ℕ) (has_failed : Bool) : Type 0 where
-  pub whole : IsWhole settled
+pub record Holds (durable waiting written : List ℕ) (safe : ℕ) (has_failed : Bool) : Type 0 where
+  pub whole : IsWhole durable
   pub waits : IsWhole waiting
-  pub synced : length settled ≤ safe
-  pub kept : IsPrefix settled written
-  pub noted : IsPrefix written (settled ++ waiting)
-  pub same : has_failed ≡ false → written ≡ settled
+  pub synced : length durable ≤ safe
+  pub kept : IsPrefix durable written
+  pub noted : IsPrefix written (durable ++ waiting)
+  pub same : has_failed ≡ false → written ≡ durable

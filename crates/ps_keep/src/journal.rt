@@ -10,17 +10,17 @@ use std::alloc::{AllocError, Global};
 use std::marker::Model;
 use std::snapshot::Snapshot;
 
-/// Lines that are to outlive a crash. A line is noted first, and acknowledged once a settle has all that were noted on
+/// Lines that are to outlive a crash. A line is noted first, and acknowledged once a sync has all that were noted on
 /// the disk; so one sync serves many lines. A contract sees it as a `JournalView`.
 #[derive(Drop)]
 pub struct Journal<D: Device + Drop> {
     device: D,
-    /// the bytes of the lines that were noted since the last settle
+    /// the bytes of the lines that were noted since the last sync
     waiting: Vec<u8>,
     /// a call of the device failed, so there is none any more
     is_stopped: bool,
-    /// the device as it was after the last settle; of no bytes
-    settled: Snapshot<D>,
+    /// the device as it was after the last sync; of no bytes
+    durable: Snapshot<D>,
 }
 
 impl<D: Device + Drop> Model for Journal<D> {
@@ -31,14 +31,14 @@ impl<D: Device + Drop> Model for Journal<D> {
     ghost Value = { JournalView };
 
     ghost view = { λ j. record {
-      kept = whole_lines (D.written j.settled.value);
-      lines = whole_lines (D.written j.settled.value ++ j.waiting.items);
+      kept = whole_lines (D.written j.durable.value);
+      lines = whole_lines (D.written j.durable.value ++ j.waiting.items);
       written = D.written j.device;
       synced = D.synced j.device;
       has_failed = j.is_stopped;
     } };
 
-    ghost invariant = { λ j. Holds (D.written j.settled.value) j.waiting.items (D.written j.device)
+    ghost invariant = { λ j. Holds (D.written j.durable.value) j.waiting.items (D.written j.device)
         (D.synced j.device) j.is_stopped × (D.has_failed j.device ≡ j.is_stopped) };
 }
 
@@ -66,12 +66,12 @@ impl<D: Device + Drop> Journal<D> {
         ensures open { result.has_failed ≡ false }
         ensures journal { IsJournal result }
     {
-        let settled = Snapshot::of(&device);
+        let durable = Snapshot::of(&device);
         Journal {
             device,
             waiting: Vec::new(alloc),
             is_stopped: false,
-            settled,
+            durable,
         }
     }
 
@@ -95,7 +95,7 @@ impl<D: Device + Drop> Journal<D> {
     /// the file then has all lines that were acknowledged before, and a beginning of those that were noted.
     ///
     /// Cost: one append and one sync.
-    pub fn settle(&mut self) -> Result<(), Failed>
+    pub fn sync(&mut self) -> Result<(), Failed>
         ensures acknowledged { OnOk result (self.new.kept ≡ self.old.lines) }
         ensures not_yet { OnErr result (self.new.kept ≡ self.old.kept) }
         ensures lines { self.new.lines ≡ self.old.lines }
@@ -113,7 +113,7 @@ impl<D: Device + Drop> Journal<D> {
         self.device.append(self.waiting.as_slice())?;
         self.device.sync()?;
         self.is_stopped = false;
-        self.settled = Snapshot::of(&self.device);
+        self.durable = Snapshot::of(&self.device);
         self.waiting.clear();
         Ok(())
     }

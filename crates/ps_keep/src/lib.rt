@@ -1,6 +1,6 @@
 //! A journal: lines that outlive a crash.
 //!
-//! A [`Journal`] is a file that lines are appended to. A line is noted first, and acknowledged once a settle has all
+//! A [`Journal`] is a file that lines are appended to. A line is noted first, and acknowledged once a sync has all
 //! that were noted on the disk: so one sync serves many lines. At the start [`first_line`] reads the whole lines of the
 //! file one after another, and [`open`] makes it a journal; a piece after the last line feed, which a crash amid a
 //! write has left, is cut off.
@@ -8,7 +8,7 @@
 //! It is not the sheet: it knows no deltas and no replicas, and which lines a file may have is its caller's word. It
 //! starts no thread and keeps no lock but that of the file, which ends with the process.
 //!
-//! The contracts to use: that of [`Journal::settle`], after which all lines noted are kept, or after a failure those
+//! The contracts to use: that of [`Journal::sync`], after which all lines noted are kept, or after a failure those
 //! that were; that of [`open`], after which the journal's lines are the whole lines of the file; and the laws, whatever
 //! a crash leaves of the file: its lines begin with all that were acknowledged, and are a beginning of those that were
 //! noted. Only [`open`] cuts a file, and it takes it: so whoever reads a file first and refuses it leaves it as it was.
@@ -19,9 +19,9 @@
 //! [`Found`] of their own.
 //!
 //! From a file of `ab`, `cd` and a piece `e`, [`first_line`] reads `ab`, then `cd`, then none, and [`open`] cuts `e`
-//! off; after a note of `fg` and a settle the file is `ab`, `cd` and `fg`, each with its line feed.
+//! off; after a note of `fg` and a sync the file is `ab`, `cd` and `fg`, each with its line feed.
 //!
-//! Cost: a file that is found has its bytes in memory; a settle is one append and one sync.
+//! Cost: a file that is found has its bytes in memory; to sync a journal is one append to the file and one sync of it.
 #![tactic(auto)]
 
 mod device;

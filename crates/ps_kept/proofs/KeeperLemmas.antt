@@ -122,7 +122,7 @@ later_is value lines xs n is =
     ap (map value) (take_all (length xs - n) (drop n xs) (omega (arith, length-drop n xs)))
     ∙ drop-map value n xs ∙ ap (λ (k : ℕ). drop k (map value xs)) (sym count)
 
--- ---- once all is settled
+-- ---- once all is synced
 
 pub kept_all : (replica : ℕ) (history : List Entries) (mid new : JournalView) → IsJournal new → new.kept ≡ mid.lines
     → TellHistory replica mid.lines history → IsKept replica history new

@@ -86,7 +86,7 @@ impl<D: Device + Drop> Keeper<Sheet> for SheetKeeper<D> {
     /// in it a crash comes, a start reads all that was kept, and a beginning of the history.
     ///
     /// Cost: linear in the lines that are noted; one append and one sync, or none where nothing was noted.
-    fn settle(&mut self, alloc: Global, board: &Sheet) -> Result<(), Failed>
+    fn sync(&mut self, alloc: Global, board: &Sheet) -> Result<(), Failed>
         requires fits { IsNoted board.now.replica board.now.history self.old × (self.old.has_failed ≡ false) }
         ensures covered { OnOk result (IsKept board.now.replica board.now.history self.new) }
         ensures fits { OnOk result (IsNoted board.now.replica board.now.history self.new
@@ -99,7 +99,7 @@ impl<D: Device + Drop> Keeper<Sheet> for SheetKeeper<D> {
             → Outlives board.now.replica kept board.now.history self.new.written self.old.synced }
     {
         match self.note_later(alloc, board.history()) {
-            Ok(()) => self.journal.settle(),
+            Ok(()) => self.journal.sync(),
             Err(failed) => Err(failed),
         }
     }

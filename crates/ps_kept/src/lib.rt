@@ -10,17 +10,17 @@
 //!
 //! The contracts to use: that of [`open_kept`], after which the sheet's history is what the lines tell and all of it is
 //! kept, or which names the line or the replica that it can't go on with and gives the file back as it was; that of
-//! [`SheetKeeper`]'s `settle`, after which all of the history is kept, and whenever in it a crash comes, the next start
+//! [`SheetKeeper`]'s `sync`, after which all of the history is kept, and whenever in it a crash comes, the next start
 //! reads all that was kept and a beginning of the history (`Outlives`); and the laws: a file has one history, no start
 //! refuses a file that a crash has left, and what a start leaves is read as what it read. Whoever shares a sheet
 //! between sessions notes lines by [`note_deltas`].
 //!
-//! Say replica 1 gives A1 the number 5. Once that is settled the file is `replica 1` and `push
+//! Say replica 1 gives A1 the number 5. Once that is synced the file is `replica 1` and `push
 //! [["A1",[1,1,"5"],[],[]]]`, each with its line feed. A crash in the next write may leave `push [["B1` after them: the
 //! next start reads the one change, and cuts the piece off.
 //!
 //! Cost: a start is linear in the file, which is in memory once meanwhile, and in what its changes make the sheet show;
-//! a settle is linear in the lines, one append and one sync.
+//! a sync is linear in the lines: one append to the file, and one sync of it.
 #![tactic(auto)]
 
 mod fault;

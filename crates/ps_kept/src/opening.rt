@@ -37,7 +37,7 @@ fn begin<D: Device + Drop>(
 {
     let first = line_of_replica(alloc, replica)?;
     journal.note(first.as_slice())?;
-    match journal.settle() {
+    match journal.sync() {
         Ok(()) => Ok(journal),
         Err(_) => Err(KeepFault::Device),
     }
@@ -100,7 +100,7 @@ pub fn open_kept<R: Threads + Sync, F: Found + Drop, L: Ledger>(
     ensures sheet { IfOk result (λ r. IsSheet r.0) }
     ensures have_lines { IfOk result (λ r. All HasLine r.0.history) }
     ensures lines { IfOk result (λ r. r.1.lines ≡ started replica (whole_lines (F.bytes found))) }
-    ensures settled { IfOk result (λ r. r.1.kept ≡ started replica (whole_lines (F.bytes found))) }
+    ensures synced { IfOk result (λ r. r.1.kept ≡ started replica (whole_lines (F.bytes found))) }
     ensures open { IfOk result (λ r. r.1.has_failed ≡ false) }
     ensures noted { IfOk result (λ r. IsNoted replica r.0.history r.1) }
     ensures kept { IfOk result (λ r. IsKept replica r.0.history r.1) }

@@ -1,4 +1,4 @@
--- A record goes on: more was seen, noted or settled.
+-- A record goes on: more was seen, noted or synced.
 use Rattle.std.proofs.Common.{◌≡◌, ◌+◌, ◌<◌, ◌≤◌, ℕ, List, [], ◌∷◌, ◌++◌, All, length, map, take, drop, ap, sym, ◌∙◌}
 use Rattle.std.proofs.Common.{arith, get_or, length-append, subst, Result, Ok, Err}
 use Rattle.std.proofs.lemmas.List.{take-append-le, take_all, take_more, length-drop}
@@ -93,10 +93,10 @@ module _ (r : ℕ) (h : List Entries) (v : RecordView) (is : IsRecord r h v) whe
   stays_calm (Ok a) j deltas k count told part = ap (λ (w : JournalView). w.has_failed) told.0.lines
   stays_calm (Err e) j deltas k count told part = ap (λ (w : JournalView). w.has_failed) part.3.lines
 
-  -- what was noted is all that was seen, and was settled
-  pub settled : (j : JournalView) → v.noted ≡ length (history_of h v.seen) → j.kept ≡ v.journal.lines
+  -- what was noted is all that was seen, and was synced
+  pub synced : (j : JournalView) → v.noted ≡ length (history_of h v.seen) → j.kept ≡ v.journal.lines
       → j.lines ≡ v.journal.lines → IsJournal j → IsRecord r h (record v { journal = j; kept = v.seen })
-  settled j all kept lines journal =
+  synced j all kept lines journal =
       let seen = history_of h v.seen in
       record {
         told = subst (λ (ls : List (List ℕ)). TellHistory r ls seen) (sym kept)
@@ -108,10 +108,10 @@ module _ (r : ℕ) (h : List Entries) (v : RecordView) (is : IsRecord r h v) whe
         journal = journal;
       }
 
-  -- a settle failed
-  pub unsettled : (j : JournalView) → j.kept ≡ v.journal.kept → j.lines ≡ v.journal.lines → IsJournal j
+  -- a sync failed
+  pub unsynced : (j : JournalView) → j.kept ≡ v.journal.kept → j.lines ≡ v.journal.lines → IsJournal j
       → IsRecord r h (record v { journal = j })
-  unsettled j kept lines journal = record {
+  unsynced j kept lines journal = record {
     told = subst (λ (ls : List (List ℕ)). TellHistory r ls (history_of h v.kept)) (sym kept) is.told;
     noted = subst (λ (ls : List (List ℕ)). TellHistory r ls (take v.noted (history_of h v.seen))) (sym lines) is.noted;
     within = is.within;
@@ -130,7 +130,7 @@ module _ (r : ℕ) (h : List Entries) (v : RecordView) (is : IsRecord r h v) whe
     all = λ k d lt. history_begins h _ v.kept (all k d lt);
   }
 
--- what is kept goes on, whatever a settle came to
+-- what is kept goes on, whatever a sync came to
 pub kept_later : {A E : Type 0} (result : Result A E) (old seen new : List Note) → IsPrefix old seen
     → OnOk result (new ≡ seen) → OnErr result (new ≡ old) → IsPrefix old new
 kept_later (Ok a) old seen new later all same = subst (λ (l : List Note). IsPrefix old l) (sym all) later

@@ -73,13 +73,13 @@ impl<L: DeskName, D: Device + Drop> DeskKeeper<L, D> {
     }
 
     /// Ends the desk and its keeper, once the passes of all seats are given back, and what the sessions were told is
-    /// kept. What isn't kept yet is noted, and settled once more.
+    /// kept. What isn't kept yet is noted, and synced once more.
     ///
     /// Of the sheet it says what [`Desk::close`] does. The journal's kept lines are those of a beginning of the sheet's
-    /// history, which has all that the sessions were told is kept. They are those of all of it where the last settle
+    /// history, which has all that the sessions were told is kept. They are those of all of it where the last sync
     /// went well.
     ///
-    /// Cost: that of freeing the published copies, and of a settle.
+    /// Cost: that of freeing the published copies, and of a sync.
     pub fn close<W: Wait + Drop, V: Wait>(
         self,
         wait: &V,
@@ -95,7 +95,7 @@ impl<L: DeskName, D: Device + Drop> DeskKeeper<L, D> {
         ensures one { IsClosed L.opening result.sheet.history passes.items }
         ensures sheet { IsSheet result.sheet }
         ensures told { EndsKept L.replica L.opening result.sheet.history told.now result.journal.kept }
-        ensures all { OnOk result.settled (TellHistory L.replica result.journal.kept result.sheet.history) }
+        ensures all { OnOk result.synced (TellHistory L.replica result.journal.kept result.sheet.history) }
         ensures journal { IsJournal result.journal }
     {
         let DeskKeeper { record } = self;
@@ -130,7 +130,7 @@ impl<'a, L: DeskName, W: Wait + Drop, D: Device + Drop, V: Wait> Model
 impl<'a, L: DeskName, W: Wait + Drop, D: Device + Drop, V: Wait> SeatKeeper<'a, L, W, D, V> {
     /// A keeper for a session that begins.
     ///
-    /// Cost: constant, no memory. It may wait while others settle.
+    /// Cost: constant, no memory. It may wait while others sync.
     pub fn new(
         keeper: &'a DeskKeeper<L, D>,
         desk: &'a Desk<L, W>,
@@ -183,7 +183,7 @@ impl<L: DeskName, W: Wait + Drop, D: Device + Drop, V: Wait, U: Wait> Keeper<Sea
 
     ghost can_fail = { ⊤ };
 
-    fn settle(&mut self, alloc: Global, board: &Seat<'_, L, W, U>) -> Result<(), Failed> {
+    fn sync(&mut self, alloc: Global, board: &Seat<'_, L, W, U>) -> Result<(), Failed> {
         self.keep(alloc, &board.place())
     }
 }

@@ -9,15 +9,15 @@
 //!
 //! It is not the desk: it makes no change and answers no line. It doesn't read a kept file.
 //!
-//! The contract to use: that of [`SeatKeeper`]'s `settle`, after which the list that its session has seen is a
+//! The contract to use: that of [`SeatKeeper`]'s `sync`, after which the list that its session has seen is a
 //! beginning of the one that is told as kept; and that of [`DeskKeeper::close`]. The journal's kept lines then are
 //! those of a beginning of the closed sheet's history, which has all that any session was told is kept; and those of
-//! all of it, where the last settle went well. That something is told as kept is a [`KeptPlace`], a token of no bytes
+//! all of it, where the last sync went well. That something is told as kept is a [`KeptPlace`], a token of no bytes
 //! but a length. None is made but where the journal's kept lines are those of the history that the token's list stands
 //! for.
 //!
-//! Cost: a settle costs the bytes of the lines that aren't kept yet, one append and one sync, or nothing where another
-//! session had them kept.
+//! Cost: a sync costs the bytes of the lines that aren't kept yet, one append and one sync of the file, or nothing
+//! where another session had them kept.
 #![tactic(auto)]
 
 mod crossing;

@@ -83,8 +83,8 @@ pub struct Ended<D: Device + Drop> {
     pub sheet: Sheet,
     /// The journal.
     pub journal: Journal<D>,
-    /// What the last settle came to.
-    pub settled: Result<(), Failed>,
+    /// What the last sync came to.
+    pub synced: Result<(), Failed>,
 }
 
 /// A journal of the history of a desk. A contract sees it as its `RecordView`.
@@ -187,7 +187,7 @@ impl<L: DeskName, D: Device + Drop> Record<L, D> {
         }
     }
 
-    /// Notes the deltas that aren't noted yet, and settles.
+    /// Notes the deltas that aren't noted yet, and syncs.
     fn add(&mut self, alloc: Global, deltas: &[Arc<Delta>]) -> Result<(), Failed>
         requires rest { map arc_value deltas.now ≡ drop self.old.noted (history_of L.opening self.old.seen) }
         requires bound { length (history_of L.opening self.old.seen) < 2 ^ 64 }
@@ -197,7 +197,7 @@ impl<L: DeskName, D: Device + Drop> Record<L, D> {
         ensures not_yet { OnErr result (self.new.kept ≡ self.old.kept) }
     {
         self.note(alloc, deltas)?;
-        self.settle()
+        self.sync()
     }
 
     /// Notes the deltas that aren't noted yet, or a beginning of them.
@@ -212,14 +212,14 @@ impl<L: DeskName, D: Device + Drop> Record<L, D> {
     }
 
     /// Has all on the disk that was seen, once it is noted.
-    fn settle(&mut self) -> Result<(), Failed>
+    fn sync(&mut self) -> Result<(), Failed>
         requires all { self.old.noted ≡ length (history_of L.opening self.old.seen) }
         requires open { self.old.journal.has_failed ≡ false }
         ensures seen { self.new.seen ≡ self.old.seen }
         ensures all { OnOk result (self.new.kept ≡ self.old.seen) }
         ensures not_yet { OnErr result (self.new.kept ≡ self.old.kept) }
     {
-        match self.journal.settle() {
+        match self.journal.sync() {
             Ok(()) => {
                 self.kept = KeptPlace {
                     place: self.seen.again(),
@@ -249,17 +249,17 @@ impl<L: DeskName, D: Device + Drop> Record<L, D> {
         ensures one { IsClosed L.opening result.sheet.history passes.items }
         ensures sheet { IsSheet result.sheet }
         ensures told { EndsKept L.replica L.opening result.sheet.history told.now result.journal.kept }
-        ensures all { OnOk result.settled (TellHistory L.replica result.journal.kept result.sheet.history) }
+        ensures all { OnOk result.synced (TellHistory L.replica result.journal.kept result.sheet.history) }
         ensures journal { IsJournal result.journal }
     {
         let sheet = desk.close_at(wait, passes, &mut self.seen);
-        let settled = self.finish(alloc, sheet.history());
+        let synced = self.finish(alloc, sheet.history());
         self.audit(wait, told);
         let Record { journal, .. } = self;
         Ended {
             sheet,
             journal,
-            settled,
+            synced,
         }
     }
 

@@ -85,7 +85,7 @@ handed_all written contents text waiting sent before all handed is_before is_all
   sym whole ∙ subst (λ c. Appends (Some before) c text) is_all (subst (λ w. Appends w contents text) is_before sent),
 )
 
--- what was put after a settle waits
+-- what was put after a flush waits
 handed_before : (written put contents : Option (List ℕ)) (text waiting : List ℕ) → Appends written put text
     → HoldsBack put contents [] waiting → HandsOnly written text contents waiting
 handed_before written put contents text waiting sent held before all handed is_before is_all whole =
@@ -195,7 +195,7 @@ module _ {State : Type 0} (Line : Answering State) (ended : Type 0) (first : Sta
       handed = handed_all written after t.text waiting (Appends-keeps written contents after t.text t.sent same);
     }
 
-    -- it covers what was there at the last settle
+    -- it covers what was there at the last sync
     module _ (base : ℕ) (read : List ℕ) (middle : State) (pending put : Option (List ℕ)) (answered : ℕ)
         (covered : covers middle) (s : Stands Line first written base read middle pending put answered)
         (last : State) (contents : Option (List ℕ)) (held : HoldsBack put contents [] waiting) where

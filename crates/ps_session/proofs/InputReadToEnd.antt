@@ -152,11 +152,11 @@ module _ {State : Type 0} (Handles : Answering State) (first : State) (written :
         record { lines = s.lines; rest = s.rest; text = s.text; split = s.split; run = s.run; sent = s.sent }
 
     -- what was put was handed on
-    pub stands_settled : (board : State) (pending contents after : Option (List ℕ)) (answered : ℕ)
+    pub stands_flushed : (board : State) (pending contents after : Option (List ℕ)) (answered : ℕ)
         → Keeps contents after
         → Stands Handles first written base read board pending contents answered
         → Stands Handles first written base read board pending after answered
-    stands_settled board pending contents after answered same s = record {
+    stands_flushed board pending contents after answered same s = record {
       lines = s.lines;
       rest = s.rest;
       text = s.text;
@@ -167,10 +167,10 @@ module _ {State : Type 0} (Handles : Answering State) (first : State) (written :
       counted = s.counted;
     }
 
-    pub transcribed_settled : (board : State) (contents after : Option (List ℕ)) (answered : ℕ) → Keeps contents after
+    pub transcribed_flushed : (board : State) (contents after : Option (List ℕ)) (answered : ℕ) → Keeps contents after
         → Transcribed Handles first written read board contents answered
         → Transcribed Handles first written read board after answered
-    transcribed_settled board contents after answered same s = record {
+    transcribed_flushed board contents after answered same s = record {
       lines = s.lines;
       rest = s.rest;
       text = s.text;

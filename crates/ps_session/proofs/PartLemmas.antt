@@ -12,7 +12,7 @@ use Rattle.ps_session.specs.declared.transcript.RunFault.{RunFault}
 use Rattle.ps_session.specs.declared.transcript.RunFault.TheVariants as faults
 use Rattle.ps_session.proofs.CoveredLemmas.{begins_again, covered_before, covered_cut, covered_here}
 use Rattle.ps_session.proofs.CoveredLemmas.{fits_after, halted_ended, stands_halted}
-use Rattle.ps_session.proofs.InputReadToEnd.{cut_ended, read-rest, stands_answered, stands_first, stands_settled}
+use Rattle.ps_session.proofs.InputReadToEnd.{cut_ended, read-rest, stands_answered, stands_first, stands_flushed}
 
 pub keep_or_other : (fault : RunFault) → (fault ≡ faults.Keep) ⊎ (fault ≢ faults.Keep)
 keep_or_other faults.Keep = inl refl
@@ -54,12 +54,12 @@ module _ {State : Type 0} (Line : Answering State) (first : State) (written : Op
   -- after a part
   module _ (taken : ℕ) (last : State) (pending put after : Option (List ℕ)) (answered : ℕ) (same : Keeps put after)
       (t : Stands Line first written 0 ((read ++ take start piece) ++ take taken rest) last pending put answered) where
-    settled : Stands Line first written 0 ((read ++ take start piece) ++ take taken rest) last pending after answered
-    settled = stands_settled Line first written 0 _ last pending put after answered same t
+    flushed : Stands Line first written 0 ((read ++ take start piece) ++ take taken rest) last pending after answered
+    flushed = stands_flushed Line first written 0 _ last pending put after answered same t
 
     pub part_halts : Halted Line ⊥ first written (read ++ piece) last after
     part_halts = subst (λ r. Halted Line ⊥ first written r last after) (whole taken)
-        (stands_halted Line ⊥ first written 0 _ (drop taken rest) last pending after answered settled)
+        (stands_halted Line ⊥ first written 0 _ (drop taken rest) last pending after answered flushed)
 
     all_read : length rest ≤ taken → (read ++ take start piece) ++ take taken rest ≡ read ++ piece
     all_read le = ap (λ r. (read ++ take start piece) ++ r) (take_all taken rest le) ∙ read-rest read piece start
@@ -69,7 +69,7 @@ module _ {State : Type 0} (Line : Answering State) (first : State) (written : Op
     part_breaks holds part = elim (cases_lt taken (length rest)) [
       | inl lt ↦ inr (inr (part lt, part_halts))
       | inr le ↦ inr (inl (subst (λ r. Answered Line first written r last after) (all_read le)
-          (stands_answered Line first written 0 _ last pending after answered settled)))
+          (stands_answered Line first written 0 _ last pending after answered flushed)))
     ]
 
     -- the keeper covers what the board has
@@ -78,7 +78,7 @@ module _ {State : Type 0} (Line : Answering State) (first : State) (written : Op
     part_covered covers waiting covered =
         subst (λ r. IsCovered Line covers ⊥ first written r last after waiting) (whole taken)
         (covered_here Line ⊥ first written covers waiting 0 _ (drop taken rest) last pending after answered covered
-        settled)
+        flushed)
 
   -- the keeper covers what the board had before the part
   module _ (covers : State → Type 0) (middle last : State) (held put contents : Option (List ℕ))
@@ -123,6 +123,6 @@ pub stands_begun : {State : Type 0} (Line : Answering State) (board : State) (pe
     (answered : ℕ) → pending ≡ Some [] → answered ≡ 0 → Keeps contents after
     → Stands Line board contents 0 [] board pending after answered
 stands_begun Line board pending contents after answered none zero_yet same =
-    stands_settled Line board contents 0 [] board pending contents after answered same
+    stands_flushed Line board contents 0 [] board pending contents after answered same
     (subst (λ n. Stands Line board contents 0 [] board pending contents n) (sym zero_yet)
     (stands_first Line board contents pending none))

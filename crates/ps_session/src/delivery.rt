@@ -20,7 +20,7 @@ pub(crate) trait Delivery<K> {
     /// How many calls failed so far.
     ghost failures: { K → ℕ };
 
-    /// No reply is handed on before the sink is settled.
+    /// No reply is handed on before the sink is flushed.
     ghost holds_back: { Type 0 };
 
     /// Puts a reply and its line feed; where the sink fails, a beginning of that.
@@ -31,14 +31,14 @@ pub(crate) trait Delivery<K> {
         ensures held { holds_back
             → HoldsBack (contents sink.old) (contents sink.new) (waiting sink.old) (waiting sink.new) };
 
-    /// How many bytes wait, where they are held back until the sink is settled.
+    /// How many bytes wait, where they are held back until the sink is flushed.
     fn waits(sink: &K) -> usize
         ensures held { 0 < result → holds_back };
 
     /// Hands on all that waits.
     fn hand_on(sink: &mut K) -> Result<(), Failed>
         ensures same { Keeps (contents sink.old) (contents sink.new) }
-        ensures settled { OnOk result (waiting sink.new ≡ []) }
+        ensures flushed { OnOk result (waiting sink.new ≡ []) }
         ensures calm { OnOk result (failures sink.new ≡ failures sink.old) }
         ensures failed { OnErr result (failures sink.old < failures sink.new) };
 }
@@ -68,7 +68,7 @@ impl<K: Sink> Delivery<K> for AtOnce {
     }
 }
 
-/// Replies are held back until the output is settled.
+/// Replies are held back until the output is flushed.
 pub(crate) struct HeldBack;
 
 impl<K: Sink + Drop, L: Ledger> Delivery<HeldOutput<K, L>> for HeldBack {

@@ -29,7 +29,7 @@ pub struct Following {
 /// Writes a delta's line as one to push, and hands it on.
 fn write_push<O: Sink>(delta: &[u8], out: &mut O) -> Result<(), Failed>
     ensures sent { OnOk result (Appends (O.contents out.old) (O.contents out.new) (push_text delta.now)) }
-    ensures settled { OnOk result (O.waiting out.new ≡ []) }
+    ensures flushed { OnOk result (O.waiting out.new ≡ []) }
     ensures put { OnErr result (PutsSome (O.contents out.old) (O.contents out.new) (push_text delta.now)) }
     ensures calm { OnOk result (O.failures out.new ≡ O.failures out.old) }
     ensures failed { OnErr result (O.failures out.old < O.failures out.new) }
@@ -60,7 +60,7 @@ pub fn follow<S: Source + Drop, K: Sink + Drop, O: Sink, C: Clock>(
         → IsUntilClosed from.old from.new (O.contents out.old) (O.contents out.new)) }
     ensures halted { OnErr result (IsHalted (O.failures out.old < O.failures out.new) from.old from.new
         (O.contents out.old) (O.contents out.new)) }
-    ensures settled { O.waiting out.old ≡ []
+    ensures flushed { O.waiting out.old ≡ []
         → (O.waiting out.new ≡ []) ⊎ (O.failures out.old < O.failures out.new) }
     ensures calm { OnOk result ((from.new.failures ≡ from.old.failures)
         × (O.failures out.new ≡ O.failures out.old)) }

@@ -1,4 +1,4 @@
-//! An output that holds back all that is put until it is settled.
+//! An output that holds back all that is put until it is flushed.
 ghost use Rattle.std.specs.Prelude.{◌≡◌, ◌≤◌, [], ℕ, OnOk, drop, length};
 ghost use Rattle.std.specs.Io.KnownBytes.{Keeps, append_known};
 ghost use Rattle.ps_grid.specs.Blanks.{IsBlankOf};
@@ -7,14 +7,14 @@ use ps_device::{Failed, MemorySink, Sink};
 use std::alloc::Global;
 use std::sync::ledger::{Blank, Ledger};
 
-/// A sink over another one, which is given nothing before a settle.
+/// A sink over another one, which is given nothing before a flush.
 ///
 /// What was put is what that sink has, in order and whole, and then what waits. The room for what waits grows; a put is
-/// refused, and counted as a failure, where there is no memory. After a settle that failed what wasn't given yet waits
+/// refused, and counted as a failure, where there is no memory. After a flush that failed what wasn't given yet waits
 /// still.
 #[derive(Drop)]
 pub struct HeldOutput<K: Sink + Drop, L: Ledger> {
-    /// the sink that a settle gives what waits
+    /// the sink that a flush gives what waits
     sink: K,
     /// the bytes put last, of which the sink has the first `sent` already, and the count of all failures
     pub(crate) room: MemorySink<L>,
@@ -42,10 +42,10 @@ impl<K: Sink + Drop, L: Ledger> HeldOutput<K, L> {
         }
     }
 
-    /// Gives the sink what waits, and settles it.
+    /// Gives the sink what waits, and flushes it.
     fn send_on(&mut self) -> Result<(), Failed>
         ensures same { Keeps (held_contents K.contents self.old) (held_contents K.contents self.new) }
-        ensures settled { OnOk result (held_waiting K.waiting self.new ≡ []) }
+        ensures flushed { OnOk result (held_waiting K.waiting self.new ≡ []) }
         ensures counted { held_failures self.new ≡ held_failures self.old }
     {
         while self.sent < self.room.bytes.len() {
@@ -57,7 +57,7 @@ impl<K: Sink + Drop, L: Ledger> HeldOutput<K, L> {
         }
         self.room.bytes.clear();
         self.sent = 0;
-        self.sink.settle()
+        self.sink.flush()
     }
 }
 
@@ -80,10 +80,10 @@ impl<K: Sink + Drop, L: Ledger> Sink for HeldOutput<K, L> {
         self.room.put(piece)
     }
 
-    /// Gives the sink below what waits, and settles it.
+    /// Gives the sink below what waits, and flushes it.
     ///
     /// Cost: as many calls of the sink below as it wants for the bytes, and one more.
-    fn settle(&mut self) -> Result<(), Failed> {
+    fn flush(&mut self) -> Result<(), Failed> {
         let sent = self.send_on();
         if sent.is_err() {
             self.room.failed.rise();

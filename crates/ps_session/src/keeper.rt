@@ -14,14 +14,14 @@ pub trait Keeper<B> {
     /// keeper to a session shows that it stays so where the board has more.
     ghost fits: { Self → B → Type 0 };
 
-    /// A settle may fail.
+    /// A sync may fail.
     ghost can_fail: { Type 0 };
 
     /// Notes what the board has and wasn't noted yet, and has all of it kept. What was covered stays so, also where it
-    /// fails: then its device failed, or there was no memory. After a failure nobody settles again.
+    /// fails: then its device failed, or there was no memory. After a failure nobody syncs again.
     ///
     /// Cost: linear in what is noted, and the time that the device takes.
-    fn settle(&mut self, alloc: Global, board: &B) -> Result<(), Failed>
+    fn sync(&mut self, alloc: Global, board: &B) -> Result<(), Failed>
         requires fits { fits self.old board.now }
         ensures covered { OnOk result (covers self.new board.now) }
         ensures fits { OnOk result (fits self.new board.now) }
@@ -40,7 +40,7 @@ impl<B> Keeper<B> for Unkept {
 
     ghost can_fail = { ⊥ };
 
-    fn settle(&mut self, _alloc: Global, _board: &B) -> Result<(), Failed> {
+    fn sync(&mut self, _alloc: Global, _board: &B) -> Result<(), Failed> {
         Ok(())
     }
 }

@@ -54,7 +54,7 @@ impl<S: Source + Drop, K: Sink + Drop> Model for Peer<S, K> {
 pub(crate) fn send_whole<K: Sink>(line: &[&[u8]], sink: &mut K) -> Result<(), Failed>
     ensures sent { OnOk result (Appends (K.contents sink.old) (K.contents sink.new)
         (flat_map (λ piece. piece.now) line.now)) }
-    ensures settled { OnOk result (K.waiting sink.new ≡ []) }
+    ensures flushed { OnOk result (K.waiting sink.new ≡ []) }
     ensures put { PutsSome (K.contents sink.old) (K.contents sink.new) (flat_map (λ piece. piece.now) line.now) }
     ensures calm { OnOk result (K.failures sink.new ≡ K.failures sink.old) }
     ensures failed { OnErr result (K.failures sink.old < K.failures sink.new) }

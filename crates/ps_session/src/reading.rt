@@ -29,14 +29,14 @@ fn release<B, K, D: Delivery<K>, Q: Keeper<B>>(
     ensures fits { OnOk result (Q.fits keeper.new board.now) }
     ensures covered { result ≢ Err RunFault.Keep → Q.covers keeper.new board.now }
     ensures stays { (state : B) → Q.covers keeper.old state → Q.covers keeper.new state }
-    ensures settled { OnOk result (D.waiting sink.new ≡ []) }
+    ensures flushed { OnOk result (D.waiting sink.new ≡ []) }
     ensures same { Keeps (D.contents sink.old) (D.contents sink.new) }
     ensures keep { result ≡ Err RunFault.Keep → Q.can_fail × (sink.new ≡ sink.old) }
     ensures calm { OnOk result (D.failures sink.new ≡ D.failures sink.old) }
     ensures sink_failed { result ≡ Err RunFault.Sink → D.failures sink.old < D.failures sink.new }
     ensures faults { (result ≢ Err RunFault.Memory) × (result ≢ Err RunFault.Source) }
 {
-    match keeper.settle(alloc, board) {
+    match keeper.sync(alloc, board) {
         Ok(()) => {}
         Err(_) => return Err(RunFault::Keep),
     }
@@ -59,7 +59,7 @@ fn read_piece<R: Threads + Sync, B: Board<M>, M, W: Watcher, K, D: Delivery<K>, 
 ) -> Result<(), RunFault>
     requires fits { Q.fits keeper.old board.old }
     requires covers { Q.covers keeper.old board.old }
-    requires settled { D.waiting sink.old ≡ [] }
+    requires flushed { D.waiting sink.old ≡ [] }
     requires stays { StaysFit (BoardAnswers B.calls) Q.fits }
     requires under_way { IsUnderWay (BoardLines B.calls) board.old conversation.old.session.pending
         (D.contents sink.old) conversation.old.answered }
@@ -132,7 +132,7 @@ fn read_on<
     ensures source { result ≡ Err RunFault.Source
         → (read : List ℕ) × Consumes (S.remaining source.old) (S.remaining source.new) read
         × Answered (BoardLines B.calls) board.old (D.contents sink.old) read board.new (D.contents sink.new) }
-    ensures source_settled { result ≡ Err RunFault.Source
+    ensures source_flushed { result ≡ Err RunFault.Source
         → (D.waiting sink.new ≡ []) × Q.covers keeper.new board.new }
     ensures keep { result ≡ Err RunFault.Keep → Q.can_fail
         × (read : List ℕ) × Consumes (S.remaining source.old) (S.remaining source.new) read
@@ -214,8 +214,8 @@ pub(crate) fn converse<
         board.old (D.contents sink.old) read board.new (D.contents sink.new) (D.waiting sink.new) }
     ensures kept { OnOk result (Q.covers keeper.new board.new × Q.fits keeper.new board.new) }
     ensures source_kept { result ≡ Err RunFault.Source → Q.covers keeper.new board.new }
-    ensures settled { OnOk result (D.waiting sink.new ≡ []) }
-    ensures source_settled { result ≡ Err RunFault.Source → D.waiting sink.new ≡ [] }
+    ensures flushed { OnOk result (D.waiting sink.new ≡ []) }
+    ensures source_flushed { result ≡ Err RunFault.Source → D.waiting sink.new ≡ [] }
     ensures memory { result ≡ Err RunFault.Memory → (source.new ≡ source.old) × (sink.new ≡ sink.old)
         × (board.new ≡ board.old) × (keeper.new ≡ keeper.old) }
     ensures calm { OnOk result ((S.failures source.new ≡ S.failures source.old)

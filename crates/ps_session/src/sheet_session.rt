@@ -46,8 +46,8 @@ pub fn run_watched<R: Threads + Sync, S: Source, K: Sink, L: Ledger, W: Watcher>
         → (read : List ℕ) × Consumes (S.remaining source.old) (S.remaining source.new) read
         × Answered SheetLines sheet.old (K.contents sink.old) read sheet.new (K.contents sink.new) }
     ensures keep { result ≢ Err RunFault.Keep }
-    ensures settled { OnOk result (K.waiting sink.new ≡ []) }
-    ensures source_settled { result ≡ Err RunFault.Source → K.waiting sink.new ≡ [] }
+    ensures flushed { OnOk result (K.waiting sink.new ≡ []) }
+    ensures source_flushed { result ≡ Err RunFault.Source → K.waiting sink.new ≡ [] }
     ensures memory { result ≡ Err RunFault.Memory
         → (source.new ≡ source.old) × (sink.new ≡ sink.old) × (sheet.new ≡ sheet.old) }
     ensures replica { sheet.new.replica ≡ sheet.old.replica }
@@ -96,8 +96,8 @@ pub fn run<R: Threads + Sync, S: Source, K: Sink, L: Ledger>(
         → (read : List ℕ) × Consumes (S.remaining source.old) (S.remaining source.new) read
         × Answered SheetLines sheet.old (K.contents sink.old) read sheet.new (K.contents sink.new) }
     ensures keep { result ≢ Err RunFault.Keep }
-    ensures settled { OnOk result (K.waiting sink.new ≡ []) }
-    ensures source_settled { result ≡ Err RunFault.Source → K.waiting sink.new ≡ [] }
+    ensures flushed { OnOk result (K.waiting sink.new ≡ []) }
+    ensures source_flushed { result ≡ Err RunFault.Source → K.waiting sink.new ≡ [] }
     ensures memory { result ≡ Err RunFault.Memory
         → (source.new ≡ source.old) × (sink.new ≡ sink.old) × (sheet.new ≡ sheet.old) }
     ensures replica { sheet.new.replica ≡ sheet.old.replica }
@@ -117,7 +117,7 @@ pub fn run<R: Threads + Sync, S: Source, K: Sink, L: Ledger>(
 /// So the history that the keeper covers at any end is a beginning of the sheet's, and has all that was shown or
 /// acknowledged. After a failure of the keeper nothing more is handed on.
 ///
-/// Cost: that of [`run_watched`], the room for the replies that wait, and a settle before each read and wherever
+/// Cost: that of [`run_watched`], the room for the replies that wait, and a sync before each read and wherever
 /// `PIECE_BYTES` bytes of replies wait.
 pub fn run_kept<
     R: Threads + Sync,
@@ -163,8 +163,8 @@ pub fn run_kept<
         sheet.new (held_contents K.contents sink.new) (held_waiting K.waiting sink.new) }
     ensures kept { OnOk result (Q.covers keeper.new sheet.new × Q.fits keeper.new sheet.new) }
     ensures source_kept { result ≡ Err RunFault.Source → Q.covers keeper.new sheet.new }
-    ensures settled { OnOk result (held_waiting K.waiting sink.new ≡ []) }
-    ensures source_settled { result ≡ Err RunFault.Source → held_waiting K.waiting sink.new ≡ [] }
+    ensures flushed { OnOk result (held_waiting K.waiting sink.new ≡ []) }
+    ensures source_flushed { result ≡ Err RunFault.Source → held_waiting K.waiting sink.new ≡ [] }
     ensures memory { result ≡ Err RunFault.Memory → (source.new ≡ source.old) × (sink.new ≡ sink.old)
         × (sheet.new ≡ sheet.old) × (keeper.new ≡ keeper.old) }
     ensures later { IsLater sheet.old sheet.new }

@@ -324,8 +324,8 @@ pub fn talk_watched<R: Threads + Sync, S: Source, B: Board<M>, M, K: Sink, W: Wa
         → (read : List ℕ) × Consumes (S.remaining source.old) (S.remaining source.new) read
         × Answered (BoardLines B.calls) board.old (K.contents sink.old) read board.new (K.contents sink.new) }
     ensures keep { result ≢ Err RunFault.Keep }
-    ensures settled { OnOk result (K.waiting sink.new ≡ []) }
-    ensures source_settled { result ≡ Err RunFault.Source → K.waiting sink.new ≡ [] }
+    ensures flushed { OnOk result (K.waiting sink.new ≡ []) }
+    ensures source_flushed { result ≡ Err RunFault.Source → K.waiting sink.new ≡ [] }
     ensures memory { result ≡ Err RunFault.Memory
         → (source.new ≡ source.old) × (sink.new ≡ sink.old) × (board.new ≡ board.old) }
     ensures calm { OnOk result ((S.failures source.new ≡ S.failures source.old)
@@ -374,8 +374,8 @@ pub fn talk<R: Threads + Sync, S: Source, B: Board<M>, M, K: Sink>(
         → (read : List ℕ) × Consumes (S.remaining source.old) (S.remaining source.new) read
         × Answered (BoardLines B.calls) board.old (K.contents sink.old) read board.new (K.contents sink.new) }
     ensures keep { result ≢ Err RunFault.Keep }
-    ensures settled { OnOk result (K.waiting sink.new ≡ []) }
-    ensures source_settled { result ≡ Err RunFault.Source → K.waiting sink.new ≡ [] }
+    ensures flushed { OnOk result (K.waiting sink.new ≡ []) }
+    ensures source_flushed { result ≡ Err RunFault.Source → K.waiting sink.new ≡ [] }
     ensures memory { result ≡ Err RunFault.Memory
         → (source.new ≡ source.old) × (sink.new ≡ sink.old) × (board.new ≡ board.old) }
     ensures calm { OnOk result ((S.failures source.new ≡ S.failures source.old)
@@ -390,10 +390,10 @@ pub fn talk<R: Threads + Sync, S: Source, B: Board<M>, M, K: Sink>(
 /// before any reply is handed on.
 ///
 /// Replies are held back, and released before each read, where there are `PIECE_BYTES` bytes of them, and at the end:
-/// then the keeper is settled, and what waits is handed on. Where that fails, nothing more is handed on. So at any end
+/// then the keeper is synced, and what waits is handed on. Where that fails, nothing more is handed on. So at any end
 /// the keeper covers a state of the board that is the one after all that was shown or acknowledged.
 ///
-/// Cost: that of [`talk_watched`], the room for the replies that wait, and as many settles as there are releases.
+/// Cost: that of [`talk_watched`], the room for the replies that wait, and as many syncs as there are releases.
 pub fn talk_kept<
     R: Threads + Sync,
     S: Source,
@@ -439,8 +439,8 @@ pub fn talk_kept<
         board.new (held_contents K.contents sink.new) (held_waiting K.waiting sink.new) }
     ensures kept { OnOk result (Q.covers keeper.new board.new × Q.fits keeper.new board.new) }
     ensures source_kept { result ≡ Err RunFault.Source → Q.covers keeper.new board.new }
-    ensures settled { OnOk result (held_waiting K.waiting sink.new ≡ []) }
-    ensures source_settled { result ≡ Err RunFault.Source → held_waiting K.waiting sink.new ≡ [] }
+    ensures flushed { OnOk result (held_waiting K.waiting sink.new ≡ []) }
+    ensures source_flushed { result ≡ Err RunFault.Source → held_waiting K.waiting sink.new ≡ [] }
     ensures memory { result ≡ Err RunFault.Memory → (source.new ≡ source.old) × (sink.new ≡ sink.old)
         × (board.new ≡ board.old) × (keeper.new ≡ keeper.old) }
     ensures calm { OnOk result ((S.failures source.new ≡ S.failures source.old)

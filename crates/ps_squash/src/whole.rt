@@ -36,7 +36,7 @@ pub fn squash<S: Source, K: Sink>(
     ensures squashed { OnOk result ((read : List ℕ) × (text : List ℕ)
         × Consumes (S.remaining source.old) (S.remaining source.new) read × IsAtEnd (S.remaining source.new)
         × IsSquashed read text × Appends (K.contents sink.old) (K.contents sink.new) text) }
-    ensures settled { OnOk result (K.waiting sink.new ≡ []) }
+    ensures flushed { OnOk result (K.waiting sink.new ≡ []) }
     ensures calm { OnOk result ((S.failures source.new ≡ S.failures source.old)
         × (K.failures sink.new ≡ K.failures sink.old)) }
     ensures faulty { (number : ℕ) → result ≡ Err (FaultyLine number)

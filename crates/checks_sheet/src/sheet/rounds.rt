@@ -154,7 +154,7 @@ fn is_ready(shown: &Settled, entry: Entry) -> bool {
 }
 
 /// As many rounds as there are cells.
-fn settle(entries: &[Entry; PLACES]) -> Settled {
+fn settled_values(entries: &[Entry; PLACES]) -> Settled {
     let mut shown = [None; PLACES];
     for _ in 0..PLACES {
         for place in 0..PLACES {
@@ -311,7 +311,7 @@ fn change<R: Abort + Threads + Sync>(
 
 /// Compares what the sheet shows with what the rounds give.
 fn compare(rt: &impl Abort, sheet: &Sheet, entries: &[Entry; PLACES]) {
-    let shown = settle(entries);
+    let shown = settled_values(entries);
     for (place, value) in shown.iter().enumerate() {
         let name = name(place);
         let value = value.unwrap_or(Value::Err(Fault::Cycle));

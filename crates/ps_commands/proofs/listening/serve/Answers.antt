@@ -28,7 +28,7 @@ returns-clause-untold g c =
     IfErr-weaker c.serve_on.result _ _
     (λ f untold. elim untold [
       | inl same ↦
-          inr (inl (rw same told, rw same c.in-Ok-tell.ensures.settled, rw same c.in-Ok-tell.ensures.calm))
+          inr (inl (rw same told, rw same c.in-Ok-tell.ensures.flushed, rw same c.in-Ok-tell.ensures.calm))
       | inr failed ↦ inr (inr (failed.0, omega (arith, failed.1, c.in-Ok-tell.ensures.calm)))
     ])
     c.serve_on.ensures.untold

@@ -26,7 +26,7 @@ returns-in_err-done-clause-device g c asked =
             told.0,
             c.in-Ok.ensures.opened,
             told.1,
-            inl (ran.source_failed is, ran.source_settled is, told.2),
+            inl (ran.source_failed is, ran.source_flushed is, told.2),
           )
       | inr (inl sink) ↦
           let is = c.in_err-done.was ∙ ap Err sink in

@@ -35,7 +35,7 @@ pulls-preserved-in-Ok-Group g c =
           (push_text text)) (rest-range line c.in-Ok-Group.start) (rw c.reply.ensures at c.in-Ok.ensures.sent));
       first = due.0.calm ∙ c.pulls.invariant.first;
       second = c.in-Ok.ensures.calm ∙ c.pulls.invariant.second;
-      settled = λ _. c.in-Ok.ensures.settled;
+      flushed = λ _. c.in-Ok.ensures.flushed;
     }
 
 pub returns-in-Ok-End-clause-all : goal.returns-in-Ok-End-clause-all
@@ -58,5 +58,5 @@ pulls-preserved g c =
           c.pulls.version c.pulls.invariant.followed due.0 due.1 refl;
       first = due.0.calm ∙ c.pulls.invariant.first;
       second = c.pulls.invariant.second;
-      settled = c.pulls.invariant.settled;
+      flushed = c.pulls.invariant.flushed;
     }

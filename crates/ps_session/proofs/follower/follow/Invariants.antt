@@ -7,7 +7,7 @@ invariant-pulls g l = record {
   followed : IsFollowed l.fn.from l.from (g.O.Sink.contents l.fn.out) (g.O.Sink.contents l.out) l.version;
   first : l.from.failures ≡ l.fn.from.failures;
   second : g.O.Sink.failures l.out ≡ g.O.Sink.failures l.fn.out;
-  settled : g.O.Sink.waiting l.fn.out ≡ [] → g.O.Sink.waiting l.out ≡ [];
+  flushed : g.O.Sink.waiting l.fn.out ≡ [] → g.O.Sink.waiting l.out ≡ [];
 }
 
 abbrev pub decreases-pulls : goal.decreases-pulls

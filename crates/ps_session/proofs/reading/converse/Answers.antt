@@ -6,7 +6,7 @@ use Rattle.ps_session.specs.Boards.{BoardAnswers, BoardLines}
 use Rattle.ps_session.specs.Keeping.{IsCovered}
 use Rattle.ps_session.proofs.CoveredLemmas.{covered_end, covered_ended, covered_last, covered_none, end_halted}
 use Rattle.ps_session.proofs.CoveredLemmas.{fits_after, halted_ended}
-use Rattle.ps_session.proofs.InputReadToEnd.{cut_ended, transcribed_settled}
+use Rattle.ps_session.proofs.InputReadToEnd.{cut_ended, transcribed_flushed}
 use Rattle.ps_session.proofs.PartLemmas.{breaks_ended, keep_or_other, keeps_itself}
 use Rattle.ps_session.proofs.ReadLemmas.{Consumes-nil, same_fault}
 use Rattle.ps_session.proofs.reading.converse.Goals as goal
@@ -74,7 +74,7 @@ returns-in_err-release-clause-sink g c = λ is.
       inl (inr (inr (
         r.2,
         _,
-        transcribed_settled _ c.args.board.now _ 0 r.0 _ _ _ _ c.in_err-release.ensures.same
+        transcribed_flushed _ c.args.board.now _ 0 r.0 _ _ _ _ c.in_err-release.ensures.same
             (c.in-Ok-finish.ensures.transcribed c.args.board.now _ r.0 r.3),
       ))),
     )
@@ -124,7 +124,7 @@ returns-clause-transcribed g c =
       r.0,
       r.1,
       r.2,
-      transcribed_settled _ c.args.board.now _ 0 r.0 _ _ _ _ c.in_ok-release.ensures.same
+      transcribed_flushed _ c.args.board.now _ 0 r.0 _ _ _ _ c.in_ok-release.ensures.same
           (c.in-Ok-finish.ensures.transcribed c.args.board.now _ r.0 r.3),
     )
 

@@ -42,7 +42,7 @@ pieces-init g c = record {
   stands = stands_begun _ c.args.board.now _ _ _ _ c.requires.fresh.0 c.requires.fresh.1 c.in_ok-release.ensures.same;
   fits = c.in_ok-release.ensures.fits;
   covers = c.in_ok-release.ensures.covered (λ is. cc);
-  settled = c.in_ok-release.ensures.settled;
+  flushed = c.in_ok-release.ensures.flushed;
   calm_source = refl;
   calm = c.in_ok-release.ensures.calm;
 }
@@ -65,7 +65,7 @@ pieces-preserved g c = record {
   stands = c.in_ok-read_piece.ensures.stands _ _ 0 _ c.pieces.invariant.stands;
   fits = c.in_ok-read_piece.ensures.kept.0;
   covers = c.in_ok-read_piece.ensures.kept.1;
-  settled = c.in_ok-read_piece.ensures.kept.2;
+  flushed = c.in_ok-read_piece.ensures.kept.2;
   calm_source = omega (arith, c.in-Ok.ensures.counted, c.pieces.invariant.calm_source);
   calm = c.in_ok-read_piece.ensures.calm ∙ c.pieces.invariant.calm;
 }

@@ -2,7 +2,7 @@ use Rattle.std.proofs.Common.{◌∙◌, ◌++◌, ap, inl, inr, subst, sym, Err
 use Rattle.std.proofs.lemmas.Result.{err_from_is_err_and}
 use Rattle.ps_session.specs.Boards.{BoardAnswers, BoardLines}
 use Rattle.ps_session.specs.Keeping.{IsCovered}
-use Rattle.ps_session.proofs.InputReadToEnd.{cut_rest, stands_more, stands_settled, turn_within}
+use Rattle.ps_session.proofs.InputReadToEnd.{cut_rest, stands_more, stands_flushed, turn_within}
 use Rattle.ps_session.proofs.PartLemmas.{fits_after_part, keep_or_other, part_breaks, part_covered, part_cut}
 use Rattle.ps_session.proofs.PartLemmas.{part_halts, part_waits, under_way_after}
 use Rattle.ps_session.proofs.ReadLemmas.{same_fault}
@@ -16,7 +16,7 @@ returns-in-Err-clause-sink g c = λ is first written read s.
 pub returns-in-Err-clause-covered : goal.returns-in-Err-clause-covered
 returns-in-Err-clause-covered g c = λ is holds first written read s.
     part_cut _ first written read c.args.piece.now c.parts.start (g.Q.Keeper.covers c.parts.keeper) c.parts.board _ _ _
-    _ _ _ _ c.parts.invariant.covers (c.parts.invariant.stands first written 0 read s) c.parts.invariant.settled
+    _ _ _ _ c.parts.invariant.covers (c.parts.invariant.stands first written 0 read s) c.parts.invariant.flushed
     (c.in-Err.ensures.held holds) c.in-Err.ensures.cut
 
 pub release-requires : goal.release-requires
@@ -30,12 +30,12 @@ release-requires g c = record {
 pub parts-preserved : goal.parts-preserved
 parts-preserved g c = record {
   within = turn_within c.args.piece.now c.parts.start c.in-Ok.taken c.parts-test.true c.in-Ok.ensures.within.1;
-  stands = λ first written base read s. stands_settled _ first written base _ _ _ _ _ _ c.in_ok-release.ensures.same
+  stands = λ first written base read s. stands_flushed _ first written base _ _ _ _ _ _ c.in_ok-release.ensures.same
       (stands_more _ first written base read c.args.piece.now c.parts.start c.in-Ok.taken _ _ _ _
       (c.in-Ok.ensures.stands first written base _ (c.parts.invariant.stands first written base read s)));
   fits = c.in_ok-release.ensures.fits;
   covers = c.in_ok-release.ensures.covered (λ is. cc);
-  settled = c.in_ok-release.ensures.settled;
+  flushed = c.in_ok-release.ensures.flushed;
   calm = c.in_ok-release.ensures.calm ∙ c.in-Ok.ensures.calm ∙ c.parts.invariant.calm;
 }
 
@@ -67,7 +67,7 @@ returns-in_err-release-clause-covered g c = λ is holds first written read s.
           (g.D.Delivery.contents sink) (g.D.Delivery.waiting sink))
           (sym (c.in_err-release.ensures.keep (ap Err kept)).1)
           (part_waits lines first written read c.args.piece.now c.parts.start covers c.parts.board _ _ _ _ _ _ _
-          (c.in_err-release.ensures.stays c.parts.board c.parts.invariant.covers) stands c.parts.invariant.settled
+          (c.in_err-release.ensures.stays c.parts.board c.parts.invariant.covers) stands c.parts.invariant.flushed
           (c.in-Ok.ensures.held holds) c.in-Ok.taken _ _ c.in-Ok.ensures.stands)
       | inr other ↦ part_covered lines first written read c.args.piece.now c.parts.start c.in-Ok.taken _ _ _ _ _
           c.in_err-release.ensures.same (c.in-Ok.ensures.stands first written 0 _ stands) covers _

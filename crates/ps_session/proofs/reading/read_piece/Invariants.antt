@@ -12,7 +12,7 @@ invariant-parts g l = record {
       l.board l.conversation.session.pending (g.D.Delivery.contents l.sink) l.conversation.answered;
   fits : g.Q.Keeper.fits l.keeper l.board;
   covers : g.Q.Keeper.covers l.keeper l.board;
-  settled : g.D.Delivery.waiting l.sink ≡ [];
+  flushed : g.D.Delivery.waiting l.sink ≡ [];
   calm : g.D.Delivery.failures l.sink ≡ g.D.Delivery.failures l.fn.sink;
 }
 

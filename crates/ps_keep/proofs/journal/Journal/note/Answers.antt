@@ -8,7 +8,7 @@ pub returns-in_err-append_line-clause-journal : goal.returns-in_err-append_line-
 returns-in_err-append_line-clause-journal g c =
     let written = g.D.Device.written in
     holds_journal _ _ _ _ _
-    (subst (λ (w : List ℕ). Holds (written c.self.inside.settled.value) w (written c.self.inside.device)
+    (subst (λ (w : List ℕ). Holds (written c.self.inside.durable.value) w (written c.self.inside.device)
     (g.D.Device.synced c.self.inside.device) c.self.inside.is_stopped)
     (sym c.in_err-append_line.ensures.same) c.self.invariant.0)
 
@@ -26,7 +26,7 @@ returns-clause-journal g c = holds_journal _ _ _ _ _ (invariant_of-self-2 g c).0
 pub returns-clause-noted : goal.returns-clause-noted
 returns-clause-noted g c =
     let h = c.self.invariant.0 in
-    let settled = g.D.Device.written c.self.inside.settled.value in
-    noted_view _ _ (whole_lines (settled ++ c.append_line.new.bytes.items)) c.args.line.now c.self.view_is
-    (ap (λ (w : List ℕ). whole_lines (settled ++ w)) c.in_ok-append_line.ensures.added
-    ∙ noted_last settled c.self.inside.waiting.items c.args.line.now h.whole h.waits c.requires)
+    let durable = g.D.Device.written c.self.inside.durable.value in
+    noted_view _ _ (whole_lines (durable ++ c.append_line.new.bytes.items)) c.args.line.now c.self.view_is
+    (ap (λ (w : List ℕ). whole_lines (durable ++ w)) c.in_ok-append_line.ensures.added
+    ∙ noted_last durable c.self.inside.waiting.items c.args.line.now h.whole h.waits c.requires)

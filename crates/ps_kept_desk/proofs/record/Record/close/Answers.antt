@@ -30,6 +30,6 @@ returns-clause-told g c =
     let h : List Entries = g.L.Named.opening in
     let told : List (List Note) = c.args.told.now in
     let whole = c.close_at-sheet.ensures.end
-    ∙ ap (history_of h) (sym c.finish-settled.ensures.seen ∙ sym (ap (λ (w : RecordView). w.seen) c.self-2.view_is)) in
+    ∙ ap (history_of h) (sym c.finish-synced.ensures.seen ∙ sym (ap (λ (w : RecordView). w.seen) c.self-2.view_is)) in
     ends_kept _ h v c.self-2.invariant.1 c.close_at-sheet.result.history told whole
     (subst (λ (w : RecordView). All (λ list. IsPrefix list w.kept) told) (sym c.self-2.view_is) c.audit.ensures)

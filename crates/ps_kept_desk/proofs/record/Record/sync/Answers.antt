@@ -3,8 +3,8 @@ use Rattle.ps_delta.specs.Deltas.{Entries}
 use Rattle.ps_face.specs.Legal.{history_of}
 use Rattle.ps_face.specs.declared.patch.Note.{Note}
 use Rattle.ps_kept_desk.specs.Records.{IsRecord, RecordView}
-use Rattle.ps_kept_desk.proofs.RecordLemmas.{settled}
-use Rattle.ps_kept_desk.proofs.record.Record.settle.Goals as goal
+use Rattle.ps_kept_desk.proofs.RecordLemmas.{synced}
+use Rattle.ps_kept_desk.proofs.record.Record.sync.Goals as goal
 
 pub invariant_of-self : goal.invariant_of-self
 invariant_of-self g c =
@@ -20,8 +20,8 @@ invariant_of-self g c =
     let calm = ap (λ (w : RecordView). w.journal.has_failed) c.self.view_is ∙ c.requires.open in (
       c.in-Ok.ensures.failed ∙ sym calm ∙ c.self.invariant.0,
       subst
-          (λ (l : List Note). IsRecord g.L.DeskName.replica h (record v { journal = c.settle.new.self; kept = l }))
+          (λ (l : List Note). IsRecord g.L.DeskName.replica h (record v { journal = c.sync.new.self; kept = l }))
           (sym c.again.ensures)
-          (settled _ h v c.self.invariant.1 c.settle.new.self all c.in-Ok.ensures.acknowledged c.in-Ok.ensures.lines
-          c.settle.ensures.journal),
+          (synced _ h v c.self.invariant.1 c.sync.new.self all c.in-Ok.ensures.acknowledged c.in-Ok.ensures.lines
+          c.sync.ensures.journal),
     )

@@ -6,8 +6,8 @@ use Rattle.ps_kept.specs.Kept.{IsKept, IsNoted, Notes}
 use Rattle.ps_kept.proofs.StartLemmas.{length-map}
 use Rattle.ps_kept.proofs.KeeperLemmas.{kept_all, kept_outlives, lines_within, noted_again, noted_all, noted_part}
 use Rattle.ps_kept.proofs.KeeperLemmas.{noting_outlives, ok_fits, on_ok, told_all}
-use Rattle.ps_kept.proofs.keeper.SheetKeeperKeeperSheet.settle.Goals as goal
-use Rattle.ps_kept.proofs.keeper.SheetKeeperKeeperSheet.settle.Goals.{After-settle}
+use Rattle.ps_kept.proofs.keeper.SheetKeeperKeeperSheet.sync.Goals as goal
+use Rattle.ps_kept.proofs.keeper.SheetKeeperKeeperSheet.sync.Goals.{After-sync}
 
 pub note_later-requires : goal.note_later-requires
 note_later-requires g c =
@@ -17,7 +17,7 @@ note_later-requires g c =
     record { within = omega (arith, within, count, ap length c.history.ensures.history) }
 
 -- all of the history is noted
-all : (g : _) (c : After-settle g)
+all : (g : _) (c : After-sync g)
     → Notes c.args.self.now (later c.args.self.now.lines c.args.board.now.history) c.note_later.new.self
 all g c =
     subst (λ h. Notes c.args.self.now (later c.args.self.now.lines h) c.note_later.new.self) c.history.ensures.history
@@ -27,19 +27,19 @@ pub returns-in-Ok-clause-covered : goal.returns-in-Ok-clause-covered
 returns-in-Ok-clause-covered g c =
     let sheet = c.args.board.now in
     let told = told_all sheet.replica sheet.history c.args.self.now c.requires.fits.0 c.note_later.new.self (all g c) in
-    on_ok c.settle.result _ (IsKept sheet.replica sheet.history c.settle.new.self)
-    (λ same. kept_all sheet.replica sheet.history c.note_later.new.self c.settle.new.self c.settle.ensures.journal (same
+    on_ok c.sync.result _ (IsKept sheet.replica sheet.history c.sync.new.self)
+    (λ same. kept_all sheet.replica sheet.history c.note_later.new.self c.sync.new.self c.sync.ensures.journal (same
     ∙ ap (λ j. j.lines) c.self.view_is) told)
-    c.settle.ensures.acknowledged
+    c.sync.ensures.acknowledged
 
 pub returns-in-Ok-clause-fits : goal.returns-in-Ok-clause-fits
 returns-in-Ok-clause-fits g c =
     let sheet = c.args.board.now in
     let told = told_all sheet.replica sheet.history c.args.self.now c.requires.fits.0 c.note_later.new.self (all g c) in
-    ok_fits c.settle.result c.settle.new.self.has_failed (IsNoted sheet.replica sheet.history c.settle.new.self)
-    c.settle.ensures.failed
-    (noted_again sheet.replica sheet.history c.note_later.new.self c.settle.new.self c.settle.ensures.journal
-    (c.settle.ensures.lines ∙ ap (λ j. j.lines) c.self.view_is) told)
+    ok_fits c.sync.result c.sync.new.self.has_failed (IsNoted sheet.replica sheet.history c.sync.new.self)
+    c.sync.ensures.failed
+    (noted_again sheet.replica sheet.history c.note_later.new.self c.sync.new.self c.sync.ensures.journal
+    (c.sync.ensures.lines ∙ ap (λ j. j.lines) c.self.view_is) told)
 
 pub returns-in-Ok-clause-any_moment : goal.returns-in-Ok-clause-any_moment
 returns-in-Ok-clause-any_moment g c =
@@ -47,9 +47,9 @@ returns-in-Ok-clause-any_moment g c =
     let old = c.args.self.now in
     let mid = c.note_later.new.self in
     let noted = noted_all sheet.replica sheet.history old c.requires.fits.0 mid (all g c) in
-    let survives = subst (λ j. SurvivesCrashes c.settle.new.self.written j.synced j.kept j.lines) c.self.view_is
-    c.settle.ensures.any_moment in
-    λ kept is fresh. kept_outlives sheet.replica sheet.history kept old mid c.settle.new.self.written is noted
+    let survives = subst (λ j. SurvivesCrashes c.sync.new.self.written j.synced j.kept j.lines) c.self.view_is
+    c.sync.ensures.any_moment in
+    λ kept is fresh. kept_outlives sheet.replica sheet.history kept old mid c.sync.new.self.written is noted
     (ap (λ j. j.kept) (all g c).lines) (ap (λ j. j.synced) (all g c).lines) fresh survives
 
 pub returns-in-Err-clause-any_moment : goal.returns-in-Err-clause-any_moment

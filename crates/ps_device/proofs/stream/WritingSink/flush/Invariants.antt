@@ -1,6 +1,6 @@
 use Rattle.std.proofs.Common.{◌≡◌}
 use Rattle.std.specs.Io.KnownBytes.{Keeps}
-use Rattle.ps_device.proofs.stream.WritingSink.settle.Given as goal
+use Rattle.ps_device.proofs.stream.WritingSink.flush.Given as goal
 
 -- the interrupted flushes wrote nothing and are no failures
 abbrev pub invariant-loop-self : goal.invariant-loop-self

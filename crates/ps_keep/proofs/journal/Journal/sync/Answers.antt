@@ -5,7 +5,7 @@ use Rattle.ps_keep.specs.Journals.{IsJournal, JournalView}
 use Rattle.ps_keep.proofs.CrashLemmas.{journal_survives}
 use Rattle.ps_keep.proofs.JournalLemmas.{all_holds, appended_holds, appended_moment, holds_journal, holds_moment}
 use Rattle.ps_keep.proofs.JournalLemmas.{part_holds}
-use Rattle.ps_keep.proofs.journal.Journal.settle.Goals as goal
+use Rattle.ps_keep.proofs.journal.Journal.sync.Goals as goal
 
 pub returns-then-self-clause-journal : goal.returns-then-self-clause-journal
 returns-then-self-clause-journal g c = subst IsJournal c.self.view_is (holds_journal _ _ _ _ _ c.self.invariant.0)
