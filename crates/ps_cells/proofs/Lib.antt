@@ -10,7 +10,6 @@ pub mod EmptyCells
 pub mod FirstValues
 pub mod FlagTables
 pub mod FoundLevels
-pub mod HeldCells
 pub mod IdleChanges
 pub mod LevelSteps
 pub mod ListedCells
@@ -27,6 +26,7 @@ pub mod SetsAsNumbers
 pub mod SettledChanges
 pub mod SettledExists
 pub mod SettledValues
+pub mod StagedOrWhole
 pub mod TakenIn
 pub mod UnmetCircles
 pub mod WalkEnds

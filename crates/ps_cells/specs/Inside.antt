@@ -3,10 +3,10 @@ pub mod Alone
 pub mod Bounded
 pub mod BoundedLaws
 pub mod Formulas
-pub mod Held
 pub mod Kept
 pub mod Pending
 pub mod Screens
 pub mod Steps
+pub mod Views
 pub mod Waiting
 pub mod Walk

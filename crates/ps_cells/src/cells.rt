@@ -42,7 +42,7 @@ impl Model for Cells {
 
     ghost coded = { cells_code };
 
-    ghost use Rattle.ps_cells.specs.Inside.Held.{view_of, AreCells};
+    ghost use Rattle.ps_cells.specs.Inside.Views.{view_of, AreCells};
 
     ghost view = { view_of };
 

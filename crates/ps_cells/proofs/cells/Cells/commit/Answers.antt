@@ -2,8 +2,8 @@ use Rattle.std.proofs.Common.{◌≡◌, Some, sym, ap, ◌∙◌}
 use Rattle.std.specs.Option.{option_map}
 use Rattle.ps_delta.specs.State.{state_at}
 use Rattle.ps_delta.specs.Deltas.{overlaid}
-use Rattle.ps_cells.specs.Inside.Held.{staged_of}
-use Rattle.ps_cells.proofs.HeldCells.{pending_held}
+use Rattle.ps_cells.specs.Inside.Views.{staged_of}
+use Rattle.ps_cells.proofs.StagedOrWhole.{staged_is_pending}
 use Rattle.ps_cells.proofs.cells.Cells.commit.Goals as goal
 
 pub leave-requires : goal.leave-requires
@@ -12,4 +12,4 @@ leave-requires c =
     let s = overlaid (state_at x.tables.grid) c.in-Some.olds.items in
     let is : staged_of x ≡ Some c.in-Some.olds.items =
     ap (option_map (λ es. es.items)) (sym c.replace.ensures.value ∙ c.in-Some.is) in
-    record { pending = (s, pending_held x c.in-Some.olds.items is c.self.invariant) }
+    record { pending = (s, staged_is_pending x c.in-Some.olds.items is c.self.invariant) }

@@ -1,6 +1,6 @@
-use Rattle.ps_cells.proofs.HeldCells.{whole_held}
+use Rattle.ps_cells.proofs.StagedOrWhole.{unstaged_is_whole}
 use Rattle.ps_cells.proofs.cells.Cells.stage.Goals as goal
 
 pub join-requires-clause-whole : goal.join-requires-clause-whole
 join-requires-clause-whole g c κs within =
-    whole_held c.self.inside c.args.self.now c.self.view_is c.requires.none c.self.invariant
+    unstaged_is_whole c.self.inside c.args.self.now c.self.view_is c.requires.none c.self.invariant
