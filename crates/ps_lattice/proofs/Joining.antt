@@ -1,5 +1,6 @@
 -- What a merged list is seen as, and that it is in range.
-use Rattle.std.proofs.Common.{◌≡◌, Bool, true, ◌&&◌, List, sym, ap, ◌∙◌}
+use Rattle.std.proofs.Common.{◌≡◌, Bool, true, ◌&&◌, List, [], ◌∷◌, refl, sym, ap, ◌∙◌}
+use Rattle.std.specs.declared.cmp.Ordering.TheVariants.{Equal}
 use Rattle.std.proofs.lemmas.List.Sums.{AllPass-from_list_all, list_all-from_AllPass}
 use Rattle.std.specs.List.{list_all}
 use Rattle.std.specs.declared.cmp.Ordering.{Ordering}
@@ -10,7 +11,7 @@ use Rattle.ps_lattice.specs.Maps.{joined_maps}
 use Rattle.ps_lattice.specs.MapLaws.{IsJoin, maps_commutative}
 use Rattle.ps_lattice.proofs.Rising.{and_left, and_right, and_both}
 use Rattle.ps_lattice.proofs.Views.{entries_of, from_entries_of, entries_rise}
-use Rattle.ps_lattice.proofs.Merging.{merged, All-merged, entries-joined}
+use Rattle.ps_lattice.proofs.Merging.{merged, merged_equal, All-merged, entries-joined}
 
 module _ {K X : Type 0} (R : K → K → Ordering) (f : X → X → X) (xs ys zs : List (K × X))
     (is : zs ≡ map.entries (joined_maps f (map.from_sorted {R = R} xs) (map.from_sorted {R = R} ys))) where
@@ -53,3 +54,13 @@ module _ {K X : Type 0} (R : K → K → Ordering) (f : X → X → X) (xs ys : 
   entries_swapped o anti law sorted same =
       entries_of R ys sorted ∙ ap map.entries (sym same
       ∙ maps_commutative R f o anti law (map.from_sorted {R = R} ys) (map.from_sorted {R = R} xs))
+
+module _ {K X : Type 0} (R : K → K → Ordering) (f : X → X → X) where
+  -- two lists of one entry each, of one key, joined
+  pub entries_at_key : IsTotalOrder R → IsAntisymmetric R → (xs ys : List (K × X)) → (x y : K × X)
+      → xs ≡ x ∷ [] → ys ≡ y ∷ [] → R x.0 y.0 ≡ Equal
+      → (x.0, f x.1 y.1) ∷ []
+      ≡ map.entries (joined_maps f (map.from_sorted {R = R} xs) (map.from_sorted {R = R} ys))
+  entries_at_key o same xs ys x y p q tied =
+      sym (merged_equal R f x y [] [] tied) ∙ entries-joined R f o same (x ∷ []) (y ∷ []) refl refl
+      ∙ (λ i. map.entries (joined_maps f (map.from_sorted {R = R} (sym p i)) (map.from_sorted {R = R} (sym q i))))

@@ -1,22 +1,28 @@
 //! A list that any number of owners share.
 
 ghost use Rattle.std.specs.Prelude.{◌≡◌, ◌↔◌, [], ◌∷◌, IsTrue, IfOk, IfErr};
+ghost use Rattle.std.specs.Arc.{arc_value};
 ghost use Rattle.std.specs.FinMap as map;
+ghost use Rattle.std.specs.Mem.{FitsInMemory};
+ghost use Rattle.std.specs.declared.cmp.Ordering.{Ordering};
 ghost use Rattle.ps_grid.specs.declared.refusal.Refusal.{Refusal};
 ghost use Rattle.ps_lattice.specs.Maps.{joined_maps};
-ghost use Rattle.ps_lattice.specs.Inside.Shared.{items_of};
+ghost use Rattle.ps_lattice.specs.Inside.Shared.{items_of, EntryFits};
 
 use crate::entries::{self, Merge};
 use crate::join::{Join, Linear};
 use ps_grid::Refusal;
 use std::alloc::Global;
+use std::slice;
 use std::sync::Arc;
 
-/// A list that isn't changed any more, in two words. One that is empty takes no memory.
+/// A list that isn't changed any more, in two words. One that is empty takes no memory, and one item lies beside the
+/// count of the list's owners: most lists have one item at most.
 #[derive(Debug, Drop)]
 pub(crate) enum SharedList<X> {
     Empty,
-    Held(Arc<Vec<X>>),
+    One(Arc<X>),
+    Many(Arc<Vec<X>>),
 }
 
 impl<X: Drop> SharedList<X> {
@@ -29,8 +35,13 @@ impl<X: Drop> SharedList<X> {
             return Ok(SharedList::Empty);
         }
         let mut items = items;
+        if items.len() == 1 {
+            if let Some(item) = items.pop() {
+                return SharedList::of_one(alloc, item);
+            }
+        }
         items.shrink_to_fit();
-        Ok(SharedList::Held(Arc::new(alloc, items)?))
+        Ok(SharedList::Many(Arc::new(alloc, items)?))
     }
 
     /// The list of one item.
@@ -38,9 +49,7 @@ impl<X: Drop> SharedList<X> {
         ensures ok { IfOk result (λ s. items_of s ≡ item ∷ []) }
         ensures memory { IfErr result (λ e. e ≡ Refusal.Memory) }
     {
-        let mut items = Vec::with_capacity(alloc, 1)?;
-        items.push(item)?;
-        SharedList::new(alloc, items)
+        Ok(SharedList::One(Arc::new(alloc, item)?))
     }
 
     /// The list, with one owner more.
@@ -51,30 +60,34 @@ impl<X: Drop> SharedList<X> {
     {
         match self {
             SharedList::Empty => Ok(SharedList::Empty),
-            SharedList::Held(items) => Ok(SharedList::Held(items.clone()?)),
+            SharedList::One(item) => Ok(SharedList::One(item.clone()?)),
+            SharedList::Many(items) => Ok(SharedList::Many(items.clone()?)),
         }
     }
 
     /// The items.
     pub(crate) fn items(&self) -> &[X]
+        requires fits { FitsInMemory X.row }
         ensures { result.now ≡ items_of self.now }
     {
         match self {
             SharedList::Empty => &[],
-            SharedList::Held(items) => items,
+            SharedList::One(item) => slice::from_ref(item),
+            SharedList::Many(items) => items,
         }
     }
 }
 
 /// Both lists merged in the order of their keys; values at one key are joined. Where the one changes nothing in the
 /// other, that other one gets an owner more, and nothing is copied.
-// Most lists are empty. That is told here, inlined, and what merges isn't.
+// Most lists are empty. That is told here, inlined, and what joins two that aren't isn't.
 #[inline(always)]
 pub(crate) fn joined<K: Linear + Copy, X: Merge + Copy>(
     alloc: Global,
     mine: &SharedList<(K, X)>,
     theirs: &SharedList<(K, X)>,
 ) -> Result<SharedList<(K, X)>, Refusal>
+    requires fits { EntryFits K.row X.row }
     requires mine { IsTrue (map.is_sorted K.cmp (items_of mine.now)) }
     requires theirs { IsTrue (map.is_sorted K.cmp (items_of theirs.now)) }
     ensures ok { IfOk result (λ v. items_of v
@@ -85,8 +98,53 @@ pub(crate) fn joined<K: Linear + Copy, X: Merge + Copy>(
     match (mine, theirs) {
         (_, SharedList::Empty) => mine.share(),
         (SharedList::Empty, _) => theirs.share(),
+        _ => joined_filled(alloc, mine, theirs),
+    }
+}
+
+/// Both lists joined, as by `joined`, at once where each has one entry and both are of one key.
+#[inline(never)]
+fn joined_filled<K: Linear + Copy, X: Merge + Copy>(
+    alloc: Global,
+    mine: &SharedList<(K, X)>,
+    theirs: &SharedList<(K, X)>,
+) -> Result<SharedList<(K, X)>, Refusal>
+    requires fits { EntryFits K.row X.row }
+    requires mine { IsTrue (map.is_sorted K.cmp (items_of mine.now)) }
+    requires theirs { IsTrue (map.is_sorted K.cmp (items_of theirs.now)) }
+    ensures ok { IfOk result (λ v. items_of v
+        ≡ map.entries (joined_maps X.joined (map.from_sorted {R = K.cmp} (items_of mine.now))
+        (map.from_sorted {R = K.cmp} (items_of theirs.now)))) }
+    ensures memory { IfErr result (λ e. e ≡ Refusal.Memory) }
+{
+    match (mine, theirs) {
+        (SharedList::One(my), SharedList::One(their)) if my.0.cmp(&their.0).is_eq() => {
+            joined_at_key(alloc, my, their)
+        }
         _ => merged(alloc, mine, theirs),
     }
+}
+
+/// The list of two entries of one key joined: one of the two with an owner more, where it is that already.
+#[inline]
+fn joined_at_key<K: Linear + Copy, X: Merge + Copy>(
+    alloc: Global,
+    mine: &Arc<(K, X)>,
+    theirs: &Arc<(K, X)>,
+) -> Result<SharedList<(K, X)>, Refusal>
+    requires { K.cmp (arc_value mine.now).0 (arc_value theirs.now).0 ≡ Ordering.Equal }
+    ensures ok { IfOk result (λ v. items_of v
+        ≡ ((arc_value mine.now).0, X.joined (arc_value mine.now).1 (arc_value theirs.now).1) ∷ []) }
+    ensures memory { IfErr result (λ e. e ≡ Refusal.Memory) }
+{
+    if theirs.1.below(&mine.1) {
+        return Ok(SharedList::One(mine.clone()?));
+    }
+    if mine.1.below(&theirs.1) {
+        return Ok(SharedList::One(theirs.clone()?));
+    }
+    let both = mine.1.joined_with(alloc, &theirs.1)?;
+    SharedList::of_one(alloc, (mine.0, both))
 }
 
 /// Both lists merged, as by `joined`.
@@ -96,6 +154,7 @@ fn merged<K: Linear + Copy, X: Merge + Copy>(
     mine: &SharedList<(K, X)>,
     theirs: &SharedList<(K, X)>,
 ) -> Result<SharedList<(K, X)>, Refusal>
+    requires fits { EntryFits K.row X.row }
     requires mine { IsTrue (map.is_sorted K.cmp (items_of mine.now)) }
     requires theirs { IsTrue (map.is_sorted K.cmp (items_of theirs.now)) }
     ensures ok { IfOk result (λ v. items_of v
@@ -119,6 +178,7 @@ pub(crate) fn is_below<K: Linear + Copy, X: Join + Copy>(
     mine: &SharedList<(K, X)>,
     theirs: &SharedList<(K, X)>,
 ) -> bool
+    requires fits { EntryFits K.row X.row }
     requires mine { IsTrue (map.is_sorted K.cmp (items_of mine.now)) }
     requires theirs { IsTrue (map.is_sorted K.cmp (items_of theirs.now)) }
     ensures { IsTrue result
@@ -127,6 +187,6 @@ pub(crate) fn is_below<K: Linear + Copy, X: Join + Copy>(
 {
     match mine {
         SharedList::Empty => true,
-        SharedList::Held(items) => entries::is_below(items, theirs.items()),
+        _ => entries::is_below(mine.items(), theirs.items()),
     }
 }

@@ -173,7 +173,7 @@ impl Tally {
         ensures only { IfErr result (λ e. Contains (Refusal.Amount ∷ Refusal.TallyFull ∷ Refusal.Memory ∷ []) e) }
     {
         let count = Count {
-            added: raised_by(self.count_of(replica).added, amount)?,
+            added: count_after(self.count_of(replica).added, amount)?,
             subtracted: 0,
         };
         Tally::of_one(alloc, replica, count)
@@ -199,7 +199,7 @@ impl Tally {
     {
         let count = Count {
             added: 0,
-            subtracted: raised_by(self.count_of(replica).subtracted, amount)?,
+            subtracted: count_after(self.count_of(replica).subtracted, amount)?,
         };
         Tally::of_one(alloc, replica, count)
     }
@@ -229,8 +229,8 @@ impl Tally {
     }
 }
 
-/// What a replica added or subtracted in all, raised by an amount; refused as `add` and `sub` are.
-fn raised_by(before: u64, amount: u64) -> Result<u64, Refusal>
+/// What a replica added or subtracted in all, once it is an amount more; refused as `add` and `sub` are.
+fn count_after(before: u64, amount: u64) -> Result<u64, Refusal>
     requires { before ≤ COUNT_LIMIT }
     ensures ok { IfOk result (λ n. (n ≡ before + amount) × (n ≤ COUNT_LIMIT) × (1 ≤ amount)) }
     ensures amount { IsErrOf result Refusal.Amount ↔ IsTrue (not (is_amount amount)) }
