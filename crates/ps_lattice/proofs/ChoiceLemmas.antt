@@ -13,7 +13,7 @@ use Rattle.std.specs.FinMap.Entries.{below_all}
 use Rattle.ps_lattice.specs.declared.choice.Pair.{Pair}
 use Rattle.ps_lattice.specs.declared.limits.TheConstants.{OPTIONS, SEQUENCES}
 use Rattle.ps_lattice.specs.Limits.{is_replica}
-use Rattle.ps_lattice.specs.Maps.{both_of, raised}
+use Rattle.ps_lattice.specs.Maps.{both_of, joined_with_held}
 use Rattle.ps_lattice.specs.MapLaws.{get-joined_maps}
 use Rattle.ps_lattice.specs.Choice.{Pairs, pair_cmp, pair_of, is_added, is_removed, is_live, is_chosen, is_choice}
 use Rattle.ps_lattice.specs.Choice.{joined_choices, greatest, last_of, last_sequence, with_pair, withdrawn, is_pair}
@@ -102,7 +102,7 @@ pub joined-with_pair : (c : Pairs) (o r : ℕ)
     → joined_choices c (with_pair map.empty o r (last_sequence c r + 1)) ≡ with_pair c o r (last_sequence c r + 1)
 joined-with_pair c o r =
     joined-one pair_cmp pairs_total pairs_apart ◌||◌ c (pair_of o r (last_sequence c r + 1)) false
-    ∙ ap (λ (a : Option Bool). map.insert c (pair_of o r (last_sequence c r + 1)) (raised ◌||◌ a false))
+    ∙ ap (λ (a : Option Bool). map.insert c (pair_of o r (last_sequence c r + 1)) (joined_with_held ◌||◌ a false))
     (unused_pair c o r)
 
 -- that wasn't there

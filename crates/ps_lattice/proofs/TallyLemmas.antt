@@ -16,7 +16,7 @@ use Rattle.std.proofs.Common.{lit≤}
 use Rattle.ps_lattice.specs.declared.tally.Count.{Count}
 use Rattle.ps_grid.specs.declared.parties.TheConstants.{REPLICAS}
 use Rattle.ps_lattice.specs.declared.limits.TheConstants.{COUNT_LIMIT}
-use Rattle.ps_lattice.specs.Maps.{raised}
+use Rattle.ps_lattice.specs.Maps.{joined_with_held}
 use Rattle.ps_lattice.specs.Tally.{Counts, added, subtracted, greater_counts, joined_tallies, with_counts, counts_of}
 use Rattle.ps_lattice.specs.Tally.{is_count, is_tally}
 use Rattle.ps_lattice.proofs.Joining.{in_range_joined}
@@ -24,28 +24,28 @@ use Rattle.ps_lattice.proofs.Rising.{and_left, and_right, and_both, sorted_head,
 use Rattle.ps_lattice.proofs.Views.{joined-one, get_set}
 
 -- one of two counts that isn't changed
-raised_added : (o : Option Count) (k : ℕ)
-    → raised greater_counts o (record { added = option_map_or (λ c. c.added) o 0 + k; subtracted = 0 })
+joined_added : (o : Option Count) (k : ℕ)
+    → joined_with_held greater_counts o (record { added = option_map_or (λ c. c.added) o 0 + k; subtracted = 0 })
     ≡ record { added = option_map_or (λ c. c.added) o 0 + k; subtracted = option_map_or (λ c. c.subtracted) o 0 }
-raised_added None k = refl
-raised_added (Some c) k =
+joined_added None k = refl
+joined_added (Some c) k =
     let first : max c.added (c.added + k) ≡ c.added + k = omega arith in
     let second : max c.subtracted 0 ≡ c.subtracted = omega arith in
     λ i. record { added = first i; subtracted = second i }
 
-raised_subtracted : (o : Option Count) (k : ℕ)
-    → raised greater_counts o (record { added = 0; subtracted = option_map_or (λ c. c.subtracted) o 0 + k })
+joined_subtracted : (o : Option Count) (k : ℕ)
+    → joined_with_held greater_counts o (record { added = 0; subtracted = option_map_or (λ c. c.subtracted) o 0 + k })
     ≡ record { added = option_map_or (λ c. c.added) o 0; subtracted = option_map_or (λ c. c.subtracted) o 0 + k }
-raised_subtracted None k = refl
-raised_subtracted (Some c) k =
+joined_subtracted None k = refl
+joined_subtracted (Some c) k =
     let first : max c.added 0 ≡ c.added = omega arith in
     let second : max c.subtracted (c.subtracted + k) ≡ c.subtracted + k = omega arith in
     λ i. record { added = first i; subtracted = second i }
 
 -- so a delta of one replica's counts sets both
-raised_by_one : (t d : Counts) (r : ℕ) (one both : Count) → d ≡ map.insert map.empty r one
-    → raised greater_counts (map.get t r) one ≡ both → joined_tallies t d ≡ map.insert t r both
-raised_by_one t d r one both is raises =
+joined_by_one : (t d : Counts) (r : ℕ) (one both : Count) → d ≡ map.insert map.empty r one
+    → joined_with_held greater_counts (map.get t r) one ≡ both → joined_tallies t d ≡ map.insert t r both
+joined_by_one t d r one both is raises =
     ap (joined_tallies t) is
     ∙ joined-one nat_cmp nat_cmp_total nat_cmp-IsAntisymmetric greater_counts t r one
     ∙ ap (map.insert t r) raises
@@ -53,12 +53,12 @@ raised_by_one t d r one both is raises =
 -- what is added raises the replica's P alone
 pub add_raises : (t : Counts) (r k : ℕ) (d : Counts) → d ≡ counts_of r (added t r + k) 0
     → joined_tallies t d ≡ with_counts t r (added t r + k) (subtracted t r)
-add_raises t r k d is = raised_by_one t d r _ _ is (raised_added (map.get t r) k)
+add_raises t r k d is = joined_by_one t d r _ _ is (joined_added (map.get t r) k)
 
 -- what is subtracted raises its N alone
 pub sub_raises : (t : Counts) (r k : ℕ) (d : Counts) → d ≡ counts_of r 0 (subtracted t r + k)
     → joined_tallies t d ≡ with_counts t r (added t r) (subtracted t r + k)
-sub_raises t r k d is = raised_by_one t d r _ _ is (raised_subtracted (map.get t r) k)
+sub_raises t r k d is = joined_by_one t d r _ _ is (joined_subtracted (map.get t r) k)
 
 -- one of a replica's two counts
 module _ (part : Count → ℕ) where

@@ -9,7 +9,7 @@ use borrow.Author.Tests.{eqb-true}
 use Rattle.std.specs.FinMap as map
 use Rattle.std.specs.FinMap.{IsAntisymmetric, same_map, same_entries_map, entries_sorted, entries-from_sorted}
 use Rattle.std.specs.FinMap.{get-from_sorted, get-empty, get-insert, get_tied, len-entries, empty_of_len, len-empty}
-use Rattle.ps_lattice.specs.Maps.{both_of, raised, joined_maps}
+use Rattle.ps_lattice.specs.Maps.{both_of, joined_with_held, joined_maps}
 use Rattle.ps_lattice.specs.MapLaws.{get-joined_maps}
 use Rattle.ps_lattice.proofs.Rising.{and_left, to_T, from_T}
 
@@ -61,28 +61,30 @@ module _ {K X : Type 0} (R : K → K → Ordering) (o : IsTotalOrder R) (same : 
   )
 
   one_joined : (f : X → X → X) (m : map.FinMap R X) (k : K) (x : X) (q : K) (b : Bool) → eq_by_cmp R q k ≡ b
-      → both_of f (map.get m q) (cond b (Some x) None) ≡ cond b (Some (raised f (map.get m k) x)) (map.get m q)
+      → both_of f (map.get m q) (cond b (Some x) None)
+      ≡ cond b (Some (joined_with_held f (map.get m k) x)) (map.get m q)
   one_joined f m k x q true t =
-      some_raised (map.get m q) ∙ ap (λ a. Some (raised f a x)) (sym (get_tied o m q k ((Equal-is (R q k)).0 t)))
+      some_joined (map.get m q)
+      ∙ ap (λ a. Some (joined_with_held f a x)) (sym (get_tied o m q k ((Equal-is (R q k)).0 t)))
     where
-      some_raised : (a : Option X) → both_of f a (Some x) ≡ Some (raised f a x)
-      some_raised None = refl
-      some_raised (Some y) = refl
+      some_joined : (a : Option X) → both_of f a (Some x) ≡ Some (joined_with_held f a x)
+      some_joined None = refl
+      some_joined (Some y) = refl
   one_joined f m k x q false t = unchanged (map.get m q)
     where
       unchanged : (a : Option X) → both_of f a None ≡ a
       unchanged None = refl
       unchanged (Some y) = refl
 
-  -- joining one entry in raises what its key holds
+  -- joining one entry in joins its value with what its key holds
   pub joined-one : (f : X → X → X) (m : map.FinMap R X) (k : K) (x : X)
-      → joined_maps f m (map.insert map.empty k x) ≡ map.insert m k (raised f (map.get m k) x)
+      → joined_maps f m (map.insert map.empty k x) ≡ map.insert m k (joined_with_held f (map.get m k) x)
   joined-one f m k x = same_map o same _ _ (λ q.
       get-joined_maps R f o m (map.insert map.empty k x) q
       ∙ ap (both_of f (map.get m q)) (get-insert o map.empty k x q
       ∙ ap (cond (eq_by_cmp R q k) (Some x)) (get-empty R q))
       ∙ one_joined f m k x q (eq_by_cmp R q k) refl
-      ∙ sym (get-insert o m k (raised f (map.get m k) x) q))
+      ∙ sym (get-insert o m k (joined_with_held f (map.get m k) x) q))
 
   -- what a key holds once it is set
   pub get_set : (m : map.FinMap R X) (k : K) (x : X) → map.get (map.insert m k x) k ≡ Some x

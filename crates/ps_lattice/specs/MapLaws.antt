@@ -6,7 +6,7 @@ use Rattle.std.specs.Cmp.{IsTotalOrder, Equal-is}
 use Rattle.std.specs.FinMap as map
 use Rattle.std.specs.FinMap.{IsAntisymmetric, get-insert, get_tied, get-entries, same_map, find}
 use Rattle.std.proofs.Common.{refl, sym, ap, ◌∙◌}
-use Rattle.ps_lattice.specs.Maps.{both_of, raised, with_entries, joined_maps}
+use Rattle.ps_lattice.specs.Maps.{both_of, joined_with_held, with_entries, joined_maps}
 
 -- a way to join values
 pub record IsJoin {X : Type 0} (f : X → X → X) : Type 0 where
@@ -39,7 +39,8 @@ module _ {X : Type 0} {f : X → X → X} (law : IsJoin f) where
         both_of_idempotent;
   }
 
-both_of-Some : {X : Type 0} (f : X → X → X) (a : Option X) (x : X) → Some (raised f a x) ≡ both_of f a (Some x)
+both_of-Some : {X : Type 0} (f : X → X → X) (a : Option X) (x : X)
+    → Some (joined_with_held f a x) ≡ both_of f a (Some x)
 both_of-Some f None x = refl
 both_of-Some f (Some w) x = refl
 
@@ -50,17 +51,18 @@ both_of-None f (Some w) = refl
 module _ {K X : Type 0} (R : K → K → Ordering) (f : X → X → X) (o : IsTotalOrder R) where
   at_entry : (m n : map.FinMap R X) (e : K × X) (rest : Option X) (q : K) → map.get n q ≡ both_of f (map.get m q) rest
       → (tied : Bool) → eq_by_cmp R q e.0 ≡ tied
-      → cond tied (Some (raised f (map.get m e.0) e.1)) (map.get n q)
+      → cond tied (Some (joined_with_held f (map.get m e.0) e.1)) (map.get n q)
       ≡ both_of f (map.get m q) (cond tied (Some e.1) rest)
   at_entry m n e rest q before true t =
-      ap (λ a. Some (raised f a e.1)) (get_tied o m q e.0 ((Equal-is (R q e.0)).0 t)) ∙ both_of-Some f (map.get m q) e.1
+      ap (λ a. Some (joined_with_held f a e.1)) (get_tied o m q e.0 ((Equal-is (R q e.0)).0 t))
+      ∙ both_of-Some f (map.get m q) e.1
   at_entry m n e rest q before false t = before
 
   get-with_entries : (m : map.FinMap R X) (es : List (K × X)) (q : K)
       → map.get (with_entries f m es) q ≡ both_of f (map.get m q) (find R q es)
   get-with_entries m [] q = both_of-None f (map.get m q)
   get-with_entries m (e ∷ es) q =
-      get-insert o (with_entries f m es) e.0 (raised f (map.get m e.0) e.1) q
+      get-insert o (with_entries f m es) e.0 (joined_with_held f (map.get m e.0) e.1) q
       ∙ at_entry m (with_entries f m es) e (find R q es) q (get-with_entries m es q) (eq_by_cmp R q e.0) refl
 
   -- what a key holds in the join

@@ -9,16 +9,16 @@ both_of f None y = y
 both_of f (Some x) None = Some x
 both_of f (Some x) (Some y) = Some (f x y)
 
--- a value raised by what may be missing
-abbrev pub raised : {X : Type 0} → (X → X → X) → Option X → X → X
-raised f None y = y
-raised f (Some x) y = f x y
+-- a value joined with what a map holds at its key, which may be missing
+abbrev pub joined_with_held : {X : Type 0} → (X → X → X) → Option X → X → X
+joined_with_held f None y = y
+joined_with_held f (Some x) y = f x y
 
--- m with each entry of the list joined in: its key holds its value raised by what m holds there
+-- m with each entry of the list joined in: its key holds its value joined with what m holds there
 abbrev pub with_entries : {K X : Type 0} {R : K → K → Ordering} → (X → X → X) → map.FinMap R X → List (K × X)
     → map.FinMap R X
 with_entries f m [] = m
-with_entries f m (e ∷ es) = map.insert (with_entries f m es) e.0 (raised f (map.get m e.0) e.1)
+with_entries f m (e ∷ es) = map.insert (with_entries f m es) e.0 (joined_with_held f (map.get m e.0) e.1)
 
 -- two maps joined: each key holds what both hold there, joined
 unfoldable pub joined_maps : {K X : Type 0} {R : K → K → Ordering} → (X → X → X) → map.FinMap R X → map.FinMap R X

@@ -16,8 +16,8 @@ use std::alloc::Global;
 use std::slice;
 use std::sync::Arc;
 
-/// A list that isn't changed any more, in two words. One that is empty takes no memory, and one item lies beside the
-/// count of the list's owners: most lists have one item at most.
+/// A list that isn't changed any more, in two words. One that is empty takes no memory, and a lone item lies beside
+/// the count of the owners: most lists have one item at most.
 #[derive(Debug, Drop)]
 pub(crate) enum SharedList<X> {
     Empty,

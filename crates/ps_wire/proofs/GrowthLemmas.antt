@@ -16,7 +16,7 @@ use Rattle.std.specs.FinMap as maps
 use Rattle.std.specs.FinMap.{entries_sorted, entries-insert, get-entries, get-insert}
 use Rattle.std.specs.FinMap.Entries.{below_all, by_order}
 use Rattle.serde_json.specs.Data.{Data, null, string}
-use Rattle.ps_lattice.specs.Maps.{joined_maps, raised, with_entries}
+use Rattle.ps_lattice.specs.Maps.{joined_maps, joined_with_held, with_entries}
 use Rattle.ps_lattice.specs.Choice.{pair_cmp}
 use Rattle.ps_lattice.specs.ChoiceLaws.{pairs_total}
 use Rattle.ps_lattice.specs.Tally.{greater_counts}
@@ -171,23 +171,23 @@ module _ {K X : Type 0} (R : K → K → Ordering) (o : IsTotalOrder R) (w : K �
         → maps.get (with_entries f m es) q ≡ maps.get m q
     untouched m [] q below = refl
     untouched m (e ∷ es) q below =
-        get-insert o (with_entries f m es) e.0 (raised f (maps.get m e.0) e.1) q
-        ∙ ap (λ r. cond (is_eq r) (Some (raised f (maps.get m e.0) e.1)) (maps.get (with_entries f m es) q))
+        get-insert o (with_entries f m es) e.0 (joined_with_held f (maps.get m e.0) e.1) q
+        ∙ ap (λ r. cond (is_eq r) (Some (joined_with_held f (maps.get m e.0) e.1)) (maps.get (with_entries f m es) q))
         (is_less (R q e.0) (and_left (is_lt (R q e.0)) (below_all R q es) below))
         ∙ untouched m es q (and_right (is_lt (R q e.0)) (below_all R q es) below)
 
-    raised_more : (a : Option X) (q : K) (x y : X) → a ≡ Some x → w (q, x) ≤ w (q, raised f a y)
-    raised_more a q x y is = subst (λ b. w (q, x) ≤ w (q, raised f b y)) (sym is) (rises q x y)
+    held_more : (a : Option X) (q : K) (x y : X) → a ≡ Some x → w (q, x) ≤ w (q, joined_with_held f a y)
+    held_more a q x y is = subst (λ b. w (q, x) ≤ w (q, joined_with_held f b y)) (sym is) (rises q x y)
 
     with_more : (m : maps.FinMap R X) (es : List (K × X)) → maps.is_sorted R es ≡ true
         → sum_by w (maps.entries m) ≤ sum_by w (maps.entries (with_entries f m es))
     with_more m [] sorted = omega arith
     with_more m (e ∷ es) sorted =
         let before = with_entries f m es in
-        let value = raised f (maps.get m e.0) e.1 in
+        let value = joined_with_held f (maps.get m e.0) e.1 in
         let held = untouched m es e.0 (and_left (below_all R e.0 es) (maps.is_sorted R es) sorted) in
         let more = put_more e.0 value (maps.entries before)
-        (λ x found q. raised_more (maps.get m e.0) q x e.1 (sym held ∙ get-entries before e.0 ∙ found)) in
+        (λ x found q. held_more (maps.get m e.0) q x e.1 (sym held ∙ get-entries before e.0 ∙ found)) in
         let rest = with_more m es (and_right (below_all R e.0 es) (maps.is_sorted R es) sorted) in
         omega (arith, more, rest, ap (sum_by w) (entries-insert o before e.0 value))
 
