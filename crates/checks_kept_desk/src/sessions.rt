@@ -1,9 +1,9 @@
 //! Sessions at a desk that is kept, each in a thread of its own, and what they leave.
 
 use crate::desks::enter;
-use ps_desk::{Desk, DeskName, Pass, Seat, desk_crosses};
+use ps_desk::{Desk, DeskName, Pass, Seat, desk_is_sync};
 use ps_keep::Device;
-use ps_kept_desk::{DeskKeeper, Ended, KeptPlace, SeatKeeper, keeper_crosses};
+use ps_kept_desk::{DeskKeeper, Ended, KeptPlace, SeatKeeper, keeper_is_sync};
 use ps_session::Keeper;
 use std::alloc::Global;
 use std::process::Abort;
@@ -111,8 +111,8 @@ pub(crate) fn sessions<
     passes: Vec<Pass<L>>,
     job: Job<'_>,
 ) -> Vec<Left<L>> {
-    desk_crosses::<L, W>();
-    keeper_crosses::<L, D>();
+    desk_is_sync::<L, W>();
+    keeper_is_sync::<L, D>();
     let left = thread::map_vec(
         rt,
         passes,

@@ -6,7 +6,7 @@ mod published;
 
 use crate::face::published::Published;
 use ps_content::{Content, read_entry};
-use ps_face::{FaceReader, Named, Opened};
+use ps_face::{FaceReader, Named, NewBook};
 use ps_grid::{Cell, Refusal};
 use ps_sheet::{Batch, Edit};
 use ps_value::{Fault, Label, Value};
@@ -32,7 +32,7 @@ type Row = (&'static str, &'static str, [(u64, Value); 2]);
 fn go_through<L: Named, T: Abort + Threads + Wait + Sync>(
     rt: &T,
     alloc: Global,
-    opened: Opened,
+    opened: NewBook,
     rows: &[Row],
 ) -> Result<(), Refusal>
     requires book { opened ≡ L.book }
@@ -55,7 +55,7 @@ fn go_anew<T: Abort + Threads + Wait + Sync>(
     alloc: Global,
     rows: &[Row],
 ) -> Result<(), Refusal> {
-    go_through::<Brand, T>(rt, alloc, Opened::new(), rows)
+    go_through::<Brand, T>(rt, alloc, NewBook::new(), rows)
 }
 
 /// The same, a second time where memory ran out in the first one.
@@ -231,7 +231,7 @@ fn beside<'s, E, T: Abort + Threads + Wait + Sync, L: Named + Send + Sync + 's>(
 fn race<T: Abort + Threads + Wait + Sync, L: Named + Send + Sync>(
     rt: &T,
     alloc: Global,
-    opened: Opened,
+    opened: NewBook,
     one: Cell,
     other: Cell,
 ) -> bool
@@ -250,5 +250,5 @@ fn race<T: Abort + Threads + Wait + Sync, L: Named + Send + Sync>(
 #[test]
 fn reads_beside_a_writer_are_whole(rt: HostRuntime) {
     let (one, other) = (cell(&rt, "A1"), cell(&rt, "B1"));
-    assert!(rt; race::<HostRuntime, Brand>(&rt, rt.alloc(), Opened::new(), one, other));
+    assert!(rt; race::<HostRuntime, Brand>(&rt, rt.alloc(), NewBook::new(), one, other));
 }

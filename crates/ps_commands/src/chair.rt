@@ -5,9 +5,9 @@ ghost use Rattle.ps_commands.specs.Sessions.{Attended, IsAttended};
 use crate::attend::attend;
 use crate::door::Door;
 use crate::host::Hosted;
-use ps_desk::{DeskName, Pass, desk_crosses};
+use ps_desk::{DeskName, Pass, desk_is_sync};
 use ps_keep::Device;
-use ps_kept_desk::keeper_crosses;
+use ps_kept_desk::keeper_is_sync;
 use std::alloc::Global;
 use std::marker::Model;
 use std::net::{Shutdown, TcpStream};
@@ -211,8 +211,8 @@ fn begin<
     ensures { MatchResult result (λ h. h.promise.0.value ≡ pass) (λ p. IsAttended L.replica L.opening pass p) }
 {
     // for the facts that threads may share the desk and the keeper
-    desk_crosses::<L, W>();
-    keeper_crosses::<L, D>();
+    desk_is_sync::<L, W>();
+    keeper_is_sync::<L, D>();
     let desk = at.desk;
     let host = at.host;
     let promise = ComesBack(Snapshot::of(&pass));

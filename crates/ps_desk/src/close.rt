@@ -10,7 +10,7 @@ use crate::desk::Desk;
 use crate::name::DeskName;
 use crate::pass::Pass;
 use crate::place::Place;
-use ps_face::Front;
+use ps_face::BookPrefix;
 use ps_sheet::Sheet;
 use std::sync::Wait;
 use std::sync::ledger::Share;
@@ -59,7 +59,7 @@ impl<L: DeskName, W: Wait + Drop> Desk<L, W> {
 }
 
 /// The shares of all passes together.
-fn gather<L: DeskName, V: Wait>(wait: &V, front: &Front, mut passes: Vec<Pass<L>>) -> Share<L>
+fn gather<L: DeskName, V: Wait>(wait: &V, front: &BookPrefix, mut passes: Vec<Pass<L>>) -> Share<L>
     requires book { front.now.book ≡ L.book }
     requires legal { IsLegal L.opening front.now.list }
     requires some { 1 ≤ vec_len passes }
@@ -74,7 +74,7 @@ fn gather<L: DeskName, V: Wait>(wait: &V, front: &Front, mut passes: Vec<Pass<L>
 /// The shares of passes beside a share.
 fn merge_all<L: DeskName, V: Wait>(
     wait: &V,
-    front: &Front,
+    front: &BookPrefix,
     mut all: Share<L>,
     passes: Vec<Pass<L>>,
 ) -> Share<L>

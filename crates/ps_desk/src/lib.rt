@@ -40,7 +40,6 @@
 
 mod change;
 mod close;
-mod crossing;
 mod desk;
 mod laws;
 mod name;
@@ -53,8 +52,8 @@ mod receipt;
 mod seat;
 mod shot;
 mod state;
+mod threads;
 
-pub use crossing::desk_crosses;
 pub use desk::Desk;
 pub use laws::seats_answer_lines;
 pub use name::DeskName;
@@ -64,3 +63,4 @@ pub use place::Place;
 pub use receipt::Receipt;
 pub use seat::Seat;
 pub use shot::Shot;
+pub use threads::desk_is_sync;

@@ -11,7 +11,7 @@ use crate::name::DeskName;
 use crate::parts::Parts;
 use crate::pass::Pass;
 use crate::state::DeskState;
-use ps_face::{FaceReader, FaceWriter, Opened};
+use ps_face::{FaceReader, FaceWriter, NewBook};
 use ps_grid::Refusal;
 use ps_sheet::Sheet;
 use std::alloc::Global;
@@ -58,7 +58,7 @@ impl<L: DeskName, W: Wait + Drop> Desk<L, W> {
 fn open_copies<L: DeskName, W: Wait + Drop>(
     keep: W,
     alloc: Global,
-    opened: Opened,
+    opened: NewBook,
     sheet: &Sheet,
     all: Share<L>,
     seats: usize,

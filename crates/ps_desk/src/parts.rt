@@ -3,7 +3,7 @@
 ghost use Rattle.std.specs.Prelude.{◌≡◌, ◌≤◌};
 ghost use Rattle.ps_grid.specs.declared.parties.TheConstants.{SEATS as MOST};
 
-use ps_face::Opened;
+use ps_face::NewBook;
 use ps_sheet::Sheet;
 use std::marker::Model;
 use std::sync::ledger::Blank;
@@ -14,7 +14,7 @@ use std::sync::ledger::Blank;
 pub struct Parts {
     pub(crate) sheet: Sheet,
     /// the list that is to be published, still empty
-    pub(crate) opened: Opened,
+    pub(crate) opened: NewBook,
     /// the ledger of what is appended, with a part for each seat
     pub(crate) blank: Blank,
     pub(crate) seats: usize,
@@ -52,7 +52,7 @@ impl Parts {
     {
         Parts {
             sheet,
-            opened: Opened::new(),
+            opened: NewBook::new(),
             blank: Blank::new(seats as u64),
             seats,
         }

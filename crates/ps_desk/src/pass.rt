@@ -14,7 +14,7 @@ use crate::name::DeskName;
 use crate::place::Place;
 use crate::shot::Shot;
 use ps_csv::exported_text;
-use ps_face::{FaceReader, Front, Seen};
+use ps_face::{BookPrefix, FaceReader, Seen};
 use ps_grid::{Cell, Rect, Refusal};
 use ps_value::Value;
 use std::alloc::Global;
@@ -200,7 +200,7 @@ impl<L: DeskName> Pass<L> {
     }
 
     /// Has seen the whole published list. No run meets a pass that has seen more, for which it would wait for ever.
-    pub(crate) fn catch_up<V: Wait>(&mut self, wait: &V, front: &Front)
+    pub(crate) fn catch_up<V: Wait>(&mut self, wait: &V, front: &BookPrefix)
         requires book { front.now.book ≡ L.book }
         requires legal { IsLegal L.opening front.now.list }
         ensures later { IsPrefix self.old.list front.now.list }
@@ -234,7 +234,7 @@ impl<L: DeskName> Pass<L> {
     }
 
     /// Gives up its share.
-    pub(crate) fn end<V: Wait>(mut self, wait: &V, front: &Front) -> Share<L>
+    pub(crate) fn end<V: Wait>(mut self, wait: &V, front: &BookPrefix) -> Share<L>
         requires book { front.now.book ≡ L.book }
         requires legal { IsLegal L.opening front.now.list }
         ensures ends { EndsAt front.now.list self }

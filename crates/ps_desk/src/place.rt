@@ -5,7 +5,7 @@ ghost use mathlib.Core.List.{IsPrefix};
 ghost use Rattle.ps_face.specs.Legal.{IsLegal};
 
 use crate::name::DeskName;
-use ps_face::Front;
+use ps_face::BookPrefix;
 use std::marker::{Model, PhantomData};
 use std::sync::Wait;
 
@@ -13,7 +13,7 @@ use std::sync::Wait;
 /// shows no values. A contract sees it as that list.
 #[derive(Drop)]
 pub struct Place<L: DeskName> {
-    pub(crate) front: Front,
+    pub(crate) front: BookPrefix,
     marker: PhantomData<L>,
 }
 
@@ -35,7 +35,7 @@ impl<L: DeskName> Model for Place<L> {
 
 impl<L: DeskName> Place<L> {
     /// Where a beginning of the list ends.
-    pub(crate) fn new(front: Front) -> Place<L>
+    pub(crate) fn new(front: BookPrefix) -> Place<L>
         requires book { front.book ≡ L.book }
         requires legal { IsLegal L.opening front.list }
         ensures { result ≡ front.list }
@@ -71,7 +71,7 @@ impl<L: DeskName> Place<L> {
     }
 
     /// Comes to the end of the list. No run meets a place that is beyond it, for which it would wait for ever.
-    pub(crate) fn catch_up<V: Wait>(&mut self, wait: &V, front: &Front)
+    pub(crate) fn catch_up<V: Wait>(&mut self, wait: &V, front: &BookPrefix)
         requires book { front.now.book ≡ L.book }
         requires legal { IsLegal L.opening front.now.list }
         ensures later { IsPrefix self.old front.now.list }

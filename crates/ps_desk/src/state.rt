@@ -21,7 +21,7 @@ use ps_content::Content;
 use ps_csv::{Holds, entries_text, entry_of};
 use ps_delta::Delta;
 use ps_eval::Meter;
-use ps_face::{FaceWriter, Front};
+use ps_face::{BookPrefix, FaceWriter};
 use ps_grid::{Cell, Rect, Refusal};
 use ps_session::deltas_after;
 use ps_sheet::{Change, Sheet, Staging};
@@ -75,7 +75,7 @@ impl<L: DeskName, W: Wait + Drop> DeskState<L, W> {
     }
 
     /// The published list.
-    pub(crate) fn front(&self) -> &Front
+    pub(crate) fn front(&self) -> &BookPrefix
         ensures front { result.now ≡ record { book = L.book; list = self.now } }
         ensures legal { IsLegal L.opening self.now }
     {

@@ -7,7 +7,7 @@ ghost use Rattle.ps_shown.specs.Shown.{shown_at};
 ghost use Rattle.ps_face.specs.Values.{in_order, overlaid, valued};
 ghost use Rattle.ps_face.specs.Seen.{turned};
 
-use crate::front::Front;
+use crate::book::BookPrefix;
 use crate::patch::{Patch, copy_all};
 use left_right::Absorb;
 use ps_grid::{CELLS, Cell, Refusal, Twin};
@@ -21,7 +21,7 @@ use std::marker::Model;
 pub struct Face {
     version: u64,
     shown: Shown,
-    front: Front,
+    front: BookPrefix,
     /// what the cells of a patch are to show, while it is applied; there is room for all cells
     room: Vec<(Cell, Kept)>,
     alloc: Global,
@@ -56,7 +56,7 @@ impl Model for Face {
 pub struct Operation {
     version: u64,
     changes: Vec<(Cell, Kept)>,
-    front: Front,
+    front: BookPrefix,
 }
 
 impl Model for Operation {
@@ -83,7 +83,7 @@ impl Model for Operation {
 
 impl Operation {
     /// What a patch does, which ends the list of the front.
-    pub(crate) fn new(patch: Patch, front: Front) -> Operation
+    pub(crate) fn new(patch: Patch, front: BookPrefix) -> Operation
         requires few { length patch.changes ≤ CELLS }
         ensures { result ≡ record {
           book = front.book;
@@ -100,7 +100,7 @@ impl Operation {
     }
 
     /// What changes nothing in a copy of this version and this list.
-    pub(crate) fn idle(alloc: Global, version: u64, front: Front) -> Operation
+    pub(crate) fn idle(alloc: Global, version: u64, front: BookPrefix) -> Operation
         ensures { result ≡ record { book = front.book; list = front.list; version = version; changes = [] } }
     {
         Operation {
@@ -119,7 +119,7 @@ impl Face {
         alloc: Global,
         version: u64,
         shown: &Shown,
-        front: Front,
+        front: BookPrefix,
     ) -> Result<Face, Refusal>
         ensures face { IfOk result (λ f. f ≡ record {
           book = front.book;
@@ -161,7 +161,7 @@ impl Face {
     /// The beginning of the published list that the values come from.
     ///
     /// Cost: constant.
-    pub fn front(&self) -> &Front
+    pub fn front(&self) -> &BookPrefix
         ensures front { result.now ≡ record { book = self.now.book; list = self.now.list } }
     {
         &self.front

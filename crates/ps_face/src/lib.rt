@@ -16,7 +16,7 @@
 //! that enters after `publish` sees version 1, and A1 shows 5. One that entered before goes on seeing version 0 until
 //! it leaves; the `publish` of the second patch waits for it.
 //!
-//! What a reader knows of the list is a [`Front`], a token of no bytes with the length of a beginning. The writer
+//! What a reader knows of the list is a [`BookPrefix`], a token of no bytes with the length of a beginning. The writer
 //! has one for the whole list, and [`FaceReader::learn`] hands it to a reader without a step on the copies, so that
 //! what the reader sees from then on is no older.
 //!
@@ -25,19 +25,19 @@
 //! patch that changes every cell.
 #![tactic(auto)]
 
-mod crossing;
+mod book;
 mod face;
-mod front;
 mod name;
 mod patch;
 mod reader;
 mod rule;
+mod threads;
 mod writer;
 
-pub use crossing::writer_crosses;
-pub use front::{Front, Opened};
+pub use book::{BookPrefix, NewBook};
 pub use name::Named;
 pub use patch::{Note, Patch};
 pub use reader::{FaceReader, Seen};
 pub use rule::View;
+pub use threads::writer_is_send;
 pub use writer::FaceWriter;

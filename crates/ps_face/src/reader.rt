@@ -6,8 +6,8 @@ ghost use Rattle.left_right.specs.Sides.{view};
 ghost use Rattle.ps_value.specs.declared.value.Value.TheVariants.{Empty};
 ghost use Rattle.ps_face.specs.Legal.{IsLegal, Shows, history_of};
 
+use crate::book::BookPrefix;
 use crate::face::Face;
-use crate::front::Front;
 use crate::name::Named;
 use crate::rule::{Enter, Law, View};
 use left_right::reader::{Reader, Reading};
@@ -20,7 +20,7 @@ use std::marker::Model;
 #[derive(Drop)]
 pub struct FaceReader<L: Named> {
     reader: Reader<Face, View, Law<L>>,
-    front: Front,
+    front: BookPrefix,
 }
 
 impl<L: Named> Model for FaceReader<L> {
@@ -71,7 +71,7 @@ impl<L: Named> Model for Seen<L> {
 
 impl<L: Named> FaceReader<L> {
     /// A reader that has seen a beginning of the list.
-    pub(crate) fn new(reader: Reader<Face, View, Law<L>>, front: Front) -> FaceReader<L>
+    pub(crate) fn new(reader: Reader<Face, View, Law<L>>, front: BookPrefix) -> FaceReader<L>
         requires book { front.book ≡ L.book }
         requires legal { IsLegal L.opening front.list }
         ensures { result ≡ record { list = front.list; enters = (view reader.place).enters } }
@@ -82,7 +82,7 @@ impl<L: Named> FaceReader<L> {
     /// The list that this reader has seen.
     ///
     /// Cost: constant.
-    pub fn front(&self) -> &Front
+    pub fn front(&self) -> &BookPrefix
         ensures front { result.now ≡ record { book = L.book; list = self.now.list } }
         ensures legal { IsLegal L.opening self.now.list }
     {
@@ -93,7 +93,7 @@ impl<L: Named> FaceReader<L> {
     /// longer. It is no step on the copies.
     ///
     /// Cost: constant, no memory.
-    pub fn learn(&mut self, front: &Front) -> bool
+    pub fn learn(&mut self, front: &BookPrefix) -> bool
         requires book { front.now.book ≡ L.book }
         requires legal { IsLegal L.opening front.now.list }
         ensures { MatchBool result

@@ -13,8 +13,8 @@ ghost use Rattle.ps_face.specs.Rules.{newcomer};
 ghost use Rattle.ps_face.specs.Seen.{CopyStands, turned};
 ghost use Rattle.ps_face.specs.Published.{MayShow};
 
+use crate::book::{BookPrefix, Head, NewBook};
 use crate::face::{Face, Operation};
-use crate::front::{Front, Head, Opened};
 use crate::name::Named;
 use crate::patch::Patch;
 use crate::reader::FaceReader;
@@ -34,7 +34,7 @@ type Copies<L> = Writer<Face, Operation, View, Law<L>>;
 pub struct FaceWriter<L: Named, R: Wait + Drop> {
     copies: Copies<L>,
     head: Head,
-    front: Front,
+    front: BookPrefix,
     staged: Vec<Patch>,
     /// the drop of the copies waits for those that read
     rt: R,
@@ -65,7 +65,7 @@ impl<L: Named, R: Wait + Drop> FaceWriter<L, R> {
     pub fn open(
         rt: R,
         alloc: Global,
-        opened: Opened,
+        opened: NewBook,
         shown: &Shown,
         version: u64,
         readers: usize,
@@ -142,7 +142,7 @@ impl<L: Named, R: Wait + Drop> FaceWriter<L, R> {
     /// The published list.
     ///
     /// Cost: constant.
-    pub fn front(&self) -> &Front
+    pub fn front(&self) -> &BookPrefix
         ensures front { result.now ≡ record { book = L.book; list = self.now.list } }
         ensures legal { IsLegal L.opening self.now.list }
     {
@@ -169,7 +169,7 @@ fn open_copies<L: Named, R: Wait>(
     alloc: Global,
     shown: &Shown,
     version: u64,
-    front: &Front,
+    front: &BookPrefix,
     readers: usize,
 ) -> Result<Copies<L>, Refusal>
     requires front { front.now ≡ record { book = L.book; list = [] } }
@@ -198,7 +198,7 @@ fn open_copies<L: Named, R: Wait>(
 fn make_readers<L: Named>(
     alloc: Global,
     copies: &Copies<L>,
-    front: &Front,
+    front: &BookPrefix,
     readers: usize,
 ) -> Result<Vec<FaceReader<L>>, Refusal>
     requires { front.now ≡ record { book = L.book; list = [] } }
@@ -217,7 +217,7 @@ fn make_readers<L: Named>(
 }
 
 /// Adds the patch to the book, of which this is the one writer.
-fn add_to<R: Wait>(rt: &R, head: &Head, front: &mut Front, patch: &Patch)
+fn add_to<R: Wait>(rt: &R, head: &Head, front: &mut BookPrefix, patch: &Patch)
     requires book { head.now ≡ front.old.book }
     ensures { front.new ≡ record front.old { list = front.old.list ++ patch.now ∷ [] } }
 {

@@ -20,10 +20,10 @@
 //! where another session had them kept.
 #![tactic(auto)]
 
-mod crossing;
 mod keeper;
 mod record;
+mod threads;
 
-pub use crossing::keeper_crosses;
 pub use keeper::{DeskKeeper, SeatKeeper};
 pub use record::{Ended, KeptPlace};
+pub use threads::keeper_is_sync;

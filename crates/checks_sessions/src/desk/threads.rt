@@ -5,7 +5,7 @@ ghost use Rattle.ps_desk.specs.Opening.{IsNamed};
 use crate::desk::desks::{close, make, open, sheet_of};
 use ps_content::Content;
 use ps_delta::Delta;
-use ps_desk::{Desk, DeskName, Parts, Pass, desk_crosses};
+use ps_desk::{Desk, DeskName, Parts, Pass, desk_is_sync};
 use ps_grid::{CELLS, Cell, SEATS};
 use ps_sheet::{Change, Edit, Sheet};
 use ps_value::Value;
@@ -113,7 +113,7 @@ fn sessions<L: DeskName + Send + Sync, W: Wait + Drop + Send, T: Abort + Threads
     desk: &Desk<L, W>,
     passes: Vec<Pass<L>>,
 ) -> Vec<Ended<L>> {
-    desk_crosses::<L, W>();
+    desk_is_sync::<L, W>();
     let ended = thread::map_vec(rt, passes, &|pass| session(rt, alloc, desk, pass)).ok();
     ended.expect(rt, "room")
 }

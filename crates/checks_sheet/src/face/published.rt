@@ -8,7 +8,7 @@ ghost use Rattle.ps_face.specs.Legal.{Follows, history_of};
 ghost use Rattle.ps_face.specs.Values.{valued};
 
 use ps_eval::Meter;
-use ps_face::{FaceReader, FaceWriter, Named, Opened, Patch};
+use ps_face::{FaceReader, FaceWriter, Named, NewBook, Patch};
 use ps_grid::{Cell, Refusal};
 use ps_sheet::{Change, Edit, Prepared, Sheet};
 use ps_shown::Kept;
@@ -157,7 +157,7 @@ impl<L: Named, R: Wait + Drop> Published<L, R> {
         rt: &impl Abort,
         keep: R,
         alloc: Global,
-        opened: Opened,
+        opened: NewBook,
         readers: usize,
     ) -> Result<(Published<L, R>, Vec<FaceReader<L>>), Refusal>
         requires book { opened ≡ L.book }

@@ -6,7 +6,7 @@ use Rattle.std.proofs.Crossing.{crosses}
 use Rattle.std.specs.contracts.sync.Mutex as Mutex
 use Rattle.ps_kept_desk.specs.contracts.record.Record as record_row
 use Rattle.ps_kept_desk.specs.contracts.keeper.DeskKeeper as keeper
-use Rattle.ps_kept_desk.proofs.crossing.keeper_crosses.Goals as goal
+use Rattle.ps_kept_desk.proofs.threads.keeper_is_sync.Goals as goal
 
 lock_sync : (R : RattleType) → IsSend R → IsSync (Mutex.the_row R)
 lock_sync R s = search (crosses, sendable, s)
@@ -17,6 +17,6 @@ returns g c =
     let L : RattleType = param 0 g.row.L in
     let D : RattleType = param 1 g.row.D in
     let R : RattleType = record_row.the_row L D g.L.DeskName g.L.Named g.L.Ledger g.D.Device in
-    let h : IsSend R = record { owned = c.record_crosses.ensures.owned; leaving = λ k x w. tt } in
+    let h : IsSend R = record { owned = c.record_is_send.ensures.owned; leaving = λ k x w. tt } in
     declared_sync (keeper.the_type L D g.L.DeskName g.L.Named g.L.Ledger g.D.Device)
     (as_row_sync (Mutex.the_field R) (lock_sync R h), tt)

@@ -8,7 +8,7 @@ use Rattle.ps_keep.specs.contracts.journal.Journal as journal
 use Rattle.ps_desk.specs.contracts.place.Place as place
 use Rattle.ps_kept_desk.specs.contracts.record.KeptPlace as kept
 use Rattle.ps_kept_desk.specs.contracts.record.Record.TheInside as inside
-use Rattle.ps_kept_desk.proofs.crossing.record_crosses.Goals as goal
+use Rattle.ps_kept_desk.proofs.threads.record_is_send.Goals as goal
 
 -- from what is known of the parts that the whole may go to another thread
 pub returns : goal.returns
@@ -16,11 +16,11 @@ returns g c =
     let L : RattleType = param 0 g.row.L in
     let D : RattleType = param 1 g.row.D in
     let j : IsSend (journal.the_row D g.D.Device) =
-    record { owned = c.goes.ensures.owned; leaving = λ k. c.goes.ensures.leaving yes } in
+    record { owned = c.is_send.ensures.owned; leaving = λ k. c.is_send.ensures.leaving yes } in
     let k : IsSend (kept.the_row L g.L.DeskName g.L.Named g.L.Ledger) =
-    record { owned = c.goes-2.ensures.owned; leaving = λ k. c.goes-2.ensures.leaving yes } in
+    record { owned = c.is_send-2.ensures.owned; leaving = λ k. c.is_send-2.ensures.leaving yes } in
     let p : IsSend (place.the_row L g.L.DeskName g.L.Named g.L.Ledger) =
-    record { owned = c.goes-3.ensures.owned; leaving = λ k. c.goes-3.ensures.leaving yes } in
+    record { owned = c.is_send-3.ensures.owned; leaving = λ k. c.is_send-3.ensures.leaving yes } in
     let whole : IsSend (S.row (inside.the_type L D g.L.DeskName g.L.Named g.L.Ledger g.D.Device)) =
     declared_send (inside.the_type L D g.L.DeskName g.L.Named g.L.Ledger g.D.Device) (
       as_row_send (journal.the_field D g.D.Device) j,

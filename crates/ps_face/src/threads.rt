@@ -5,8 +5,8 @@ ghost use denote.Param.Send.{IsSend, IsSync};
 ghost use Rattle.ps_face.specs.contracts.patch.Patch as patch;
 ghost use Rattle.ps_face.specs.contracts.writer.FaceWriter as writer;
 
+use crate::book::{BookPrefix, Head};
 use crate::face::{Face, Operation};
-use crate::front::{Front, Head};
 use crate::name::Named;
 use crate::patch::Patch;
 use crate::rule::{Law, View};
@@ -15,34 +15,34 @@ use ps_delta::Delta;
 use std::sync::Wait;
 
 /// What the bound says of a type.
-fn goes<T: Send>()
+fn is_send<T: Send>()
     ensures { IsSend T.row }
 {}
 
 /// What the bounds say of a type.
-fn crosses<T: Send + Sync>()
+fn is_send_and_sync<T: Send + Sync>()
     ensures send { IsSend T.row }
     ensures sync { IsSync T.row }
 {}
 
 /// A patch may go to another thread.
-fn patch_crosses()
+fn patch_is_send()
     ensures { IsSend patch.the_row }
 {
-    crosses::<Delta>();
+    is_send_and_sync::<Delta>();
 }
 
 /// The writer of published copies may go to another thread. Who shares a writer between threads calls this first.
 ///
 /// Cost: none.
-pub fn writer_crosses<L: Named, R: Wait + Drop + Send>()
+pub fn writer_is_send<L: Named, R: Wait + Drop + Send>()
     ensures { IsSend (writer.the_row L.row R.row (record { book = L.book; opening = L.opening }) L.Ledger) }
 {
-    patch_crosses();
-    crosses::<Face>();
-    goes::<Operation>();
-    goes::<Writer<Face, Operation, View, Law<L>>>();
-    goes::<Head>();
-    goes::<Front>();
-    goes::<Vec<Patch>>();
+    patch_is_send();
+    is_send_and_sync::<Face>();
+    is_send::<Operation>();
+    is_send::<Writer<Face, Operation, View, Law<L>>>();
+    is_send::<Head>();
+    is_send::<BookPrefix>();
+    is_send::<Vec<Patch>>();
 }

@@ -1,6 +1,6 @@
 use Rattle.std.proofs.Common.{sym, ◌∙◌, ap}
 use Rattle.ps_face.proofs.Adding.{adds_moves}
-use Rattle.ps_face.proofs.front.Front.add.Goals as goal
+use Rattle.ps_face.proofs.book.BookPrefix.add.Goals as goal
 
 pub compare_exchange-found-requires : goal.compare_exchange-found-requires
 compare_exchange-found-requires c =

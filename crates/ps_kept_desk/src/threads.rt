@@ -10,28 +10,28 @@ use ps_desk::{DeskName, Place};
 use ps_keep::{Device, Journal};
 
 /// What the bound says of a type.
-fn goes<T: Send>()
+fn is_send<T: Send>()
     ensures { IsSend T.row }
 {}
 
 /// What lies under the lock of a keeper may go to another thread.
-fn record_crosses<L: DeskName + Send, D: Device + Drop + Send>()
+fn record_is_send<L: DeskName + Send, D: Device + Drop + Send>()
     ensures { IsSend (record_row.the_row L.row D.row (record { replica = L.replica })
         (record { book = L.book; opening = L.opening }) L.Ledger
         (record { written = D.written; synced = D.synced; has_failed = D.has_failed })) }
 {
-    goes::<Journal<D>>();
-    goes::<KeptPlace<L>>();
-    goes::<Place<L>>();
+    is_send::<Journal<D>>();
+    is_send::<KeptPlace<L>>();
+    is_send::<Place<L>>();
 }
 
 /// A keeper may be shared by threads. Who shares one between threads calls this first.
 ///
 /// Cost: none.
-pub fn keeper_crosses<L: DeskName + Send, D: Device + Drop + Send>()
+pub fn keeper_is_sync<L: DeskName + Send, D: Device + Drop + Send>()
     ensures { IsSync (keeper.the_row L.row D.row (record { replica = L.replica })
         (record { book = L.book; opening = L.opening }) L.Ledger
         (record { written = D.written; synced = D.synced; has_failed = D.has_failed })) }
 {
-    record_crosses::<L, D>();
+    record_is_send::<L, D>();
 }

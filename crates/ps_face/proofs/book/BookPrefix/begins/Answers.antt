@@ -2,7 +2,7 @@ use Rattle.std.proofs.Common.{◌≤◌, ap, subst, arith, length, List}
 use mathlib.Core.List.{IsPrefix}
 use Rattle.ps_face.specs.declared.patch.Note.{Note}
 use Rattle.ps_face.proofs.Beginnings.{begins_longer}
-use Rattle.ps_face.proofs.front.Front.begins.Goals as goal
+use Rattle.ps_face.proofs.book.BookPrefix.begins.Goals as goal
 
 pub returns : goal.returns
 returns c =

@@ -8,7 +8,7 @@ use Rattle.std.specs.contracts.impls.GlobalAllocator.TheImpl.{ghosts}
 use Rattle.ps_delta.specs.contracts.delta.Delta as delta
 use Rattle.ps_face.specs.contracts.patch.Patch.TheInside as patch_inside
 use Rattle.ps_sheet.proofs.SharedDeltas.{shared_send}
-use Rattle.ps_face.proofs.crossing.patch_crosses.Goals as goal
+use Rattle.ps_face.proofs.threads.patch_is_send.Goals as goal
 
 -- from what the bounds say of the delta that the whole may go to another thread
 
@@ -23,6 +23,6 @@ patch_send d e = declared_send patch_inside.the_type (
 
 pub returns : goal.returns
 returns c =
-    let d : IsSend delta.the_row = record { owned = c.crosses.ensures.send.owned; leaving = λ k x w. tt } in
-    let e : IsSync delta.the_row = record { shared = c.crosses.ensures.sync.shared } in
+    let d : IsSend delta.the_row = record { owned = c.is_send_and_sync.ensures.send.owned; leaving = λ k x w. tt } in
+    let e : IsSync delta.the_row = record { shared = c.is_send_and_sync.ensures.sync.shared } in
     view_send _ _ _ _ _ (patch_send d e)

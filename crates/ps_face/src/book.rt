@@ -1,4 +1,4 @@
-//! A beginning of the published list, as a token.
+//! The book that has the published list, and a beginning of the list as a token.
 //!
 //! The list exists in contracts alone. What lies in memory is a word with its length, which the writer moves; a token
 //! of no bytes for a beginning that was seen; and that beginning's length beside it.
@@ -62,14 +62,14 @@ impl Plain<Patch, Note, u64> for Add {
 
 /// A book with an empty list, which no copies have yet. A contract sees it as the book.
 #[derive(Drop)]
-pub struct Opened {
+pub struct NewBook {
     /// the length of the list
     head: Word<Note, u64, BookLaw>,
     /// the token for the empty list
     seen: Seen<Note, u64, BookLaw>,
 }
 
-impl Model for Opened {
+impl Model for NewBook {
     ghost use Rattle.std.specs.Prelude.{◌≡◌, []};
     ghost use Rattle.logbook.specs.Pages.{Book};
     ghost use Rattle.ps_face.specs.Book.{head_of};
@@ -81,25 +81,25 @@ impl Model for Opened {
     ghost invariant = { λ o. (o.seen.log ≡ []) × (o.head ≡ head_of o.seen.book) };
 }
 
-impl Opened {
+impl NewBook {
     /// A new book with an empty list.
     ///
     /// Cost: constant, no memory.
-    pub fn new() -> Opened {
+    pub fn new() -> NewBook {
         let (seen, mut first, _second) = Seen::open(Start::alone(), 0, 0);
-        Opened {
+        NewBook {
             head: Word::tracked(0, &mut first),
             seen,
         }
     }
 
     /// The book's word, and the beginning that has no patch.
-    pub(crate) fn split(self) -> (Head, Front)
+    pub(crate) fn split(self) -> (Head, BookPrefix)
         ensures head { result.0 ≡ self }
         ensures front { result.1 ≡ record { book = self; list = [] } }
     {
-        let Opened { head, seen } = self;
-        (Head { head }, Front { count: 0, seen })
+        let NewBook { head, seen } = self;
+        (Head { head }, BookPrefix { count: 0, seen })
     }
 }
 
@@ -123,14 +123,14 @@ impl Model for Head {
 
 /// A beginning of the published list that was seen.
 #[derive(Drop)]
-pub struct Front {
+pub struct BookPrefix {
     /// how many patches it has
     count: u64,
     /// the token for it
     seen: Seen<Note, u64, BookLaw>,
 }
 
-impl Model for Front {
+impl Model for BookPrefix {
     ghost use Rattle.std.specs.Prelude.{◌≡◌, length};
     ghost use Rattle.ps_face.specs.Seen.{Told};
     ghost use Rattle.std.specs.Coded.{codes};
@@ -145,14 +145,14 @@ impl Model for Front {
     ghost invariant = { λ f. f.count ≡ length f.seen.log };
 }
 
-impl Front {
+impl BookPrefix {
     /// The same beginning once more.
     ///
     /// Cost: constant, no memory.
-    pub fn again(&self) -> Front
+    pub fn again(&self) -> BookPrefix
         ensures { result ≡ self.now }
     {
-        Front {
+        BookPrefix {
             count: self.count,
             seen: self.seen.again(),
         }
@@ -161,7 +161,7 @@ impl Front {
     /// Whether the other beginning of the list is as long or longer. Then it begins with this one.
     ///
     /// Cost: constant.
-    pub fn begins(&self, other: &Front) -> bool
+    pub fn begins(&self, other: &BookPrefix) -> bool
         requires book { self.now.book ≡ other.now.book }
         ensures { MatchBool result
             (IsPrefix self.now.list other.now.list × (length self.now.list ≤ length other.now.list))

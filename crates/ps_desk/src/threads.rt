@@ -6,32 +6,32 @@ ghost use Rattle.ps_desk.specs.contracts.desk.Desk as desk;
 ghost use Rattle.ps_desk.specs.contracts.state.DeskState as state;
 
 use crate::name::DeskName;
-use ps_face::writer_crosses;
+use ps_face::writer_is_send;
 use ps_sheet::staging_crosses;
 use std::sync::Wait;
 use std::sync::ledger::Book;
 
 /// What the bound says of a type.
-fn goes<T: Send>()
+fn is_send<T: Send>()
     ensures { IsSend T.row }
 {}
 
 /// What lies under the lock of a desk may go to another thread.
-fn state_crosses<L: DeskName, W: Wait + Drop + Send>()
+fn state_is_send<L: DeskName, W: Wait + Drop + Send>()
     ensures { IsSend (state.the_row L.row W.row (record { replica = L.replica })
         (record { book = L.book; opening = L.opening }) L.Ledger) }
 {
     staging_crosses();
-    writer_crosses::<L, W>();
-    goes::<Book<L>>();
+    writer_is_send::<L, W>();
+    is_send::<Book<L>>();
 }
 
 /// A desk may be shared by threads. Who shares one between threads calls this first.
 ///
 /// Cost: none.
-pub fn desk_crosses<L: DeskName, W: Wait + Drop + Send>()
+pub fn desk_is_sync<L: DeskName, W: Wait + Drop + Send>()
     ensures { IsSync (desk.the_row L.row W.row (record { replica = L.replica })
         (record { book = L.book; opening = L.opening }) L.Ledger) }
 {
-    state_crosses::<L, W>();
+    state_is_send::<L, W>();
 }

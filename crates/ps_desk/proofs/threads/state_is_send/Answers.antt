@@ -6,13 +6,13 @@ use Rattle.std.specs.contracts.sync.ledger.Book as book
 use Rattle.ps_sheet.specs.contracts.staging.Staging as staging
 use Rattle.ps_face.specs.contracts.writer.FaceWriter as writer
 use Rattle.ps_desk.specs.contracts.state.DeskState.TheInside as inside
-use Rattle.ps_desk.proofs.crossing.state_crosses.Goals as goal
+use Rattle.ps_desk.proofs.threads.state_is_send.Goals as goal
 
 -- from what is known of the parts that the whole may go to another thread
 pub returns : goal.returns
 returns g c =
     let w : IsSend (writer.the_row g.row.L g.row.W g.L.Named g.L.Ledger) =
-    record { owned = c.writer_crosses.ensures.owned; leaving = λ k x w. tt } in
+    record { owned = c.writer_is_send.ensures.owned; leaving = λ k x w. tt } in
     let whole : IsSend (S.row (inside.the_type g.row.L g.row.W g.L.DeskName g.L.Named g.L.Ledger)) =
     declared_send (inside.the_type g.row.L g.row.W g.L.DeskName g.L.Named g.L.Ledger) (
       as_row_send staging.the_field c.staging_crosses.ensures,
@@ -20,7 +20,7 @@ returns g c =
         as_row_send (writer.the_field g.row.L g.row.W g.L.Named g.L.Ledger) w,
         (
           as_row_send (book.the_field g.row.L g.L.Ledger)
-              (record { owned = c.goes.ensures.owned; leaving = λ k. c.goes.ensures.leaving yes }),
+              (record { owned = c.is_send.ensures.owned; leaving = λ k. c.is_send.ensures.leaving yes }),
           tt,
         ),
       ),

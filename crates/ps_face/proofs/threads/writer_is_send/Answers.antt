@@ -8,11 +8,11 @@ use denote.Struct.Field.{row_field}
 use Rattle.std.specs.contracts.vec.Vec as Vec
 use Rattle.std.specs.contracts.alloc.Global as Global
 use Rattle.std.specs.contracts.impls.GlobalAllocator.TheImpl.{ghosts}
-use Rattle.ps_face.specs.contracts.front.Front as front
-use Rattle.ps_face.specs.contracts.front.Head as head
+use Rattle.ps_face.specs.contracts.book.BookPrefix as front
+use Rattle.ps_face.specs.contracts.book.Head as head
 use Rattle.ps_face.specs.contracts.patch.Patch as patch
 use Rattle.ps_face.specs.contracts.writer.FaceWriter.TheInside as inside
-use Rattle.ps_face.proofs.crossing.writer_crosses.Goals as goal
+use Rattle.ps_face.proofs.threads.writer_is_send.Goals as goal
 
 abbrev patches : RattleType
 patches = Vec.the_row patch.the_row Global.the_row ghosts
@@ -21,13 +21,13 @@ patches = Vec.the_row patch.the_row Global.the_row ghosts
 pub returns : goal.returns
 returns g c =
     let R : RattleType = param 1 g.row.R in
-    let h : IsSend head.the_row = record { owned = c.goes-3.ensures.owned; leaving = λ k x w. tt } in
-    let f : IsSend front.the_row = record { owned = c.goes-4.ensures.owned; leaving = λ k x w. tt } in
+    let h : IsSend head.the_row = record { owned = c.is_send-3.ensures.owned; leaving = λ k x w. tt } in
+    let f : IsSend front.the_row = record { owned = c.is_send-4.ensures.owned; leaving = λ k x w. tt } in
     let s : IsSend patches =
-    record { owned = c.goes-5.ensures.owned; leaving = λ k. c.goes-5.ensures.leaving yes } in
+    record { owned = c.is_send-5.ensures.owned; leaving = λ k. c.is_send-5.ensures.leaving yes } in
     let whole : IsSend (S.row (inside.the_type g.row.L R g.L.Named g.L.Ledger)) =
     declared_send (inside.the_type g.row.L R g.L.Named g.L.Ledger) (
-      record { owned = c.goes-2.ensures.owned; leaving = λ k. c.goes-2.ensures.leaving yes },
+      record { owned = c.is_send-2.ensures.owned; leaving = λ k. c.is_send-2.ensures.leaving yes },
       (
         as_row_send head.the_field h,
         (
