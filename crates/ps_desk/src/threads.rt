@@ -7,7 +7,7 @@ ghost use Rattle.ps_desk.specs.contracts.state.DeskState as state;
 
 use crate::name::DeskName;
 use ps_face::writer_is_send;
-use ps_sheet::staging_crosses;
+use ps_sheet::staging_is_send;
 use std::sync::Wait;
 use std::sync::ledger::Book;
 
@@ -21,7 +21,7 @@ fn state_is_send<L: DeskName, W: Wait + Drop + Send>()
     ensures { IsSend (state.the_row L.row W.row (record { replica = L.replica })
         (record { book = L.book; opening = L.opening }) L.Ledger) }
 {
-    staging_crosses();
+    staging_is_send();
     writer_is_send::<L, W>();
     is_send::<Book<L>>();
 }

@@ -43,7 +43,6 @@
 #![tactic(auto)]
 
 mod contents;
-mod crossing;
 mod edit;
 mod edit_delta;
 mod laws;
@@ -51,8 +50,8 @@ mod own;
 mod prepared;
 mod sheet;
 mod staging;
+mod threads;
 
-pub use crossing::staging_crosses;
 pub use edit::{Batch, Change, Edit};
 pub use laws::{
     accepted_deltas_join, cells_outside_show_the_same, edits_are_fresh, quiet_cells_show_the_same,
@@ -62,3 +61,4 @@ pub use laws::{
 pub use prepared::Prepared;
 pub use sheet::{Report, Sheet};
 pub use staging::Staging;
+pub use threads::staging_is_send;

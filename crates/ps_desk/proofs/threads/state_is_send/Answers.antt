@@ -15,7 +15,7 @@ returns g c =
     record { owned = c.writer_is_send.ensures.owned; leaving = λ k x w. tt } in
     let whole : IsSend (S.row (inside.the_type g.row.L g.row.W g.L.DeskName g.L.Named g.L.Ledger)) =
     declared_send (inside.the_type g.row.L g.row.W g.L.DeskName g.L.Named g.L.Ledger) (
-      as_row_send staging.the_field c.staging_crosses.ensures,
+      as_row_send staging.the_field c.staging_is_send.ensures,
       (
         as_row_send (writer.the_field g.row.L g.row.W g.L.Named g.L.Ledger) w,
         (

@@ -8,7 +8,7 @@ use ps_cells::cells_cross;
 use ps_delta::Delta;
 
 /// What the bounds say of a type.
-fn crosses<T: Send + Sync>()
+fn is_send_and_sync<T: Send + Sync>()
     ensures send { IsSend T.row }
     ensures sync { IsSync T.row }
 {}
@@ -16,9 +16,9 @@ fn crosses<T: Send + Sync>()
 /// A sheet in which a change may be staged may go to another thread. Who shares one between threads calls this first.
 ///
 /// Cost: none.
-pub fn staging_crosses()
+pub fn staging_is_send()
     ensures { IsSend staging.the_row }
 {
-    crosses::<Delta>();
+    is_send_and_sync::<Delta>();
     cells_cross();
 }

@@ -13,7 +13,7 @@ use Rattle.ps_sheet.specs.contracts.sheet.Report as report
 use Rattle.ps_sheet.specs.contracts.staging.Staged as staged
 use Rattle.ps_sheet.specs.contracts.staging.Staging.TheInside as inside
 use Rattle.ps_sheet.proofs.SharedDeltas.{shared_delta, shared_send}
-use Rattle.ps_sheet.proofs.crossing.staging_crosses.Goals as goal
+use Rattle.ps_sheet.proofs.threads.staging_is_send.Goals as goal
 
 -- from what the bounds say of the parts, one after another, that the whole may go to another thread
 
@@ -43,6 +43,6 @@ staging_send a c = declared_send inside.the_type (
 
 pub returns : goal.returns
 returns c =
-    let d : IsSend delta.the_row = record { owned = c.crosses.ensures.send.owned; leaving = λ k x w. tt } in
-    let e : IsSync delta.the_row = record { shared = c.crosses.ensures.sync.shared } in
+    let d : IsSend delta.the_row = record { owned = c.is_send_and_sync.ensures.send.owned; leaving = λ k x w. tt } in
+    let e : IsSync delta.the_row = record { shared = c.is_send_and_sync.ensures.sync.shared } in
     view_send _ _ _ _ _ (staging_send (shared_send d e) c.cells_cross.ensures)
