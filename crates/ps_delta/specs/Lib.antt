@@ -1,5 +1,6 @@
 pub mod CellLaws
 pub mod Deltas
+pub mod Inside
 pub mod Laws
 pub mod Order
 pub mod Places

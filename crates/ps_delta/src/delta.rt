@@ -1,6 +1,6 @@
 //! Deltas: what travels between replicas.
 
-ghost use Rattle.std.specs.Prelude.{◌≡◌, ◌↔◌, ◌<◌, IsTrue, IfOk, IfErr, length, map};
+ghost use Rattle.std.specs.Prelude.{◌≡◌, ◌↔◌, ◌<◌, [], ◌∷◌, IsTrue, IfOk, IfErr, length, map};
 ghost use Rattle.std.specs.Bool.{OnTrue};
 ghost use Rattle.std.specs.Option.{SomeIff};
 ghost use Rattle.std.specs.Arc.{arc_value};
@@ -9,6 +9,7 @@ ghost use Rattle.ps_delta.specs.State.{empty_cell, joined_state};
 ghost use Rattle.ps_delta.specs.Deltas.{AreEntries, AreInGrid, IsDelta, joined_history, state_of};
 
 use crate::cell_state::CellState;
+use crate::parts::Parts;
 use ps_grid::{Cell, Refusal};
 use ps_lattice::{is_ascending, merge_entries};
 use std::alloc::Global;
@@ -19,11 +20,12 @@ use std::sync::Arc;
 /// else. A contract sees it as the list of the cells with their states.
 #[derive(Drop)]
 pub struct Delta {
-    cells: Vec<(Cell, CellState)>,
+    parts: Parts,
 }
 
 impl Model for Delta {
     ghost use Rattle.ps_delta.specs.Deltas.{Entries, IsDelta, AreInGrid};
+    ghost use Rattle.ps_delta.specs.Inside.Parts.{parts_of};
     ghost use Rattle.ps_delta.specs.contracts.cell_state.CellState as cell_state;
     ghost use Rattle.std.specs.Coded.{codes};
 
@@ -31,25 +33,44 @@ impl Model for Delta {
 
     ghost coded = { Prim.hlevel (codes, cell_state.the_row.coded) };
 
-    ghost view = { λ d. d.cells.items };
+    ghost view = { λ d. parts_of d.parts };
 
-    ghost invariant = { λ d. IsDelta d.cells.items × AreInGrid d.cells.items };
+    ghost invariant = { λ d. IsDelta (parts_of d.parts) × AreInGrid (parts_of d.parts) };
 }
 
 impl Delta {
-    /// The delta of the cells, whose list keeps no spare room; none where there are no cells, where they aren't
-    /// ascending and distinct, or where one has an empty state.
+    /// The delta of the cells, kept without spare room; none where there are no cells, where they aren't ascending and
+    /// distinct, or where one has an empty state.
     ///
     /// Cost: the number of cells.
     #[inline(always)]
-    pub fn new(mut cells: Vec<(Cell, CellState)>) -> Option<Delta>
+    pub fn new(cells: Vec<(Cell, CellState)>) -> Option<Delta>
         ensures { SomeIff result (IsDelta cells.items) cells.items }
     {
         if are_entries(&cells) && !cells.is_empty() {
-            cells.shrink_to_fit();
-            Some(Delta { cells })
+            Some(Delta {
+                parts: Parts::new(cells),
+            })
         } else {
             None
+        }
+    }
+
+    /// The delta of one cell; none where its state is empty.
+    ///
+    /// Cost: constant; it takes no memory.
+    #[inline(always)]
+    pub fn of_one(cell: Cell, state: CellState) -> Option<Delta>
+        ensures { SomeIff result (IsDelta ((cell, state) ∷ [])) ((cell, state) ∷ []) }
+    {
+        // for the fact that the cell is in the grid
+        let _ = cell.index();
+        if state.is_empty() {
+            None
+        } else {
+            Some(Delta {
+                parts: Parts::One((cell, state)),
+            })
         }
     }
 
@@ -67,8 +88,9 @@ impl Delta {
         for delta in deltas {
             cells = merge_entries(alloc, &cells, delta.parts())?;
         }
-        cells.shrink_to_fit();
-        Ok(Delta { cells })
+        Ok(Delta {
+            parts: Parts::new(cells),
+        })
     }
 
     /// The cells with their states.
@@ -79,7 +101,7 @@ impl Delta {
         ensures delta { IsDelta result.now }
         ensures in_grid { AreInGrid result.now }
     {
-        &self.cells
+        self.parts.as_slice()
     }
 }
 

@@ -26,6 +26,7 @@ mod cell_state;
 mod delta;
 mod grid;
 mod laws;
+mod parts;
 mod places;
 mod touched;
 
