@@ -11,7 +11,7 @@ use crate::name::Named;
 use crate::patch::Patch;
 use crate::rule::{Law, View};
 use left_right::writer::Writer;
-use ps_delta::Delta;
+use ps_delta::CellState;
 use std::sync::Wait;
 
 /// What the bound says of a type.
@@ -29,7 +29,7 @@ fn is_send_and_sync<T: Send + Sync>()
 fn patch_is_send()
     ensures { IsSend patch.the_row }
 {
-    is_send_and_sync::<Delta>();
+    is_send_and_sync::<CellState>();
 }
 
 /// The writer of published copies may go to another thread. Who shares a writer between threads calls this first.

@@ -5,7 +5,7 @@ ghost use denote.Param.Send.{IsSend, IsSync};
 ghost use Rattle.ps_sheet.specs.contracts.staging.Staging as staging;
 
 use ps_cells::cells_cross;
-use ps_delta::Delta;
+use ps_delta::CellState;
 
 /// What the bounds say of a type.
 fn is_send_and_sync<T: Send + Sync>()
@@ -19,6 +19,6 @@ fn is_send_and_sync<T: Send + Sync>()
 pub fn staging_is_send()
     ensures { IsSend staging.the_row }
 {
-    is_send_and_sync::<Delta>();
+    is_send_and_sync::<CellState>();
     cells_cross();
 }

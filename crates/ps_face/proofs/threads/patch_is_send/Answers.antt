@@ -5,9 +5,10 @@ use Rattle.std.proofs.Crossing.{crosses}
 use Rattle.std.specs.contracts.sync.Arc as Arc
 use Rattle.std.specs.contracts.alloc.Global as Global
 use Rattle.std.specs.contracts.impls.GlobalAllocator.TheImpl.{ghosts}
+use Rattle.ps_delta.specs.contracts.cell_state.CellState as cell_state
 use Rattle.ps_delta.specs.contracts.delta.Delta as delta
 use Rattle.ps_face.specs.contracts.patch.Patch.TheInside as patch_inside
-use Rattle.ps_sheet.proofs.SharedDeltas.{shared_send}
+use Rattle.ps_sheet.proofs.SharedDeltas.{delta_send, delta_sync, shared_send}
 use Rattle.ps_face.proofs.threads.patch_is_send.Goals as goal
 
 -- from what the bounds say of the delta that the whole may go to another thread
@@ -23,6 +24,7 @@ patch_send d e = declared_send patch_inside.the_type (
 
 pub returns : goal.returns
 returns c =
-    let d : IsSend delta.the_row = record { owned = c.is_send_and_sync.ensures.send.owned; leaving = λ k x w. tt } in
-    let e : IsSync delta.the_row = record { shared = c.is_send_and_sync.ensures.sync.shared } in
-    view_send _ _ _ _ _ (patch_send d e)
+    let a = c.is_send_and_sync.ensures in
+    let d : IsSend cell_state.the_row = record { owned = a.send.owned; leaving = λ k x w. (tt, (tt, (tt, tt))) } in
+    let e : IsSync cell_state.the_row = record { shared = a.sync.shared } in
+    view_send _ _ _ _ _ (patch_send (delta_send d) (delta_sync e))

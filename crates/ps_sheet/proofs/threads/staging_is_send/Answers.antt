@@ -7,12 +7,12 @@ use Rattle.std.specs.contracts.vec.Vec as Vec
 use Rattle.std.specs.contracts.option.Option as Option
 use Rattle.std.specs.contracts.alloc.Global as Global
 use Rattle.std.specs.contracts.impls.GlobalAllocator.TheImpl.{ghosts}
-use Rattle.ps_delta.specs.contracts.delta.Delta as delta
+use Rattle.ps_delta.specs.contracts.cell_state.CellState as cell_state
 use Rattle.ps_cells.specs.contracts.cells.Cells as cells
 use Rattle.ps_sheet.specs.contracts.sheet.Report as report
 use Rattle.ps_sheet.specs.contracts.staging.Staged as staged
 use Rattle.ps_sheet.specs.contracts.staging.Staging.TheInside as inside
-use Rattle.ps_sheet.proofs.SharedDeltas.{shared_delta, shared_send}
+use Rattle.ps_sheet.proofs.SharedDeltas.{delta_send, delta_sync, shared_delta, shared_send}
 use Rattle.ps_sheet.proofs.threads.staging_is_send.Goals as goal
 
 -- from what the bounds say of the parts, one after another, that the whole may go to another thread
@@ -43,6 +43,7 @@ staging_send a c = declared_send inside.the_type (
 
 pub returns : goal.returns
 returns c =
-    let d : IsSend delta.the_row = record { owned = c.is_send_and_sync.ensures.send.owned; leaving = λ k x w. tt } in
-    let e : IsSync delta.the_row = record { shared = c.is_send_and_sync.ensures.sync.shared } in
-    view_send _ _ _ _ _ (staging_send (shared_send d e) c.cells_cross.ensures)
+    let a = c.is_send_and_sync.ensures in
+    let d : IsSend cell_state.the_row = record { owned = a.send.owned; leaving = λ k x w. (tt, (tt, (tt, tt))) } in
+    let e : IsSync cell_state.the_row = record { shared = a.sync.shared } in
+    view_send _ _ _ _ _ (staging_send (shared_send (delta_send d) (delta_sync e)) c.cells_cross.ensures)
