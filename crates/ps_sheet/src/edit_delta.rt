@@ -39,32 +39,32 @@ pub(crate) fn delta_of(
     match edit {
         Edit::Set(cell, content) => {
             let register = grid.at(cell).register.assign(replica, content)?;
-            of_cell(alloc, cell, with_register(alloc, register))
+            Ok(of_cell(cell, with_register(alloc, register)))
         }
         Edit::SetAll(batch) => all_assigned(alloc, grid, replica, batch.into_cells()),
         Edit::Add(cell, amount) => {
             let state = grid.at(cell);
             check_tally(state, amount)?;
             let tally = state.tally.add(alloc, replica, amount)?;
-            of_cell(alloc, cell, with_tally(alloc, tally))
+            Ok(of_cell(cell, with_tally(alloc, tally)))
         }
         Edit::Sub(cell, amount) => {
             let state = grid.at(cell);
             check_tally(state, amount)?;
             let tally = state.tally.sub(alloc, replica, amount)?;
-            of_cell(alloc, cell, with_tally(alloc, tally))
+            Ok(of_cell(cell, with_tally(alloc, tally)))
         }
         Edit::Choose(cell, option) => {
             let state = grid.at(cell);
             check_choice(state, option)?;
             let choice = state.choice.choose(alloc, replica, option)?;
-            of_cell(alloc, cell, with_choice(alloc, choice))
+            Ok(of_cell(cell, with_choice(alloc, choice)))
         }
         Edit::Unchoose(cell, option) => {
             let state = grid.at(cell);
             check_choice(state, option)?;
             let choice = state.choice.unchoose(alloc, option)?;
-            of_cell(alloc, cell, with_choice(alloc, choice))
+            Ok(of_cell(cell, with_choice(alloc, choice)))
         }
     }
 }
@@ -170,16 +170,13 @@ fn with_choice(alloc: Global, choice: Choice) -> CellState
 }
 
 /// The delta of one cell.
-fn of_cell(alloc: Global, cell: Cell, state: CellState) -> Result<Delta, Refusal>
+fn of_cell(cell: Cell, state: CellState) -> Delta
     requires { state ≢ empty_cell }
-    ensures made { IfOk result (λ d. d ≡ (cell, state) ∷ []) }
-    ensures delta { IfOk result IsDelta }
-    ensures memory { IfErr result (λ e. e ≡ Refusal.Memory) }
+    ensures made { result ≡ (cell, state) ∷ [] }
+    ensures delta { IsDelta result }
 {
-    let mut cells = Vec::with_capacity(alloc, 1)?;
-    cells.push((cell, state))?;
-    match Delta::new(cells) {
-        Some(delta) => Ok(delta),
+    match Delta::of_one(cell, state) {
+        Some(delta) => delta,
         None => unreachable!(),
     }
 }
