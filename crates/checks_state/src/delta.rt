@@ -6,7 +6,7 @@ mod refused;
 
 ghost use Rattle.std.specs.List.Sorted.{IsStrictlyIncreasing};
 ghost use Rattle.ps_delta.specs.Deltas.{cells_of};
-ghost use Rattle.ps_delta.specs.Raised.{HasRoomFor};
+ghost use Rattle.ps_delta.specs.Changes.{HasRoomFor};
 
 use Part::{Added, Assigned, Chosen, Nothing};
 use ps_content::Content;
@@ -462,41 +462,41 @@ fn value_at(rt: &impl Abort, grid: &Grid, index: usize) -> i64 {
 
 const LAST: usize = CELLS - 1;
 
-// Exchanges what is raised twice, and looks at the cells before and after each.
+// Exchanges the changes twice, and looks at the cells before and after each.
 fn exchange_and_back(
     rt: &impl Abort,
     grid: &mut Grid,
-    raised: &mut [(Cell, CellState)],
+    changes: &mut [(Cell, CellState)],
     delta: &Delta,
 )
-    requires ready { HasRoomFor grid.old raised.old }
-    requires once { IsStrictlyIncreasing (cells_of raised.old) }
+    requires ready { HasRoomFor grid.old changes.old }
+    requires once { IsStrictlyIncreasing (cells_of changes.old) }
 {
-    assert!(rt; raised.len() == 2 && number_at(rt, grid, 3) == Some(7));
-    grid.exchange(raised);
+    assert!(rt; changes.len() == 2 && number_at(rt, grid, 3) == Some(7));
+    grid.exchange(changes);
     let changed = [(0, None), (3, Some(8)), (LAST, Some(9))];
     assert!(rt; have_numbers(rt, grid, &changed) && grid.covers(delta));
-    grid.exchange(raised);
+    grid.exchange(changes);
     let back = [(0, None), (3, Some(7)), (LAST, None)];
     assert!(rt; have_numbers(rt, grid, &back) && value_at(rt, grid, 0) == 5);
 }
 
-// Raises the cells of the delta, and exchanges them twice.
+// Finds the changes that the delta makes, and exchanges them twice.
 fn exchange_twice(
     rt: &impl Abort,
     alloc: Global,
     grid: &mut Grid,
     delta: &Delta,
 ) -> Result<(), Refusal> {
-    let mut raised = grid.raised(alloc, delta, Vec::new(alloc))?;
-    exchange_and_back(rt, grid, &mut raised, delta);
+    let mut changes = grid.changes_by(alloc, delta, Vec::new(alloc))?;
+    exchange_and_back(rt, grid, &mut changes, delta);
     Ok(())
 }
 
-/// What is raised is listed beside the grid; an exchange puts it in and takes out what was there, and another one goes
-/// back. What is covered isn't listed, and the grid's first and last cell are as the others.
+/// What a join would change is listed beside the grid; an exchange puts it in and takes out what was there, and another
+/// one goes back. What is covered isn't listed, and the grid's first and last cell are as the others.
 #[test]
-fn raised_states_are_exchanged_and_back(rt: HostRuntime) -> Result<(), Refusal> {
+fn changes_are_exchanged_and_back(rt: HostRuntime) -> Result<(), Refusal> {
     let before = [(0, Added(1, 5)), (3, Assigned(1, 1, 7))];
     let change = [
         (0, Added(1, 4)),

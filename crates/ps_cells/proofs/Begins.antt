@@ -9,7 +9,7 @@ use Rattle.ps_delta.specs.declared.cell_state.CellState.{CellState}
 use Rattle.ps_eval.specs.Items.{Assignment}
 use Rattle.ps_delta.specs.State.{State, IsInGrid}
 use Rattle.ps_delta.specs.Deltas.{Entries, cells_of}
-use Rattle.ps_delta.specs.Raised.{AreChanges}
+use Rattle.ps_delta.specs.Changes.{AreChanges}
 use Rattle.ps_cells.specs.Settled.{IsSettled}
 use Rattle.ps_cells.specs.Inside.Walk.{IsStateChange}
 use Rattle.ps_cells.proofs.PutFormulas.{overlaid_others}

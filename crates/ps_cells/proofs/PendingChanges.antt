@@ -12,7 +12,7 @@ use Rattle.ps_eval.specs.Items.{Assignment}
 use Rattle.ps_shown.specs.Shown.{shown_at}
 use Rattle.ps_delta.specs.State.{Blocks, State, IsInGrid, joined_state, state_at}
 use Rattle.ps_delta.specs.Deltas.{Entries, cells_of, overlaid}
-use Rattle.ps_delta.specs.Raised.{AreChanges, HasRoomFor, entries_from}
+use Rattle.ps_delta.specs.Changes.{AreChanges, HasRoomFor, entries_from}
 use Rattle.ps_delta.specs.declared.cell_state.CellState.{CellState}
 use Rattle.ps_cells.specs.Settled.{IsSettled}
 use Rattle.ps_cells.specs.Inside.Formulas.{forms_of, with_puts}

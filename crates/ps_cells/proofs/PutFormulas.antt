@@ -16,7 +16,7 @@ use Rattle.ps_delta.specs.declared.cell_state.CellState.{CellState}
 use Rattle.ps_delta.specs.State.{State, with_cell}
 use Rattle.ps_delta.specs.Deltas.{Entries, cells_of, overlaid}
 use Rattle.ps_delta.specs.Order.{Rising}
-use Rattle.ps_delta.specs.Raised.{entries_from}
+use Rattle.ps_delta.specs.Changes.{entries_from}
 use Rattle.ps_delta.proofs.CellLists.{rising_from_increasing}
 use Rattle.ps_delta.proofs.StateLemmas.{with_cell-same, with_cell-other}
 use Rattle.ps_delta.proofs.WalkLemmas.{more_entries}

@@ -14,7 +14,7 @@ use Rattle.ps_region.proofs.ListedLemmas.{listed_below, listed_refers}
 use Rattle.ps_delta.specs.declared.cell_state.CellState.{CellState}
 use Rattle.ps_delta.specs.State.{State, IsInGrid, joined_state, state_at}
 use Rattle.ps_delta.specs.Deltas.{Entries, cells_of, overlaid}
-use Rattle.ps_delta.specs.Raised.{AreChanges, entries_from}
+use Rattle.ps_delta.specs.Changes.{AreChanges, entries_from}
 use Rattle.ps_index.specs.declared.span.Span.{Span}
 use Rattle.std.specs.List.Sorted.{IsStrictlyIncreasing}
 use Rattle.ps_cells.specs.declared.tables.Tables.{Tables}

@@ -4,7 +4,7 @@ ghost use Rattle.std.specs.Prelude.{◌≡◌, OnOk, OnErr, IfOk, IfErr};
 ghost use Rattle.ps_index.specs.Stands.{Puts, Stands};
 ghost use Rattle.ps_delta.specs.State.{state_at};
 ghost use Rattle.ps_delta.specs.Deltas.{cells_of, state_of};
-ghost use Rattle.ps_delta.specs.Raised.{HasRoomFor, IsRaised};
+ghost use Rattle.ps_delta.specs.Changes.{AreChangesBy, HasRoomFor};
 ghost use Rattle.ps_cells.specs.Inside.Formulas.{firsts, shown_firsts, with_puts};
 
 use crate::contents::{first_of, formula_of};
@@ -58,7 +58,7 @@ pub(crate) fn begin(
     delta: &Delta,
 ) -> Result<Vec<(Cell, CellState)>, Refusal>
     requires stands { (forms : Puts) × Stands index.old forms }
-    ensures raised { IfOk result (λ x. IsRaised (state_at grid.old) (state_of delta.now) x.items) }
+    ensures changes { IfOk result (λ x. AreChangesBy (state_at grid.old) (state_of delta.now) x.items) }
     ensures ready { IfOk result (λ x. HasRoomFor grid.new x.items) }
     ensures touched { IfOk result (λ x. lists.new.touched.items ≡ cells_of x.items) }
     ensures first { IfOk result (λ x. shown_firsts lists.new.first.items ≡ firsts x.items) }
@@ -69,11 +69,11 @@ pub(crate) fn begin(
     ensures memory { IfErr result (λ e. e ≡ Refusal.Memory) }
 {
     let spare = mem::replace(&mut lists.spare, Vec::new(alloc));
-    let raised = grid.raised(alloc, delta, spare)?;
-    list_cells(&raised, &mut lists.touched)?;
-    list_first(alloc, &raised, &mut lists.first)?;
-    put_formulas(index, &raised)?;
-    Ok(raised)
+    let changes = grid.changes_by(alloc, delta, spare)?;
+    list_cells(&changes, &mut lists.touched)?;
+    list_first(alloc, &changes, &mut lists.first)?;
+    put_formulas(index, &changes)?;
+    Ok(changes)
 }
 
 /// Lists the cells alone.

@@ -126,18 +126,18 @@ impl Tables {
             × (self.new.shown ≡ self.old.shown)) }
         ensures unmetered { OnErr result (meter.new ≡ meter.old) }
     {
-        let mut raised = begin(
+        let mut changes = begin(
             alloc,
             &mut self.grid,
             &mut self.index,
             &mut self.lists,
             delta,
         )?;
-        self.grid.exchange(&mut raised);
+        self.grid.exchange(&mut changes);
         let mut lists = mem::replace(&mut self.lists, Lists::new(alloc));
         let work = self.recalculate(rt, gate, &lists.touched, &mut lists.first, meter);
         self.lists = lists;
-        Ok((work, raised))
+        Ok((work, changes))
     }
 
     /// Leaves a change as it was made, where these were the states of the touched cells. It takes no memory.

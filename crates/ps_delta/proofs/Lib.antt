@@ -1,10 +1,10 @@
 pub mod BlockLemmas
 pub mod CellLists
+pub mod ChangeLemmas
 pub mod EntryLemmas
 pub mod GridLemmas
 pub mod HistoryLemmas
 pub mod MergeLemmas
 pub mod PlaceLemmas
-pub mod RaisedLemmas
 pub mod StateLemmas
 pub mod WalkLemmas

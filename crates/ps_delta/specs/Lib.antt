@@ -1,9 +1,9 @@
 pub mod CellLaws
+pub mod Changes
 pub mod Deltas
 pub mod Inside
 pub mod Laws
 pub mod Order
 pub mod Places
-pub mod Raised
 pub mod Room
 pub mod State

@@ -7,7 +7,7 @@ ghost use Rattle.ps_delta.specs.State.{AreTouched, empty_state, HasPlace, IsBelo
 ghost use Rattle.ps_delta.specs.State.{IsInGrid, joined_blocks, joined_state};
 ghost use Rattle.ps_delta.specs.State.{state_at, with_cell};
 ghost use Rattle.ps_delta.specs.Deltas.{cells_of, overlaid, state_of};
-ghost use Rattle.ps_delta.specs.Raised.{HasRoomFor, IsRaised, entries_from};
+ghost use Rattle.ps_delta.specs.Changes.{AreChangesBy, HasRoomFor, entries_from};
 
 use crate::block::{BLOCK, Block};
 use crate::cell_state::CellState;
@@ -78,7 +78,7 @@ impl Grid {
 
     /// Joins the delta into the grid.
     ///
-    /// It is for whoever keeps a grid alone. A sheet uses its two halves, `raised` and `exchange`, since it takes a
+    /// It is for whoever keeps a grid alone. A sheet uses its two halves, `changes_by` and `exchange`, since it takes a
     /// change back if it is given up.
     ///
     /// Refused only when out of memory, and then each cell holds what it held.
@@ -89,8 +89,8 @@ impl Grid {
         ensures err { OnErr result (state_at self.new ≡ state_at self.old) }
         ensures memory { IfErr result (λ e. e ≡ Refusal.Memory) }
     {
-        let mut raised = self.raised(alloc, delta, Vec::new(alloc))?;
-        self.exchange(&mut raised);
+        let mut changes = self.changes_by(alloc, delta, Vec::new(alloc))?;
+        self.exchange(&mut changes);
         Ok(())
     }
 
@@ -113,7 +113,7 @@ impl Grid {
     /// Finds the cells that a join of the delta would change: those whose register, counter or set is not what it was,
     /// shown or not.
     ///
-    /// It is part of the public interface, for whoever asks before a join. A sheet has these cells from `raised`.
+    /// It is part of the public interface, for whoever asks before a join. A sheet has these cells from `changes_by`.
     ///
     /// Cost: for each cell of the delta its counts and pairs, each with a search among those that the cell has here; it
     /// takes no memory.
@@ -139,20 +139,20 @@ impl Grid {
     ///
     /// Cost: for each cell of the delta, the counts and pairs that it has here and there; and 64 states for each block
     /// that is made.
-    pub fn raised(
+    pub fn changes_by(
         &mut self,
         alloc: Global,
         delta: &Delta,
         list: Vec<(Cell, CellState)>,
     ) -> Result<Vec<(Cell, CellState)>, Refusal>
-        ensures raised { IfOk result (λ r. IsRaised (state_at self.old) (state_of delta.now) r.items) }
+        ensures changes { IfOk result (λ r. AreChangesBy (state_at self.old) (state_of delta.now) r.items) }
         ensures ready { IfOk result (λ r. HasRoomFor self.new r.items) }
         ensures same { state_at self.new ≡ state_at self.old }
         ensures memory { IfErr result (λ e. e ≡ Refusal.Memory) }
     {
-        let raised = raised_of(alloc, self, delta, list)?;
-        self.make_places(alloc, &raised)?;
-        Ok(raised)
+        let changes = changes_of(alloc, self, delta, list)?;
+        self.make_places(alloc, &changes)?;
+        Ok(changes)
     }
 
     /// Exchanges the state of each cell of the list with that of the list.
@@ -207,27 +207,27 @@ impl Grid {
 
 /// The cells that a join of the delta would change in the grid, each with the state that it would have, in the room of
 /// the given list.
-fn raised_of(
+fn changes_of(
     alloc: Global,
     grid: &Grid,
     delta: &Delta,
     list: Vec<(Cell, CellState)>,
 ) -> Result<Vec<(Cell, CellState)>, Refusal>
-    ensures raised { IfOk result (λ r. IsRaised (state_at grid.now) (state_of delta.now) r.items) }
+    ensures changes { IfOk result (λ r. AreChangesBy (state_at grid.now) (state_of delta.now) r.items) }
     ensures memory { IfErr result (λ e. e ≡ Refusal.Memory) }
 {
     let parts = delta.parts();
-    let mut raised = list;
-    raised.clear();
-    raised.reserve(parts.len())?;
+    let mut changes = list;
+    changes.clear();
+    changes.reserve(parts.len())?;
     for change in parts {
         let here = grid.at(change.0);
         if !change.1.below(here) {
             let state = here.joined(alloc, &change.1)?;
-            raised.push((change.0, state))?;
+            changes.push((change.0, state))?;
         }
     }
-    Ok(raised)
+    Ok(changes)
 }
 
 /// A grid joined with another one: what two replicas hold, cell by cell. A block that was made counts as different from

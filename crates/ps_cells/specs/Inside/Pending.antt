@@ -5,7 +5,7 @@ use Rattle.ps_index.specs.Stands.{Stands}
 use Rattle.ps_shown.specs.Shown.{shown_at}
 use Rattle.ps_delta.specs.State.{State, IsInGrid, state_at}
 use Rattle.ps_delta.specs.Deltas.{Entries, cells_of, overlaid}
-use Rattle.ps_delta.specs.Raised.{HasRoomFor, entries_from}
+use Rattle.ps_delta.specs.Changes.{HasRoomFor, entries_from}
 use Rattle.ps_cells.specs.Settled.{IsSettled}
 use Rattle.ps_cells.specs.Inside.Formulas.{forms_of, with_puts}
 use Rattle.ps_cells.specs.Inside.Kept.{IsTidy}

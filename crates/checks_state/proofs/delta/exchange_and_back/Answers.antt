@@ -2,7 +2,7 @@ use Rattle.std.proofs.Common.{◌≡◌, [], ◌∷◌, refl, sym, ap, ◌∙◌
 use Rattle.std.specs.List.Sorted.{IsStrictlyIncreasing}
 use Rattle.ps_delta.specs.Deltas.{Entries, cells_of}
 use Rattle.ps_delta.specs.State.{State}
-use Rattle.ps_delta.specs.Raised.{entries_from}
+use Rattle.ps_delta.specs.Changes.{entries_from}
 use Rattle.checks_state.proofs.delta.exchange_and_back.Goals as goal
 
 -- what is taken out has the cells of what is put in
@@ -13,4 +13,4 @@ cells_from s (e ∷ es) = ap (λ cells. e.0 ∷ cells) (cells_from s es)
 pub exchange-requires-2-clause-once : goal.exchange-requires-2-clause-once
 exchange-requires-2-clause-once g c =
     subst IsStrictlyIncreasing
-    (sym (ap cells_of c.exchange.ensures.taken ∙ cells_from _ c.args.raised.now)) c.requires.once
+    (sym (ap cells_of c.exchange.ensures.taken ∙ cells_from _ c.args.changes.now)) c.requires.once

@@ -1,6 +1,6 @@
 use Rattle.std.proofs.Common.{◌∙◌, arith, refl}
 use Rattle.ps_delta.specs.State.{state_at}
-use Rattle.ps_delta.proofs.RaisedLemmas.{exchange-step, place_there, room_after, room_kept, swapped-all}
+use Rattle.ps_delta.proofs.ChangeLemmas.{exchange-step, place_there, room_after, room_kept, swapped-all}
 use Rattle.ps_delta.proofs.grid.Grid.exchange.Goals as goal
 
 pub loop-i-init : goal.loop-i-init

@@ -1,8 +1,8 @@
 use Rattle.std.proofs.Common.{◌≡◌, take}
 use Rattle.ps_delta.specs.State.{state_at}
 use Rattle.ps_delta.specs.Deltas.{overlaid}
-use Rattle.ps_delta.specs.Raised.{HasRoomFor}
-use Rattle.ps_delta.proofs.RaisedLemmas.{swapped}
+use Rattle.ps_delta.specs.Changes.{HasRoomFor}
+use Rattle.ps_delta.proofs.ChangeLemmas.{swapped}
 use Rattle.ps_delta.proofs.grid.Grid.exchange.Given as goal
 
 abbrev pub invariant-loop-i : goal.invariant-loop-i

@@ -1,6 +1,6 @@
 use Rattle.std.proofs.Common.{◌∙◌, refl}
 use Rattle.std.proofs.lemmas.List.{take_all}
-use Rattle.ps_delta.proofs.RaisedLemmas.{room_kept, room_more, room_none}
+use Rattle.ps_delta.proofs.ChangeLemmas.{room_kept, room_more, room_none}
 use Rattle.ps_delta.proofs.grid.Grid.make_places.Goals as goal
 
 pub loop-entry-init : goal.loop-entry-init

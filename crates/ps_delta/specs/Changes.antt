@@ -14,8 +14,8 @@ pub record AreChanges (before after : State) (cells : Entries) : Type 0 where
   pub gives : overlaid before cells ≡ after
 
 -- exactly the cells that a join of d would change in s, each with the state that it would have
-abbrev pub IsRaised : State → State → Entries → Type 0
-IsRaised s d cells = AreChanges s (joined_state s d) cells
+abbrev pub AreChangesBy : State → State → Entries → Type 0
+AreChangesBy s d cells = AreChanges s (joined_state s d) cells
 
 -- each cell of the entries with what it holds in s
 abbrev pub entries_from : State → Entries → Entries

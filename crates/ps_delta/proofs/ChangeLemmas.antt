@@ -12,7 +12,7 @@ use Rattle.ps_delta.specs.declared.cell_state.CellState.{CellState}
 use Rattle.ps_delta.specs.State.{AreTouched, Blocks, HasPlace, State, joined_cell, joined_state, with_cell}
 use Rattle.ps_delta.specs.Deltas.{AreInGrid, Entries, IsDelta, cells_of, overlaid, state_of}
 use Rattle.ps_delta.specs.Order.{Under}
-use Rattle.ps_delta.specs.Raised.{HasRoomFor, IsRaised, entries_from}
+use Rattle.ps_delta.specs.Changes.{AreChangesBy, HasRoomFor, entries_from}
 use Rattle.ps_delta.proofs.CellLists.{rising_from_increasing}
 use Rattle.ps_delta.proofs.EntryLemmas.{state_of-nil, under_entry}
 use Rattle.ps_delta.proofs.GridLemmas.{at_last, at_others, joined-same, overlaid-push, touched_none}
@@ -29,8 +29,8 @@ is_true : (b : Bool) → ¬ (¬ (b ≡ true)) → b ≡ true
 is_true true h = refl
 is_true false h = absurd (h (λ p. true≢false (sym p)))
 
-pub raised_from_listed : (s d : State) (cells : Entries) → Listed s d cells → IsRaised s d cells
-raised_from_listed s d cells l = record {
+pub changes_from_listed : (s d : State) (cells : Entries) → Listed s d cells → AreChangesBy s d cells
+changes_from_listed s d cells l = record {
   ascending = l.touched.ascending;
   in_grid = l.in_grid;
   exact = λ c. (
