@@ -344,6 +344,17 @@ fn deltas_are_ascending_and_not_empty(rt: HostRuntime) -> Result<(), Refusal> {
     Ok(())
 }
 
+/// A cell and its state make a delta of that cell alone; an empty state makes none.
+#[test]
+fn one_cell_makes_a_delta(rt: HostRuntime) -> Result<(), Refusal> {
+    let state = state_of(&rt, rt.alloc(), &FIVE)?;
+    let delta = Delta::of_one(cell(&rt, 3), state).expect(&rt, "a delta");
+    let grid = grid_with(rt.alloc(), &delta)?;
+    assert!(rt; delta.parts().len() == 1 && number_at(&rt, &grid, 3) == Some(5));
+    assert!(rt; Delta::of_one(cell(&rt, 3), CellState::empty(rt.alloc())).is_none());
+    Ok(())
+}
+
 // Whether the cells are just those at these indexes.
 fn are_at(cells: &[Cell], expected: &[usize]) -> bool {
     if cells.len() != expected.len() {
