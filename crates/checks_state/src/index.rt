@@ -115,8 +115,8 @@ fn readers_are_known_without_a_walk(rt: HostRuntime) {
     assert!(rt; found == Ok(true));
 }
 
-/// Whether the one cell that refers to A1 is known, and the two of A2 and those of a column with a range aren't, and
-/// the two are walked as those of a row.
+/// Whether the one cell that refers to A1 is known, and the two of A2 and those of a column with a range aren't; the two
+/// are walked as those of a row, and that of a row below the range's level as those of two rows.
 fn known_readers(alloc: Global) -> Result<bool, Refusal> {
     let lines = "B1 =[.A1]\nC1 =[.A2]\nD1 =[.A2]\nE1 =SUM([.F1:.F2])";
     let index = index_of(alloc, lines)?;
@@ -124,7 +124,8 @@ fn known_readers(alloc: Global) -> Result<bool, Refusal> {
         one_reads(&index, cell("A1")?, cell("B1")?)
             && row_reads(&index, cell("A2")?, "C1 D1")
             && nobody_reads(&index, cell("A3")?)
-            && several_may_read(&index, cell("F1")?)
+            && two_rows_read(&index, cell("F1")?, cell("E1")?)
+            && several_may_read(&index, cell("F2")?)
             && nobody_reads(&index, cell("CZ1024")?),
     )
 }
@@ -145,6 +146,14 @@ fn one_reads(index: &Index, to: Cell, reader: Cell) -> bool {
 /// Whether nothing is known of the cells that refer to this one.
 fn several_may_read(index: &Index, to: Cell) -> bool {
     matches!(index.readers(to), Readers::Several)
+}
+
+/// Whether this cell alone refers to the other, and is given by a walk of two rows of spans.
+fn two_rows_read(index: &Index, to: Cell, reader: Cell) -> bool {
+    let Readers::TwoRows(mut walk) = index.readers(to) else {
+        return false;
+    };
+    walk.next() == Some(reader) && walk.next().is_none()
 }
 
 /// Whether the cells that refer to a cell are given as a walk of its row, and are just those of these names, in this

@@ -55,6 +55,7 @@ fn flag_dependents(index: &Index, cell: Cell, flags: &mut [bool])
         Readers::Nobody => {}
         Readers::One(reader) => flags[reader.index()] = true,
         Readers::Row(walk) => flag_each(walk, flags),
+        Readers::TwoRows(walk) => flag_each(walk, flags),
         Readers::Several => flag_each(index.dependents(cell), flags),
     }
 }

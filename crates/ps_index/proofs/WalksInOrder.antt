@@ -1,6 +1,6 @@
 -- A walk goes through the cells that refer to a row, in order.
 use Rattle.std.proofs.Common.{◌≡◌, ℕ, ◌+◌, ◌-◌, ◌<◌, ◌≤◌, ◌⊎◌, inl, inr, sym, ◌∙◌, ap, refl, arith, true, false}
-use Rattle.std.proofs.Common.{List, ◌∷◌, length, get_or, set, min, nat_eq, subst}
+use Rattle.std.proofs.Common.{List, [], ◌∷◌, length, get_or, set, min, nat_eq, subst}
 use Rattle.std.specs.Prelude.{Option, None, Some, ⊤}
 use Rattle.std.specs.Option.{SomeIff}
 use Rattle.std.specs.Iterator.{YieldsFirst, MakesProgress, item_count}
@@ -529,3 +529,75 @@ module _ (spans : List Span) (y n : ℕ) (sole : IsSole (refers_at spans y) n) (
           let there = is_there (get_or spans i d) spans (one_there spans i d within) in
           refers_at-true spans y (cell_of spans i d) there.0 there.1
           (λ (e : Span). (ap (λ (s : Span). holds s y) (there.2 e) ∙ has, ap (λ (s : Span). s.cell) (there.2 e)))
+
+-- ---- the walk of two runs
+
+-- nothing is left of the next run, or it has a first span
+pub head_at : (spans : List Span) (y : ℕ) (starts ends : List ℕ) (runs least run first start cell : ℕ)
+    → IsHead spans y starts ends runs least run first → run < runs → run < length starts
+    → get_or starts run 0 ≤ start → start ≤ get_or ends run 0
+    → ((i : ℕ) (d : Span) → get_or starts run 0 ≤ i → i < start → holds (get_or spans i d) y ≡ true
+    → cell_of spans i d < least)
+    → (get_or ends run 0 ≤ start → cell ≡ CELLS)
+    → (start < get_or ends run 0 → (d : Span) → cell_of spans start d ≡ cell)
+    → (start < get_or ends run 0 → (d : Span) → holds (get_or spans start d) y ≡ true)
+    → (start < get_or ends run 0 → (d : Span) → least ≤ cell_of spans start d)
+    → IsHead spans y (set starts run start) ends runs least (run + 1) (min first cell)
+head_at spans y starts ends runs least run first start cell is lt len from to gone none at has from_least =
+    elim (cases_lt start (get_or ends run 0)) [
+      | inl more ↦ head_found spans y starts ends runs least run first start cell is lt len from more gone (at more)
+          (has more)
+          (let d = any_span spans start in omega (arith, at more d, from_least more d))
+      | inr done ↦ record {
+        walk = walk_past spans y starts ends runs least run start is.walk lt len from to gone;
+        lowest = λ (r : ℕ) (d : Span) (less : r < run + 1)
+            (some : get_or (set starts run start) r 0 < get_or ends r 0). elim (cases_lt r run) [
+              | inl below ↦ (let e : get_or (set starts run start) r 0 ≡ get_or starts r 0 =
+                  get_set starts run r start len below in
+                  let l : first ≤ cell_of spans (get_or starts r 0) d = is.lowest r d below (omega arith) in
+                  let m : min first cell ≤ first = omega arith in
+                  rw e (omega arith))
+              | inr above ↦ absurd (let e : r ≡ run = omega arith in
+                  let now : get_or (set starts run start) r 0 ≡ start =
+                  ap (λ q. get_or (set starts run start) q 0) e ∙ get_or-set_same starts run start 0 len in
+                  let last : get_or ends r 0 ≡ get_or ends run 0 = ap (λ q. get_or ends q 0) e in
+                  omega arith)
+            ];
+        there = (let past : cell ≡ CELLS = none done in
+            let small : first ≤ CELLS = head_in_grid is.walk.in_grid is.there in
+            let e : min first cell ≡ first = omega arith in rw e (is.there));
+      }
+    ]
+  where
+    head_in_grid : ((i : ℕ) (d : Span) → i < length spans → cell_of spans i d < CELLS)
+        → ((first ≡ CELLS) ⊎ ((i : ℕ) × (i < length spans)
+        × ((d : Span) → (holds (get_or spans i d) y ≡ true) × (cell_of spans i d ≡ first) × (least ≤ first))))
+        → first ≤ CELLS
+    head_in_grid in_grid (inl e) = omega arith
+    head_in_grid in_grid (inr h) = let d = any_span spans h.0 in
+        let c : cell_of spans h.0 d < CELLS = in_grid h.0 d h.1 in omega (arith, (h.2 d).1)
+
+-- the spans that may have a row are kept at it, or at the one row above it of the level of ranges
+pub two_runs : (column : List ℕ) (level above y key : ℕ) → above ≡ level + 1 → 1 ≤ y → y ≤ ROWS
+    → key ≡ node_of y level → 1 ≤ key → key ≤ ROWS
+    → IsRuns column (IsLooked level above y) (get_or column (y - 1) 0 ∷ get_or column (key - 1) 0 ∷ [])
+    (get_or column y 0 ∷ get_or column key 0 ∷ []) 2
+two_runs column level above y key one_level some small is key_some key_small =
+    let starts = get_or column (y - 1) 0 ∷ get_or column (key - 1) 0 ∷ [] in
+    let ends = get_or column y 0 ∷ get_or column key 0 ∷ [] in
+    record {
+      few = omega arith;
+      sound = λ (r : ℕ) (lt : r < 2). elim (cases_lt r 1) [
+        | inl one ↦ (let e : r ≡ 0 = omega arith in
+            (y, some, small, ap (λ q. get_or starts q 0) e, ap (λ q. get_or ends q 0) e))
+        | inr two ↦ (let e : r ≡ 1 = omega arith in
+            (key, key_some, key_small, ap (λ q. get_or starts q 0) e, ap (λ q. get_or ends q 0) e))
+      ];
+      complete = λ (k : ℕ) (looked : IsLooked level above y k) (little : k ≤ ROWS)
+          (full : get_or column (k - 1) 0 < get_or column k 0). elim looked [
+            | inl e ↦ (0, omega arith, ap (λ q. get_or column (q - 1) 0) (sym e), ap (λ q. get_or column q 0) (sym e))
+            | inr l ↦ (let same : l.0 ≡ level = omega (arith, l.1, l.2) in
+                let at : k ≡ key = l.3 ∙ ap (λ q. node_of y q) same ∙ sym is in
+                (1, omega arith, ap (λ q. get_or column (q - 1) 0) (sym at), ap (λ q. get_or column q 0) (sym at)))
+          ];
+    }

@@ -84,8 +84,8 @@ fn enter_one<A: After>(
     }
 }
 
-/// Puts each cell of a walk, which are those that refer to the cell `d`, into the region, and counts its reference if `d`
-/// is a formula cell. Returns what is noted of them: the one cell where there is just one.
+/// Puts each cell of a walk, which are those that refer to the cell `d`, into the region, and counts its reference if
+/// `d` is a formula cell. Returns what is noted of them: the one cell where there is just one.
 fn enter_each<A: After, W: Iterator<Item = Cell> + Drop>(
     change: &MarkedChange<'_, A>,
     marks: &mut [bool],
@@ -167,6 +167,9 @@ fn enter_dependents<A: After>(
             sole[d.index()] = e.index() as u32;
         }
         Readers::Row(walk) => {
+            sole[d.index()] = enter_each(change, marks, left, members, d, walk);
+        }
+        Readers::TwoRows(walk) => {
             sole[d.index()] = enter_each(change, marks, left, members, d, walk);
         }
         Readers::Several => {

@@ -169,6 +169,7 @@ fn release<A: After>(
     }
     match change.index.readers(d) {
         Readers::Row(walk) => release_each(change, left, level, order, d, k, walk),
+        Readers::TwoRows(walk) => release_each(change, left, level, order, d, k, walk),
         _ => release_each(change, left, level, order, d, k, change.index.dependents(d)),
     }
 }

@@ -98,6 +98,7 @@ fn raise<A: After>(change: &MarkedChange<'_, A>, marks: &[bool], left: &mut [u32
         Readers::Nobody => {}
         Readers::One(e) => raise_one(change, marks, left, e, d),
         Readers::Row(walk) => raise_each(change, marks, left, d, walk),
+        Readers::TwoRows(walk) => raise_each(change, marks, left, d, walk),
         Readers::Several => raise_each(change, marks, left, d, change.index.dependents(d)),
     }
 }

@@ -35,6 +35,12 @@ returns-in-Row c = record {
       (walks_listed c.args.index.now c.args.cell (c.readers.ensures.row c.in-Row.walk c.in-Row.is));
 }
 
+pub returns-in-TwoRows : goal.returns-in-TwoRows
+returns-in-TwoRows c = record {
+  flagged = c.flag_each-in-TwoRows.ensures.flagged (listed c.args.index.now c.args.cell)
+      (walks_listed c.args.index.now c.args.cell (c.readers.ensures.two_rows c.in-TwoRows.walk c.in-TwoRows.is));
+}
+
 pub returns-in-Several : goal.returns-in-Several
 returns-in-Several c = record {
   flagged = c.flag_each-in-Several.ensures.flagged (listed c.args.index.now c.args.cell)

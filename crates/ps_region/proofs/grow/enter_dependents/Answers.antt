@@ -78,6 +78,10 @@ pub enter_each-requires-clause-walks : goal.enter_each-requires-clause-walks
 enter_each-requires-clause-walks g c =
     walks_listed c.args.change.now.index.now c.args.d (c.readers.ensures.row c.in-Row.walk c.in-Row.is)
 
+pub enter_each-requires-in-TwoRows-clause-walks : goal.enter_each-requires-in-TwoRows-clause-walks
+enter_each-requires-in-TwoRows-clause-walks g c =
+    walks_listed c.args.change.now.index.now c.args.d (c.readers.ensures.two_rows c.in-TwoRows.walk c.in-TwoRows.is)
+
 pub enter_each-requires-in-Several-clause-walks : goal.enter_each-requires-in-Several-clause-walks
 enter_each-requires-in-Several-clause-walks g c =
     walks_listed c.args.change.now.index.now c.args.d c.dependents-walk.ensures.list

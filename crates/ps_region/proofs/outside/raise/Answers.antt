@@ -47,6 +47,10 @@ pub raise_each-requires-clause-walks : goal.raise_each-requires-clause-walks
 raise_each-requires-clause-walks g c =
     walks_listed c.args.change.now.index.now c.args.d (c.readers.ensures.row c.in-Row.walk c.in-Row.is)
 
+pub raise_each-requires-in-TwoRows-clause-walks : goal.raise_each-requires-in-TwoRows-clause-walks
+raise_each-requires-in-TwoRows-clause-walks g c =
+    walks_listed c.args.change.now.index.now c.args.d (c.readers.ensures.two_rows c.in-TwoRows.walk c.in-TwoRows.is)
+
 pub raise_each-requires-in-Several-clause-walks : goal.raise_each-requires-in-Several-clause-walks
 raise_each-requires-in-Several-clause-walks g c =
     walks_listed c.args.change.now.index.now c.args.d c.dependents.ensures.list
