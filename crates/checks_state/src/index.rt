@@ -115,8 +115,9 @@ fn readers_are_known_without_a_walk(rt: HostRuntime) {
     assert!(rt; found == Ok(true));
 }
 
-/// Whether the one cell that refers to A1 is known, and the two of A2 and those of a column with a range aren't; the two
-/// are walked as those of a row, and that of a row below the range's level as those of two rows.
+/// Whether the one cell that refers to A1 is known, and the two of A2 and those of a column with a range aren't. The
+/// two are walked as those of a row, and the one of F1, a row below that at which the range is kept, as those of two
+/// rows.
 fn known_readers(alloc: Global) -> Result<bool, Refusal> {
     let lines = "B1 =[.A1]\nC1 =[.A2]\nD1 =[.A2]\nE1 =SUM([.F1:.F2])";
     let index = index_of(alloc, lines)?;

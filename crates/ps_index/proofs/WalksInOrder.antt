@@ -227,7 +227,8 @@ head_found spans y starts ends runs least run first start cell is lt len from to
   walk = walk_past spans y starts ends runs least run start is.walk lt len from (omega arith) gone;
   lowest = λ (r : ℕ) (d : Span) (less : r < run + 1) (some : get_or (set starts run start) r 0 < get_or ends r 0).
       elim (cases_lt r run) [
-        | inl below ↦ (let e : get_or (set starts run start) r 0 ≡ get_or starts r 0 = get_set starts run r start len below in
+        | inl below ↦ (let e : get_or (set starts run start) r 0 ≡ get_or starts r 0 =
+            get_set starts run r start len below in
             let l : first ≤ cell_of spans (get_or starts r 0) d = is.lowest r d below (omega arith) in
             rw e (omega arith))
         | inr above ↦ (let e : r ≡ run = omega arith in

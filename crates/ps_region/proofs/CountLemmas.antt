@@ -73,7 +73,7 @@ pub and_true_right : (a b : Bool) → (a && b) ≡ true → b ≡ true
 and_true_right true b h = h
 and_true_right false b h = absurd (let f : false ≡ true = h in cc)
 
--- one more cell is settled
+-- one more cell is released
 pub cells_left-more : (refers : References) (p : ℕ → Bool) (done : List ℕ) (n c h : ℕ) → h < n → p h ≡ true
     → list_any (eqb h) done ≡ false
     → cells_left refers p done n c ≡ cells_left refers p (done ++ h ∷ []) n c + as_one (refers c h)
@@ -107,12 +107,12 @@ unfolding count_below
 count_below-more p n = rw add-one
 
 -- a count that goes up by one at a cell
-pub raised_yes : (f : ℕ → Bool) (walked left left2 : List ℕ) (e : ℕ)
+pub left_yes : (f : ℕ → Bool) (walked left left2 : List ℕ) (e : ℕ)
     → ((q : ℕ) → get_or left2 q 0 ≡ get_or left q 0 + as_one (list_any (eqb q) walked && f q))
     → f e ≡ true → list_any (eqb e) walked ≡ false → e < length left2
     → (q : ℕ) → get_or (set left2 e (get_or left2 e 0 + 1)) q 0 ≡ get_or left q 0
     + as_one (list_any (eqb q) (walked ++ e ∷ []) && f q)
-raised_yes f walked left left2 e so_far yes_f new lt q =
+left_yes f walked left left2 e so_far yes_f new lt q =
     ⊎_elim
     (λ (eq : q ≡ e). subst
     (λ x. get_or (set left2 e (get_or left2 e 0 + 1)) x 0 ≡ get_or left x 0
@@ -123,11 +123,11 @@ raised_yes f walked left left2 e so_far yes_f new lt q =
     (so_far q))
     (cases_eq q e)
 
-pub raised_no : (f : ℕ → Bool) (walked left left2 : List ℕ) (e : ℕ)
+pub left_no : (f : ℕ → Bool) (walked left left2 : List ℕ) (e : ℕ)
     → ((q : ℕ) → get_or left2 q 0 ≡ get_or left q 0 + as_one (list_any (eqb q) walked && f q))
     → f e ≡ false
     → (q : ℕ) → get_or left2 q 0 ≡ get_or left q 0 + as_one (list_any (eqb q) (walked ++ e ∷ []) && f q)
-raised_no f walked left left2 e so_far no_f q =
+left_no f walked left left2 e so_far no_f q =
     ⊎_elim
     (λ (eq : q ≡ e). subst
     (λ x. get_or left2 x 0 ≡ get_or left x 0 + as_one (list_any (eqb x) (walked ++ e ∷ []) && f x)) (sym eq)
@@ -138,12 +138,12 @@ raised_no f walked left left2 e so_far no_f q =
     (cases_eq q e)
 
 -- what is counted of one more cell
-pub raised_more : (f : ℕ → Bool) (walked left left2 left3 : List ℕ) (e : ℕ)
+pub left_more : (f : ℕ → Bool) (walked left left2 left3 : List ℕ) (e : ℕ)
     → ((q : ℕ) → get_or left2 q 0 ≡ get_or left q 0 + as_one (list_any (eqb q) walked && f q))
     → ((q : ℕ) → get_or left3 q 0 ≡ get_or left2 q 0 + as_one (list_any (eqb q) (e ∷ []) && f q))
     → list_any (eqb e) walked ≡ false
     → (q : ℕ) → get_or left3 q 0 ≡ get_or left q 0 + as_one (list_any (eqb q) (walked ++ e ∷ []) && f q)
-raised_more f walked left left2 left3 e so_far one new q =
+left_more f walked left left2 left3 e so_far one new q =
     ⊎_elim
     (λ (eq : q ≡ e). subst
     (λ x. get_or left3 x 0 ≡ get_or left x 0 + as_one (list_any (eqb x) (walked ++ e ∷ []) && f x)) (sym eq)

@@ -9,14 +9,14 @@ use Rattle.std.specs.List.{list_any, IsDistinct, filter, slice_range}
 use Rattle.ps_grid.specs.Chains.{References, In, InRegion, IsCyclic, IsDepth}
 use Rattle.ps_region.specs.Inside.Cells.{Marked}
 use Rattle.ps_region.specs.Inside.Counts.{waiting, cells_left}
-use Rattle.ps_region.specs.Inside.Settles.{Settling, Levels, is_frame, is_pending, is_held}
+use Rattle.ps_region.specs.Inside.LevelWalk.{Levelling, Levels, is_frame, is_pending, is_held}
 use Rattle.ps_region.specs.Found.{Found, IsFound, IsFrame, IsCount}
 use Rattle.ps_region.specs.Inside.Touched.{IsPlain}
 use Rattle.ps_region.proofs.TouchedLemmas.{plain_known, not_not}
 use Rattle.ps_region.proofs.CellListLemmas.{bool_cases, in-get_or, place_of, in-filter, distinct-filter, marked_below}
 use Rattle.ps_region.proofs.CountLemmas.{and_true_left, and_true_right, not_true}
 use Rattle.ps_region.proofs.CountLemmas.{listing}
-use Rattle.ps_region.proofs.SettlingLemmas.{not_both, frame_pending}
+use Rattle.ps_region.proofs.LevellingLemmas.{not_both, frame_pending}
 use Rattle.ps_grid.proofs.DepthLemmas.{IsDepth-unique}
 use Rattle.ps_region.proofs.QueueEnd.{calm, ended_not_cyclic, ended_cyclic, ended_depth, IsDepth-same, level_of_place}
 
@@ -69,7 +69,7 @@ module _ (refers : References) (formula was : ℕ → Bool) (touched members : L
     (sound : (c : ℕ) → In members c → InRegion refers touched c)
     (complete : (c : ℕ) → InRegion refers touched c → In members c)
     (left level order starts cyclic : List ℕ) (plain : List Bool) (noted : IsPlain formula plain touched)
-    (ended : Settling refers (is_pending formula was marks) (is_frame formula marks) n (length order) (length order)
+    (ended : Levelling refers (is_pending formula was marks) (is_frame formula marks) n (length order) (length order)
     (length order) (length starts) left level order)
     (levels : Levels starts order level)
     (whole : get_or starts (length starts - 1) 0 ≡ length order)
@@ -267,7 +267,7 @@ module _ (refers : References) (formula was : ℕ → Bool) (touched members : L
         (r, f, is_cyclic c (in_frame c r f) absent);
     cyclic_complete = λ c r f cyc.
         let nz : eqb (get_or left c 0) 0 ≡ false =
-        ⊎_elim (λ z. absurd (not_cyclic c (ended.settled c (in_frame c r f) (eqb-true (get_or left c 0) 0 z)) cyc))
+        ⊎_elim (λ z. absurd (not_cyclic c (ended.levelled c (in_frame c r f) (eqb-true (get_or left c 0) 0 z)) cyc))
         (λ o. o) (bool_cases (eqb (get_or left c 0) 0)) in
         let member : list_any (eqb c) members ≡ true = complete c r in
         subst (λ xs. In xs c) (sym held) (in-filter (is_held formula left) members c ∙ rw (member, f, nz) refl);

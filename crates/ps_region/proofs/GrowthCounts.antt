@@ -8,7 +8,7 @@ use Rattle.std.specs.List.{list_any, IsDistinct}
 use Rattle.ps_grid.specs.Chains.{References, In}
 use Rattle.ps_region.specs.Inside.Cells.{Marked, with_all}
 use Rattle.ps_region.specs.Inside.Counts.{as_one, count_below, waiting, cells_left, is_in, is_walked, counted_in}
-use Rattle.ps_region.specs.Inside.Settles.{is_pending}
+use Rattle.ps_region.specs.Inside.LevelWalk.{is_pending}
 use Rattle.ps_region.specs.Inside.Touched.{not_plain}
 use Rattle.ps_region.proofs.CellListLemmas.{bool_cases, or_cases, in-push_same, in-push_other, in-take_apart}
 use Rattle.ps_region.proofs.CellListLemmas.{with_all-prefix}

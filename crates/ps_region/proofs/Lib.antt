@@ -7,7 +7,7 @@ pub mod ListedLemmas
 pub mod QueueEnd
 pub mod QueueStart
 pub mod ReleaseLemmas
-pub mod SettlingLemmas
+pub mod LevellingLemmas
 pub mod SoleDependents
 pub mod TouchedLemmas
 pub mod ValueLaws

@@ -8,10 +8,10 @@ use Rattle.std.specs.List.{list_any}
 use Rattle.std.proofs.lemmas.List.Elements.{All-weaker}
 use Rattle.ps_grid.specs.Chains.{References, In, IsCyclic, IsDepth}
 use Rattle.ps_region.specs.Inside.Counts.{waiting, cells_left}
-use Rattle.ps_region.specs.Inside.Settles.{Settling, Levels, is_frame, is_pending}
+use Rattle.ps_region.specs.Inside.LevelWalk.{Levelling, Levels, is_frame, is_pending}
 use Rattle.ps_region.proofs.CellListLemmas.{bool_cases}
 use Rattle.ps_region.proofs.CountLemmas.{count_below-some, and_true_left, and_true_right, not_true}
-use Rattle.ps_region.proofs.SettlingLemmas.{not_both, frame_pending}
+use Rattle.ps_region.proofs.LevellingLemmas.{not_both, frame_pending}
 use Rattle.ps_grid.proofs.CycleLemmas.{IsCyclic-next, IsCyclic-stuck, not_cyclic_by_level}
 use Rattle.ps_grid.proofs.DepthLemmas.{IsDepth-level}
 
@@ -31,7 +31,7 @@ module _ (refers : References) (formula was : ℕ → Bool) (marks : List Bool) 
     (was_yes : (c : ℕ) → c < n → get_or marks c false ≡ false → was c ≡ true → IsCyclic refers c)
     (was_no : (c : ℕ) → c < n → get_or marks c false ≡ false → IsCyclic refers c → was c ≡ true)
     (k : ℕ) (left level order : List ℕ)
-    (ended : Settling refers (is_pending formula was marks) (is_frame formula marks) n (length order) (length order)
+    (ended : Levelling refers (is_pending formula was marks) (is_frame formula marks) n (length order) (length order)
     (length order) k left level order) where
   -- a cell that was never pending is not cyclic
   pub calm : (d : ℕ) → d < n → is_pending formula was marks d ≡ false → IsCyclic refers d → ⊥
@@ -65,7 +65,7 @@ module _ (refers : References) (formula was : ℕ → Bool) (marks : List Bool) 
       ended.counted c f ∙ ap (λ xs. cells_left refers (is_pending formula was marks) xs n c) whole in
       let some : 0 < cells_left refers (is_pending formula was marks) order n c =
       ⊎_elim
-      (λ (z : get_or left c 0 ≡ 0). absurd (not_both (list_any (eqb c) order) (ended.settled c f z) o))
+      (λ (z : get_or left c 0 ≡ 0). absurd (not_both (list_any (eqb c) order) (ended.levelled c f z) o))
       (λ nz. omega arith)
       (cases_eq (get_or left c 0) 0) in
       let d = count_below-some (λ x. refers c x && waiting (is_pending formula was marks) order x) n some in

@@ -5,11 +5,11 @@ use Rattle.std.specs.List.{All, list_any, IsDistinct, filter}
 use Rattle.ps_grid.specs.Chains.{References, In, InRegion}
 use Rattle.ps_region.specs.Inside.Cells.{Marked}
 use Rattle.ps_region.specs.Inside.Counts.{cells_left}
-use Rattle.ps_region.specs.Inside.Settles.{Settling, Levels, is_frame, is_pending, is_ready}
+use Rattle.ps_region.specs.Inside.LevelWalk.{Levelling, Levels, is_frame, is_pending, is_ready}
 use Rattle.ps_region.proofs.CellListLemmas.{in-get_or, in-filter, distinct-filter, marked_below}
 use Rattle.ps_region.proofs.CountLemmas.{and_true_left, and_true_right}
 use Rattle.ps_grid.proofs.RegionLemmas.{InRegion-step}
-use Rattle.ps_region.proofs.SettlingLemmas.{Settling-start, frame_pending, frame_back}
+use Rattle.ps_region.proofs.LevellingLemmas.{Levelling-start, frame_pending, frame_back}
 
 pub members_within : (marks : List Bool) (members : List ℕ) → Marked marks members → All (λ c. c < length marks) members
 members_within marks members m k d lt = marked_below marks members m (get_or members k d) (in-get_or members k d lt)
@@ -31,7 +31,7 @@ pub starting : (refers : References) (formula was : ℕ → Bool) (marks : List 
     → get_or left c 0 ≡ cells_left refers (is_pending formula was marks) [] n c)
     → order ≡ filter (is_ready formula left) members
     → ((c : ℕ) → In order c → get_or level c 0 ≡ 1)
-    → Settling refers (is_pending formula was marks) (is_frame formula marks) n 0 0 (length order) 1 left level order
+    → Levelling refers (is_pending formula was marks) (is_frame formula marks) n 0 0 (length order) 1 left level order
 starting refers formula was marks members left level order n size below has closed m long counts is first =
     let parts : (c : ℕ) → In order c → (list_any (eqb c) members && is_ready formula left c) ≡ true =
     λ c i. sym (in-filter (is_ready formula left) members c) ∙ (ap (λ xs. list_any (eqb c) xs) (sym is) ∙ i) in
@@ -39,7 +39,7 @@ starting refers formula was marks members left level order n size below has clos
     λ c i. and_true_left (list_any (eqb c) members) (is_ready formula left c) (parts c i) in
     let ready : (c : ℕ) → In order c → is_ready formula left c ≡ true =
     λ c i. and_true_right (list_any (eqb c) members) (is_ready formula left c) (parts c i) in
-    Settling-start refers (is_pending formula was marks) (is_frame formula marks) n
+    Levelling-start refers (is_pending formula was marks) (is_frame formula marks) n
     below (frame_pending formula was marks) (frame_back refers formula marks closed has)
     left level order
     (record {

@@ -2,5 +2,5 @@
 pub mod Cells
 pub mod Counts
 pub mod Scratch
-pub mod Settles
+pub mod LevelWalk
 pub mod Touched

@@ -7,7 +7,7 @@ ghost use Rattle.ps_grid.specs.declared.size.TheConstants.{CELLS as ALL};
 ghost use Rattle.ps_grid.specs.Chains.{In};
 ghost use Rattle.ps_region.specs.Inside.Cells.{HasSole};
 ghost use Rattle.ps_region.specs.Inside.Counts.{Queued, Released, is_in};
-ghost use Rattle.ps_region.specs.Inside.Settles.{Levels, Settling, is_frame, is_held, is_pending, is_ready};
+ghost use Rattle.ps_region.specs.Inside.LevelWalk.{Levels, Levelling, is_frame, is_held, is_pending, is_ready};
 ghost use Rattle.ps_region.specs.Inside.Touched.{not_plain};
 ghost use Rattle.ps_region.specs.Listed.{listed};
 
@@ -51,7 +51,7 @@ pub(crate) fn first_level(
     }
 }
 
-/// Counts one reference of the cell `e` as settled. Where it was the last, the cell goes to the queue's end, at
+/// Counts one reference of the cell `e` as released. Where it was the last, the cell goes to the queue's end, at
 /// level k.
 fn lower(left: &mut [u32], level: &mut [u32], order: &mut Vec<Cell>, e: Cell, k: u32)
     requires left_length { length left.old ≡ ALL }
@@ -73,7 +73,7 @@ fn lower(left: &mut [u32], level: &mut [u32], order: &mut Vec<Cell>, e: Cell, k:
     }
 }
 
-/// Counts the reference of the one cell that is listed for the cell `d` as settled.
+/// Counts the reference of the one cell that is listed for the cell `d` as released.
 fn release_sole<A: After>(
     change: &MarkedChange<'_, A>,
     left: &mut [u32],
@@ -101,7 +101,7 @@ fn release_sole<A: After>(
     }
 }
 
-/// Counts the reference of each cell of a walk, which are those that refer to the cell `d`, as settled.
+/// Counts the reference of each cell of a walk, which are those that refer to the cell `d`, as released.
 fn release_each<A: After, W: Iterator<Item = Cell> + Drop>(
     change: &MarkedChange<'_, A>,
     left: &mut [u32],
@@ -134,7 +134,7 @@ fn release_each<A: After, W: Iterator<Item = Cell> + Drop>(
     }
 }
 
-/// Counts each reference to the cell `d` as settled: by what is noted where at most one cell refers there, and else by
+/// Counts each reference to the cell `d` as released: by what is noted where at most one cell refers there, and else by
 /// a walk of the index.
 fn release<A: After>(
     change: &MarkedChange<'_, A>,
@@ -175,7 +175,7 @@ fn release<A: After>(
 }
 
 /// Gives the cells of the queue and those that they release their levels, level after level.
-pub(crate) fn settle<A: After>(
+pub(crate) fn assign_levels<A: After>(
     change: &MarkedChange<'_, A>,
     marks: &[bool],
     sole: &[u32],
@@ -196,14 +196,14 @@ pub(crate) fn settle<A: After>(
         → HasSole (listed change.now.index.now m) (slice_index_or sole.now m 0) }
     requires closed { (c d : ℕ) → A.refers change.now.after.now c d ≡ true → slice_index_or marks.now d false ≡ true
         → slice_index_or marks.now c false ≡ true }
-    requires starting { Settling (A.refers change.now.after.now)
+    requires starting { Levelling (A.refers change.now.after.now)
         (is_pending (A.formula change.now.after.now) (is_in change.now.outside.now) marks.now)
         (is_frame (A.formula change.now.after.now) marks.now) ALL 0 0 (length order.old.items) 1
         left.old level.old order.old.items }
     requires empty { starts.old.items ≡ [] }
     requires room { ALL ≤ vec_capacity order.old }
     requires room_starts { ALL < vec_capacity starts.old }
-    ensures ended { Settling (A.refers change.now.after.now)
+    ensures ended { Levelling (A.refers change.now.after.now)
         (is_pending (A.formula change.now.after.now) (is_in change.now.outside.now) marks.now)
         (is_frame (A.formula change.now.after.now) marks.now) ALL (length order.new.items) (length order.new.items)
         (length order.new.items) (length starts.new.items) left.new level.new order.new.items }

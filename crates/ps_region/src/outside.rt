@@ -8,7 +8,7 @@ ghost use Rattle.ps_grid.specs.declared.size.TheConstants.{CELLS as ALL};
 ghost use Rattle.ps_grid.specs.Chains.{In};
 ghost use Rattle.ps_region.specs.Inside.Cells.{Marked};
 ghost use Rattle.ps_region.specs.Inside.Counts.{as_one, cells_left, is_in};
-ghost use Rattle.ps_region.specs.Inside.Settles.{is_pending};
+ghost use Rattle.ps_region.specs.Inside.LevelWalk.{is_pending};
 ghost use Rattle.ps_region.specs.Inside.Touched.{not_plain};
 ghost use Rattle.ps_region.specs.Listed.{listed};
 
@@ -30,7 +30,7 @@ fn is_reference<A: After>(change: &MarkedChange<'_, A>, marks: &[bool], e: Cell,
 }
 
 /// Counts the reference of the cell `e` to the cell `d`, if it is of the region and refers there.
-fn raise_one<A: After>(
+fn count_one<A: After>(
     change: &MarkedChange<'_, A>,
     marks: &[bool],
     left: &mut [u32],
@@ -42,7 +42,7 @@ fn raise_one<A: After>(
     requires left_length { length left.old ≡ ALL }
     requires known { slice_index_or change.now.fresh.now e false ≡ false → A.refers change.now.after.now e d ≡ true }
     requires small { slice_index_or marks.now e false ≡ true → slice_index left.old e < ALL }
-    ensures raised { (c : ℕ) → slice_index left.new c ≡ slice_index left.old c
+    ensures counted { (c : ℕ) → slice_index left.new c ≡ slice_index left.old c
         + as_one (list_any (nat_eq c) (e ∷ [])
         && (slice_index_or marks.now c false && A.refers change.now.after.now c d)) }
 {
@@ -54,7 +54,7 @@ fn raise_one<A: After>(
 }
 
 /// Counts the references of the region's cells to the cell `d`, by a walk of the cells that refer there.
-fn raise_each<A: After, W: Iterator<Item = Cell> + Drop>(
+fn count_each<A: After, W: Iterator<Item = Cell> + Drop>(
     change: &MarkedChange<'_, A>,
     marks: &[bool],
     left: &mut [u32],
@@ -72,17 +72,22 @@ fn raise_each<A: After, W: Iterator<Item = Cell> + Drop>(
         → A.refers change.now.after.now e d ≡ true }
     requires lists_all { (c : ℕ) → A.refers change.now.after.now c d ≡ true → In (listed change.now.index.now d) c }
     requires small { (c : ℕ) → slice_index_or marks.now c false ≡ true → slice_index left.old c < ALL }
-    ensures raised { (c : ℕ) → slice_index left.new c ≡ slice_index left.old c
+    ensures counted { (c : ℕ) → slice_index left.new c ≡ slice_index left.old c
         + as_one (slice_index_or marks.now c false && A.refers change.now.after.now c d) }
 {
     for e in walk {
-        raise_one(change, marks, left, e, d);
+        count_one(change, marks, left, e, d);
     }
 }
 
 /// Counts the references of the region's cells to the cell `d`. The cells that refer there are walked only where there
 /// may be several.
-fn raise<A: After>(change: &MarkedChange<'_, A>, marks: &[bool], left: &mut [u32], d: Cell)
+fn count_references<A: After>(
+    change: &MarkedChange<'_, A>,
+    marks: &[bool],
+    left: &mut [u32],
+    d: Cell,
+)
     requires fresh_length { length change.now.fresh.now ≡ ALL }
     requires marks_length { length marks.now ≡ ALL }
     requires left_length { length left.old ≡ ALL }
@@ -91,20 +96,20 @@ fn raise<A: After>(change: &MarkedChange<'_, A>, marks: &[bool], left: &mut [u32
         → A.refers change.now.after.now e d ≡ true }
     requires lists_all { (c : ℕ) → A.refers change.now.after.now c d ≡ true → In (listed change.now.index.now d) c }
     requires small { (c : ℕ) → slice_index_or marks.now c false ≡ true → slice_index left.old c < ALL }
-    ensures raised { (c : ℕ) → slice_index left.new c ≡ slice_index left.old c
+    ensures counted { (c : ℕ) → slice_index left.new c ≡ slice_index left.old c
         + as_one (slice_index_or marks.now c false && A.refers change.now.after.now c d) }
 {
     match change.index.readers(d) {
         Readers::Nobody => {}
-        Readers::One(e) => raise_one(change, marks, left, e, d),
-        Readers::Row(walk) => raise_each(change, marks, left, d, walk),
-        Readers::TwoRows(walk) => raise_each(change, marks, left, d, walk),
-        Readers::Several => raise_each(change, marks, left, d, change.index.dependents(d)),
+        Readers::One(e) => count_one(change, marks, left, e, d),
+        Readers::Row(walk) => count_each(change, marks, left, d, walk),
+        Readers::TwoRows(walk) => count_each(change, marks, left, d, walk),
+        Readers::Several => count_each(change, marks, left, d, change.index.dependents(d)),
     }
 }
 
 /// Counts for each cell of the region its references to the cyclic cells outside, by a walk of these.
-fn raise_all<A: After>(change: &MarkedChange<'_, A>, marks: &[bool], left: &mut [u32])
+fn count_all<A: After>(change: &MarkedChange<'_, A>, marks: &[bool], left: &mut [u32])
     requires fresh_length { length change.now.fresh.now ≡ ALL }
     requires marks_length { length marks.now ≡ ALL }
     requires left_length { length left.old ≡ ALL }
@@ -122,7 +127,7 @@ fn raise_all<A: After>(change: &MarkedChange<'_, A>, marks: &[bool], left: &mut 
 {
     for d in change.outside {
         if !marks[d.index()] {
-            raise(change, marks, left, *d);
+            count_references(change, marks, left, *d);
         }
     }
 }
@@ -172,6 +177,6 @@ pub(crate) fn count_outside<A: After>(
         (is_pending (A.formula change.now.after.now) (is_in change.now.outside.now) marks.now) [] ALL c }
 {
     if may_refer_outside(change, members) {
-        raise_all(change, marks, left);
+        count_all(change, marks, left);
     }
 }

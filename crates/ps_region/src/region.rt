@@ -12,7 +12,7 @@ ghost use Rattle.ps_region.specs.Listed.{listed};
 use crate::after::After;
 use crate::change::MarkedChange;
 use crate::grow::grow;
-use crate::levels::{first_level, list_held, settle};
+use crate::levels::{assign_levels, first_level, list_held};
 use crate::members::{clear, note_touched};
 use crate::outside::count_outside;
 use ps_grid::{CELLS, Cell, Refusal};
@@ -135,7 +135,7 @@ impl Region {
         order.clear();
         first_level(plain, left, level, members, order);
         starts.clear();
-        settle(&change, marks, sole, left, level, order, starts);
+        assign_levels(&change, marks, sole, left, level, order, starts);
         self.cyclic.clear();
         list_held(plain, left, members, &mut self.cyclic);
     }

@@ -1,4 +1,4 @@
--- Counts of the references that are not settled yet, and the queue of the cells whose count is 0.
+-- Counts of the references that are not released yet, and the queue of the cells whose count is 0.
 use Rattle.std.specs.Prelude.{◌≡◌, ◌+◌, ◌<◌, ℕ, zero, suc, Bool, true, cond, not, ◌&&◌, ◌⊎◌, List}
 use Rattle.std.specs.Prelude.{◌++◌, length, nat_eq, slice_index, slice_index_or}
 use Rattle.std.specs.List.{list_any, IsDistinct}
@@ -12,11 +12,11 @@ unfoldable pub count_below : (ℕ → Bool) → ℕ → ℕ
 count_below p zero = 0
 count_below p (suc n) = count_below p n + as_one (p n)
 
--- a cell that is not settled: it passes p, and is not in the list of those that are done
+-- a cell that is not released: it passes p, and is not in the list of those that are done
 abbrev pub waiting : (ℕ → Bool) → List ℕ → ℕ → Bool
 waiting p done d = p d && not (list_any (nat_eq d) done)
 
--- how many cells of those that c refers to are not settled
+-- how many cells of those that c refers to are not released
 abbrev pub cells_left : References → (ℕ → Bool) → List ℕ → ℕ → ℕ → ℕ
 cells_left refers p done n c = count_below (λ d. refers c d && waiting p done d) n
 

@@ -3,7 +3,7 @@ use Rattle.std.specs.Prelude.{◌≡◌, ◌<◌, ◌≤◌, ℕ, true, false, l
 use Rattle.ps_grid.specs.Chains.{In}
 use Rattle.ps_grid.specs.declared.size.TheConstants.{CELLS}
 use Rattle.ps_region.specs.Inside.Cells.{Marked}
-use Rattle.ps_region.specs.Inside.Settles.{Levels}
+use Rattle.ps_region.specs.Inside.LevelWalk.{Levels}
 use Rattle.ps_region.specs.Found.{Found}
 use Rattle.ps_region.specs.declared.region.Region.TheInside.{Inside}
 

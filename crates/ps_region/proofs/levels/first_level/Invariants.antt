@@ -2,7 +2,7 @@ use Rattle.std.proofs.Common.{◌≡◌, ◌≤◌, ℕ, length, take, get_or, v
 use Rattle.std.specs.List.{filter}
 use Rattle.ps_grid.specs.Chains.{In}
 use Rattle.ps_region.specs.Inside.Touched.{not_plain}
-use Rattle.ps_region.specs.Inside.Settles.{is_ready}
+use Rattle.ps_region.specs.Inside.LevelWalk.{is_ready}
 use Rattle.ps_region.proofs.levels.first_level.Given as goal
 
 abbrev pub invariant-loop-c : goal.invariant-loop-c

@@ -1,7 +1,7 @@
 use Rattle.std.proofs.Common.{◌≡◌, ◌≤◌, length, take, vec_capacity}
 use Rattle.std.specs.List.{filter}
 use Rattle.ps_region.specs.Inside.Touched.{not_plain}
-use Rattle.ps_region.specs.Inside.Settles.{is_held}
+use Rattle.ps_region.specs.Inside.LevelWalk.{is_held}
 use Rattle.ps_region.proofs.levels.list_held.Given as goal
 
 abbrev pub invariant-loop-c : goal.invariant-loop-c

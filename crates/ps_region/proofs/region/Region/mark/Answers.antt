@@ -47,14 +47,14 @@ first_level-requires-clause-room g c =
     ∙ c.self.invariant.marks_length))) in
     rw c.deref-2.ensures.value (omega (arith, few, c.clear-2.ensures.capacity, c.self.invariant.order_room))
 
-pub settle-requires-clause-closed : goal.settle-requires-clause-closed
-settle-requires-clause-closed g c =
+pub assign_levels-requires-clause-closed : goal.assign_levels-requires-clause-closed
+assign_levels-requires-clause-closed g c =
     marks_closed (g.A.After.refers c.args.after.now) c.args.touched.now c.grow.new.members.items c.grow.new.marks
     c.grow.ensures.marked
     c.grow.ensures.sound c.grow.ensures.complete
 
-pub settle-requires-clause-starting : goal.settle-requires-clause-starting
-settle-requires-clause-starting g c =
+pub assign_levels-requires-clause-starting : goal.assign_levels-requires-clause-starting
+assign_levels-requires-clause-starting g c =
     let formula = g.A.After.formula c.args.after.now in
     let refers = g.A.After.refers c.args.after.now in
     let members = c.grow.new.members.items in
@@ -72,7 +72,7 @@ settle-requires-clause-starting g c =
     c.grow.new.marks members left c.first_level.new.level c.first_level.new.order.items CELLS size
     (g.met.A.After.refers_below c.args.after.now)
     (g.met.A.After.refers_formula c.args.after.now)
-    (settle-requires-clause-closed g c)
+    (assign_levels-requires-clause-closed g c)
     c.grow.ensures.marked long
     c.count_outside.ensures.counts
     ((rw c.deref-2.ensures.value at c.first_level.ensures.order) ∙ same)
@@ -93,9 +93,9 @@ invariant_of-self g c =
     c.deref_mut-fresh.ensures.len c.deref_mut-fresh.ensures.value c.self.invariant.fresh_length in
     let plain = table c.self.inside.plain _ _ (c.note_touched.auto.plain ∙ c.clear.auto.plain)
     c.deref_mut-plain.ensures.len c.deref_mut-plain.ensures.value c.self.invariant.plain_length in
-    let left = table c.self.inside.left _ _ (c.settle.auto.left ∙ (c.count_outside.auto.left ∙ c.grow.auto.left))
+    let left = table c.self.inside.left _ _ (c.assign_levels.auto.left ∙ (c.count_outside.auto.left ∙ c.grow.auto.left))
     c.deref_mut-left.ensures.len c.deref_mut-left.ensures.value c.self.invariant.left_length in
-    let level = table c.self.inside.level _ _ (c.settle.auto.level ∙ c.first_level.auto.level)
+    let level = table c.self.inside.level _ _ (c.assign_levels.auto.level ∙ c.first_level.auto.level)
     c.deref_mut-level.ensures.len c.deref_mut-level.ensures.value c.self.invariant.level_length in
     let sole = table c.self.inside.sole _ _ c.grow.auto.sole
     c.deref_mut-sole.ensures.len c.deref_mut-sole.ensures.value c.self.invariant.sole_length in
@@ -117,10 +117,10 @@ invariant_of-self g c =
       plain_members = rw plain.0 (λ x t. sound x (and_true_left (list_any (eqb x) c.args.touched.now)
           (not (g.A.After.formula c.args.after.now x)) (sym (c.note_touched.ensures.plain x) ∙ t)));
       members_room = c.grow.ensures.room;
-      order_room = c.settle.ensures.room;
-      starts_room = c.settle.ensures.room_starts;
+      order_room = c.assign_levels.ensures.room;
+      starts_room = c.assign_levels.ensures.room_starts;
       cyclic_room = omega (arith, cyclic, empty, room);
-      levels = rw level.0 c.settle.ensures.levels;
+      levels = rw level.0 c.assign_levels.ensures.levels;
     }
 
 pub returns : goal.returns
@@ -129,7 +129,7 @@ returns g c =
     c.deref_mut-marks.ensures.len c.deref_mut-marks.ensures.value c.self.invariant.marks_length in
     let plain = table c.self.inside.plain _ _ (c.note_touched.auto.plain ∙ c.clear.auto.plain)
     c.deref_mut-plain.ensures.len c.deref_mut-plain.ensures.value c.self.invariant.plain_length in
-    let left = table c.self.inside.left _ _ (c.settle.auto.left ∙ (c.count_outside.auto.left ∙ c.grow.auto.left))
+    let left = table c.self.inside.left _ _ (c.assign_levels.auto.left ∙ (c.count_outside.auto.left ∙ c.grow.auto.left))
     c.deref_mut-left.ensures.len c.deref_mut-left.ensures.value c.self.invariant.left_length in
     record {
       found = rw (left.0, plain.0)
@@ -141,14 +141,15 @@ returns g c =
           (g.met.A.After.refers_formula c.args.after.now)
           c.requires.outside_yes c.requires.outside_no c.grow.ensures.marked marks.1
           c.grow.ensures.sound c.grow.ensures.complete
-          c.settle.new.left c.settle.new.level c.settle.new.order.items c.settle.new.starts.items
+          c.assign_levels.new.left c.assign_levels.new.level c.assign_levels.new.order.items
+          c.assign_levels.new.starts.items
           c.list_held.new.cyclic.items
           c.note_touched.new.plain c.note_touched.ensures.plain
-          c.settle.ensures.ended c.settle.ensures.levels
-          c.settle.ensures.whole
+          c.assign_levels.ensures.ended c.assign_levels.ensures.levels
+          c.assign_levels.ensures.whole
           ((rw c.deref-3.ensures.value at c.list_held.ensures.cyclic)
           ∙ formula_cells (g.A.After.refers c.args.after.now) (g.A.After.formula c.args.after.now)
           c.note_touched.new.plain c.args.touched.now c.grow.new.members.items
           (g.met.A.After.refers_formula c.args.after.now) c.note_touched.ensures.plain c.grow.ensures.sound
-          (λ q. not (get_or c.settle.new.left q 0 == 0))));
+          (λ q. not (get_or c.assign_levels.new.left q 0 == 0))));
     }

@@ -1,12 +1,12 @@
 use Rattle.std.proofs.Common.{◌≡◌, ◌≤◌, ◌<◌, ◌-◌, length, get_or, vec_capacity}
 use Rattle.ps_grid.specs.declared.size.TheConstants.{CELLS}
 use Rattle.ps_region.specs.Inside.Counts.{is_in}
-use Rattle.ps_region.specs.Inside.Settles.{Settling, Levels, is_frame, is_pending}
-use Rattle.ps_region.proofs.levels.settle.Given as goal
+use Rattle.ps_region.specs.Inside.LevelWalk.{Levelling, Levels, is_frame, is_pending}
+use Rattle.ps_region.proofs.levels.assign_levels.Given as goal
 
 abbrev pub invariant-levels : goal.invariant-levels
 invariant-levels g l = record {
-  state : Settling (g.A.After.refers l.change.after.now)
+  state : Levelling (g.A.After.refers l.change.after.now)
       (is_pending (g.A.After.formula l.change.after.now) (is_in l.change.outside.now) l.marks)
       (is_frame (g.A.After.formula l.change.after.now) l.marks)
       CELLS l.head l.head l.«end» l.k l.left l.level l.order.items;
@@ -24,7 +24,7 @@ decreases-levels g l = CELLS - l.head
 
 abbrev pub invariant-walk : goal.invariant-walk
 invariant-walk g l = record {
-  state : Settling (g.A.After.refers l.change.after.now)
+  state : Levelling (g.A.After.refers l.change.after.now)
       (is_pending (g.A.After.formula l.change.after.now) (is_in l.change.outside.now) l.marks)
       (is_frame (g.A.After.formula l.change.after.now) l.marks)
       CELLS l.initial.head l.head l.«end» l.k l.left l.level l.order.items;

@@ -4,22 +4,22 @@ use Rattle.std.specs.List.{list_any}
 use Rattle.ps_region.specs.Listed.{listed}
 use Rattle.ps_region.proofs.ListedLemmas.{next_listed, all_listed}
 use Rattle.ps_region.specs.Inside.Counts.{as_one}
-use Rattle.ps_region.proofs.CountLemmas.{raised_more, listed_alone}
-use Rattle.ps_region.proofs.outside.raise_each.Goals as goal
+use Rattle.ps_region.proofs.CountLemmas.{left_more, listed_alone}
+use Rattle.ps_region.proofs.outside.count_each.Goals as goal
 
-pub raise_one-requires-clause-known : goal.raise_one-requires-clause-known
-raise_one-requires-clause-known g c =
+pub count_one-requires-clause-known : goal.count_one-requires-clause-known
+count_one-requires-clause-known g c =
     let n = next_listed g.W.Iterator.next_gives c.args.change.now.index.now c.args.d c.loop-e.yielded _ _
     c.into_iter-e-iterator.ensures.into_iter_gives c.requires.walks c.loop-e.yielded_by c.next.ensures.steps
     c.in-Some.e c.in-Some.is in
     c.requires.known c.in-Some.e n.inside
 
-pub raise_one-requires-clause-small : goal.raise_one-requires-clause-small
-raise_one-requires-clause-small g c = λ on.
+pub count_one-requires-clause-small : goal.count_one-requires-clause-small
+count_one-requires-clause-small g c = λ on.
     let n = next_listed g.W.Iterator.next_gives c.args.change.now.index.now c.args.d c.loop-e.yielded _ _
     c.into_iter-e-iterator.ensures.into_iter_gives c.requires.walks c.loop-e.yielded_by c.next.ensures.steps
     c.in-Some.e c.in-Some.is in
-    let was = rw n.new at (c.loop-e.invariant.raised c.in-Some.e) in
+    let was = rw n.new at (c.loop-e.invariant.counted c.in-Some.e) in
     let small = c.requires.small c.in-Some.e on in
     omega (arith, was, small)
 
@@ -31,10 +31,10 @@ loop-e-preserved g c =
     record {
       can_next = rw c.in-Some.is at c.next.ensures.goes.keeps;
       is_finite = (rw c.in-Some.is at (c.next.ensures.goes.on c.loop-e.invariant.is_finite)).1;
-      raised = λ q. rw (n.push, n.more)
-          (raised_more (λ x. get_or c.args.marks.now x false && g.A.After.refers c.args.change.now.after.now x c.args.d)
+      counted = λ q. rw (n.push, n.more)
+          (left_more (λ x. get_or c.args.marks.now x false && g.A.After.refers c.args.change.now.after.now x c.args.d)
           (take (length c.loop-e.yielded) (listed c.args.change.now.index.now c.args.d)) c.args.left.now c.loop-e.left
-          c.raise_one.new.left c.in-Some.e c.loop-e.invariant.raised c.raise_one.ensures.raised n.new q);
+          c.count_one.new.left c.in-Some.e c.loop-e.invariant.counted c.count_one.ensures.counted n.new q);
     }
 
 pub returns : goal.returns
@@ -44,7 +44,7 @@ returns g c =
     c.into_iter-e-iterator.ensures.into_iter_gives c.requires.walks c.loop-e.yielded_by c.next.ensures.steps
     c.in-None.is in
     record {
-      raised = λ q. c.loop-e.invariant.raised q
+      counted = λ q. c.loop-e.invariant.counted q
           ∙ ap (λ b. get_or c.args.left.now q 0 + as_one b)
           (ap (λ xs. list_any (eqb q) xs
           && (get_or c.args.marks.now q false && g.A.After.refers c.args.change.now.after.now q c.args.d)) all

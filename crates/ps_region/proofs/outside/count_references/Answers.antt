@@ -6,10 +6,10 @@ use Rattle.ps_region.specs.Listed.{listed}
 use Rattle.ps_region.specs.Inside.Counts.{as_one}
 use Rattle.ps_region.proofs.ListedLemmas.{listed_is, walks_listed}
 use Rattle.ps_region.proofs.CountLemmas.{listed_alone}
-use Rattle.ps_region.proofs.outside.raise.Goals as goal
+use Rattle.ps_region.proofs.outside.count_references.Goals as goal
 
-pub raise_one-requires-clause-known : goal.raise_one-requires-clause-known
-raise_one-requires-clause-known g c =
+pub count_one-requires-clause-known : goal.count_one-requires-clause-known
+count_one-requires-clause-known g c =
     c.requires.known c.in-One.e
     (subst (λ xs. In xs c.in-One.e)
     (listed_is c.args.change.now.index.now c.args.d (c.in-One.e ∷ [])
@@ -18,7 +18,7 @@ raise_one-requires-clause-known g c =
 
 pub returns-in-Nobody : goal.returns-in-Nobody
 returns-in-Nobody g c = record {
-  raised = λ q.
+  counted = λ q.
       let n = get_or c.args.left.now q 0 in
       let same : n ≡ n + 0 = omega arith in
       same ∙ ap (λ b. n + as_one b)
@@ -32,7 +32,7 @@ returns-in-Nobody g c = record {
 
 pub returns-in-One : goal.returns-in-One
 returns-in-One g c = record {
-  raised = λ q. c.raise_one.ensures.raised q
+  counted = λ q. c.count_one.ensures.counted q
       ∙ ap (λ b. get_or c.args.left.now q 0 + as_one b)
       (ap (λ xs. list_any (eqb q) xs
       && (get_or c.args.marks.now q false && g.A.After.refers c.args.change.now.after.now q c.args.d))
@@ -43,14 +43,14 @@ returns-in-One g c = record {
       (g.A.After.refers c.args.change.now.after.now q c.args.d) (c.requires.lists_all q));
 }
 
-pub raise_each-requires-clause-walks : goal.raise_each-requires-clause-walks
-raise_each-requires-clause-walks g c =
+pub count_each-requires-clause-walks : goal.count_each-requires-clause-walks
+count_each-requires-clause-walks g c =
     walks_listed c.args.change.now.index.now c.args.d (c.readers.ensures.row c.in-Row.walk c.in-Row.is)
 
-pub raise_each-requires-in-TwoRows-clause-walks : goal.raise_each-requires-in-TwoRows-clause-walks
-raise_each-requires-in-TwoRows-clause-walks g c =
+pub count_each-requires-in-TwoRows-clause-walks : goal.count_each-requires-in-TwoRows-clause-walks
+count_each-requires-in-TwoRows-clause-walks g c =
     walks_listed c.args.change.now.index.now c.args.d (c.readers.ensures.two_rows c.in-TwoRows.walk c.in-TwoRows.is)
 
-pub raise_each-requires-in-Several-clause-walks : goal.raise_each-requires-in-Several-clause-walks
-raise_each-requires-in-Several-clause-walks g c =
+pub count_each-requires-in-Several-clause-walks : goal.count_each-requires-in-Several-clause-walks
+count_each-requires-in-Several-clause-walks g c =
     walks_listed c.args.change.now.index.now c.args.d c.dependents.ensures.list

@@ -8,7 +8,7 @@ use Rattle.ps_region.specs.Inside.Counts.{cells_left, Queued}
 abbrev pub is_frame : (ℕ → Bool) → List Bool → ℕ → Bool
 is_frame formula marks c = slice_index_or marks c false && formula c
 
--- a cell that is not settled at first: a formula cell of the region, or a cell outside it that was cyclic
+-- a cell that has no level at first: a formula cell of the region, or a cell outside it that was cyclic
 abbrev pub is_pending : (ℕ → Bool) → (ℕ → Bool) → List Bool → ℕ → Bool
 is_pending formula was marks d = cond (slice_index_or marks d false) (formula d) (was d)
 
@@ -22,14 +22,14 @@ is_held formula left c = formula c && not (slice_index_or left c 0 == 0)
 -- The queue up to `head` is walked; up to `end` it has the cells of the levels up to k, of which those from `start`
 -- on are of level k;
 -- from `end` on it has cells of the next level.
-pub record Settling (refers : References) (pending frame : ℕ → Bool) (n start head end k : ℕ)
+pub record Levelling (refers : References) (pending frame : ℕ → Bool) (n start head end k : ℕ)
     (left level order : List ℕ) : Type 0 where
   pub started : start ≤ head
   pub reached : head ≤ end
   pub within : end ≤ length order
   pub queued : Queued left order
   pub counted : (c : ℕ) → frame c ≡ true → slice_index_or left c 0 ≡ cells_left refers pending (take head order) n c
-  pub settled : (c : ℕ) → frame c ≡ true → slice_index_or left c 0 ≡ 0 → In order c
+  pub levelled : (c : ℕ) → frame c ≡ true → slice_index_or left c 0 ≡ 0 → In order c
   pub framed : (c : ℕ) → In order c → frame c ≡ true
   pub current : (q : ℕ) → start ≤ q → q < end → slice_index_or level (slice_index_or order q 0) 0 ≡ k
   pub before : (q : ℕ) → q < end → slice_index_or level (slice_index_or order q 0) 0 ≤ k

@@ -6,10 +6,11 @@ use Rattle.ps_region.specs.Listed.{listed}
 use Rattle.ps_region.proofs.CountLemmas.{and_true_left}
 use Rattle.ps_region.specs.Inside.Counts.{is_in}
 use Rattle.ps_region.proofs.CellListLemmas.{in-get_or}
-use Rattle.ps_region.proofs.SettlingLemmas.{Settling-lowers, Settling-step, Settling-level, Levels-keep, Levels-more}
-use Rattle.ps_region.proofs.SettlingLemmas.{few_levels, Queued-le, frame_pending, frame_back}
-use Rattle.ps_region.specs.Inside.Settles.{Settling, is_frame, is_pending}
-use Rattle.ps_region.proofs.levels.settle.Goals as goal
+use Rattle.ps_region.proofs.LevellingLemmas.{Levelling-lowers, Levelling-step, Levelling-level}
+use Rattle.ps_region.proofs.LevellingLemmas.{Levels-keep, Levels-more}
+use Rattle.ps_region.proofs.LevellingLemmas.{few_levels, Queued-le, frame_pending, frame_back}
+use Rattle.ps_region.specs.Inside.LevelWalk.{Levelling, is_frame, is_pending}
+use Rattle.ps_region.proofs.levels.assign_levels.Goals as goal
 
 -- what stands first in a queue
 record IsFront (order : List ℕ) (head d : ℕ) : Type 0 where
@@ -39,7 +40,7 @@ release-requires-clause-some g c =
     let s = c.walk.invariant.state in
     let front = front_of order c.walk.head c.levels.«end» c.index-d.result.now c.walk-test.true s.within
     c.index-d.ensures in
-    rw front.is (Settling-lowers (g.A.After.refers c.args.change.now.after.now)
+    rw front.is (Levelling-lowers (g.A.After.refers c.args.change.now.after.now)
     (is_pending (g.A.After.formula c.args.change.now.after.now) (is_in c.args.change.now.outside.now) c.args.marks.now)
     (is_frame (g.A.After.formula c.args.change.now.after.now) c.args.marks.now)
     CELLS
@@ -61,7 +62,7 @@ walk-preserved g c =
     let long = c.walk.auto.left in
     let long0 = c.levels.auto.left in
     record {
-      state = Settling-step (g.A.After.refers c.args.change.now.after.now)
+      state = Levelling-step (g.A.After.refers c.args.change.now.after.now)
           (is_pending (g.A.After.formula c.args.change.now.after.now)
           (is_in c.args.change.now.outside.now) c.args.marks.now)
           (is_frame (g.A.After.formula c.args.change.now.after.now) c.args.marks.now)
@@ -115,7 +116,7 @@ levels-preserved g c =
     let f = c.walk-test.false in
     let r = j.state.reached in
     let same : c.walk.head ≡ c.levels.«end» = omega (arith, f, r) in
-    let s = subst (λ e. Settling (g.A.After.refers c.args.change.now.after.now)
+    let s = subst (λ e. Levelling (g.A.After.refers c.args.change.now.after.now)
     (is_pending (g.A.After.formula c.args.change.now.after.now) (is_in c.args.change.now.outside.now) c.args.marks.now)
     (is_frame (g.A.After.formula c.args.change.now.after.now) c.args.marks.now)
     CELLS c.levels.head c.walk.head e k c.walk.left c.walk.level c.walk.order.items) (sym same) j.state in
@@ -129,7 +130,7 @@ levels-preserved g c =
     let room = i.room_starts in
     let long1 = c.walk.auto.left in
     record {
-      state = rw last (Settling-level (g.A.After.refers c.args.change.now.after.now)
+      state = rw last (Levelling-level (g.A.After.refers c.args.change.now.after.now)
           (is_pending (g.A.After.formula c.args.change.now.after.now)
           (is_in c.args.change.now.outside.now) c.args.marks.now)
           (is_frame (g.A.After.formula c.args.change.now.after.now) c.args.marks.now)

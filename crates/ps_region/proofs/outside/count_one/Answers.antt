@@ -1,6 +1,6 @@
 use Rattle.std.proofs.Common.{◌≡◌, ◌<◌, ◌+◌, ◌&&◌, ℕ, true, false, [], get_or, arith, length, sym, refl}
-use Rattle.ps_region.proofs.CountLemmas.{raised_yes, raised_no, and_true_left}
-use Rattle.ps_region.proofs.outside.raise_one.Goals as goal
+use Rattle.ps_region.proofs.CountLemmas.{left_yes, left_no, and_true_left}
+use Rattle.ps_region.proofs.outside.count_one.Goals as goal
 
 -- nothing is counted yet
 none_counted : (n : ℕ) → n ≡ n + 0
@@ -21,8 +21,8 @@ returns-then-is_reference g c =
     let low : c.args.e < length left =
     omega (arith, c.index-place.ensures.index, c.index-place.ensures.in_grid, c.requires.left_length) in
     record {
-      raised = λ q. rw c.add_one.ensures
-          (raised_yes (λ x. get_or c.args.marks.now x false && g.A.After.refers c.args.change.now.after.now x c.args.d)
+      counted = λ q. rw c.add_one.ensures
+          (left_yes (λ x. get_or c.args.marks.now x false && g.A.After.refers c.args.change.now.after.now x c.args.d)
           [] left left c.args.e (λ x. none_counted (get_or left x 0)) (sym c.if-is_reference.ensures) refl low q);
     }
 
@@ -30,7 +30,7 @@ pub returns-else-is_reference : goal.returns-else-is_reference
 returns-else-is_reference g c =
     let left = c.args.left.now in
     record {
-      raised = raised_no
+      counted = left_no
           (λ x. get_or c.args.marks.now x false && g.A.After.refers c.args.change.now.after.now x c.args.d)
           [] left left c.args.e (λ x. none_counted (get_or left x 0)) (sym c.if-is_reference.ensures);
     }

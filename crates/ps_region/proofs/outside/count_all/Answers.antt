@@ -4,14 +4,14 @@ use Rattle.std.specs.List.{list_any}
 use Rattle.std.proofs.lemmas.List.{take_more, take_all, get_or_read}
 use Rattle.ps_grid.specs.declared.size.TheConstants.{CELLS}
 use Rattle.ps_region.specs.Inside.Counts.{as_one, is_in, cells_left}
-use Rattle.ps_region.specs.Inside.Settles.{is_pending}
+use Rattle.ps_region.specs.Inside.LevelWalk.{is_pending}
 use Rattle.ps_region.proofs.CellListLemmas.{in-take_apart}
 use Rattle.ps_region.proofs.GrowthCounts.{outside_more, outside_skip, outside_small}
-use Rattle.ps_region.proofs.outside.raise_all.Goals as goal
-use Rattle.ps_region.proofs.outside.raise_all.Goals.{then-not-marks-index, else-not-marks-index}
+use Rattle.ps_region.proofs.outside.count_all.Goals as goal
+use Rattle.ps_region.proofs.outside.count_all.Goals.{then-not-marks-index, else-not-marks-index}
 
-pub raise-requires-clause-small : goal.raise-requires-clause-small
-raise-requires-clause-small g c = λ q m.
+pub count_references-requires-clause-small : goal.count_references-requires-clause-small
+count_references-requires-clause-small g c = λ q m.
     let i = c.loop-d.d-index in
     let outside = c.args.change.now.outside.now in
     let d = c.d-item.result in
@@ -46,7 +46,7 @@ loop-d-preserved g c =
       | then-not-marks-index w ↦ λ q m.
           let off : get_or c.args.marks.now d false ≡ false =
           ap (λ x. get_or c.args.marks.now x false) (sym c.index.ensures.index) ∙ w.if-not-marks-index.true in
-          let r = rw m at (w.raise.ensures.raised q) in
+          let r = rw m at (w.count_references.ensures.counted q) in
           let add = outside_more refers formula c.args.marks.now (take i outside) CELLS q d low off new in
           rw (w.left-is, more) (r ∙ (ap (λ x. x + as_one (refers q d)) (c.loop-d.invariant q m) ∙ sym add))
       | else-not-marks-index w ↦ λ q m.
@@ -64,6 +64,6 @@ returns g c = record {
       (take_all c.loop-d.d-index c.args.change.now.outside.now (let t = c.loop-d-test.false in omega (arith, t)));
 }
 
-pub raise-requires-clause-known : goal.raise-requires-clause-known
-raise-requires-clause-known g c = λ e.
+pub count_references-requires-clause-known : goal.count_references-requires-clause-known
+count_references-requires-clause-known g c = λ e.
     c.requires.known c.d-item.result e (omega (arith, c.index.ensures.index, c.index.ensures.in_grid))

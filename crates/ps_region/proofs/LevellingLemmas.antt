@@ -10,7 +10,7 @@ use Rattle.std.proofs.lemmas.Map.Keys.{apart_from_distinct}
 use Rattle.std.specs.List.{list_any}
 use Rattle.ps_grid.specs.Chains.{References, In}
 use Rattle.ps_region.specs.Inside.Counts.{waiting, cells_left, Queued, Released}
-use Rattle.ps_region.specs.Inside.Settles.{Settling, Levels, is_frame, is_pending}
+use Rattle.ps_region.specs.Inside.LevelWalk.{Levelling, Levels, is_frame, is_pending}
 use Rattle.ps_region.proofs.CellListLemmas.{bool_cases, in-get_or, place_of, in-take_apart}
 use Rattle.ps_region.proofs.CountLemmas.{cells_left-more, count_below-none}
 use Rattle.ps_region.proofs.ReleaseLemmas.{in-grows, and_false}
@@ -57,19 +57,19 @@ module _ (refers : References) (pending frame : ℕ → Bool) (n : ℕ)
     (below : (c d : ℕ) → refers c d ≡ true → d < n)
     (frame_pending : (c : ℕ) → frame c ≡ true → pending c ≡ true)
     (back : (c d : ℕ) → refers c d ≡ true → frame d ≡ true → frame c ≡ true) where
-  pub Settling-start : (left level order : List ℕ) → Queued left order
+  pub Levelling-start : (left level order : List ℕ) → Queued left order
       → ((c : ℕ) → frame c ≡ true → get_or left c 0 ≡ cells_left refers pending [] n c)
       → ((c : ℕ) → frame c ≡ true → get_or left c 0 ≡ 0 → In order c)
       → ((c : ℕ) → In order c → frame c ≡ true)
       → ((c : ℕ) → In order c → get_or level c 0 ≡ 1)
-      → Settling refers pending frame n 0 0 (length order) 1 left level order
-  Settling-start left level order queued counted settled framed first = record {
+      → Levelling refers pending frame n 0 0 (length order) 1 left level order
+  Levelling-start left level order queued counted levelled framed first = record {
     started = omega arith;
     reached = omega arith;
     within = omega arith;
     queued = queued;
     counted = counted;
-    settled = settled;
+    levelled = levelled;
     framed = framed;
     current = λ q le lt. first (get_or order q 0) (in-get_or order q 0 lt);
     before = λ q lt. let f = first (get_or order q 0) (in-get_or order q 0 lt) in omega arith;
@@ -82,16 +82,16 @@ module _ (refers : References) (pending frame : ℕ → Bool) (n : ℕ)
   }
 
   -- a level is walked: the cells after it are the next level
-  pub Settling-level : (start end k : ℕ) (left level order : List ℕ)
-      → Settling refers pending frame n start end end k left level order
-      → Settling refers pending frame n end end (length order) (k + 1) left level order
-  Settling-level start end k left level order s = record {
+  pub Levelling-level : (start end k : ℕ) (left level order : List ℕ)
+      → Levelling refers pending frame n start end end k left level order
+      → Levelling refers pending frame n end end (length order) (k + 1) left level order
+  Levelling-level start end k left level order s = record {
     started = omega arith;
     reached = s.within;
     within = omega arith;
     queued = s.queued;
     counted = s.counted;
-    settled = s.settled;
+    levelled = s.levelled;
     framed = s.framed;
     current = λ q le lt. let a = s.after q le lt in omega arith;
     before = λ q lt. ⊎_elim
@@ -105,10 +105,10 @@ module _ (refers : References) (pending frame : ℕ → Bool) (n : ℕ)
   }
 
   -- a cell that refers to the next one of the queue has a count above 0
-  pub Settling-lowers : (start head end k : ℕ) (left level order : List ℕ)
-      → Settling refers pending frame n start head end k left level order
+  pub Levelling-lowers : (start head end k : ℕ) (left level order : List ℕ)
+      → Levelling refers pending frame n start head end k left level order
       → head < end → (c : ℕ) → refers c (get_or order head 0) ≡ true → 0 < get_or left c 0
-  Settling-lowers start head end k left level order s lt c r =
+  Levelling-lowers start head end k left level order s lt c r =
       let d : ℕ = get_or order head 0 in
       let inside : head < length order = (let w = s.within in omega arith) in
       let d_frame : frame d ≡ true = s.framed d (in-get_or order head 0 inside) in
@@ -123,13 +123,13 @@ module _ (refers : References) (pending frame : ℕ → Bool) (n : ℕ)
       (cases_eq (get_or left c 0) 0)
 
   -- one cell of the queue is walked
-  pub Settling-step : (listed : List ℕ) (start head end k : ℕ) (left level order left2 level2 order2 : List ℕ)
-      → Settling refers pending frame n start head end k left level order
+  pub Levelling-step : (listed : List ℕ) (start head end k : ℕ) (left level order left2 level2 order2 : List ℕ)
+      → Levelling refers pending frame n start head end k left level order
       → head < end → length left ≡ n
       → ((c : ℕ) → refers c (get_or order head 0) ≡ true → In listed c)
       → Released refers (get_or order head 0) (k + 1) listed left level order left2 level2 order2
-      → Settling refers pending frame n start (head + 1) end k left2 level2 order2
-  Settling-step listed start head end k left level order left2 level2 order2 s lt long lists rel =
+      → Levelling refers pending frame n start (head + 1) end k left2 level2 order2
+  Levelling-step listed start head end k left level order left2 level2 order2 s lt long lists rel =
       let d : ℕ = get_or order head 0 in
       let inside : head < length order = (let w = s.within in omega arith) in
       let d_in : In order d = in-get_or order head 0 inside in
@@ -168,11 +168,11 @@ module _ (refers : References) (pending frame : ℕ → Bool) (n : ℕ)
         within = let w = s.within in omega arith;
         queued = rel.queued;
         counted = counted2;
-        settled = λ c f z. ⊎_elim
+        levelled = λ c f z. ⊎_elim
             (λ r. rel.found c (lists c r) r z)
             (λ (r : refers c d ≡ false).
             let o = rw (r, and_false (list_any (eqb c) listed)) at (rel.counted c) in
-            up c (s.settled c f (omega arith)))
+            up c (s.levelled c f (omega arith)))
             (bool_cases (refers c d));
         framed = framed2;
         current = λ q le l. let w = s.within in level_at q (omega arith) ∙ s.current q le l;
