@@ -1,10 +1,13 @@
 //! How the program ends before its work is done.
 ghost use Rattle.std.specs.Prelude.{◌≡◌};
+ghost use Rattle.ps_grid.specs.declared.refusal.Refusal.TheVariants.{Device, Memory};
 ghost use Rattle.ps_commands.specs.Status.{exit_status, program_fault, session_fault};
+ghost use Rattle.ps_commands.specs.declared.fault.ProgramFault.TheVariants.{Refused};
 
 use crate::kept::FileNotTaken;
 use crate::port::PortFault;
 use ps_csv::ImportFault;
+use ps_device::Failed;
 use ps_grid::Refusal;
 use ps_session::{RunFault, SyncFault};
 use std::alloc::AllocError;
@@ -38,14 +41,26 @@ pub enum ProgramFault {
 }
 
 impl From<Refusal> for ProgramFault {
+    ghost from_gives = { λ refusal fault. fault ≡ Refused refusal };
+
     fn from(refusal: Refusal) -> ProgramFault {
         ProgramFault::Refused(refusal)
     }
 }
 
 impl From<AllocError> for ProgramFault {
+    ghost from_gives = { λ _ fault. fault ≡ Refused Memory };
+
     fn from(_error: AllocError) -> ProgramFault {
         ProgramFault::Refused(Refusal::Memory)
+    }
+}
+
+impl From<Failed> for ProgramFault {
+    ghost from_gives = { λ _ fault. fault ≡ Refused Device };
+
+    fn from(_failed: Failed) -> ProgramFault {
+        ProgramFault::Refused(Refusal::Device)
     }
 }
 

@@ -20,7 +20,6 @@ use crate::server::{Closed, serve_kept_on, serve_on};
 use crate::serving::{Entrance, Serving};
 use ps_device::Sink;
 use ps_eval::Meter;
-use ps_grid::Refusal;
 use ps_keep::{Journal, KeptFile};
 use ps_words::ServeOptions;
 use std::alloc::Global;
@@ -74,17 +73,11 @@ pub fn serve<
         ⊎ HasNoPort options.entry.port f) }
     ensures unheard { IfErr result (λ f. HasNoPort options.entry.port f → out.new ≡ out.old) }
 {
-    let listener = match listen(rt, options.port) {
-        Ok(listener) => listener,
-        Err(fault) => return Err(fault),
-    };
-    let sheet = match open_sheet(alloc, options.sheet) {
-        Ok(sheet) => sheet,
-        Err(refusal) => return Err(ProgramFault::Refused(refusal)),
-    };
+    let listener = listen(rt, options.port)?;
+    let sheet = open_sheet(alloc, options.sheet)?;
     match tell(b"listening ", u64::from(options.port), out) {
         Ok(()) => {}
-        Err(_) => return Err(ProgramFault::Refused(Refusal::Device)),
+        Err(fault) => return Err(fault),
     }
     serve_on(rt, alloc, &listener, serving_of(options), sheet, out)
 }
@@ -123,17 +116,11 @@ pub fn serve_kept<
     ensures flushed { OnOk result (K.waiting out.new ≡ []) }
     ensures calm { OnOk result (K.failures out.new ≡ K.failures out.old) }
 {
-    let listener = match listen(rt, options.port) {
-        Ok(listener) => listener,
-        Err(fault) => return Err(fault),
-    };
-    let (sheet, keeper) = match open_kept_sheet(rt, alloc, path, options.sheet, meter) {
-        Ok(kept) => kept,
-        Err(fault) => return Err(fault),
-    };
+    let listener = listen(rt, options.port)?;
+    let (sheet, keeper) = open_kept_sheet(rt, alloc, path, options.sheet, meter)?;
     match tell(b"listening ", u64::from(options.port), out) {
         Ok(()) => {}
-        Err(_) => return Err(ProgramFault::Refused(Refusal::Device)),
+        Err(fault) => return Err(fault),
     }
     let mut warner = tell_opened(alloc, path, &sheet, told);
     let entrance = Entrance {

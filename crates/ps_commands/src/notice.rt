@@ -1,36 +1,42 @@
 //! The lines that a command writes of itself.
-ghost use Rattle.std.specs.Prelude.{◌≡◌, ◌<◌, ◌++◌, [], OnErr, OnOk, decimal};
+ghost use Rattle.std.specs.Prelude.{◌≡◌, ◌<◌, ◌++◌, [], IfErr, OnErr, OnOk, decimal};
 ghost use Rattle.std.specs.Io.KnownBytes.{Appends};
+ghost use Rattle.ps_grid.specs.declared.refusal.Refusal.TheVariants.{Device};
 ghost use Rattle.ps_commands.specs.Commands.{notice};
+ghost use Rattle.ps_commands.specs.declared.fault.ProgramFault.TheVariants.{Refused};
 
+use crate::fault::ProgramFault;
 use itoa::Buffer;
-use ps_device::{Failed, Sink, hand_on, put_all};
+use ps_device::{Sink, hand_on, put_all};
 use std::alloc::Global;
 use std::fmt::Display;
 use std::io::Write;
 
-/// Writes a word with its space, a number and a line feed, and hands all of it on.
-pub(crate) fn tell<K: Sink>(word: &[u8], number: u64, out: &mut K) -> Result<(), Failed>
+/// Writes a word with its space, a number and a line feed, and hands all of it on. Refused as `Device` where the sink
+/// fails.
+pub(crate) fn tell<K: Sink>(word: &[u8], number: u64, out: &mut K) -> Result<(), ProgramFault>
     ensures told { OnOk result (Appends (K.contents out.old) (K.contents out.new) (notice word.now number)) }
     ensures flushed { OnOk result (K.waiting out.new ≡ []) }
     ensures calm { OnOk result (K.failures out.new ≡ K.failures out.old) }
     ensures failed { OnErr result (K.failures out.old < K.failures out.new) }
+    ensures refused { IfErr result (λ f. f ≡ Refused Device) }
 {
     tell_between(word, number, b"\n", out)
 }
 
-/// Writes a number between two texts, and hands all of it on.
+/// Writes a number between two texts, and hands all of it on. Refused as `Device` where the sink fails.
 pub(crate) fn tell_between<K: Sink>(
     first: &[u8],
     number: u64,
     last: &[u8],
     out: &mut K,
-) -> Result<(), Failed>
+) -> Result<(), ProgramFault>
     ensures told { OnOk result (Appends (K.contents out.old) (K.contents out.new)
         (first.now ++ decimal number ++ last.now)) }
     ensures flushed { OnOk result (K.waiting out.new ≡ []) }
     ensures calm { OnOk result (K.failures out.new ≡ K.failures out.old) }
     ensures failed { OnErr result (K.failures out.old < K.failures out.new) }
+    ensures refused { IfErr result (λ f. f ≡ Refused Device) }
 {
     let mut digits = Buffer::new();
     put_all(out, first)?;

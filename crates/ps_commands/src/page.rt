@@ -38,14 +38,9 @@ pub fn open_page<
         × (K.waiting out.new ≡ []) × (K.failures out.new ≡ K.failures out.old))
         ⊎ (K.failures out.old < K.failures out.new) }
 {
-    let listener = match listen(rt, options.port) {
-        Ok(listener) => listener,
-        Err(fault) => return Err(fault),
-    };
+    let listener = listen(rt, options.port)?;
     let port = u64::from(options.port);
-    if tell_between(b"page http://127.0.0.1:", port, b"/\n", out).is_err() {
-        return Err(ProgramFault::Refused(Refusal::Device));
-    }
+    tell_between(b"page http://127.0.0.1:", port, b"/\n", out)?;
     let gateway = Gateway {
         from: options.from,
         port: options.port,

@@ -189,16 +189,12 @@ fn serve_sheet<R: Threads + Wait + Clock + Sync, D: Device + Drop + Send, K: Sin
 {
     let changes = sheet.version();
     let parts = Parts::new(sheet, seats_for(entrance.serving));
-    let served = serve_parts::<Brand, R, D, W>(
+    let closed = serve_parts::<Brand, R, D, W>(
         rt, alloc, entrance, parts, journal, changes, warner,
-    );
-    let closed = match served {
-        Ok(closed) => closed,
-        Err(refusal) => return Err(ProgramFault::Refused(refusal)),
-    };
+    )?;
     match tell(b"closed ", closed.sheet.version(), out) {
         Ok(()) => Ok(closed),
-        Err(_) => Err(ProgramFault::Refused(Refusal::Device)),
+        Err(fault) => Err(fault),
     }
 }
 
@@ -303,12 +299,15 @@ fn close<L: DeskName, W: Wait + Drop, D: Device + Drop, V: Wait>(
     let Some(keeper) = keeper else {
         return Ok((desk.close(wait, passes), None));
     };
+    // (that all of the history is kept says more than what each session was told)
     let told = Vec::new(alloc);
     let Ended {
         sheet,
         journal,
         synced,
     } = keeper.close(wait, alloc, desk, passes, told.as_slice());
+    // (a sheet of which something isn't kept is let go, with its journal: nobody may be told that it was closed. A
+    // failure has no cause, so where memory lacked it is told as a device's, too)
     match synced {
         Ok(()) => Ok((sheet, Some(journal))),
         Err(_) => Err(Refusal::Device),

@@ -11,7 +11,6 @@ use crate::notice::tell;
 use crate::peers::peer_of;
 use crate::port::connect;
 use ps_device::Sink;
-use ps_grid::Refusal;
 use ps_session::sync;
 use std::alloc::Global;
 use std::marker::Brand;
@@ -58,15 +57,9 @@ pub fn sync_on<R: Net<Stream = TcpStream>, K: Sink>(
     ensures calm { OnOk result (K.failures out.new ≡ K.failures out.old) }
     ensures untold { IfErr result (λ f. f ≢ Refused Refusal.Device → out.new ≡ out.old) }
 {
-    let first = match connect(rt, p) {
-        Ok(stream) => stream,
-        Err(fault) => return Err(fault),
-    };
-    let second = match connect(rt, q) {
-        Ok(stream) => stream,
-        Err(fault) => return Err(fault),
-    };
-    let synced = sync_between::<Brand, Brand, Brand, Brand>(
+    let first = connect(rt, p)?;
+    let second = connect(rt, q)?;
+    let lines = sync_between::<Brand, Brand, Brand, Brand>(
         alloc,
         &first,
         &second,
@@ -74,12 +67,6 @@ pub fn sync_on<R: Net<Stream = TcpStream>, K: Sink>(
         Blank::new(1),
         Blank::new(1),
         Blank::new(1),
-    );
-    match synced {
-        Ok(lines) => match tell(b"synced ", lines, out) {
-            Ok(()) => Ok(()),
-            Err(_) => Err(ProgramFault::Refused(Refusal::Device)),
-        },
-        Err(fault) => Err(fault),
-    }
+    )?;
+    tell(b"synced ", lines, out)
 }
