@@ -5,7 +5,7 @@ ghost use Rattle.ps_session.specs.Exchange.{IsAll, IsHalted, IsUntilClosed};
 ghost use Rattle.ps_session.specs.Peers.{PeerView};
 
 use crate::fault::ProgramFault;
-use crate::peers::peer_of;
+use crate::peers::{PeerStream, peer_of};
 use crate::port::connect;
 use ps_device::Sink;
 use ps_session::{Following, follow};
@@ -13,7 +13,7 @@ use ps_words::FollowOptions;
 use std::alloc::Global;
 use std::marker::Brand;
 use std::net::{Net, TcpStream};
-use std::sync::ledger::{Blank, Ledger};
+use std::sync::ledger::Ledger;
 use std::time::{Clock, Duration};
 
 /// Connects to a port of this machine, and writes all that the replica there has, and each change that it gets, as
@@ -40,37 +40,24 @@ pub fn follow_on<R: Net<Stream = TcpStream>, C: Clock, K: Sink>(
         → (K.waiting out.new ≡ []) ⊎ (K.failures out.old < K.failures out.new) }
     ensures calm { OnOk result (K.failures out.new ≡ K.failures out.old) }
 {
-    let stream = match connect(rt, options.from) {
-        Ok(stream) => stream,
-        Err(fault) => return Err(fault),
-    };
+    let stream = connect(rt, options.from)?;
     let following = Following {
         until_now: options.until_now,
         every: Duration::from_millis(u64::from(options.every)),
     };
-    follow_stream::<C, K, Brand, Brand>(
-        clock,
-        alloc,
-        &stream,
-        following,
-        out,
-        Blank::new(1),
-        Blank::new(1),
-    )
+    follow_stream::<C, K, Brand, Brand>(clock, alloc, PeerStream::new(&stream), following, out)
 }
 
-/// Follows the peer of a connection, the failures of whose two sides are counted by these blanks.
+/// Follows the peer of a connection.
 fn follow_stream<C: Clock, K: Sink, I: Ledger, O: Ledger>(
     clock: &C,
     alloc: Global,
-    stream: &TcpStream,
+    stream: PeerStream<'_>,
     following: Following,
     out: &mut K,
-    input: Blank,
-    output: Blank,
 ) -> Result<(), ProgramFault>
-    requires input { IsBlankOf input I.name I.parts }
-    requires output { IsBlankOf output O.name O.parts }
+    requires input { IsBlankOf stream.input I.name I.parts }
+    requires output { IsBlankOf stream.output O.name O.parts }
     ensures all { OnOk result (following.until_now ≡ true
         → (first : PeerView) × (last : PeerView) × IsAll first last (K.contents out.old) (K.contents out.new)) }
     ensures left { OnOk result (following.until_now ≡ false
@@ -81,12 +68,7 @@ fn follow_stream<C: Clock, K: Sink, I: Ledger, O: Ledger>(
         → (K.waiting out.new ≡ []) ⊎ (K.failures out.old < K.failures out.new) }
     ensures calm { OnOk result (K.failures out.new ≡ K.failures out.old) }
 {
-    let mut from = match peer_of::<I, O>(alloc, stream, input, output) {
-        Ok(peer) => peer,
-        Err(fault) => return Err(fault),
-    };
-    match follow(clock, alloc, &mut from, out, following) {
-        Ok(()) => Ok(()),
-        Err(fault) => Err(fault.into()),
-    }
+    let mut from = peer_of::<I, O>(alloc, stream)?;
+    follow(clock, alloc, &mut from, out, following)?;
+    Ok(())
 }

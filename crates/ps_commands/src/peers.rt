@@ -1,4 +1,5 @@
 //! The peer at the other end of a connection.
+ghost use Rattle.std.specs.Prelude.{◌≡◌};
 ghost use Rattle.ps_grid.specs.Blanks.{IsBlankOf};
 
 use crate::fault::ProgramFault;
@@ -8,16 +9,43 @@ use std::alloc::Global;
 use std::net::TcpStream;
 use std::sync::ledger::{Blank, Ledger};
 
-/// The peer of a connection, the failures of whose two sides these blanks count. Refused out of memory.
+/// The stream of a connection to a peer, and what counts the failures of its two sides.
+#[derive(Drop)]
+pub(crate) struct PeerStream<'a> {
+    stream: &'a TcpStream,
+    /// what counts the failures of the replies
+    pub(crate) input: Blank,
+    /// those of the requests
+    pub(crate) output: Blank,
+}
+
+impl<'a> PeerStream<'a> {
+    /// A stream of which no failure was counted.
+    pub(crate) fn new(stream: &'a TcpStream) -> PeerStream<'a>
+        ensures input { result.input.parts ≡ 1 }
+        ensures output { result.output.parts ≡ 1 }
+    {
+        PeerStream {
+            stream,
+            input: Blank::new(1),
+            output: Blank::new(1),
+        }
+    }
+}
+
+/// The peer at the other end of a stream. Refused out of memory.
 pub(crate) fn peer_of<I: Ledger, O: Ledger>(
     alloc: Global,
-    stream: &TcpStream,
-    input: Blank,
-    output: Blank,
+    stream: PeerStream<'_>,
 ) -> Result<Peer<Reading<&TcpStream, I>, ConsoleOutput<&TcpStream, O>>, ProgramFault>
-    requires input { IsBlankOf input I.name I.parts }
-    requires output { IsBlankOf output O.name O.parts }
+    requires input { IsBlankOf stream.input I.name I.parts }
+    requires output { IsBlankOf stream.output O.name O.parts }
 {
+    let PeerStream {
+        stream,
+        input,
+        output,
+    } = stream;
     let source = Reading::<&TcpStream, I>::new(stream, input);
     let sink = ConsoleOutput::<&TcpStream, O>::new(alloc, stream, output)?;
     Ok(Peer::new(alloc, source, sink)?)

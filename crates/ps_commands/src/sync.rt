@@ -8,33 +8,28 @@ ghost use Rattle.ps_commands.specs.declared.fault.ProgramFault.TheVariants.{Refu
 
 use crate::fault::ProgramFault;
 use crate::notice::tell;
-use crate::peers::peer_of;
+use crate::peers::{PeerStream, peer_of};
 use crate::port::connect;
 use ps_device::Sink;
 use ps_session::sync;
 use std::alloc::Global;
 use std::marker::Brand;
 use std::net::{Net, TcpStream};
-use std::sync::ledger::{Blank, Ledger};
+use std::sync::ledger::Ledger;
 
-/// Hands what the peer of one connection has to the peer of another; the failures of the four sides are counted by
-/// these blanks.
+/// Hands what the peer of one connection has to the peer of another.
 fn sync_between<I: Ledger, O: Ledger, J: Ledger, P: Ledger>(
     alloc: Global,
-    first: &TcpStream,
-    second: &TcpStream,
-    first_input: Blank,
-    first_output: Blank,
-    second_input: Blank,
-    second_output: Blank,
+    first: PeerStream<'_>,
+    second: PeerStream<'_>,
 ) -> Result<u64, ProgramFault>
-    requires first_input { IsBlankOf first_input I.name I.parts }
-    requires first_output { IsBlankOf first_output O.name O.parts }
-    requires second_input { IsBlankOf second_input J.name J.parts }
-    requires second_output { IsBlankOf second_output P.name P.parts }
+    requires first_input { IsBlankOf first.input I.name I.parts }
+    requires first_output { IsBlankOf first.output O.name O.parts }
+    requires second_input { IsBlankOf second.input J.name J.parts }
+    requires second_output { IsBlankOf second.output P.name P.parts }
 {
-    let mut from = peer_of::<I, O>(alloc, first, first_input, first_output)?;
-    let mut to = peer_of::<J, P>(alloc, second, second_input, second_output)?;
+    let mut from = peer_of::<I, O>(alloc, first)?;
+    let mut to = peer_of::<J, P>(alloc, second)?;
     Ok(sync(alloc, &mut from, &mut to)?)
 }
 
@@ -61,12 +56,8 @@ pub fn sync_on<R: Net<Stream = TcpStream>, K: Sink>(
     let second = connect(rt, q)?;
     let lines = sync_between::<Brand, Brand, Brand, Brand>(
         alloc,
-        &first,
-        &second,
-        Blank::new(1),
-        Blank::new(1),
-        Blank::new(1),
-        Blank::new(1),
+        PeerStream::new(&first),
+        PeerStream::new(&second),
     )?;
     tell(b"synced ", lines, out)
 }
