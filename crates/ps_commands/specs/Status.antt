@@ -1,8 +1,8 @@
 -- How the program ends before its work is done.
-use Rattle.std.specs.Prelude.{◌≡◌, ℕ, Option, Some, None}
+use Rattle.std.specs.Prelude.{◌≡◌, ◌⊎◌, ℕ, Option, Some, None}
 use Rattle.csv.specs.declared.error.Error.{Error}
 use Rattle.ps_grid.specs.declared.refusal.Refusal.{Refusal}
-use Rattle.ps_grid.specs.declared.refusal.Refusal.TheVariants.{Device, Memory}
+use Rattle.ps_grid.specs.declared.refusal.Refusal.TheVariants.{Device, Memory, Seat}
 use Rattle.ps_session.specs.declared.transcript.RunFault.{RunFault}
 use Rattle.ps_session.specs.declared.transcript.RunFault.TheVariants as sessions
 use Rattle.ps_commands.specs.declared.fault.ProgramFault.{ProgramFault}
@@ -32,6 +32,10 @@ program_fault (Some error) refusal = ReaderFailed error
 abbrev pub session_fault : RunFault → ProgramFault
 session_fault sessions.Memory = Refused Memory
 session_fault _ = Refused Device
+
+-- what ends a server early: no memory, no seat, or a device that failed
+abbrev pub IsServerFault : ProgramFault → Type 0
+IsServerFault f = (f ≡ Refused Memory) ⊎ (f ≡ Refused Seat) ⊎ (f ≡ Refused Device)
 
 -- the port that a fault tells of
 abbrev pub port_fault_of : ProgramFault → Option PortFault

@@ -1,10 +1,7 @@
 //! The file that a sheet is kept in, and why it isn't taken.
-ghost use Rattle.std.specs.Prelude.{◌≡◌, ◌⊎◌, ℕ, List, IfErr, IfOk, false};
-ghost use Rattle.ps_sheet.specs.Sheet.{IsSheet};
-ghost use Rattle.ps_keep.specs.Journals.{IsJournal};
-ghost use Rattle.ps_kept.specs.Kept.{IsKept, IsNoted, TellHistory};
+ghost use Rattle.std.specs.Prelude.{◌≡◌, ◌⊎◌, ℕ, List, IfErr, IfOk};
 ghost use Rattle.ps_kept.specs.Starts.{Reads};
-ghost use Rattle.ps_commands.specs.Kept.{IsFileRefusal, TellsTrouble};
+ghost use Rattle.ps_commands.specs.Kept.{IsFileRefusal, IsKeptSheet, TellsTrouble};
 ghost use Rattle.ps_commands.specs.Status.{kept_status};
 ghost use Rattle.ps_commands.specs.declared.fault.ProgramFault.TheVariants.{Refused};
 
@@ -122,15 +119,7 @@ pub fn keep_sheet<R: Threads + Sync, F: Found + Drop, L: Ledger>(
     meter: &mut Meter<L>,
 ) -> Result<(Sheet, SheetKeeper<F::Device>), ProgramFault>
     ensures read { IfOk result (λ r. Reads options.replica (F.bytes found) r.0.history) }
-    ensures replica { IfOk result (λ r. r.0.replica ≡ options.replica) }
-    ensures workers { IfOk result (λ r. r.0.workers ≡ options.workers) }
-    ensures sheet { IfOk result (λ r. IsSheet r.0) }
-    ensures synced { IfOk result (λ r. r.1.kept ≡ r.1.lines) }
-    ensures open { IfOk result (λ r. r.1.has_failed ≡ false) }
-    ensures told { IfOk result (λ r. TellHistory options.replica r.1.lines r.0.history) }
-    ensures journal { IfOk result (λ r. IsJournal r.1) }
-    ensures noted { IfOk result (λ r. IsNoted options.replica r.0.history r.1) }
-    ensures kept { IfOk result (λ r. IsKept options.replica r.0.history r.1) }
+    ensures kept { IfOk result (λ r. IsKeptSheet options.replica options.workers r.0 r.1) }
     ensures refused { IfErr result (IsFileRefusal options.replica (F.bytes found)) }
 {
     let workers = usize::from(options.workers);
@@ -165,15 +154,7 @@ pub fn open_kept_sheet<R: Files<File = File> + Threads + Sync, L: Ledger>(
     meter: &mut Meter<L>,
 ) -> Result<(Sheet, SheetKeeper<KeptFile>), ProgramFault>
     ensures read { IfOk result (λ r. (bytes : List ℕ) × Reads options.replica bytes r.0.history) }
-    ensures replica { IfOk result (λ r. r.0.replica ≡ options.replica) }
-    ensures workers { IfOk result (λ r. r.0.workers ≡ options.workers) }
-    ensures sheet { IfOk result (λ r. IsSheet r.0) }
-    ensures synced { IfOk result (λ r. r.1.kept ≡ r.1.lines) }
-    ensures open { IfOk result (λ r. r.1.has_failed ≡ false) }
-    ensures told { IfOk result (λ r. TellHistory options.replica r.1.lines r.0.history) }
-    ensures journal { IfOk result (λ r. IsJournal r.1) }
-    ensures noted { IfOk result (λ r. IsNoted options.replica r.0.history r.1) }
-    ensures kept { IfOk result (λ r. IsKept options.replica r.0.history r.1) }
+    ensures kept { IfOk result (λ r. IsKeptSheet options.replica options.workers r.0 r.1) }
     ensures refused { IfErr result (λ f. (f ≡ Refused Refusal.Device) ⊎ TellsTrouble KeptTrouble.Busy f
         ⊎ ((bytes : List ℕ) × IsFileRefusal options.replica bytes f)) }
 {

@@ -1,13 +1,13 @@
 //! The command `serve`: the lines of several sessions in, the replies of one sheet out.
 ghost use Rattle.std.specs.Prelude.{◌≡◌, ◌⊎◌, ◌<◌, ◌++◌, [], IfErr, IfOk, OnOk, Some, length};
 ghost use Rattle.std.specs.Io.KnownBytes.{Appends};
-ghost use Rattle.ps_grid.specs.declared.refusal.Refusal.TheVariants.{Device, Memory, Seat};
+ghost use Rattle.ps_grid.specs.declared.refusal.Refusal.TheVariants.{Device};
 ghost use Rattle.ps_sheet.specs.Sheet.{SheetView};
 ghost use Rattle.ps_keep.specs.Journals.{IsJournal};
 ghost use Rattle.ps_kept.specs.Kept.{TellHistory};
 ghost use Rattle.ps_commands.specs.Commands.{IsOpened, closed_text, listening_text};
 ghost use Rattle.ps_commands.specs.Sessions.{IsServed};
-ghost use Rattle.ps_commands.specs.Status.{HasNoPort};
+ghost use Rattle.ps_commands.specs.Status.{HasNoPort, IsServerFault};
 ghost use Rattle.ps_commands.specs.declared.fault.ProgramFault.TheVariants.{Refused};
 
 use crate::elsewhere::tell_opened;
@@ -69,8 +69,7 @@ pub fn serve<
         ⊎ (Appends (K.contents out.old) (K.contents out.new) (listening_text options.entry.port)
         × (K.waiting out.new ≡ []) × (K.failures out.new ≡ K.failures out.old))
         ⊎ ((f ≡ Refused Device) × (K.failures out.old < K.failures out.new))) }
-    ensures refused { IfErr result (λ f. (f ≡ Refused Memory) ⊎ (f ≡ Refused Seat) ⊎ (f ≡ Refused Device)
-        ⊎ HasNoPort options.entry.port f) }
+    ensures refused { IfErr result (λ f. IsServerFault f ⊎ HasNoPort options.entry.port f) }
     ensures unheard { IfErr result (λ f. HasNoPort options.entry.port f → out.new ≡ out.old) }
 {
     let listener = listen(rt, options.port)?;

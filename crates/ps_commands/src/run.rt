@@ -73,10 +73,7 @@ pub fn answer_lines<R: Threads + Sync, S: Source, K: Sink, L: Ledger, W: Watcher
         × Stopped SheetLines (IsAtEnd (S.remaining source.new)) first (K.contents sink.old) read
         last (K.contents sink.new))) }
 {
-    let mut sheet = match open_sheet(alloc, options) {
-        Ok(sheet) => sheet,
-        Err(refusal) => return Err(ProgramFault::Refused(refusal)),
-    };
+    let mut sheet = open_sheet(alloc, options)?;
     let done = run_watched(rt, alloc, source, sink, &mut sheet, meter, watcher);
     leave_unfreed(sheet);
     done?;

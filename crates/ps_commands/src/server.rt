@@ -1,5 +1,5 @@
 //! A server: the sessions of a sheet, which is kept in a journal, or isn't.
-ghost use Rattle.std.specs.Prelude.{◌≡◌, ◌+◌, ◌⊎◌, ◌<◌, ◌≤◌, [], false, IfErr, IfOk, IfSome, IsSome, OnOk, Some};
+ghost use Rattle.std.specs.Prelude.{◌≡◌, ◌+◌, ◌⊎◌, ◌<◌, ◌≤◌, [], IfErr, IfOk, IfSome, IsSome, OnOk, Some};
 ghost use Rattle.std.specs.Prelude.{length, vec_len};
 ghost use Rattle.std.specs.Io.KnownBytes.{Appends};
 ghost use Rattle.ps_grid.specs.declared.refusal.Refusal.TheVariants.{Device, Memory, Seat};
@@ -9,7 +9,9 @@ ghost use Rattle.ps_desk.specs.Opening.{IsNamed, new_passes};
 ghost use Rattle.ps_keep.specs.Journals.{IsJournal};
 ghost use Rattle.ps_kept.specs.Kept.{TellHistory};
 ghost use Rattle.ps_commands.specs.Commands.{closed_text};
+ghost use Rattle.ps_commands.specs.Kept.{KeepsHistory};
 ghost use Rattle.ps_commands.specs.Sessions.{IsServed};
+ghost use Rattle.ps_commands.specs.Status.{IsServerFault};
 ghost use Rattle.ps_commands.specs.declared.fault.ProgramFault.TheVariants.{Refused};
 
 use crate::elsewhere::Warner;
@@ -73,12 +75,16 @@ pub fn serve_on<R: Threads + Wait + Clock + Sync, K: Sink>(
     ensures calm { OnOk result (K.failures out.new ≡ K.failures out.old) }
     ensures untold { IfErr result (λ f. (out.new ≡ out.old)
         ⊎ ((f ≡ Refused Device) × (K.failures out.old < K.failures out.new))) }
-    ensures refused { IfErr result (λ f. (f ≡ Refused Memory) ⊎ (f ≡ Refused Seat) ⊎ (f ≡ Refused Device)) }
+    ensures refused { IfErr result IsServerFault }
 {
     let entrance = Entrance { listener, serving };
     // (where nothing is kept, nobody is warned)
     let mut warner = Warner::<Vec<u8>>::new(alloc, None);
-    match serve_sheet::<R, MemoryDevice, K, Vec<u8>>(
+    let Closed {
+        sheet,
+        sessions,
+        ..
+    } = serve_sheet::<R, MemoryDevice, K, Vec<u8>>(
         rt,
         alloc,
         entrance,
@@ -86,20 +92,12 @@ pub fn serve_on<R: Threads + Wait + Clock + Sync, K: Sink>(
         None,
         out,
         &mut warner,
-    ) {
-        Ok(
-            Closed {
-                sheet,
-                sessions,
-                ..
-            },
-        ) => Ok(Closed {
-            sheet,
-            sessions,
-            journal: (),
-        }),
-        Err(fault) => Err(fault),
-    }
+    )?;
+    Ok(Closed {
+        sheet,
+        sessions,
+        journal: (),
+    })
 }
 
 /// Serves sessions on a sheet as [`serve_on`] does, and keeps it in this journal: nothing that a session is told, or
@@ -126,10 +124,7 @@ pub fn serve_kept_on<
     out: &mut K,
     warner: &mut Warner<'_, W>,
 ) -> Result<Closed<Journal<D>>, ProgramFault>
-    requires told { TellHistory sheet.replica journal.lines sheet.history }
-    requires kept { journal.kept ≡ journal.lines }
-    requires open { journal.has_failed ≡ false }
-    requires journal { IsJournal journal }
+    requires { KeepsHistory sheet.replica sheet.history journal }
     ensures asked { IfOk result (λ closed. entrance.entry.serving.sessions ≡ Some closed.sessions) }
     ensures served { IfOk result (λ closed. IsServed entrance.entry.serving.seats closed.sessions sheet closed.sheet) }
     ensures kept { IfOk result (λ closed. TellHistory closed.sheet.replica closed.journal.kept closed.sheet.history) }
@@ -140,22 +135,18 @@ pub fn serve_kept_on<
     ensures calm { OnOk result (K.failures out.new ≡ K.failures out.old) }
     ensures untold { IfErr result (λ f. (out.new ≡ out.old)
         ⊎ ((f ≡ Refused Device) × (K.failures out.old < K.failures out.new))) }
-    ensures refused { IfErr result (λ f. (f ≡ Refused Memory) ⊎ (f ≡ Refused Seat) ⊎ (f ≡ Refused Device)) }
+    ensures refused { IfErr result IsServerFault }
 {
-    match serve_sheet(rt, alloc, entrance, sheet, Some(journal), out, warner) {
-        Ok(
-            Closed {
-                sheet,
-                sessions,
-                journal,
-            },
-        ) => Ok(Closed {
-            sheet,
-            sessions,
-            journal: journal.unwrap(),
-        }),
-        Err(fault) => Err(fault),
-    }
+    let Closed {
+        sheet,
+        sessions,
+        journal,
+    } = serve_sheet(rt, alloc, entrance, sheet, Some(journal), out, warner)?;
+    Ok(Closed {
+        sheet,
+        sessions,
+        journal: journal.unwrap(),
+    })
 }
 
 /// Serves sessions on a sheet that a journal keeps, or none, and writes `closed` and the version once as many as were
@@ -169,10 +160,7 @@ fn serve_sheet<R: Threads + Wait + Clock + Sync, D: Device + Drop + Send, K: Sin
     out: &mut K,
     warner: &mut Warner<'_, W>,
 ) -> Result<Closed<Option<Journal<D>>>, ProgramFault>
-    requires told { IfSome journal (λ j. TellHistory sheet.replica j.lines sheet.history) }
-    requires kept { IfSome journal (λ j. j.kept ≡ j.lines) }
-    requires open { IfSome journal (λ j. j.has_failed ≡ false) }
-    requires journal { IfSome journal (λ j. IsJournal j) }
+    requires { IfSome journal (KeepsHistory sheet.replica sheet.history) }
     ensures asked { IfOk result (λ closed. entrance.entry.serving.sessions ≡ Some closed.sessions) }
     ensures served { IfOk result (λ closed. IsServed entrance.entry.serving.seats closed.sessions sheet closed.sheet) }
     ensures some { IfOk result (λ closed. IsSome journal → IsSome closed.journal) }
@@ -185,7 +173,7 @@ fn serve_sheet<R: Threads + Wait + Clock + Sync, D: Device + Drop + Send, K: Sin
     ensures calm { OnOk result (K.failures out.new ≡ K.failures out.old) }
     ensures untold { IfErr result (λ f. (out.new ≡ out.old)
         ⊎ ((f ≡ Refused Device) × (K.failures out.old < K.failures out.new))) }
-    ensures refused { IfErr result (λ f. (f ≡ Refused Memory) ⊎ (f ≡ Refused Seat) ⊎ (f ≡ Refused Device)) }
+    ensures refused { IfErr result IsServerFault }
 {
     let changes = sheet.version();
     let parts = Parts::new(sheet, seats_for(entrance.serving));
@@ -224,10 +212,7 @@ fn serve_parts<
     warner: &mut Warner<'_, W>,
 ) -> Result<Closed<Option<Journal<D>>>, Refusal>
     requires named { IsNamed L.name L.parts L.book L.opening L.replica parts }
-    requires told { IfSome journal (λ j. TellHistory parts.sheet.replica j.lines parts.sheet.history) }
-    requires kept { IfSome journal (λ j. j.kept ≡ j.lines) }
-    requires open { IfSome journal (λ j. j.has_failed ≡ false) }
-    requires journal { IfSome journal (λ j. IsJournal j) }
+    requires keeps { IfSome journal (KeepsHistory parts.sheet.replica parts.sheet.history) }
     requires changes { changes ≡ length parts.sheet.history }
     ensures asked { IfOk result (λ closed. entrance.entry.serving.sessions ≡ Some closed.sessions) }
     ensures served { IfOk result (λ closed. IsServed parts.seats closed.sessions parts.sheet closed.sheet) }
@@ -263,10 +248,7 @@ fn keeper_of<L: DeskName, W: Wait + Drop, D: Device + Drop>(
     passes: &[Pass<L>],
     changes: u64,
 ) -> Option<DeskKeeper<L, D>>
-    requires told { IfSome journal (λ j. TellHistory L.replica j.lines L.opening) }
-    requires kept { IfSome journal (λ j. j.kept ≡ j.lines) }
-    requires open { IfSome journal (λ j. j.has_failed ≡ false) }
-    requires journal { IfSome journal (λ j. IsJournal j) }
+    requires keeps { IfSome journal (KeepsHistory L.replica L.opening) }
     requires passes { passes.now ≡ new_passes desk.now }
     requires changes { changes ≡ length L.opening }
     ensures { IsSome journal → IsSome result }

@@ -53,10 +53,7 @@ pub fn table_on<R: Threads + Sync, S: Source, K: Sink, L: Ledger, W: TableWatche
         × Appends (K.contents sink.old) (K.contents sink.new) (take count text)) }
     ensures unwritten { IfErr result (λ f. f ≢ Refused Refusal.Device → sink.new ≡ sink.old) }
 {
-    let (sheet, imported) = match taken_in(rt, alloc, source, meter, options, watcher) {
-        Ok(taken) => taken,
-        Err(fault) => return Err(fault),
-    };
+    let (sheet, imported) = taken_in(rt, alloc, source, meter, options, watcher)?;
     match put_table(alloc, &sheet, options.entries, imported, sink) {
         Ok(()) => Ok(()),
         Err(refusal) => Err(ProgramFault::Refused(refusal)),
@@ -83,10 +80,7 @@ fn taken_in<R: Threads + Sync, S: Source, L: Ledger, W: TableWatcher>(
     ensures refused { IfErr result (λ f. IsCauseOf (S.remaining source.old) (S.remaining source.new) f) }
     ensures device { result ≡ Err (Refused Refusal.Device) → S.failures source.old < S.failures source.new }
 {
-    let mut sheet = match Sheet::open(alloc, 1, usize::from(options.workers)) {
-        Ok(sheet) => sheet,
-        Err(refusal) => return Err(ProgramFault::Refused(refusal)),
-    };
+    let mut sheet = Sheet::open(alloc, 1, usize::from(options.workers))?;
     match import_watched(rt, alloc, source, &mut sheet, meter, watcher) {
         Ok(imported) => Ok((sheet, imported)),
         Err(fault) => Err(fault_of_import(fault)),

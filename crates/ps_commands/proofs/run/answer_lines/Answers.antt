@@ -17,24 +17,24 @@ device_of sessions.Keep h = inr (inr refl)
 pub returns-in_err-done-clause-device : goal.returns-in_err-done-clause-device
 returns-in_err-done-clause-device g c asked =
     let ran = c.run_watched-done.ensures in
-    elim (device_of c.in_err-done.field-0.0 (rw asked at c.from_residual.ensures.1)) [
+    elim (device_of c.in_err-done.field-0.0 (rw asked at c.from_residual-in_err-done.ensures.1)) [
       | inl source ↦
           let is = c.in_err-done.was ∙ ap Err source in
           let told = ran.source is in (
-            c.in-Ok.sheet,
+            c.in_ok-sheet.sheet,
             c.run_watched-done.new.sheet,
             told.0,
-            c.in-Ok.ensures.opened,
+            c.in_ok-sheet.ensures.opened,
             told.1,
             inl (ran.source_failed is, ran.source_flushed is, told.2),
           )
       | inr (inl sink) ↦
           let is = c.in_err-done.was ∙ ap Err sink in
           let told = ran.sink is in (
-            c.in-Ok.sheet,
+            c.in_ok-sheet.sheet,
             c.run_watched-done.new.sheet,
             told.0,
-            c.in-Ok.ensures.opened,
+            c.in_ok-sheet.ensures.opened,
             told.1,
             inr (ran.sink_failed is, told.2),
           )

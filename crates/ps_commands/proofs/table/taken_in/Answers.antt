@@ -30,16 +30,16 @@ cause_of : (old new : Option (List ℕ)) (own : Option Error) (e : Refusal)
 cause_of old new None e refused reader = refused
 cause_of old new (Some error) e refused reader = reader.1
 
-pub returns-in-Err-import_watched-clause-refused : goal.returns-in-Err-import_watched-clause-refused
-returns-in-Err-import_watched-clause-refused g c =
-    let empty : c.in-Ok.sheet.history ≡ [] = search rules in
-    let refused = rw empty at c.in-Err-import_watched.ensures.refused in
-    let reader = rw empty at c.in-Err-import_watched.ensures.reader in
+pub returns-in-Err-clause-refused : goal.returns-in-Err-clause-refused
+returns-in-Err-clause-refused g c =
+    let empty : c.in_ok-sheet.sheet.history ≡ [] = search rules in
+    let refused = rw empty at c.in-Err.ensures.refused in
+    let reader = rw empty at c.in-Err.ensures.reader in
     rw c.fault_of_import.ensures
-    (cause_of _ _ c.in-Err-import_watched.fault.reader_error c.in-Err-import_watched.fault.refusal refused reader)
+    (cause_of _ _ c.in-Err.fault.reader_error c.in-Err.fault.refusal refused reader)
 
-pub returns-in-Err-import_watched-clause-device : goal.returns-in-Err-import_watched-clause-device
-returns-in-Err-import_watched-clause-device g c = λ h.
-    c.in-Err-import_watched.ensures.device
-    (device_of c.in-Err-import_watched.fault.reader_error c.in-Err-import_watched.fault.refusal
+pub returns-in-Err-clause-device : goal.returns-in-Err-clause-device
+returns-in-Err-clause-device g c = λ h.
+    c.in-Err.ensures.device
+    (device_of c.in-Err.fault.reader_error c.in-Err.fault.refusal
     (sym c.fault_of_import.ensures ∙ ap (fault_in (Refused Device)) h))
