@@ -58,7 +58,12 @@ pub fn port_fault(fault: &ProgramFault) -> Option<PortFault>
 {
     match fault {
         ProgramFault::PortFailed(port) => Some(*port),
-        _ => None,
+        ProgramFault::Refused(_)
+        | ProgramFault::ReaderFailed(_)
+        | ProgramFault::PeerRefused(_)
+        | ProgramFault::LinesRefused(_)
+        | ProgramFault::DeltaRefused(_)
+        | ProgramFault::KeptFailed(_) => None,
     }
 }
 
