@@ -2,7 +2,7 @@
 ghost use Rattle.std.specs.Prelude.{◌≡◌, ◌<◌, ℕ, List, [], Err, IfOk, OnOk};
 ghost use Rattle.std.specs.Io.KnownBytes.{Consumes, IsAtEnd};
 ghost use mathlib.Core.List.{IsPrefix};
-ghost use Rattle.ps_session.specs.Held.{held_contents, held_waiting};
+ghost use Rattle.ps_session.specs.HeldOutputs.{held_contents, held_waiting};
 ghost use Rattle.ps_session.specs.Keeping.{IsCovered};
 ghost use Rattle.ps_session.specs.Transcript.{Answered, Stopped, Transcribed};
 ghost use Rattle.ps_desk.specs.Seats.{SeatLines};

@@ -3,7 +3,7 @@ ghost use Rattle.std.specs.Prelude.{◌≡◌, ◌⊎◌, ◌<◌, ◌≤◌, �
 ghost use Rattle.std.specs.Io.KnownBytes.{Consumes, IsAtEnd};
 ghost use Rattle.ps_sheet.specs.Sheet.{IsSheet, SheetView};
 ghost use Rattle.ps_session.specs.Answers.{SheetLines};
-ghost use Rattle.ps_session.specs.Held.{held_contents, held_waiting};
+ghost use Rattle.ps_session.specs.HeldOutputs.{held_contents, held_waiting};
 ghost use Rattle.ps_session.specs.Keeping.{IsCovered};
 ghost use Rattle.ps_session.specs.Transcript.{Answered, Stopped, Transcribed};
 ghost use Rattle.ps_kept.specs.Kept.{IsKept, IsNoted};

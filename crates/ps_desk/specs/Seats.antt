@@ -17,7 +17,7 @@ use Rattle.ps_face.specs.Legal.{IsLegal, history_of}
 use Rattle.ps_session.specs.Answers.{TakesMemory}
 use Rattle.ps_session.specs.Boards.{BoardAnswers, Calls, told}
 use Rattle.ps_session.specs.Commands.{Read, ReadsLine}
-use Rattle.ps_session.specs.Handing.{HandsOut}
+use Rattle.ps_session.specs.PullReplies.{HandsOut}
 use Rattle.ps_session.specs.Replies.{done_text, entries_reply, entry_reply, refusal_text, replica_text, rows_text}
 use Rattle.ps_session.specs.Replies.{value_text}
 use Rattle.ps_session.specs.Transcript.{Answering, Lines}

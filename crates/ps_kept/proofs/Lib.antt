@@ -4,3 +4,4 @@ pub mod NoteLemmas
 pub mod PushLemmas
 pub mod StartLemmas
 pub mod ToldLemmas
+pub mod TakenLemmas

@@ -14,9 +14,8 @@ use crate::fault::KeepFault;
 use ps_eval::Meter;
 use ps_grid::Refusal;
 use ps_keep::first_line;
-use ps_session::{line_of_replica, pushed, told_replica};
+use ps_session::{Command, line_of_replica, told_replica};
 use ps_sheet::Sheet;
-use ps_wire::decode;
 use std::alloc::Global;
 use std::sync::Arc;
 use std::sync::ledger::Ledger;
@@ -62,13 +61,10 @@ fn take_in<R: Threads + Sync, L: Ledger>(
     ensures workers { sheet.new.workers ≡ sheet.old.workers }
     ensures sheet { IsSheet sheet.old → IsSheet sheet.new }
 {
-    let Some(text) = pushed(line) else {
-        return Ok(false);
-    };
-    let delta = match decode(alloc, text) {
-        Ok(delta) => delta,
-        Err(Refusal::Delta) => return Ok(false),
-        Err(_) => return Err(Refusal::Memory),
+    let delta = match Command::read(alloc, line) {
+        Ok(Command::Push(delta)) => delta,
+        Err(Refusal::Memory) => return Err(Refusal::Memory),
+        _ => return Ok(false),
     };
     let before = sheet.version();
     let report = sheet.receive(rt, alloc, Arc::new(alloc, delta)?, meter)?;

@@ -17,7 +17,7 @@ use Rattle.ps_delta.proofs.WalkLemmas.{rising_of}
 use Rattle.ps_wire.specs.Length.{HasNoLine}
 use Rattle.ps_wire.specs.Line.{delta_text}
 use Rattle.ps_wire.specs.declared.TheConstants.{DELTA_LINE_LIMIT}
-use Rattle.ps_session.specs.Handing.{HandsGroup, HandsOut, HasNone, IsGreatest, IsGroupLine, IsJoint}
+use Rattle.ps_session.specs.PullReplies.{HandsGroup, HandsOut, HasNone, IsGreatest, IsGroupLine, IsJoint}
 use Rattle.ps_session.specs.Replies.{handed_text}
 
 abbrev IsFilled : ℕ × CellState → Type 0

@@ -1,7 +1,7 @@
 -- Deltas joined upward, one more at a time.
 use Rattle.std.proofs.Common.{◌≡◌, ℕ, zero, suc, ◌+◌, ◌-◌, ◌<◌, ◌≤◌, inl, inr, sym, ap, subst, ◌∙◌, arith}
-use Rattle.std.proofs.Common.{List, [], ◌∷◌, ◌++◌, length, take, map, get_or, Result, Ok, Err}
-use Rattle.std.specs.Prelude.{IfOk}
+use Rattle.std.proofs.Common.{List, [], ◌∷◌, ◌++◌, length, take, map, get_or, Option, Some, None, Result, Ok, Err}
+use Rattle.std.specs.Prelude.{IfOk, IfSome}
 use Rattle.std.proofs.lemmas.Bool.{cases_lt}
 use Rattle.std.proofs.lemmas.List.{get_or-map, get_or_append_left, get_or_push, length-map, length_push}
 use Rattle.std.proofs.lemmas.List.{map_push, take_more}
@@ -16,7 +16,9 @@ use Rattle.ps_delta.proofs.HistoryLemmas.{
 use Rattle.ps_delta.proofs.StateLemmas.{joined_state-assoc, joined_state-empty_right, joined_state-idem}
 use Rattle.ps_delta.proofs.StateLemmas.{joined_state-swap}
 use Rattle.ps_wire.specs.Length.{OutgrowsLine}
-use Rattle.ps_session.specs.Handing.{IsGroupLine, IsJoint}
+use Rattle.ps_wire.specs.Line.{delta_text}
+use Rattle.ps_wire.specs.declared.TheConstants.{DELTA_LINE_LIMIT}
+use Rattle.ps_session.specs.PullReplies.{IsGroupLine, IsJoint}
 use Rattle.ps_session.specs.Inside.Joints.{AreFirstJoints, AreJoints}
 
 -- the first delta is the join of itself
@@ -133,6 +135,17 @@ module _ {X : Type 0} (f : X → Entries) (ds : List Entries) (js : List X) (j :
     first = first;
     last = λ k line above _. none_later ds n (f j) joint outgrows k line (omega (arith, above, long, length-map js f));
   }
+
+-- the line of the join of so many, where there is one
+pub group_line_of : {V E : Type 0} (items : V → List ℕ) (deltas : List Entries) (n : ℕ) (joint : Entries)
+    (r : Result (Option V) E) → n ≤ length deltas → IsJoint (take n deltas) joint
+    → IfOk r (λ o. IfSome o (λ line. items line ≡ delta_text joint))
+    → IfOk r (λ o. IfSome o (λ line. length (items line) ≤ DELTA_LINE_LIMIT))
+    → IfOk r (λ o. IfSome o (λ line. IsGroupLine deltas n (items line)))
+group_line_of items deltas n joint (Ok (Some line)) within is_joint is fits =
+    record { within = within; delta = joint; joint = is_joint; is = is; fits = fits }
+group_line_of items deltas n joint (Ok None) within is_joint is fits = tt
+group_line_of items deltas n joint (Err e) within is_joint is fits = tt
 
 -- what holds of a result by two facts
 pub both_ok : {T E : Type 0} {P Q S : T → Type 0} (r : Result T E) → ((t : T) → P t → Q t → S t) → IfOk r P → IfOk r Q

@@ -17,6 +17,8 @@ mod WordLemmas
 mod WordCounts
 mod NamesAreWords
 mod PushedLines
+pub mod PushReadings
+mod VerbLemmas
 pub mod ReadingLaws
 mod SplitLemmas
 mod AskedInRange

@@ -8,7 +8,7 @@ use Rattle.ps_grid.specs.declared.refusal.Refusal.{Refusal}
 use Rattle.ps_grid.specs.declared.refusal.Refusal.TheVariants as refusals
 use Rattle.ps_delta.specs.Deltas.{Entries}
 use Rattle.ps_session.specs.Boards.{HandsOn}
-use Rattle.ps_session.specs.Handing.{HandsGroup, HandsOut, HasNone, IsGreatest, IsGroupLine, IsJoint}
+use Rattle.ps_session.specs.PullReplies.{HandsGroup, HandsOut, HasNone, IsGreatest, IsGroupLine, IsJoint}
 use Rattle.ps_session.specs.Replies.{refusal_text}
 
 -- at most n of what comes after the first k

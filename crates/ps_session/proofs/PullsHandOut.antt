@@ -7,7 +7,7 @@ use Rattle.ps_delta.specs.Deltas.{Entries}
 use Rattle.ps_delta.proofs.HistoryLemmas.{joined_history-one}
 use Rattle.ps_wire.specs.Line.{delta_text}
 use Rattle.ps_session.specs.EditLines.{HasLine, PullsHandOut}
-use Rattle.ps_session.specs.Handing.{HandsGroup, IsGreatest, IsGroupLine}
+use Rattle.ps_session.specs.PullReplies.{HandsGroup, IsGreatest, IsGroupLine}
 use Rattle.ps_session.specs.Replies.{handed_text}
 
 -- the first of the deltas alone has a line

@@ -31,7 +31,7 @@ none false true e = cc
 none false false e = cc
 
 -- the verb `push` is spelled in one way
-push_spelled : (word : List ℕ) → verb_of word ≡ Some Push → word ≡ codes "push"
+pub push_spelled : (word : List ℕ) → verb_of word ≡ Some Push → word ≡ codes "push"
 unfolding verb_of
 push_spelled word e =
     (bytes_eq-Decides word (codes "push")).0

@@ -11,7 +11,7 @@ use Rattle.ps_cells.specs.Settled.{IsSettled}
 use Rattle.ps_sheet.specs.Edits.{delta_of_edit}
 use Rattle.ps_sheet.specs.Sheet.{SheetView, Takes}
 use Rattle.ps_csv.specs.Exports.{entry_text, exported, exported_entries, held_in}
-use Rattle.ps_session.specs.Handing.{HandsOut}
+use Rattle.ps_session.specs.PullReplies.{HandsOut}
 use Rattle.ps_session.specs.Commands.{Read, ReadsLine}
 use Rattle.ps_session.specs.Replies.{done_text, entries_reply, entry_reply, refusal_text, replica_text, rows_text}
 use Rattle.ps_session.specs.Replies.{value_text}

@@ -12,7 +12,7 @@ use Rattle.ps_sheet.specs.Batches.{IsBatch}
 use Rattle.ps_sheet.specs.Edits.{delta_of_edit}
 use Rattle.ps_sheet.specs.declared.edit.Edit.{Edit}
 use Rattle.ps_sheet.specs.declared.edit.Edit.TheVariants.{Set, SetAll, Add, Sub, Choose, Unchoose}
-use Rattle.ps_session.specs.Handing.{HandsOut, IsGreatest}
+use Rattle.ps_session.specs.PullReplies.{HandsOut, IsGreatest}
 use Rattle.ps_session.specs.Replies.{handed_text}
 
 -- how many cells an edit names

@@ -8,11 +8,11 @@ pub mod Exchange
 pub mod ReplicaLine
 pub mod Words
 pub mod Commands
-pub mod Handing
+pub mod PullReplies
 pub mod Boards
 pub mod SheetBoard
 pub mod Answers
 pub mod Laws
 pub mod EditLines
 pub mod Keeping
-pub mod Held
+pub mod HeldOutputs

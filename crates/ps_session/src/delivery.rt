@@ -73,7 +73,7 @@ pub(crate) struct HeldBack;
 
 impl<K: Sink + Drop, L: Ledger> Delivery<HeldOutput<K, L>> for HeldBack {
     ghost use Rattle.std.specs.Prelude.{⊤};
-    ghost use Rattle.ps_session.specs.Held.{held_contents, held_failures, held_waiting};
+    ghost use Rattle.ps_session.specs.HeldOutputs.{held_contents, held_failures, held_waiting};
 
     ghost contents = { held_contents K.contents };
 

@@ -7,7 +7,7 @@ ghost use Rattle.std.specs.Option.{SomeIff};
 ghost use Rattle.ps_delta.specs.Deltas.{IsDelta, joined_history, state_of};
 ghost use Rattle.ps_wire.specs.Line.{delta_text};
 ghost use Rattle.ps_wire.specs.declared.TheConstants.{DELTA_LINE_LIMIT};
-ghost use Rattle.ps_session.specs.Handing.{HasNone, IsGreatest, IsGroupLine, IsJoint};
+ghost use Rattle.ps_session.specs.PullReplies.{HasNone, IsGreatest, IsGroupLine, IsJoint};
 ghost use Rattle.ps_session.specs.Inside.Joints.{AreFirstJoints, AreJoints, part_count, parts_in};
 
 use ps_delta::{CellState, Delta};
@@ -124,10 +124,7 @@ fn whole_line(
     let joint = Delta::joined(alloc, &deltas[..count])?;
     // for the fact that the parts are a delta
     let _ = joint.parts();
-    let Some(line) = short_line(alloc, &joint)? else {
-        return Ok(None);
-    };
-    Ok(Some(line))
+    short_line(alloc, &joint)
 }
 
 /// The line of the delta, if it isn't too long.

@@ -23,7 +23,7 @@ pub struct HeldOutput<K: Sink + Drop, L: Ledger> {
 }
 
 impl<K: Sink + Drop, L: Ledger> HeldOutput<K, L> {
-    ghost use Rattle.ps_session.specs.Held.{held_contents, held_failures, held_waiting, sink_of};
+    ghost use Rattle.ps_session.specs.HeldOutputs.{held_contents, held_failures, held_waiting, sink_of};
 
     /// An output over this sink, with nothing that it holds back.
     ///
@@ -63,7 +63,7 @@ impl<K: Sink + Drop, L: Ledger> HeldOutput<K, L> {
 
 impl<K: Sink + Drop, L: Ledger> Sink for HeldOutput<K, L> {
     ghost use Rattle.std.specs.Prelude.{⊤};
-    ghost use Rattle.ps_session.specs.Held.{held_contents, held_failures, held_waiting};
+    ghost use Rattle.ps_session.specs.HeldOutputs.{held_contents, held_failures, held_waiting};
 
     ghost contents = { held_contents K.contents };
 

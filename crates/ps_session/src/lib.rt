@@ -1,11 +1,11 @@
 //! Sessions: lines in, replies out.
 //!
 //! A [`Session`] is the reader of lines: it puts bytes together to lines, in whatever pieces they come. A [`Command`]
-//! is what a line asks for. A [`Board`] is what answers commands, by a call for each. [`talk`] is the whole way from a
-//! source of bytes to a sink: it reads the source to its end, obeys each line and writes its reply, in order. A sheet
-//! is a board, and [`run`] is the talk of a sheet. A [`Watcher`] may look on, by [`talk_watched`] and [`run_watched`].
-//! A [`Keeper`] has all kept that a session has seen before its replies are handed on, by [`talk_kept`] and
-//! [`run_kept`], whose replies a [`HeldOutput`] holds back until then.
+//! is what a line asks for, and a [`Verb`] its first word. A [`Board`] is what answers commands, by a call for each.
+//! [`talk`] is the whole way from a source of bytes to a sink: it reads the source to its end, obeys each line and
+//! writes its reply, in order. A sheet is a board, and [`run`] is the talk of a sheet. A [`Watcher`] may look on, by
+//! [`talk_watched`] and [`run_watched`]. A [`Keeper`] has all kept that a session has seen before its replies are handed
+//! on, by [`talk_kept`] and [`run_kept`], whose replies a [`HeldOutput`] holds back until then.
 //!
 //! It is not a connection: it opens no device, and knows one peer. What a sheet does with an edit or a delta, it leaves
 //! to the sheet.
@@ -70,4 +70,6 @@ pub use sheet_session::{run, run_kept, run_watched};
 pub use syncing::sync;
 pub use taken::Taken;
 pub use transcript::{RunFault, talk, talk_kept, talk_watched};
+pub use verb::Verb;
 pub use watcher::{Outcome, Unwatched, Watcher};
+pub use words::{split_part, split_word};

@@ -6,7 +6,7 @@ ghost use Rattle.ps_sheet.specs.Sheet.{IsSheet, SheetView};
 ghost use Rattle.ps_session.specs.Transcript.{Answered, Stopped, Transcribed};
 ghost use Rattle.ps_session.specs.Answers.{SheetLines};
 ghost use Rattle.ps_session.specs.EditLines.{HasLine};
-ghost use Rattle.ps_session.specs.Held.{held_contents, held_failures, held_waiting};
+ghost use Rattle.ps_session.specs.HeldOutputs.{held_contents, held_failures, held_waiting};
 ghost use Rattle.ps_session.specs.Keeping.{Halted, IsCovered, IsLater};
 
 use crate::held_output::HeldOutput;

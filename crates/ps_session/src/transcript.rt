@@ -9,7 +9,7 @@ ghost use Rattle.ps_session.specs.Boards.{BoardAnswers, BoardLines};
 ghost use Rattle.ps_session.specs.Replies.{refusal_text, reply_text};
 ghost use Rattle.ps_session.specs.Inside.Stands.{CutsShort, GoesOn, Stands};
 ghost use Rattle.ps_session.specs.Feeding.{kept, without_return};
-ghost use Rattle.ps_session.specs.Held.{held_contents, held_failures, held_waiting};
+ghost use Rattle.ps_session.specs.HeldOutputs.{held_contents, held_failures, held_waiting};
 ghost use Rattle.ps_session.specs.Inside.Holds.{Holds, Replied, as_one};
 ghost use Rattle.ps_session.specs.Keeping.{Halted, IsCovered, StaysFit};
 ghost use Rattle.ps_grid.specs.declared.refusal.Refusal.TheVariants as refusals;

@@ -7,7 +7,9 @@ ghost use Rattle.ps_session.specs.Words.{after_part, after_word, first_part, fir
 ghost use Rattle.ps_session.specs.Words.{words};
 
 /// The bytes before the first space, and those after it where there is one.
-pub(crate) fn split_word(text: &[u8]) -> (&[u8], Option<&[u8]>)
+///
+/// Cost: O(n) in the n bytes before the space.
+pub fn split_word(text: &[u8]) -> (&[u8], Option<&[u8]>)
     ensures word { result.0.now ≡ first_word text.now }
     ensures words { words text.now ≡ result.0.now ∷ option_map_or (λ rest. words rest.now) result.1 [] }
     ensures after { after_word text.now ≡ option_map_or (λ rest. rest.now) result.1 [] }
@@ -18,7 +20,9 @@ pub(crate) fn split_word(text: &[u8]) -> (&[u8], Option<&[u8]>)
 }
 
 /// The bytes before the first separator, and those after it where there is one.
-pub(crate) fn split_part(text: &[u8], separator: u8) -> (&[u8], Option<&[u8]>)
+///
+/// Cost: O(n) in the n bytes before the separator.
+pub fn split_part(text: &[u8], separator: u8) -> (&[u8], Option<&[u8]>)
     ensures part { result.0.now ≡ first_part separator text.now }
     ensures parts { parts separator text.now
         ≡ result.0.now ∷ option_map_or (λ rest. parts separator rest.now) result.1 [] }

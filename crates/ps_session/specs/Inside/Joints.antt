@@ -3,7 +3,7 @@ use Rattle.std.specs.Prelude.{ℕ, ◌+◌, ◌<◌, ◌≤◌, List, length, ta
 use Rattle.std.specs.FinMap as map
 use Rattle.ps_delta.specs.declared.cell_state.CellState.{CellState}
 use Rattle.ps_delta.specs.Deltas.{Entries}
-use Rattle.ps_session.specs.Handing.{IsGroupLine, IsJoint}
+use Rattle.ps_session.specs.PullReplies.{IsGroupLine, IsJoint}
 
 -- the k-th of the joints is the join of the first k deltas
 abbrev pub AreFirstJoints : List Entries → List Entries → Type 0

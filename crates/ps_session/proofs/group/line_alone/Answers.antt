@@ -2,7 +2,7 @@ use Rattle.std.proofs.Common.{◌∙◌, ◌∷◌, ℕ, [], subst, sym}
 use Rattle.std.specs.Global.{Vec}
 use Rattle.std.specs.Prelude.{IfOk}
 use Rattle.ps_delta.specs.Deltas.{IsDelta}
-use Rattle.ps_session.specs.Handing.{HasNone, IsGreatest}
+use Rattle.ps_session.specs.PullReplies.{HasNone, IsGreatest}
 use Rattle.ps_session.proofs.GreatestGroup.{alone_line, alone_none}
 use Rattle.ps_session.proofs.group.line_alone.Goals as goal
 

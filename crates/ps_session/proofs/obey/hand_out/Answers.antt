@@ -3,7 +3,7 @@ use Rattle.std.proofs.lemmas.List.{length-map}
 use Rattle.std.proofs.lemmas.Grind.{common_steps}
 use Rattle.std.specs.Arc.{arc_value}
 use Rattle.std.specs.Prelude.{Ok}
-use Rattle.ps_session.specs.Handing.{HasNone}
+use Rattle.ps_session.specs.PullReplies.{HasNone}
 use Rattle.ps_session.proofs.PulledDeltas.{hands_refusal}
 use Rattle.ps_session.proofs.obey.hand_out.Goals as goal
 

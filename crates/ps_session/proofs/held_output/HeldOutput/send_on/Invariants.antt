@@ -1,6 +1,6 @@
 use Rattle.std.proofs.Common.{◌≡◌, ◌-◌, length}
 use Rattle.std.specs.Io.KnownBytes.{Keeps}
-use Rattle.ps_session.specs.Held.{held_contents}
+use Rattle.ps_session.specs.HeldOutputs.{held_contents}
 use Rattle.ps_session.proofs.held_output.HeldOutput.send_on.Given as goal
 
 -- what the sink below has and what it was not given yet are together as before, and nothing failed
