@@ -31,14 +31,6 @@ pub(crate) fn first_filled(text: &[u8]) -> Option<u8> {
     None
 }
 
-/// The bytes before the first separator, and those after it where there is one.
-pub(crate) fn cut(text: &[u8], separator: u8) -> (&[u8], Option<&[u8]>) {
-    match text.iter().position(|byte| *byte == separator) {
-        Some(place) => (&text[..place], Some(&text[place + 1..])),
-        None => (text, None),
-    }
-}
-
 /// The bytes as a text; none where they aren't UTF-8.
 pub(crate) fn text_of(bytes: &[u8]) -> Option<&str> {
     str::from_utf8(bytes).ok()

@@ -1,8 +1,9 @@
 //! What is at fault in a formula that is none.
 
-use crate::bytes::{cut, first_character, first_filled, is_of_word, last_filled, text_of};
+use crate::bytes::{first_character, first_filled, is_of_word, last_filled, text_of};
 use crate::formula_hint::FormulaHint;
 use crate::names::{is_corner, is_meant_as_cell, is_nearly_cell};
+use ps_session::split_part;
 use ps_tokens::{FUNCTIONS, Function};
 
 /// Signs that are written otherwise, the longer ones first.
@@ -172,11 +173,11 @@ fn name_hint<'a>(word: &'a [u8], text: &'a str, has_arguments: bool) -> Option<F
 
 /// What is at fault with the bracket that begins here.
 fn bracket_hint<'a>(before: &'a [u8], rest: &'a [u8]) -> Option<FormulaHint<'a>> {
-    let (inside, after) = cut(rest.strip_prefix(b"[")?, b']');
+    let (inside, after) = split_part(rest.strip_prefix(b"[")?, b']');
     let Some(after) = after else {
         return Some(FormulaHint::Unclosed('['));
     };
-    match cut(inside, b':') {
+    match split_part(inside, b':') {
         (first, None) => corner_hint(first),
         (first, Some(last)) => corners_hint(first, last).or(alone_hint(before, after)),
     }

@@ -68,36 +68,31 @@ fn write_functions<W: fmt::Write>(f: &mut fmt::Formatter<W>) -> fmt::Result {
     Ok(())
 }
 
-/// Writes how a reference or a range is written.
-fn write_places<W: fmt::Write>(hint: FormulaHint<'_>, f: &mut fmt::Formatter<W>) -> fmt::Result {
-    match hint {
-        FormulaHint::BareCell(cell) => write!(f, "{cell} is written [.{}]", Capitals(cell)),
-        FormulaHint::BareRange(first, last) => {
-            write!(f, "{first}:{last} is written ")?;
-            write!(f, "[.{}:.{}]", Capitals(first), Capitals(last))
-        }
-        FormulaHint::Reference(cell) => {
-            write!(f, "a reference is written [.{}]", Capitals(cell))
-        }
-        FormulaHint::Range(first, last) => {
-            write!(f, "a range is written ")?;
-            write!(f, "[.{}:.{}]", Capitals(first), Capitals(last))
-        }
-        FormulaHint::OtherSheet => {
-            f.write_str("there is one sheet: a reference is written [.A1]")
-        }
-        FormulaHint::Columns => f.write_str("a range has two cells, as [.A1:.A1024]"),
-        FormulaHint::RangeAlone => {
-            f.write_str("a range is an argument of SUM, MIN, MAX or COUNT and stands nowhere else")
-        }
-        FormulaHint::Outside(name) => { write!(f, "there is no {name}: cells are A1 to CZ1024") }
-        _ => f.write_str("a formula is written like =SUM([.A1:.A3])*2"),
-    }
-}
-
 impl fmt::Display for FormulaHint<'_> {
     fn fmt<W: fmt::Write>(&self, f: &mut fmt::Formatter<W>) -> fmt::Result {
         match *self {
+            FormulaHint::BareCell(cell) => write!(f, "{cell} is written [.{}]", Capitals(cell)),
+            FormulaHint::BareRange(first, last) => {
+                write!(f, "{first}:{last} is written ")?;
+                write!(f, "[.{}:.{}]", Capitals(first), Capitals(last))
+            }
+            FormulaHint::Reference(cell) => {
+                write!(f, "a reference is written [.{}]", Capitals(cell))
+            }
+            FormulaHint::Range(first, last) => {
+                write!(f, "a range is written ")?;
+                write!(f, "[.{}:.{}]", Capitals(first), Capitals(last))
+            }
+            FormulaHint::OtherSheet => {
+                f.write_str("there is one sheet: a reference is written [.A1]")
+            }
+            FormulaHint::Columns => f.write_str("a range has two cells, as [.A1:.A1024]"),
+            FormulaHint::RangeAlone => f.write_str(
+                "a range is an argument of SUM, MIN, MAX or COUNT and stands nowhere else",
+            ),
+            FormulaHint::Outside(name) => {
+                write!(f, "there is no {name}: cells are A1 to CZ1024")
+            }
             FormulaHint::UnknownFunction(name) => {
                 write!(f, "{name} is no function; the functions are ")?;
                 write_functions(f)
@@ -119,8 +114,8 @@ impl fmt::Display for FormulaHint<'_> {
             FormulaHint::Unclosed(sign) => write!(f, "a {sign} isn't closed"),
             FormulaHint::Unopened(sign) => write!(f, "a {sign} closes nothing"),
             FormulaHint::Unfinished => f.write_str("something is missing at its end"),
+            FormulaHint::Notation => f.write_str("a formula is written like =SUM([.A1:.A3])*2"),
             FormulaHint::Long => { write!(f, "written out it has more than {LONGEST_TEXT} bytes") }
-            other => write_places(other, f),
         }
     }
 }

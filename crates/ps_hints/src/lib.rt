@@ -34,5 +34,5 @@ pub use formula_hint::FormulaHint;
 pub use habit::Habit;
 pub use hint::Hint;
 pub use line::hint_of_line;
-pub use line_hint::{LineHint, VERBS};
+pub use line_hint::LineHint;
 pub use note::{HintNote, HintPlace, field_note, line_note, record_note};

@@ -1,11 +1,12 @@
 //! What is at fault in a line of a session, or in the entry that it sets.
 
-use crate::bytes::{cut, text_of};
+use crate::bytes::text_of;
 use crate::entry::hint_of_entry;
 use crate::hint::Hint;
-use crate::line_hint::{LineHint, VERBS};
+use crate::line_hint::LineHint;
 use crate::names::is_nearly_cell;
 use ps_grid::Refusal;
+use ps_session::{Verb, split_part, split_word};
 
 /// The hint about a line, which was refused so, or was carried out: then only where the entry that it sets looks like a
 /// number or a formula and is a text.
@@ -26,16 +27,19 @@ pub fn hint_of_line(line: &[u8], refusal: Option<Refusal>) -> Option<Hint<'_>> {
 
 /// The entry of a line that sets a cell.
 fn entry_of(line: &[u8]) -> Option<&[u8]> {
-    let rest = line.strip_prefix(b"set ")?;
-    let (_, entry) = cut(rest, b' ');
+    let (verb, rest) = split_word(line);
+    let Some(Verb::Set) = Verb::read(verb) else {
+        return None;
+    };
+    let (_, entry) = split_word(rest?);
     entry
 }
 
 /// What is at fault with the words of a line, or with what it asks of the sheet.
 fn words_hint(line: &[u8], refusal: Refusal) -> LineHint<'_> {
-    let (verb, rest) = cut(line, b' ');
+    let (verb, rest) = split_word(line);
     let rest = rest.unwrap_or(b"");
-    let (word, last) = cut(rest, b' ');
+    let (word, last) = split_word(rest);
     let last = last.unwrap_or(b"");
     match refusal {
         Refusal::Command => command_hint(line, verb),
@@ -46,52 +50,48 @@ fn words_hint(line: &[u8], refusal: Refusal) -> LineHint<'_> {
         Refusal::Replica => LineHint::Replica,
         Refusal::NotTally => LineHint::NoTally(text_of(word).unwrap_or("A1")),
         Refusal::NotChoice => LineHint::NoChoice(text_of(word).unwrap_or("A1")),
-        Refusal::Delta if rest.starts_with(b"delta ") => LineHint::WholeReply,
-        other => state_hint(other),
-    }
-}
-
-/// The hint about a refusal that depends on more than the words.
-fn state_hint<'a>(refusal: Refusal) -> LineHint<'a> {
-    match refusal {
         Refusal::TallyFull => LineHint::TallyFull,
         Refusal::ChoiceFull => LineHint::ChoiceFull,
         Refusal::NotChosen => LineHint::NotChosen,
         Refusal::ClockFull => LineHint::ClockFull,
+        Refusal::Delta if rest.starts_with(b"delta ") => LineHint::WholeReply,
         Refusal::Delta => LineHint::NoDelta,
         Refusal::Line => LineHint::LongLine,
         Refusal::Version => LineHint::NoVersion,
         Refusal::Memory => LineHint::NoMemory,
-        _ => LineHint::Outside,
+        Refusal::Text
+        | Refusal::Formula
+        | Refusal::TooLong
+        | Refusal::Csv
+        | Refusal::Device
+        | Refusal::Seat => LineHint::Outside,
     }
 }
 
-/// What is at fault with the verb of a line, or with the number of its words.
-fn command_hint<'a>(line: &'a [u8], verb: &'a [u8]) -> LineHint<'a> {
+/// What is at fault with the first word of a line, or with the number of its words.
+fn command_hint<'a>(line: &'a [u8], word: &'a [u8]) -> LineHint<'a> {
     if line.starts_with(b" ") || line.ends_with(b" ") {
         return LineHint::Spaces;
     }
-    for (name, form) in VERBS {
-        if verb == name.as_bytes() {
-            return form_hint(line, form);
-        }
+    if let Some(verb) = Verb::read(word) {
+        return form_hint(line, verb);
     }
-    let Some(text) = text_of(verb) else {
+    let Some(text) = text_of(word) else {
         return LineHint::NoVerb;
     };
-    for (name, _) in VERBS {
-        if verb.eq_ignore_ascii_case(name.as_bytes()) {
+    for verb in Verb::all() {
+        if word.eq_ignore_ascii_case(verb.name().as_bytes()) {
             return LineHint::InSmall(text);
         }
     }
-    if text.is_empty() || verb.iter().any(|byte| *byte < 32 || *byte == 127) {
+    if text.is_empty() || word.iter().any(|byte| *byte < 32 || *byte == 127) {
         return LineHint::NoVerb;
     }
     LineHint::UnknownVerb(text)
 }
 
 /// What is at fault with a line whose verb is known: a space too many, or another form.
-fn form_hint<'a>(line: &'a [u8], form: &'static str) -> LineHint<'a> {
+fn form_hint<'a>(line: &'a [u8], verb: Verb) -> LineHint<'a> {
     let mut last = b'x';
     for byte in line {
         if *byte == b' ' && last == b' ' {
@@ -99,7 +99,24 @@ fn form_hint<'a>(line: &'a [u8], form: &'static str) -> LineHint<'a> {
         }
         last = *byte;
     }
-    LineHint::Form(form)
+    LineHint::Form(verb)
+}
+
+/// Whether a line of this verb names a rectangle, and not a cell.
+fn names_rectangle(verb: Verb) -> bool {
+    match verb {
+        Verb::Rows | Verb::Entries => true,
+        Verb::Get
+        | Verb::Set
+        | Verb::Add
+        | Verb::Sub
+        | Verb::Choose
+        | Verb::Unchoose
+        | Verb::Entry
+        | Verb::Push
+        | Verb::Pull
+        | Verb::Replica => false,
+    }
 }
 
 /// What is at fault with the word for a cell or a rectangle.
@@ -107,7 +124,7 @@ fn cell_hint<'a>(verb: &'a [u8], word: &'a [u8]) -> LineHint<'a> {
     if word.is_empty() {
         return LineHint::Spaces;
     }
-    if verb == b"rows".as_slice() || verb == b"entries".as_slice() {
+    if Verb::read(verb).is_some_and(|verb| names_rectangle(verb)) {
         return rectangle_hint(word);
     }
     if word.contains(&b':') {
@@ -129,7 +146,7 @@ fn name_hint(word: &[u8]) -> LineHint<'_> {
 
 /// What is at fault with a rectangle.
 fn rectangle_hint(word: &[u8]) -> LineHint<'_> {
-    let (first, last) = cut(word, b':');
+    let (first, last) = split_part(word, b':');
     let Some(last) = last else {
         return LineHint::NoRectangle;
     };

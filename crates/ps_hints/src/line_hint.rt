@@ -3,24 +3,8 @@
 use crate::case::{Capitals, Small};
 use ps_grid::REPLICAS;
 use ps_lattice::{AMOUNT_LIMIT, COUNT_LIMIT, OPTIONS, SEQUENCES};
+use ps_session::Verb;
 use std::fmt;
-
-/// The verbs of lines, each with the form of its line. The test `the_verbs_are_those_of_lines` of
-/// `checks_commands` shows that a session reads each of these verbs.
-pub const VERBS: [(&str, &str); 12] = [
-    ("get", "get <cell>"),
-    ("set", "set <cell> <entry>"),
-    ("add", "add <cell> <amount>"),
-    ("sub", "sub <cell> <amount>"),
-    ("choose", "choose <cell> <option>"),
-    ("unchoose", "unchoose <cell> <option>"),
-    ("rows", "rows <cell>:<cell>"),
-    ("entry", "entry <cell>"),
-    ("entries", "entries <cell>:<cell>"),
-    ("push", "push <delta line>"),
-    ("pull", "pull <from> or pull <from> <most>"),
-    ("replica", "replica or replica <number>"),
-];
 
 /// What to do about a line whose words are refused, or that the sheet refuses.
 #[derive(Clone, Copy, Debug)]
@@ -34,7 +18,7 @@ pub enum LineHint<'a> {
     /// No verb.
     NoVerb,
     /// How a line of this verb is written.
-    Form(&'static str),
+    Form(Verb),
     /// A word that is empty.
     Spaces,
     /// A word that names no cell.
@@ -85,33 +69,32 @@ pub enum LineHint<'a> {
     Outside,
 }
 
+/// How a line of a verb is written.
+fn form_of(verb: Verb) -> &'static str {
+    match verb {
+        Verb::Get => "get <cell>",
+        Verb::Set => "set <cell> <entry>",
+        Verb::Add => "add <cell> <amount>",
+        Verb::Sub => "sub <cell> <amount>",
+        Verb::Choose => "choose <cell> <option>",
+        Verb::Unchoose => "unchoose <cell> <option>",
+        Verb::Rows => "rows <cell>:<cell>",
+        Verb::Entry => "entry <cell>",
+        Verb::Entries => "entries <cell>:<cell>",
+        Verb::Push => "push <delta line>",
+        Verb::Pull => "pull <from> or pull <from> <most>",
+        Verb::Replica => "replica or replica <number>",
+    }
+}
+
 /// Writes all verbs.
 fn write_verbs<W: fmt::Write>(f: &mut fmt::Formatter<W>) -> fmt::Result {
     let mut separator = "";
-    for (verb, _) in VERBS {
-        write!(f, "{separator}{verb}")?;
+    for verb in Verb::all() {
+        write!(f, "{separator}{}", verb.name())?;
         separator = ", ";
     }
     Ok(())
-}
-
-/// Writes what to do about a state that refuses a line.
-fn write_state<W: fmt::Write>(hint: LineHint<'_>, f: &mut fmt::Formatter<W>) -> fmt::Result {
-    match hint {
-        LineHint::NoTally(cell) => write!(f, "set {cell} @tally makes it a counter"),
-        LineHint::NoChoice(cell) => write!(f, "set {cell} @choice makes it a set"),
-        LineHint::TallyFull => write!(f, "this replica's count ends at {COUNT_LIMIT}"),
-        LineHint::ChoiceFull => {
-            write!(f, "this replica has chosen {SEQUENCES} times in this cell")
-        }
-        LineHint::NotChosen => f.write_str("the option isn't in the cell"),
-        LineHint::ClockFull => f.write_str("the cell has been set to its last time"),
-        LineHint::LongDelta => f.write_str("no line holds that delta"),
-        LineHint::Records(most) => write!(f, "a table has at most {most} records"),
-        LineHint::Fields(most) => write!(f, "a record has at most {most} fields"),
-        LineHint::NoMemory => f.write_str("memory ran out; the line may be sent again"),
-        _ => f.write_str("nothing of the line is the cause"),
-    }
 }
 
 impl fmt::Display for LineHint<'_> {
@@ -127,7 +110,7 @@ impl fmt::Display for LineHint<'_> {
                 f.write_str("a line begins with a verb: ")?;
                 write_verbs(f)
             }
-            LineHint::Form(form) => write!(f, "it is written {form}"),
+            LineHint::Form(verb) => write!(f, "it is written {}", form_of(verb)),
             LineHint::Spaces => {
                 f.write_str("one space stands between two words, and none at the end")
             }
@@ -138,16 +121,28 @@ impl fmt::Display for LineHint<'_> {
             LineHint::Point(number) => write!(f, "{number}: numbers are whole"),
             LineHint::Negative => f.write_str("amounts have no sign; sub takes away"),
             LineHint::OptionRange => write!(f, "options are 0 to {}", OPTIONS - 1),
+            LineHint::NoTally(cell) => write!(f, "set {cell} @tally makes it a counter"),
+            LineHint::NoChoice(cell) => write!(f, "set {cell} @choice makes it a set"),
+            LineHint::TallyFull => write!(f, "this replica's count ends at {COUNT_LIMIT}"),
+            LineHint::ChoiceFull => {
+                write!(f, "this replica has chosen {SEQUENCES} times in this cell")
+            }
+            LineHint::NotChosen => f.write_str("the option isn't in the cell"),
+            LineHint::ClockFull => f.write_str("the cell has been set to its last time"),
             LineHint::NoDelta => f.write_str("the line of a delta is [[\"A1\",[1,1,\"5\"],[],[]]]"),
             LineHint::WholeReply => {
                 f.write_str("of a reply to pull only what follows its number is pushed")
             }
+            LineHint::LongDelta => f.write_str("no line holds that delta"),
             LineHint::LongLine => f.write_str("nothing of so long a line is carried out"),
             LineHint::NoVersion => {
                 f.write_str("pull has a version that there is, and at most 16 deltas")
             }
             LineHint::Replica => write!(f, "replicas are 1 to {REPLICAS}"),
-            other => write_state(other, f),
+            LineHint::Records(most) => write!(f, "a table has at most {most} records"),
+            LineHint::Fields(most) => write!(f, "a record has at most {most} fields"),
+            LineHint::NoMemory => f.write_str("memory ran out; the line may be sent again"),
+            LineHint::Outside => f.write_str("nothing of the line is the cause"),
         }
     }
 }
