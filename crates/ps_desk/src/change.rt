@@ -96,14 +96,18 @@ fn append<L: DeskName, W: Wait + Drop, V: Wait>(
     ensures seat { (pass.new.seat ≡ pass.old.seat) × (pass.new.enters ≡ pass.old.enters) }
 {
     match tell(alloc, sheet, copies, pass.seat()) {
-        Ok(receipt) => {
+        Ok(number) => {
             // for the fact that the pass has seen what it appended
             let _ = pass.appended();
-            copies.publish();
+            let delta = copies.publish();
             pass.catch_up(wait, copies.front());
             pass.count(book);
             sheet.commit();
-            Ok(receipt)
+            Ok(Receipt {
+                number,
+                delta,
+                fresh: true,
+            })
         }
         Err(refusal) => {
             sheet.cancel();
@@ -112,14 +116,14 @@ fn append<L: DeskName, W: Wait + Drop, V: Wait>(
     }
 }
 
-/// Hands the writer the patch of a fresh change, and answers the receipt. Refused only when out of memory, and then
-/// nothing is pending.
+/// Hands the writer the patch of a fresh change, and answers the number that it then has. Refused only when out of
+/// memory, and then nothing is pending.
 fn tell<L: DeskName, W: Wait + Drop>(
     alloc: Global,
     sheet: &mut Staging,
     copies: &mut FaceWriter<L, W>,
     seat: u64,
-) -> Result<Receipt, Refusal>
+) -> Result<u64, Refusal>
     requires staged { is_some sheet.old.staged ≡ true }
     requires fresh { (change_in sheet.old).fresh ≡ true }
     requires history { sheet.old.history ≡ history_of L.opening copies.old.list }
@@ -128,21 +132,15 @@ fn tell<L: DeskName, W: Wait + Drop>(
     ensures pending { MatchResult result
         (λ _. copies.new ≡ record copies.old { pending = note_of sheet.new seat ∷ [] })
         (λ _. copies.new ≡ copies.old) }
-    ensures receipt { IfOk result (λ r. (r.number ≡ (change_in sheet.old).report.version)
-        × (arc_value r.delta ≡ (change_in sheet.old).delta) × (r.fresh ≡ true)) }
-    ensures bound { IfOk result (λ r. r.number < 2 ^ 64) }
+    ensures number { IfOk result (λ n. n ≡ (change_in sheet.old).report.version) }
+    ensures bound { IfOk result (λ n. n < 2 ^ 64) }
     ensures memory { IfErr result (λ e. e ≡ Memory) }
 {
     list(sheet);
-    let delta = sheet.delta().clone()?;
-    let receipt = Receipt {
-        number: sheet.report().version,
-        delta,
-        fresh: true,
-    };
+    let number = sheet.report().version;
     let patch = patch_of(alloc, sheet, seat)?;
     copies.append(patch)?;
-    Ok(receipt)
+    Ok(number)
 }
 
 /// Lists the cells that the staged change makes show another value.

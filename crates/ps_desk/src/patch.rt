@@ -1,6 +1,7 @@
 //! The patch of a staged change.
 
 ghost use Rattle.std.specs.Prelude.{◌≡◌, true, is_some, map, IfOk, IfErr};
+ghost use Rattle.std.specs.Arc.{arc_value};
 ghost use Rattle.ps_grid.specs.declared.refusal.Refusal.TheVariants.{Memory};
 ghost use Rattle.ps_shown.specs.Shown.{shown_at};
 ghost use Rattle.ps_cells.specs.Changes.{IsChanged};
@@ -9,11 +10,13 @@ ghost use Rattle.ps_face.specs.Legal.{Follows};
 ghost use Rattle.ps_face.specs.Values.{valued};
 ghost use Rattle.ps_desk.specs.Patches.{change_in, note_of, shown_of, staged_in};
 
+use ps_delta::Delta;
 use ps_face::Patch;
 use ps_grid::{Cell, Refusal, Twin};
 use ps_sheet::Staging;
 use ps_shown::{Kept, Shown};
 use std::alloc::Global;
+use std::sync::Arc;
 
 /// The patch of the fresh change that is staged, whose cells are listed, made by the call of a seat. It may come next
 /// after the sheet's history. Refused only when out of memory.
@@ -27,8 +30,41 @@ pub(crate) fn patch_of(alloc: Global, sheet: &Staging, owner: u64) -> Result<Pat
     ensures memory { IfErr result (λ e. e ≡ Memory) }
 {
     let delta = sheet.delta().clone()?;
-    let changes = copy_shown(alloc, sheet.changed(), sheet.all_shown())?;
-    Ok(Patch::new(sheet.report().version, delta, changes, owner))
+    let number = sheet.report().version;
+    let patch = patch_over(
+        alloc,
+        number,
+        delta,
+        sheet.changed(),
+        sheet.all_shown(),
+        owner,
+    )?;
+    Ok(patch)
+}
+
+/// The patch of a delta that makes these cells show what a table has. That of one cell takes no memory.
+fn patch_over(
+    alloc: Global,
+    number: u64,
+    delta: Arc<Delta>,
+    cells: &[Cell],
+    shown: &Shown,
+    owner: u64,
+) -> Result<Patch, Refusal>
+    ensures patch { IfOk result (λ p. p ≡ record {
+      number = number;
+      delta = arc_value delta;
+      changes = map (shown_of (shown_at shown.now)) cells.now;
+      owner = owner;
+    }) }
+    ensures memory { IfErr result (λ e. e ≡ Memory) }
+{
+    if let [cell] = cells {
+        let kept = shown.kept(*cell).twin(alloc)?;
+        return Ok(Patch::of_one(number, delta, (*cell, kept), owner));
+    }
+    let changes = copy_shown(alloc, cells, shown)?;
+    Ok(Patch::new(number, delta, changes, owner))
 }
 
 /// Cells with what a table keeps of them, where a text gets one more owner.

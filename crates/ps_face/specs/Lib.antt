@@ -1,4 +1,5 @@
 pub mod Book
+pub mod CellChanges
 pub mod Legal
 pub mod Published
 pub mod Rules

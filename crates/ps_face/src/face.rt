@@ -1,14 +1,15 @@
 //! One copy of the shown values.
 
-ghost use Rattle.std.specs.Prelude.{◌≡◌, ◌≤◌, [], length, map, slice_index_or, vec_capacity, IfOk, IfErr, MatchResult};
+ghost use Rattle.std.specs.Prelude.{◌≡◌, ◌≤◌, [], length, map, slice_index_or, IfOk, IfErr, MatchResult};
 ghost use Rattle.ps_grid.specs.declared.refusal.Refusal.TheVariants.{Memory};
 ghost use Rattle.ps_value.specs.declared.value.Value.TheVariants.{Empty};
 ghost use Rattle.ps_shown.specs.Shown.{shown_at};
-ghost use Rattle.ps_face.specs.Values.{in_order, overlaid, valued};
+ghost use Rattle.ps_face.specs.CellChanges.{entries_of};
+ghost use Rattle.ps_face.specs.Values.{in_order, valued};
 ghost use Rattle.ps_face.specs.Seen.{turned};
 
 use crate::book::BookPrefix;
-use crate::patch::{Patch, copy_all};
+use crate::changes::CellChanges;
 use left_right::Absorb;
 use ps_grid::{CELLS, Cell, Refusal, Twin};
 use ps_shown::{Kept, Shown};
@@ -22,7 +23,7 @@ pub struct Face {
     version: u64,
     shown: Shown,
     front: BookPrefix,
-    /// what the cells of a patch are to show, while it is applied; there is room for all cells
+    /// copies of what the cells of a patch are to show, while it is applied; there is room for all cells
     room: Vec<(Cell, Kept)>,
     alloc: Global,
 }
@@ -55,13 +56,14 @@ impl Model for Face {
 #[derive(Drop)]
 pub struct Operation {
     version: u64,
-    changes: Vec<(Cell, Kept)>,
+    changes: CellChanges,
     front: BookPrefix,
 }
 
 impl Model for Operation {
     ghost use Rattle.std.specs.Prelude.{◌≤◌, length, map};
     ghost use Rattle.ps_grid.specs.declared.size.TheConstants.{CELLS};
+    ghost use Rattle.ps_face.specs.CellChanges.{entries_of};
     ghost use Rattle.ps_face.specs.Seen.{Turn};
     ghost use Rattle.ps_face.specs.Values.{valued};
     ghost use Rattle.std.specs.Coded.{codes};
@@ -75,26 +77,26 @@ impl Model for Operation {
       book = o.front.book;
       list = o.front.list;
       version = o.version;
-      changes = map valued o.changes.items;
+      changes = map valued (entries_of o.changes);
     } };
 
-    ghost invariant = { λ o. length o.changes.items ≤ CELLS };
+    ghost invariant = { λ o. length (entries_of o.changes) ≤ CELLS };
 }
 
 impl Operation {
-    /// What a patch does, which ends the list of the front.
-    pub(crate) fn new(patch: Patch, front: BookPrefix) -> Operation
-        requires few { length patch.changes ≤ CELLS }
+    /// What a patch with this number and these changes does, which ends the list of the front.
+    pub(crate) fn new(version: u64, changes: CellChanges, front: BookPrefix) -> Operation
+        requires few { length (entries_of changes) ≤ CELLS }
         ensures { result ≡ record {
           book = front.book;
           list = front.list;
-          version = patch.number;
-          changes = patch.changes;
+          version = version;
+          changes = map valued (entries_of changes);
         } }
     {
         Operation {
-            version: patch.number(),
-            changes: patch.into_changes(),
+            version,
+            changes,
             front,
         }
     }
@@ -105,7 +107,7 @@ impl Operation {
     {
         Operation {
             version,
-            changes: Vec::new(alloc),
+            changes: CellChanges::Several(Vec::new(alloc)),
             front,
         }
     }
@@ -171,22 +173,26 @@ impl Face {
     fn apply(&mut self, operation: &Operation) -> Result<(), Refusal>
         ensures { MatchResult result (λ _. self.new ≡ turned self.old operation.now) (λ _. self.new ≡ self.old) }
     {
-        self.room.clear();
-        copy_all(self.alloc, &operation.changes, &mut self.room)?;
-        put_all(&mut self.shown, &mut self.room);
+        operation
+            .changes
+            .put_copies(self.alloc, &mut self.shown, &mut self.room)?;
         self.version = operation.version;
         self.front = operation.front.again();
         Ok(())
     }
-}
 
-/// Puts what the cells show from now on, and leaves nothing in the list but its room.
-fn put_all(shown: &mut Shown, changes: &mut Vec<(Cell, Kept)>)
-    ensures shown { shown_at shown.new ≡ overlaid (shown_at shown.old) (map valued changes.old.items) }
-    ensures room { vec_capacity changes.new ≡ vec_capacity changes.old }
-{
-    for (cell, kept) in changes.drain(..) {
-        shown.put(cell, kept);
+    /// Applies a patch that the other copy has already, so that nobody else needs it. It takes no memory.
+    fn take_in(&mut self, operation: Operation)
+        ensures { self.new ≡ turned self.old operation }
+    {
+        let Operation {
+            version,
+            changes,
+            front,
+        } = operation;
+        changes.put(&mut self.shown);
+        self.version = version;
+        self.front = front;
     }
 }
 
@@ -204,5 +210,10 @@ impl Absorb<Operation> for Face {
             Ok(()) => Ok(()),
             Err(_) => Err(AllocError),
         }
+    }
+
+    fn absorb_second(&mut self, operation: Operation, _other: &Face) -> Result<(), Operation> {
+        self.take_in(operation);
+        Ok(())
     }
 }

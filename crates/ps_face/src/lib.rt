@@ -26,6 +26,7 @@
 #![tactic(auto)]
 
 mod book;
+mod changes;
 mod face;
 mod name;
 mod patch;

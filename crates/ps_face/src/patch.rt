@@ -1,16 +1,16 @@
 //! A patch: what one delta changes.
 
-ghost use Rattle.std.specs.Prelude.{◌≡◌, ◌≤◌, ◌++◌, [], length, map, vec_capacity, IfOk, IfErr};
+ghost use Rattle.std.specs.Prelude.{◌≡◌, [], ◌∷◌, map};
 ghost use Rattle.std.specs.Arc.{arc_value};
-ghost use Rattle.ps_grid.specs.declared.refusal.Refusal.TheVariants.{Memory};
 ghost use Rattle.ps_delta.specs.Deltas.{AreInGrid};
+ghost use Rattle.ps_face.specs.CellChanges.{entries_of};
 ghost use Rattle.ps_face.specs.Values.{valued};
 
+use crate::changes::CellChanges;
 use ps_delta::Delta;
-use ps_grid::{Cell, Refusal, Twin};
+use ps_grid::Cell;
 use ps_shown::Kept;
 use ps_value::Value;
-use std::alloc::Global;
 use std::collections::LinkedList;
 use std::marker::Model;
 use std::sync::Arc;
@@ -32,7 +32,7 @@ pub struct Note {
 pub struct Patch {
     number: u64,
     delta: Arc<Delta>,
-    changes: Vec<(Cell, Kept)>,
+    changes: CellChanges,
     /// a note for contracts, which nothing reads
     owner: u64,
 }
@@ -41,6 +41,7 @@ impl Model for Patch {
     ghost use Rattle.std.specs.Prelude.{map};
     ghost use Rattle.std.specs.Arc.{arc_value};
     ghost use Rattle.ps_face.specs.declared.patch.Note.{Note};
+    ghost use Rattle.ps_face.specs.CellChanges.{entries_of};
     ghost use Rattle.ps_face.specs.Values.{valued};
     ghost use Rattle.std.specs.Coded.{codes};
     ghost use Rattle.ps_face.specs.contracts.patch.Note as note;
@@ -52,7 +53,7 @@ impl Model for Patch {
     ghost view = { λ p. record {
       number = p.number;
       delta = arc_value p.delta;
-      changes = map valued p.changes.items;
+      changes = map valued (entries_of p.changes);
       owner = p.owner;
     } };
 }
@@ -73,7 +74,27 @@ impl Patch {
         Patch {
             number,
             delta,
-            changes,
+            changes: CellChanges::Several(changes),
+            owner,
+        }
+    }
+
+    /// The patch of a delta that changes what one cell shows: the cell, and what it shows then. All else is as in
+    /// [`Patch::new`].
+    ///
+    /// Cost: constant; the change takes no memory.
+    pub fn of_one(number: u64, delta: Arc<Delta>, change: (Cell, Kept), owner: u64) -> Patch
+        ensures { result ≡ record {
+          number = number;
+          delta = arc_value delta;
+          changes = valued change ∷ [];
+          owner = owner;
+        } }
+    {
+        Patch {
+            number,
+            delta,
+            changes: CellChanges::One(change),
             owner,
         }
     }
@@ -108,32 +129,14 @@ impl Patch {
     pub fn changes(&self) -> &[(Cell, Kept)]
         ensures changes { map valued result.now ≡ self.now.changes }
     {
-        &self.changes
+        self.changes.as_slice()
     }
 
-    /// The changes alone.
-    pub(crate) fn into_changes(self) -> Vec<(Cell, Kept)>
-        ensures { map valued result.items ≡ self.changes }
+    /// The delta and the changes.
+    pub(crate) fn split(self) -> (Arc<Delta>, CellChanges)
+        ensures delta { arc_value result.0 ≡ self.delta }
+        ensures changes { map valued (entries_of result.1) ≡ self.changes }
     {
-        self.changes
+        (self.delta, self.changes)
     }
-}
-
-/// Lists copies of changes, where a text gets one more owner. The list has room for them.
-pub(crate) fn copy_all(
-    alloc: Global,
-    changes: &[(Cell, Kept)],
-    to: &mut Vec<(Cell, Kept)>,
-) -> Result<(), Refusal>
-    requires none { to.old.items ≡ [] }
-    requires room { length changes.now ≤ vec_capacity to.old }
-    ensures copied { IfOk result (λ _. to.new.items ≡ changes.now) }
-    ensures room { vec_capacity to.new ≡ vec_capacity to.old }
-    ensures memory { IfErr result (λ e. e ≡ Memory) }
-{
-    for (cell, kept) in changes {
-        let kept = kept.twin(alloc)?;
-        to.push_reserved((*cell, kept));
-    }
-    Ok(())
 }

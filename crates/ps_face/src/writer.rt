@@ -1,14 +1,15 @@
 //! The one writer of the copies.
 
 ghost use Rattle.std.specs.Prelude.{◌≡◌, ◌⊎◌, ◌+◌, ◌<◌, ◌≤◌, ◌++◌, ◌∷◌, [], All, IfOk, IfErr, MatchResult, OnOk, OnErr};
-ghost use Rattle.std.specs.Prelude.{drop, fold, length, vec_len};
+ghost use Rattle.std.specs.Prelude.{drop, fold, length, map, vec_len};
+ghost use Rattle.std.specs.Arc.{arc_value};
 ghost use Rattle.ps_grid.specs.declared.parties.TheConstants.{SEATS as MOST};
 ghost use Rattle.ps_grid.specs.declared.refusal.Refusal.TheVariants.{Memory, Seat};
 ghost use Rattle.ps_delta.specs.State.{IsInGrid};
 ghost use Rattle.ps_delta.specs.Deltas.{joined_history};
 ghost use Rattle.ps_shown.specs.Shown.{shown_at};
 ghost use Rattle.ps_cells.specs.Settled.{IsSettled};
-ghost use Rattle.ps_face.specs.Legal.{Follows, IsLegal, history_of};
+ghost use Rattle.ps_face.specs.Legal.{Follows, IsLegal, delta_of, history_of};
 ghost use Rattle.ps_face.specs.Rules.{newcomer};
 ghost use Rattle.ps_face.specs.Seen.{CopyStands, turned};
 ghost use Rattle.ps_face.specs.Published.{MayShow};
@@ -21,11 +22,12 @@ use crate::reader::FaceReader;
 use crate::rule::{Law, Publish, View};
 use core::mem::replace_with;
 use left_right::writer::Writer;
+use ps_delta::Delta;
 use ps_grid::Refusal;
 use ps_shown::Shown;
 use std::alloc::{AllocError, Global};
 use std::marker::Model;
-use std::sync::Wait;
+use std::sync::{Arc, Wait};
 
 type Copies<L> = Writer<Face, Operation, View, Law<L>>;
 
@@ -115,13 +117,14 @@ impl<L: Named, R: Wait + Drop> FaceWriter<L, R> {
         Ok(())
     }
 
-    /// Shows readers the patch that is pending, all of it at one step. It waits for those that still read what was
-    /// published before the last patch.
+    /// Shows readers the patch that is pending, all of it at one step, and gives its delta back. It waits for those that
+    /// still read what was published before the last patch.
     ///
     /// Cost: twice the changes of the patch; no memory.
-    pub fn publish(&mut self)
+    pub fn publish(&mut self) -> Arc<Delta>
         requires one { length self.old.pending ≡ 1 }
-        ensures { self.new ≡ record { list = self.old.list ++ self.old.pending; pending = [] } }
+        ensures list { self.new ≡ record { list = self.old.list ++ self.old.pending; pending = [] } }
+        ensures delta { map delta_of self.old.pending ≡ arc_value result ∷ [] }
     {
         let FaceWriter {
             copies,
@@ -134,9 +137,12 @@ impl<L: Named, R: Wait + Drop> FaceWriter<L, R> {
         // for the fact that its cells are in the grid
         let _ = patch.delta();
         add_to(rt, head, front, &patch);
-        let operation = Operation::new(patch, front.again());
+        let number = patch.number();
+        let (delta, changes) = patch.split();
+        let operation = Operation::new(number, changes, front.again());
         hand_over(rt, copies, operation);
         show(rt, copies);
+        delta
     }
 
     /// The published list.

@@ -1,9 +1,11 @@
-use Rattle.std.proofs.Common.{◌≡◌, ◌++◌, ◌∷◌, [], List, ap, sym, subst, ◌≤◌, ◌∙◌}
+use Rattle.std.proofs.Common.{◌≡◌, ◌++◌, ◌∷◌, [], List, ap, map, refl, sym, subst, ◌≤◌, ◌∙◌}
 use Rattle.ps_shown.specs.Shown.{shown_at}
+use Rattle.ps_delta.specs.Deltas.{Entries}
 use Rattle.ps_sheet.specs.declared.sheet.Report.{Report}
 use Rattle.ps_sheet.specs.Prepared.{IsOf, history_after, shown_before}
 use Rattle.ps_sheet.specs.Staging.{StagedView, StagingView, prepared_of, sheet_of}
 use Rattle.ps_face.specs.declared.patch.Note.{Note}
+use Rattle.ps_face.specs.Legal.{delta_of}
 use Rattle.ps_face.specs.Published.{Published}
 use Rattle.ps_face.specs.Seen.{Told}
 use Rattle.ps_desk.specs.Patches.{note_of}
@@ -14,10 +16,14 @@ use Rattle.ps_desk.proofs.Noted.{at_staged}
 use Rattle.ps_desk.proofs.Owners.{owned_next}
 use Rattle.ps_desk.proofs.change.append.Goals as goal
 
+-- lists of one delta that are the same have the same delta
+only_same : (d e : Entries) → d ∷ [] ≡ e ∷ [] → d ≡ e
+only_same d e is = cc
+
 pub count-requires-clause-room : goal.count-requires-clause-room
 count-requires-clause-room g c =
     room_left g.L.DeskName.replica g.L.Named.opening c.args.sheet.now c.args.copies.now c.args.book.now.total
-    c.requires.under_lock c.in-Ok.receipt.number c.requires.worked_out c.requires.fresh c.in-Ok.ensures.receipt.0
+    c.requires.under_lock c.in-Ok.number c.requires.worked_out c.requires.fresh c.in-Ok.ensures.number
     c.in-Ok.ensures.bound
 
 pub count-requires-clause-owned : goal.count-requires-clause-owned
@@ -25,7 +31,7 @@ count-requires-clause-owned g c =
     let pass : PassView = c.args.pass.now in
     let patch : Note = note_of c.tell.new.sheet c.seat.result in
     let published : c.front.result.now.list ≡ pass.list ++ patch ∷ [] =
-    ap (λ (t : Told). t.list) c.front.ensures.front ∙ ap (λ (p : Published). p.list) c.publish.ensures
+    ap (λ (t : Told). t.list) c.front.ensures.front ∙ ap (λ (p : Published). p.list) c.publish-delta.ensures.list
     ∙ ap (λ (p : Published). p.list ++ p.pending) c.in-Ok.ensures.pending
     ∙ ap (λ (l : List Note). l ++ patch ∷ []) (sym c.requires.seen) in
     owned_next pass c.catch_up.new.self c.front.result.now.list patch c.catch_up.ensures.pass published c.seat.ensures
@@ -38,12 +44,12 @@ returns-in-Ok-clause-under_lock g c =
     let of = at_staged (λ (p : StagedView). IsOf (sheet_of new) y.replica (history_after (prepared_of y p))
     (shown_at y.shown)) y.staged
     c.commit.ensures.of in
-    let published = c.publish.ensures ∙ (λ i. record {
+    let published = c.publish-delta.ensures.list ∙ (λ i. record {
       list = (c.in-Ok.ensures.pending i).list ++ (c.in-Ok.ensures.pending i).pending;
       pending = [];
     }) in
     appended_locked g.L.DeskName.replica g.L.Named.opening c.args.sheet.now c.args.copies.now c.args.book.now.total
-    c.requires.under_lock y (sheet_of new) (shown_at y.shown) c.publish.new.self c.count.new.book.total c.seat.result
+    c.requires.under_lock y (sheet_of new) (shown_at y.shown) c.publish-delta.new.self c.count.new.book.total c.seat.result
     c.tell.ensures.same c.requires.fresh of published c.count.ensures.book
 
 pub returns-in-Ok-clause-published : goal.returns-in-Ok-clause-published
@@ -53,7 +59,7 @@ returns-in-Ok-clause-published g c =
     record {
       patch = patch;
       last = ap (λ (q : PassView). q.list) c.count.ensures.pass ∙ ap (λ (q : PassView). q.list) c.catch_up.ensures.pass
-          ∙ ap (λ (t : Told). t.list) c.front.ensures.front ∙ ap (λ (p : Published). p.list) c.publish.ensures
+          ∙ ap (λ (t : Told). t.list) c.front.ensures.front ∙ ap (λ (p : Published). p.list) c.publish-delta.ensures.list
           ∙ ap (λ (p : Published). p.list ++ p.pending) c.in-Ok.ensures.pending
           ∙ ap (λ (l : List Note). l ++ patch ∷ []) (sym c.requires.seen);
       number = ap (λ (r : Report). r.version) keeps.report;
@@ -72,3 +78,12 @@ returns-in-Err-clause-under_lock g c =
     c.args.book.now.total) (sym c.in-Err.ensures.pending)
     (same_locked g.L.DeskName.replica g.L.Named.opening c.args.sheet.now c.args.copies.now c.args.book.now.total
     c.requires.under_lock new.replica new.history (of.replica ∙ keeps.replica) (of.history ∙ keeps.history))
+
+pub returns-in-Ok-clause-receipt : goal.returns-in-Ok-clause-receipt
+returns-in-Ok-clause-receipt g c =
+    let told : map delta_of c.tell.new.copies.pending ≡ (note_of c.tell.new.sheet c.seat.result).delta ∷ [] =
+    ap (λ (p : Published). map delta_of p.pending) c.in-Ok.ensures.pending in (
+      c.in-Ok.ensures.number,
+      only_same _ _ (sym c.publish-delta.ensures.delta ∙ told) ∙ c.tell.ensures.same.delta,
+      refl,
+    )

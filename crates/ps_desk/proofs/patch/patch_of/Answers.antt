@@ -9,16 +9,15 @@ use Rattle.ps_desk.proofs.patch.patch_of.Goals as goal
 pub returns-clause-patch : goal.returns-clause-patch
 returns-clause-patch c =
     let x : StagingView = c.args.sheet.now in
-    let report = at_staged (λ (p : StagedView). c.report.result ≡ p.report) x.staged c.report.ensures.report in
+    let report = at_staged (λ (p : StagedView). c.report-number.result ≡ p.report) x.staged c.report-number.ensures.report in
     let delta = c.in_ok-delta.ensures.cases
     ∙ at_staged (λ (p : StagedView). arc_value c.delta.result.now ≡ p.delta) x.staged c.delta.ensures.delta in
     let cells : List ℕ = c.changed.result.now in
     let changed = at_staged (λ (p : StagedView). cells ≡ p.changed) x.staged c.changed.ensures.changed in
-    let changes = c.in_ok-changes.ensures.copied ∙ (λ i. map (shown_of (c.all_shown.ensures.shown i)) (changed i)) in
-    c.new.ensures ∙ (λ i. record {
+    c.in_ok-patch.ensures.patch ∙ (λ i. record {
       number = (report i).version;
       delta = delta i;
-      changes = changes i;
+      changes = map (shown_of (c.all_shown.ensures.shown i)) (changed i);
       owner = c.args.owner;
     })
 
@@ -26,5 +25,5 @@ pub returns-clause-follows : goal.returns-clause-follows
 returns-clause-follows c =
     let x : StagingView = c.args.sheet.now in
     subst (Follows x.history) (sym (returns-clause-patch c))
-    (staged_follows x c.args.owner (worked_out x c.requires.staged c.report.ensures.staging) c.requires.fresh
+    (staged_follows x c.args.owner (worked_out x c.requires.staged c.report-number.ensures.staging) c.requires.fresh
     c.requires.listed)

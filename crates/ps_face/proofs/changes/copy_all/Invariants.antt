@@ -1,6 +1,6 @@
 use Rattle.std.proofs.Common.{◌≡◌, take}
 use Rattle.std.specs.Prelude.{vec_capacity, vec_len}
-use Rattle.ps_face.proofs.patch.copy_all.Given as goal
+use Rattle.ps_face.proofs.changes.copy_all.Given as goal
 
 abbrev pub invariant-loop-cell : goal.invariant-loop-cell
 invariant-loop-cell l =

@@ -1,0 +1,103 @@
+//! What a patch changes, and how a table takes it in.
+
+ghost use Rattle.std.specs.Prelude.{◌≡◌, ◌≤◌, [], length, map, vec_capacity, IfOk, IfErr, MatchResult};
+ghost use Rattle.ps_grid.specs.declared.refusal.Refusal.TheVariants.{Memory};
+ghost use Rattle.ps_shown.specs.Shown.{shown_at};
+ghost use Rattle.ps_face.specs.CellChanges.{entries_of};
+ghost use Rattle.ps_face.specs.Values.{overlaid, valued};
+
+use ps_grid::{Cell, Refusal, Twin};
+use ps_shown::{Kept, Shown};
+use std::alloc::Global;
+use std::slice;
+
+/// Each cell whose shown value changes, with what it shows then. Most patches change one cell; that takes no memory.
+#[derive(Drop)]
+pub(crate) enum CellChanges {
+    /// One cell shows another value.
+    One((Cell, Kept)),
+    /// Any number of cells do.
+    Several(Vec<(Cell, Kept)>),
+}
+
+impl CellChanges {
+    /// The changes as a list.
+    pub(crate) fn as_slice(&self) -> &[(Cell, Kept)]
+        ensures { result.now ≡ entries_of self.now }
+    {
+        match self {
+            CellChanges::One(change) => slice::from_ref(change),
+            CellChanges::Several(changes) => changes,
+        }
+    }
+
+    /// Puts what the cells show from now on.
+    pub(crate) fn put(self, shown: &mut Shown)
+        ensures { shown_at shown.new ≡ overlaid (shown_at shown.old) (map valued (entries_of self)) }
+    {
+        match self {
+            CellChanges::One((cell, kept)) => {
+                shown.put(cell, kept);
+            }
+            CellChanges::Several(mut changes) => put_all(shown, &mut changes),
+        }
+    }
+
+    /// Puts copies, where a text gets one more owner; or nothing, where one has as many as can be counted. The list has
+    /// room for the changes; what it holds is of no use.
+    pub(crate) fn put_copies(
+        &self,
+        alloc: Global,
+        shown: &mut Shown,
+        room: &mut Vec<(Cell, Kept)>,
+    ) -> Result<(), Refusal>
+        requires room { length (entries_of self.now) ≤ vec_capacity room.old }
+        ensures shown { MatchResult result
+            (λ _. shown_at shown.new ≡ overlaid (shown_at shown.old) (map valued (entries_of self.now)))
+            (λ _. shown.new ≡ shown.old) }
+        ensures room { vec_capacity room.new ≡ vec_capacity room.old }
+    {
+        match self {
+            CellChanges::One((cell, kept)) => {
+                let kept = kept.twin(alloc)?;
+                shown.put(*cell, kept);
+                Ok(())
+            }
+            CellChanges::Several(changes) => {
+                room.clear();
+                copy_all(alloc, changes, room)?;
+                put_all(shown, room);
+                Ok(())
+            }
+        }
+    }
+}
+
+/// Lists copies of changes, where a text gets one more owner. The list has room for them.
+fn copy_all(
+    alloc: Global,
+    changes: &[(Cell, Kept)],
+    to: &mut Vec<(Cell, Kept)>,
+) -> Result<(), Refusal>
+    requires none { to.old.items ≡ [] }
+    requires room { length changes.now ≤ vec_capacity to.old }
+    ensures copied { IfOk result (λ _. to.new.items ≡ changes.now) }
+    ensures room { vec_capacity to.new ≡ vec_capacity to.old }
+    ensures memory { IfErr result (λ e. e ≡ Memory) }
+{
+    for (cell, kept) in changes {
+        let kept = kept.twin(alloc)?;
+        to.push_reserved((*cell, kept));
+    }
+    Ok(())
+}
+
+/// Puts what the cells show from now on, and leaves nothing in the list but its room.
+fn put_all(shown: &mut Shown, changes: &mut Vec<(Cell, Kept)>)
+    ensures shown { shown_at shown.new ≡ overlaid (shown_at shown.old) (map valued changes.old.items) }
+    ensures room { vec_capacity changes.new ≡ vec_capacity changes.old }
+{
+    for (cell, kept) in changes.drain(..) {
+        shown.put(cell, kept);
+    }
+}
