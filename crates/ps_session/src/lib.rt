@@ -7,8 +7,7 @@
 //! [`talk_watched`] and [`run_watched`]. A [`Keeper`] has all kept that a session has seen before its replies are handed
 //! on, by [`talk_kept`] and [`run_kept`], whose replies a [`HeldOutput`] holds back until then.
 //!
-//! It is not a connection: it opens no device, and knows one peer. What a sheet does with an edit or a delta, it leaves
-//! to the sheet.
+//! It is not a connection: it opens no device. What a sheet does with an edit or a delta, it leaves to the sheet.
 //!
 //! The contract to use is that of [`run`]: at the end of the input, all that was read and all that was written are a
 //! transcript (`specs/Transcript.antt`) of the sheet before and after, which knows nothing of pieces. Where the source

@@ -4,6 +4,8 @@ ghost use Rattle.ps_grid.specs.declared.parties.TheConstants.{REPLICAS};
 ghost use Rattle.ps_session.specs.ReplicaLine.{Tells, TellsNone, replica_line};
 
 use crate::command::read_number;
+use crate::verb::Verb;
+use crate::words::split_word;
 use itoa::Buffer;
 use std::alloc::{AllocError, Global};
 
@@ -55,6 +57,9 @@ fn named_replica(line: &[u8]) -> Option<u8>
     ensures replica { IfSome result (λ n. (1 ≤ n) × (n ≤ REPLICAS)) }
     ensures told { (n : ℕ) → Tells line.now n → result ≡ Some n }
 {
-    let digits = line.strip_prefix(REPLICA)?;
-    read_number(digits).ok()
+    let (word, digits) = split_word(line);
+    match Verb::read(word)? {
+        Verb::Replica => read_number(digits?).ok(),
+        _ => None,
+    }
 }
