@@ -117,8 +117,8 @@ impl<L: Named, R: Wait + Drop> FaceWriter<L, R> {
         Ok(())
     }
 
-    /// Shows readers the patch that is pending, all of it at one step, and gives its delta back. It waits for those that
-    /// still read what was published before the last patch.
+    /// Shows readers the patch that is pending, all of it at one step, and gives its delta back. It waits for those
+    /// that still read what was published before the last patch.
     ///
     /// Cost: twice the changes of the patch; no memory.
     pub fn publish(&mut self) -> Arc<Delta>

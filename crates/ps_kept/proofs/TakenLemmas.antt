@@ -15,7 +15,8 @@ use Rattle.ps_kept.proofs.ToldLemmas.{pushes_one}
 
 module _ (line : List ℕ) (read : Read Command) (reads : ReadsLine line read) where
   -- a line that is read as anything else pushes nothing
-  pub pushes_none : (history : List Entries) → read ≢ Err refusals.Memory → ((d : Entries) → read ≢ Ok (commands.Push d))
+  pub pushes_none : (history : List Entries) → read ≢ Err refusals.Memory
+      → ((d : Entries) → read ≢ Ok (commands.Push d))
       → (d : Entries) → ¬ PushesNew history line d
   pushes_none history ample other d pushes =
       no_delta_pushed line read reads ample other pushes.0.0 d pushes.0.1 pushes.0.2

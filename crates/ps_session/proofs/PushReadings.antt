@@ -1,5 +1,6 @@
 -- The lines that are read as a `push`, and what they push.
-use Rattle.std.proofs.Common.{◌≡◌, ◌≢◌, ◌⊎◌, ◌+◌, ◌<◌, ◌≤◌, ◌==◌, ◌∙◌, inl, inr, ℕ, List, [], ◌∷◌, ◌++◌, Option, Some, None}
+use Rattle.std.proofs.Common.{◌≡◌, ◌≢◌, ◌⊎◌, ◌+◌, ◌<◌, ◌≤◌, ◌==◌, ◌∙◌, inl, inr, ℕ, List, []}
+use Rattle.std.proofs.Common.{◌∷◌, ◌++◌, Option, Some, None}
 use Rattle.std.proofs.Common.{Ok, Err, arith, refl, sym, ap, subst, drop, get_or, length, take}
 use Rattle.std.specs.Prelude.{MatchOption}
 use Rattle.std.specs.List.{position_or_len}
@@ -26,7 +27,8 @@ use Rattle.ps_session.proofs.WordCounts.{push_reads}
 
 -- ---- no other verb is read as a push
 
-set_is_no_push : (others : List (List ℕ)) (entry : List ℕ) (d : Entries) → ¬ ReadsSet others entry (Ok (commands.Push d))
+set_is_no_push : (others : List (List ℕ)) (entry : List ℕ) (d : Entries)
+    → ¬ ReadsSet others entry (Ok (commands.Push d))
 set_is_no_push [] entry d is = absurd cc
 set_is_no_push (cell ∷ others) entry d (None, names, is) = absurd cc
 set_is_no_push (cell ∷ others) entry d (Some c, names, (Ok content, reads, is)) = absurd cc
@@ -56,7 +58,8 @@ replica_is_no_push (number ∷ []) d is = at (Ok (commands.Push d)) refl (replic
 replica_is_no_push (number ∷ second ∷ more) d is = absurd cc
 
 only_push : (verb : Option Verb) (others : List (List ℕ)) (rest : List ℕ) (d : Entries)
-    → ReadsVerb verb others rest (Ok (commands.Push d)) → (verb ≡ Some Push) × ReadsPush others rest (Ok (commands.Push d))
+    → ReadsVerb verb others rest (Ok (commands.Push d))
+    → (verb ≡ Some Push) × ReadsPush others rest (Ok (commands.Push d))
 only_push None others rest d is = absurd cc
 only_push (Some Get) others rest d (Ok c, reads, is) = absurd cc
 only_push (Some Get) others rest d (Err e, reads, is) = absurd cc
@@ -115,7 +118,8 @@ pushed_by line d reads =
     (after_word line, whole push.0 found.0 (one_or_more line), found.1)
   where
     whole : verb_of (first_word line) ≡ Some Push → drop 1 (words line) ≢ []
-        → (words line ≡ line ∷ []) ⊎ (line ≡ first_word line ++ 32 ∷ after_word line) → line ≡ push_word ++ after_word line
+        → (words line ≡ line ∷ []) ⊎ (line ≡ first_word line ++ 32 ∷ after_word line)
+        → line ≡ push_word ++ after_word line
     whole verb some (inl one) = absurd (some (ap (drop 1) one))
     whole verb some (inr is) = is ∙ ap (λ w. w ++ 32 ∷ after_word line) (push_spelled (first_word line) verb)
 

@@ -49,8 +49,8 @@ returns-in-Ok-clause-under_lock g c =
       pending = [];
     }) in
     appended_locked g.L.DeskName.replica g.L.Named.opening c.args.sheet.now c.args.copies.now c.args.book.now.total
-    c.requires.under_lock y (sheet_of new) (shown_at y.shown) c.publish-delta.new.self c.count.new.book.total c.seat.result
-    c.tell.ensures.same c.requires.fresh of published c.count.ensures.book
+    c.requires.under_lock y (sheet_of new) (shown_at y.shown) c.publish-delta.new.self c.count.new.book.total
+    c.seat.result c.tell.ensures.same c.requires.fresh of published c.count.ensures.book
 
 pub returns-in-Ok-clause-published : goal.returns-in-Ok-clause-published
 returns-in-Ok-clause-published g c =
@@ -59,7 +59,8 @@ returns-in-Ok-clause-published g c =
     record {
       patch = patch;
       last = ap (λ (q : PassView). q.list) c.count.ensures.pass ∙ ap (λ (q : PassView). q.list) c.catch_up.ensures.pass
-          ∙ ap (λ (t : Told). t.list) c.front.ensures.front ∙ ap (λ (p : Published). p.list) c.publish-delta.ensures.list
+          ∙ ap (λ (t : Told). t.list) c.front.ensures.front
+          ∙ ap (λ (p : Published). p.list) c.publish-delta.ensures.list
           ∙ ap (λ (p : Published). p.list ++ p.pending) c.in-Ok.ensures.pending
           ∙ ap (λ (l : List Note). l ++ patch ∷ []) (sym c.requires.seen);
       number = ap (λ (r : Report). r.version) keeps.report;

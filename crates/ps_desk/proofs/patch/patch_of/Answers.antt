@@ -9,7 +9,8 @@ use Rattle.ps_desk.proofs.patch.patch_of.Goals as goal
 pub returns-clause-patch : goal.returns-clause-patch
 returns-clause-patch c =
     let x : StagingView = c.args.sheet.now in
-    let report = at_staged (λ (p : StagedView). c.report-number.result ≡ p.report) x.staged c.report-number.ensures.report in
+    let report = at_staged (λ (p : StagedView). c.report-number.result ≡ p.report) x.staged
+    c.report-number.ensures.report in
     let delta = c.in_ok-delta.ensures.cases
     ∙ at_staged (λ (p : StagedView). arc_value c.delta.result.now ≡ p.delta) x.staged c.delta.ensures.delta in
     let cells : List ℕ = c.changed.result.now in
