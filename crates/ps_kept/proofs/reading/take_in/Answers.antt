@@ -1,7 +1,6 @@
 use Rattle.std.proofs.Common.{Ok, arith, rules, subst}
 use Rattle.std.proofs.lemmas.Bool.{ltb-true}
 use Rattle.ps_sheet.specs.Sheet.{Takes}
-use Rattle.ps_session.specs.declared.command.Command.TheVariants as commands
 use Rattle.ps_kept.proofs.TakenLemmas.{pushes_none, taken_new}
 use Rattle.ps_kept.proofs.reading.take_in.Goals as goal
 use Rattle.ps_kept.proofs.reading.take_in.Goals.{in_default-via-in-Ok+in_default, in_default-via-in-Err+in_default}
