@@ -107,7 +107,8 @@ def left_to_build(rtlib, libraries):
 def build(crate, jobs):
     """Proves and builds one library, and returns whether it is."""
     with printing:
-        print(f"build: chose --jobs {jobs} for {crate.name}", flush=True)
+        # (in one piece: what the kit prints meanwhile would come between a line and its end)
+        print(f"build: chose --jobs {jobs} for {crate.name}\n", end="", flush=True)
     is_built = crate.build_rlib(["--jobs", str(jobs)], anew=False) == 0
     if not is_built:
         # what else runs ends with this process

@@ -35,7 +35,7 @@ class Crate:
     def build_rlib(self, flags, anew):
         with open(self.folder + "/../../built", "a") as out:
             out.write(self.name + "\\n")
-        print(self.name, "is proved", flush=True)
+        print(self.name + " is proved\\n", end="", flush=True)
         return int(self.name in BAD)
 
 
