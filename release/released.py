@@ -69,8 +69,12 @@ class Released:
         return (self.folder / SUMS).is_file()
 
     def differs(self, identity):
-        """Returns of what it was not made, the kit or crates, by name: none where it fits the sources and this kit."""
-        said, wanted = self.said(), {"kit": identity, **crates.sums(self.top)}
+        """Returns of what it was not made, the kit or crates, by name: none where it fits the sources and this kit.
+
+        It fits each kit of the logic by which it was proved, for `compile` tells whether clang makes the same of it.
+        """
+        said, wanted = self.said(), {"kit": tools.logic(identity), **crates.sums(self.top)}
+        said["kit"] = tools.logic(said.get("kit", ""))
         names = dict.fromkeys([*wanted, *said])
         return [name for name in names if name != "object" and said.get(name) != wanted.get(name)]
 

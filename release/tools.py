@@ -24,6 +24,11 @@ def identity(kit):
     return call([kit / "bin/rt", "version"]).decode(errors="replace").strip()
 
 
+def logic(identity):
+    """Returns what a kit proves by, of the line that it calls itself by. Kits of one logic prove the same."""
+    return identity.partition(" logic ")[2] or identity
+
+
 def call(words, **how):
     """Runs a tool of the kit and returns what it writes, or stops with the last line that it said."""
     how = {"stdin": subprocess.DEVNULL, "stdout": subprocess.PIPE, "stderr": subprocess.PIPE, **how}

@@ -22,7 +22,7 @@ exit 3
 # What stands in for the tool says on both of its outputs what the tool says.
 BUILDS = """\
 #!/bin/sh
-[ "$1" = version ] && exec echo a kit of one piece
+[ "$1" = version ] && exec echo kit-1 logic 5a
 echo "built: $*" >> ../../calls
 for crate in low middle sheet; do
     echo "rt: chose --jobs 2 for $crate" >&2
@@ -36,7 +36,7 @@ env -i "PATH=$PATH" "$kit/toolchain/bin/clang" "--sysroot=$kit/toolchain" -c -x 
 """
 FAILS = """\
 #!/bin/sh
-[ "$1" = version ] && exec echo a kit of one piece
+[ "$1" = version ] && exec echo kit-1 logic 5a
 echo "rt: chose --jobs 2 for low" >&2
 echo "rt: chose --jobs 2 for middle" >&2
 echo "fn middle::first: not proved"
@@ -66,7 +66,7 @@ chmod +x "$program"
 # What stands in for a tool that fails.
 BREAKS = """\
 #!/bin/sh
-[ "$1" = version ] && exec echo a kit of one piece
+[ "$1" = version ] && exec echo kit-1 logic 5a
 echo "it is too hot" >&2
 exit 7
 """

@@ -151,9 +151,14 @@ class FromRelease(StandIns):
         file.write_text(rows.replace("aside: low", "aside:"))
         self.assertEqual(self.start(), Ended(3, WORDS, self.SHOWN))
 
-    def test_another_kit_is_proved(self):
-        self.use(BUILDS.replace("a kit of one piece", "another kit"))
+    def test_a_kit_of_another_logic_is_proved(self):
+        self.use(BUILDS.replace("logic 5a", "logic 5b"))
         self.assert_proved(self.start())
+
+    def test_another_kit_of_the_same_logic_compiles(self):
+        self.use(BUILDS.replace("kit-1", "kit-2"))
+        self.assertEqual(self.start(), Ended(3, WORDS, self.SHOWN))
+        self.assertEqual(self.calls("built"), [])
 
     def test_no_released_code_is_proved(self):
         for name in ("sums", "flags", "sheet.ll.xz"):

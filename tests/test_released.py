@@ -34,7 +34,7 @@ class Make(StandIns):
         self.assertEqual(flags, lines(*words))
         names = [row.split(" ")[0] for row in sums.decode().splitlines()]
         self.assertEqual(names, ["kit", "object", "low", "middle", "sheet"])
-        self.assertIn(b"kit a kit of one piece\n", sums)
+        self.assertIn(b"kit kit-1 logic 5a\n", sums)
 
     def test_it_writes_the_same_again(self):
         self.run_script("release/make")
@@ -93,9 +93,13 @@ class Compared(StandIns):
         self.write("crates.txt", rows.replace("middle low\n", "aside low\n"))
         self.assert_differs("the released code was made of another aside, sheet, middle: run release/make")
 
-    def test_another_kit(self):
-        self.use(BUILDS.replace("a kit of one piece", "another kit"))
+    def test_a_kit_of_another_logic(self):
+        self.use(BUILDS.replace("logic 5a", "logic 5b"))
         self.assert_differs("the released code was made of another kit: run release/make")
+
+    def test_another_kit_of_the_same_logic(self):
+        self.use(BUILDS.replace("kit-1", "kit-2"))
+        self.assertIsNone(compared.difference(self.top))
 
     def test_a_file_that_is_missing(self):
         for name in FILES:
