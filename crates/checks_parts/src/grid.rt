@@ -2,8 +2,36 @@
 
 ghost use Rattle.std.specs.Prelude.{◌≡◌, IfOk};
 
-use ps_grid::{CELLS, Cell, Rect, Refusal, Twin, long_chains_repeat, refusal_numbers_differ};
+use ps_grid::{
+    CELLS, Cell, Rect, Refusal, Twin, long_chains_repeat, read_digits, refusal_numbers_differ,
+};
 use std::alloc::{AllocError, Global};
+
+/// The number that a text without a sign writes by std's reading.
+fn parsed(text: &str) -> Option<u64> {
+    if text.starts_with("+") {
+        return None;
+    }
+    text.parse::<u64>().ok()
+}
+
+/// Digits are read as std reads them: few and many, with zeros in front, around the greatest number, and with a byte
+/// among them that is none.
+#[test]
+fn digits_are_read(rt: HostRuntime) {
+    // one in each line; the first is empty
+    let texts =
+        "\n0\n9\n00\n007\n10\n1234567890\n9223372036854775807\n9223372036854775808\n9999999999999999999\n\
+        10000000000000000000\n18446744073709551609\n18446744073709551610\n18446744073709551615\n\
+        18446744073709551616\n18446744073709551620\n18446744073709551625\n99999999999999999999\n\
+        100000000000000000000\n0000000000000000000000\n0000000000000000000000007\n00018446744073709551615\n\
+        00018446744073709551616\n+\n-\n+1\n-1\n/\n:\n1/\n1:\n1a\na1\n 1\n1 \n1234567890123456789x\n\
+        x12345678901234567890\n1844674407370955161x\nÄ";
+    for text in texts.lines() {
+        assert!(rt; read_digits(text.as_bytes()) == parsed(text), "{text}");
+    }
+    assert!(rt; read_digits(&[49, 255]) == None);
+}
 
 /// The index of a cell by its column and row, or the grid's size where there is none.
 fn index_of(column: u8, row: u16) -> usize {

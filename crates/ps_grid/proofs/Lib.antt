@@ -4,6 +4,7 @@ pub mod ColumnLemmas
 pub mod CycleLemmas
 pub mod DecisionLemmas
 pub mod DepthLemmas
+pub mod DigitLemmas
 pub mod NameLemmas
 pub mod RegionLemmas
 pub mod WalkLemmas

@@ -1,5 +1,5 @@
-//! The ground of the sheet: its size, its cells and rectangles, how many take part, the refusals of all its calls,
-//! and what "a chain of references" means.
+//! The ground of the sheet: its size, its cells and rectangles, numbers in digits, how many take part, the refusals of
+//! all its calls, and what "a chain of references" means.
 //!
 //! It is not the sheet: it knows no values, no formulas and no edits.
 //!
@@ -9,10 +9,11 @@
 //! The contract to use: a `Cell` is its index, below `CELLS`, and `Cell::read` finds just the cell that has the name; a
 //! `Rect` is its `Area`, which lies in the grid, and `Rect::cells` walks just the cells that it contains, each once.
 //!
-//! Cost: every call is constant but for the walk of a rectangle, which is its area.
+//! Cost: every call is constant but for the walk of a rectangle, which is its area, and `read_digits`.
 #![tactic(auto)]
 
 mod cell;
+mod digits;
 mod ghost_count;
 mod laws;
 mod parties;
@@ -22,6 +23,7 @@ mod size;
 mod twin;
 
 pub use cell::Cell;
+pub use digits::read_digits;
 pub use ghost_count::GhostCount;
 pub use laws::{long_chains_repeat, refusal_numbers_differ};
 pub use parties::{REPLICAS, SEATS, WORKERS};

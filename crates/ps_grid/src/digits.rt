@@ -1,0 +1,64 @@
+//! Numbers written in decimal digits.
+
+ghost use Rattle.std.specs.Prelude.{ℕ, ◌≡◌, ◌^◌, ◌<◌, ◌≤◌, length};
+ghost use Rattle.std.specs.Char.{digit_value};
+ghost use Rattle.std.specs.Option.{SomeIff};
+ghost use Rattle.std.specs.Str.Parse.{AllDigits, IsNumeral, digits_value};
+
+/// So many digits never write a number of more than 64 bits.
+const SAFE_DIGITS: usize = 19;
+
+/// The number that decimal digits write, one or more of them, with zeros in front or without; none where there is no
+/// digit, where a byte is none, or where the number has more than 64 bits.
+///
+/// Cost: linear in the bytes.
+pub fn read_digits(digits: &[u8]) -> Option<u64>
+    ensures { SomeIff result (IsNumeral 10 digits.now × (digits_value 10 digits.now < 2 ^ 64))
+        (digits_value 10 digits.now) }
+{
+    if digits.is_empty() {
+        return None;
+    }
+    if digits.len() > SAFE_DIGITS {
+        return read_many(digits);
+    }
+    read_few(digits)
+}
+
+/// The number that so few digits write, if each byte is one.
+#[inline(always)]
+fn read_few(digits: &[u8]) -> Option<u64>
+    requires { length digits.now ≤ SAFE_DIGITS }
+    ensures { SomeIff result (AllDigits 10 digits.now) (digits_value 10 digits.now) }
+{
+    let mut number = 0u64;
+    for digit in digits {
+        number = number * 10 + digit_number(*digit)?;
+    }
+    Some(number)
+}
+
+/// The number that digits write, if each byte is one and the number has at most 64 bits.
+fn read_many(digits: &[u8]) -> Option<u64>
+    ensures { SomeIff result (AllDigits 10 digits.now × (digits_value 10 digits.now < 2 ^ 64))
+        (digits_value 10 digits.now) }
+{
+    let mut number = 0u64;
+    for digit in digits {
+        number = number.checked_mul(10)?.checked_add(digit_number(*digit)?)?;
+    }
+    Some(number)
+}
+
+/// The number of a digit: 0 for `0`, to 9 for `9`; none where the byte is no digit.
+#[inline(always)]
+fn digit_number(byte: u8) -> Option<u64>
+    ensures { SomeIff result (digit_value byte < 10) (digit_value byte) }
+{
+    let number = byte.wrapping_sub(b'0');
+    if number < 10 {
+        Some(u64::from(number))
+    } else {
+        None
+    }
+}
