@@ -41,6 +41,36 @@ fn entries(rt: HostRuntime) {
     }
 }
 
+/// The number that an entry is read as, if it is one.
+fn number_read(alloc: Global, entry: &str) -> Option<i64> {
+    match read_entry(alloc, entry.as_bytes()) {
+        Ok(Content::Number(number)) => Some(number),
+        _ => None,
+    }
+}
+
+/// Numbers are read as std reads them: with signs and zeros in front, around both ends of 64 bits, and with a byte
+/// among the digits that is none.
+#[test]
+fn numbers_are_read(rt: HostRuntime) {
+    // one in each line; the first is empty
+    let entries =
+        "\n+\n-\n0\n-0\n+0\n007\n-007\n+007\n--1\n+-1\n-+1\n++1\n1-\n1+\n1a\na1\n-a\n-1a\n 1\n1 \n- 1\n\
+        9223372036854775807\n+9223372036854775807\n-9223372036854775807\n9223372036854775808\n\
+        -9223372036854775808\n+9223372036854775808\n-9223372036854775809\n18446744073709551615\n\
+        -18446744073709551615\n18446744073709551616\n-18446744073709551616\n9999999999999999999\n\
+        1000000000000000000\n-1000000000000000000\n00000000000000000000005\n-00000000000000000000005\n\
+        00009223372036854775807\n-00009223372036854775808\n00009223372036854775808\n-00009223372036854775809\n\
+        12345678901234567890x\n1Ä";
+    for entry in entries.lines() {
+        assert!(rt;
+            number_read(rt.alloc(), entry) == entry.parse::<i64>().ok(),
+            "{entry}"
+        );
+    }
+    assert!(rt; number_read(rt.alloc(), "-9223372036854775808") == Some(i64::MIN));
+}
+
 /// Why an entry is refused.
 fn refusal(alloc: Global, entry: &[u8]) -> Option<Refusal> {
     canonical_of(alloc, entry).err()

@@ -1,19 +1,18 @@
 -- What an entry writes as a number.
-use Rattle.std.proofs.Common.{◌≡◌, ℕ, ℤ, pos, negsuc, ◌^◌, Bool, true, false, cond, ◌&&◌, List, [], ◌∷◌, length}
-use Rattle.std.proofs.Common.{drop, Option, None, Some, Result, Ok, Err, refl, sym, ap, ◌∙◌, arith}
-use Rattle.std.specs.Prelude.{FitsSigned, ◌==◌, IsUtf8, nat_lt}
+use Rattle.std.proofs.Common.{◌<◌, zero, suc, subst, ◌≡◌, ℕ, ℤ, pos, negsuc, ◌^◌, Bool, true, false, cond, ◌&&◌, List, length}
+use Rattle.std.proofs.Common.{Option, None, Some, refl, sym, ap, ◌∙◌, arith}
+use Rattle.std.specs.Prelude.{FitsSigned, MatchBool, neg_ℤ, ◌≤◌, nat_lt}
 use Rattle.std.specs.Int.{w64}
 use mir.Val.{to_z, of_z}
-use Rattle.std.specs.Result.{result_ok}
-use Rattle.std.specs.Str.{all_ascii_digits, IsAscii}
-use Rattle.std.specs.Str.Parse.{AllDigits, IsNumeral, ParsesSigned, without_leading_sign, signed_digits_value}
+use Rattle.std.specs.Str.{all_ascii_digits}
+use Rattle.std.specs.Str.Parse.{IsNumeral, without_leading_sign, signed_digits_value}
+use Rattle.std.specs.Str.Parse.{starts_with_minus}
+use Rattle.std.specs.Option.{SomeIff}
 use Rattle.std.specs.Str.Parse.{digits_value}
 use Rattle.std.proofs.lemmas.Option.{cond_some}
-use Rattle.std.proofs.lemmas.Bool.{ltb-true, lt-ltb, false≢true, eqb-true}
+use Rattle.std.proofs.lemmas.Bool.{ltb-true, lt-ltb, false≢true}
 use Rattle.std.proofs.lemmas.Int.{to_z-of_z}
-use Rattle.std.proofs.lemmas.Str.Ascii.{IsAscii-cons, IsAscii-nil}
-use Rattle.std.proofs.lemmas.Str.{IsUtf8-from_ascii}
-use Rattle.std.proofs.lemmas.Str.Parse.{digit_from_value, IsNumeralModel, numerals_by_value, tells_all_ascii_digits}
+use Rattle.std.proofs.lemmas.Str.Parse.{IsNumeralModel, numerals_by_value, tells_all_ascii_digits}
 use Rattle.ps_content.specs.Entry.{fits_64, is_number, number_of}
 
 -- the library's words for digits and ours
@@ -75,13 +74,61 @@ pub number_of-none : (bytes : List ℕ) → is_number bytes ≡ false → number
 unfolding number_of
 number_of-none bytes test = rw test refl
 
--- what `parse` returns is the number
-pub number_of-parsed : (E : Type 0) (bytes : List ℕ) (r : Result ℤ E) → ParsesSigned w64 10 bytes r
-    → result_ok r ≡ number_of bytes
-number_of-parsed E bytes (Ok z) parses = ap Some parses.1 ∙ sym
-    (number_of-some bytes (is_number-from bytes parses.0.0 parses.0.1))
-number_of-parsed E bytes (Err e) parses = sym
-    (number_of-none bytes (test_fails (is_number bytes) (λ test. parses (is_number-to bytes test))))
+-- the number of a sign and a magnitude
+abbrev signed : Bool → ℕ → ℤ
+signed is_negative n = cond is_negative (neg_ℤ (pos n)) (pos n)
+
+-- the option has that number, if it has 64 bits
+abbrev pub HasSigned : Option ℤ → Bool → ℕ → Type 0
+HasSigned o is_negative n =
+    MatchBool is_negative (SomeIff o (n ≤ 2 ^ 63) (neg_ℤ (pos n))) (SomeIff o (n < 2 ^ 63) (pos n))
+
+magnitude_fits : (is_negative : Bool) (n : ℕ) → FitsSigned w64 (signed is_negative n) → n < 2 ^ 64
+magnitude_fits true zero fits = omega arith
+magnitude_fits true (suc n) fits = omega (arith, fits.sfits)
+magnitude_fits false n fits = omega (arith, fits.sfits)
+
+found_fits : (is_negative : Bool) (n : ℕ) (z : ℤ) → HasSigned (Some z) is_negative n
+    → FitsSigned w64 (signed is_negative n) × (z ≡ signed is_negative n)
+found_fits true zero z found = (record { sfits = omega arith }, found.1)
+found_fits true (suc n) z found = (record { sfits = omega (arith, found.0) }, found.1)
+found_fits false n z found = (record { sfits = found.0 }, found.1)
+
+none_fits : (is_negative : Bool) (n : ℕ) → HasSigned None is_negative n → ¬ (FitsSigned w64 (signed is_negative n))
+none_fits true zero none = λ fits. none (omega arith)
+none_fits true (suc n) none = λ fits. none (omega (arith, fits.sfits))
+none_fits false n none = λ fits. none fits.sfits
+
+-- what is made of the sign and the digits is the number
+pub number_of-signed : (bytes : List ℕ) (is_negative : Bool) (ds : List ℕ) (n : ℕ) (r : Option ℤ)
+    → is_negative ≡ starts_with_minus bytes → ds ≡ without_leading_sign bytes → IsNumeral 10 ds
+    → n ≡ digits_value 10 ds → HasSigned r is_negative n → r ≡ number_of bytes
+number_of-signed bytes is_negative ds n r sign rest numeral value told = by r (rw (sign, value, rest) at told)
+  where
+    digits : IsNumeral 10 (without_leading_sign bytes)
+    digits = subst (IsNumeral 10) rest numeral
+
+    magnitude : ℕ
+    magnitude = digits_value 10 (without_leading_sign bytes)
+
+    by : (o : Option ℤ) → HasSigned o (starts_with_minus bytes) magnitude → o ≡ number_of bytes
+    by (Some z) has =
+        let found = found_fits (starts_with_minus bytes) magnitude z has in
+        ap Some found.1 ∙ sym (number_of-some bytes (is_number-from bytes digits found.0))
+    by None has =
+        sym (number_of-none bytes (test_fails (is_number bytes) (λ test.
+        none_fits (starts_with_minus bytes) magnitude has (is_number-to bytes test).1)))
+
+-- what has no digits of 64 bits after its sign is no number
+pub number_of-unsigned : (bytes ds : List ℕ) → ds ≡ without_leading_sign bytes
+    → ¬ (IsNumeral 10 ds × (digits_value 10 ds < 2 ^ 64)) → None ≡ number_of bytes
+number_of-unsigned bytes ds rest none =
+    sym (number_of-none bytes (test_fails (is_number bytes) (λ test.
+    let number = is_number-to bytes test in
+    (rw rest at none) (
+      number.0,
+      magnitude_fits (starts_with_minus bytes) (digits_value 10 (without_leading_sign bytes)) number.1,
+    ))))
 
 none_cases : (b : Bool) (v : ℤ) → cond b (Some v) None ≡ None → b ≡ false
 none_cases true v e = cc
@@ -108,30 +155,3 @@ unfolding number_of
 kept_number bytes z e =
     let value = (cond_some (is_number bytes) (signed_digits_value 10 bytes) z (sym e)).1 in
     rw (← value) (to_z-of_z w64 (signed_digits_value 10 bytes) (is_number-to bytes (is_number-some bytes z e)).1)
-
-ascii_digits : (ds : List ℕ) → AllDigits 10 ds → IsAscii ds
-ascii_digits [] all = IsAscii-nil
-ascii_digits (c ∷ cs) all = IsAscii-cons c cs (omega (arith, digit_from_value c all.0)) (ascii_digits cs all.1)
-
--- a digit that a sign stands before, or none
-ascii_signed : (bytes : List ℕ) → IsAscii (without_leading_sign bytes) → IsAscii bytes
-ascii_signed [] digits = IsAscii-nil
-ascii_signed (b ∷ bs) digits = by_minus (b == 45) refl
-  where
-    by_plus : (t : Bool) → (b == 43) ≡ t → IsAscii (drop (cond t 1 0) (b ∷ bs)) → IsAscii (b ∷ bs)
-    by_plus true is digits' = IsAscii-cons b bs (omega (arith, eqb-true b 43 is)) digits'
-    by_plus false is digits' = digits'
-
-    by_minus : (t : Bool) → (b == 45) ≡ t → IsAscii (b ∷ bs)
-    by_minus true is = IsAscii-cons b bs (omega (arith, eqb-true b 45 is)) (rw is at digits)
-    by_minus false is = by_plus (b == 43) refl (rw is at digits)
-
--- a number is ASCII
-pub IsUtf8-number : (bytes : List ℕ) → is_number bytes ≡ true → IsUtf8 bytes
-IsUtf8-number bytes test = IsUtf8-from_ascii bytes
-    (ascii_signed bytes (ascii_digits (without_leading_sign bytes) (is_number-to bytes test).0.1))
-
--- bytes that are no UTF-8 are no number
-pub number_of-no_text : (bytes : List ℕ) → ¬ (IsUtf8 bytes) → None ≡ number_of bytes
-number_of-no_text bytes refuted = sym (number_of-none bytes
-    (test_fails (is_number bytes) (λ test. refuted (IsUtf8-number bytes test))))

@@ -1,6 +1,8 @@
 //! Entries: what people type into a cell.
 
-ghost use Rattle.std.specs.Prelude.{◌≡◌, ◌≤◌, length};
+ghost use Rattle.std.specs.Prelude.{◌≡◌, ◌^◌, ◌<◌, ◌≤◌, MatchBool, length, neg_ℤ, pos};
+ghost use Rattle.std.specs.Option.{SomeIff};
+ghost use Rattle.std.specs.Str.Parse.{starts_with_minus, without_leading_sign};
 ghost use Rattle.ps_value.specs.Label.{is_label};
 ghost use Rattle.ps_formula.specs.declared.formula.TheConstants.{LONGEST_ENTRY};
 ghost use Rattle.ps_content.specs.Entry.{begins_formula, kind_of, number_of, word_of, Reads, ReadsFormula};
@@ -9,7 +11,7 @@ ghost use Rattle.ps_content.specs.Entry.{ReadsText};
 use crate::content::Content;
 use crate::shared::SharedFormula;
 use ps_formula::{Formula, LONGEST_ENTRY};
-use ps_grid::Refusal;
+use ps_grid::{Refusal, read_digits};
 use ps_value::{Label, SharedLabel};
 use std::alloc::Global;
 
@@ -49,9 +51,34 @@ pub fn read_entry(alloc: Global, bytes: &[u8]) -> Result<Content, Refusal>
 fn read_number(bytes: &[u8]) -> Option<i64>
     ensures { result ≡ number_of bytes.now }
 {
-    match str::from_utf8(bytes) {
-        Ok(text) => text.parse::<i64>().ok(),
-        Err(_) => None,
+    let (is_negative, digits) = split_sign(bytes);
+    let magnitude = read_digits(digits)?;
+    signed(is_negative, magnitude)
+}
+
+/// Whether a minus stands first, and what follows the sign, if there is one.
+#[inline(always)]
+fn split_sign(bytes: &[u8]) -> (bool, &[u8])
+    ensures sign { result.0 ≡ starts_with_minus bytes.now }
+    ensures digits { result.1.now ≡ without_leading_sign bytes.now }
+{
+    match bytes {
+        [b'-', digits @ ..] => (true, digits),
+        [b'+', digits @ ..] => (false, digits),
+        _ => (false, bytes),
+    }
+}
+
+/// The number of a sign and a magnitude, if it has 64 bits.
+#[inline(always)]
+fn signed(is_negative: bool, magnitude: u64) -> Option<i64>
+    ensures { MatchBool is_negative (SomeIff result (magnitude ≤ 2 ^ 63) (neg_ℤ (pos magnitude)))
+        (SomeIff result (magnitude < 2 ^ 63) (pos magnitude)) }
+{
+    if is_negative {
+        0i64.checked_sub_unsigned(magnitude)
+    } else {
+        i64::try_from(magnitude).ok()
     }
 }
 
