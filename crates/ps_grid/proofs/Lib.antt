@@ -7,4 +7,5 @@ pub mod DepthLemmas
 pub mod DigitLemmas
 pub mod NameLemmas
 pub mod RegionLemmas
+pub mod RowLemmas
 pub mod WalkLemmas

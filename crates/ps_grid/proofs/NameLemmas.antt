@@ -3,7 +3,7 @@ use Rattle.std.proofs.Common.{◌≡◌, ℕ, ◌+◌, ◌-◌, ◌/◌, ◌%◌
 use Rattle.std.proofs.Common.{refl, ap, ◌∙◌}
 use Rattle.std.proofs.Common.{arith, length-append}
 use Rattle.std.proofs.lemmas.Grind.{common_steps}
-use Rattle.std.proofs.Common.{◌*◌, ◌++◌, drop, take_while, cond, true, false, sym, ⊎_elim}
+use Rattle.std.proofs.Common.{Bool, zero, suc, ◌*◌, ◌++◌, drop, take_while, cond, true, false, sym, ⊎_elim}
 use Rattle.std.specs.List.{list_all}
 use Rattle.std.proofs.lemmas.Bool.{and_from, cases_lt}
 use Rattle.std.specs.Char.{is_ascii_uppercase}
@@ -12,7 +12,7 @@ use Rattle.std.proofs.lemmas.Str.Parse.{digit_from_value}
 use Rattle.std.proofs.lemmas.List.Sums.{take_while-cons}
 use Rattle.std.proofs.Math.Seq.{take-append_seam, drop-append_seam}
 use Rattle.std.specs.Fmt.{decimal}
-use Rattle.std.proofs.lemmas.Fmt.{length-decimal-le}
+use Rattle.std.proofs.lemmas.Fmt.{length-decimal-le, decimal_nonempty}
 use Rattle.std.proofs.Common.{◌⊎◌, inl, inr}
 use Rattle.std.proofs.lemmas.Fmt.{decimal_injective, decimal_is_IsNumeral, decimal_digit, decimal_step}
 use Rattle.ps_grid.specs.declared.size.TheConstants.{CELLS, COLUMNS, LETTERS, NAME_BYTES, ROWS}
@@ -78,6 +78,13 @@ pub length-cell_name : (c : ℕ) → c < CELLS → length (cell_name c) ≤ NAME
 length-cell_name c below =
     let letters = length-column_name (column_of c) in
     let digits = length-decimal-le 4 (row_of c) (omega arith) (omega arith) (omega arith) in
+    let both = length-append (column_name (column_of c)) (decimal (row_of c)) in
+    ⊎_elim (λ one. omega (arith, one, digits, both)) (λ two. omega (arith, two, digits, both)) letters
+
+pub two-cell_name : (c : ℕ) → c < CELLS → 2 ≤ length (cell_name c)
+two-cell_name c below =
+    let letters = length-column_name (column_of c) in
+    let digits = decimal_nonempty (row_of c) (omega arith) in
     let both = length-append (column_name (column_of c)) (decimal (row_of c)) in
     ⊎_elim (λ one. omega (arith, one, digits, both)) (λ two. omega (arith, two, digits, both)) letters
 
@@ -175,6 +182,32 @@ module _ (c : ℕ) (below : c < CELLS) (text : List ℕ) (is : text ≡ cell_nam
   digits_are =
       (λ i. drop (letters_long i) (is i))
       ∙ drop-append_seam (column_name (column_of c)) (decimal (row_of c))
+
+-- what is counted among the first bytes, where no more than these are to be counted
+length-take_while-take : (test : ℕ → Bool) (n : ℕ) (xs : List ℕ) → length (take_while test xs) ≤ n
+    → length (take_while test (take n xs)) ≡ length (take_while test xs)
+length-take_while-take test zero xs few = omega (arith, few)
+length-take_while-take test (suc n) [] few = refl
+length-take_while-take test (suc n) (x ∷ xs) few = by (test x) refl (length-take_while-take test n xs)
+  where
+    by : (t : Bool) → test x ≡ t
+        → (length (take_while test xs) ≤ n → length (take_while test (take n xs)) ≡ length (take_while test xs))
+        → length (take_while test (x ∷ take n xs)) ≡ length (take_while test (x ∷ xs))
+    by true is rest =
+        let one = take_while-cons test x (take n xs) in
+        let all = take_while-cons test x xs in
+        let fewer : suc (length (take_while test xs)) ≤ suc n = rw (all, is) at few in
+        rw (one, all, is) (ap suc (rest (omega (arith, fewer))))
+    by false is rest = rw (take_while-cons test x (take n xs), take_while-cons test x xs, is) refl
+
+-- the letters of a name are among its first two bytes
+pub letters_of_two : (c : ℕ) → c < CELLS → (text : List ℕ) → text ≡ cell_name c → (n : ℕ)
+    → n ≡ length (take_while is_ascii_uppercase (take 2 text)) → n ≡ length (take_while is_ascii_uppercase text)
+letters_of_two c below text is n counted =
+    let all = letters_long c below text is (length (take_while is_ascii_uppercase text)) refl in
+    let short : length (column_name (column_of c)) ≤ 2 =
+    ⊎_elim (λ one. omega (arith, one)) (λ two. omega (arith, two)) (length-column_name (column_of c)) in
+    counted ∙ length-take_while-take is_ascii_uppercase 2 text (omega (arith, all, short))
 
 -- no two cells have one name
 pub cell_name-injective : (c d : ℕ) → c < CELLS → d < CELLS → cell_name c ≡ cell_name d → c ≡ d

@@ -6,6 +6,7 @@ ghost use Rattle.std.specs.Fmt.{decimal};
 ghost use Rattle.std.specs.Option.{SomeIff};
 ghost use Rattle.ps_grid.specs.Place.{cell_at, cell_name, column_name, column_of, letter_of, row_of};
 
+use crate::digits::read_digits;
 use crate::size::{CELLS, COLUMNS, LETTERS, NAME_BYTES, ROWS};
 use std::marker::Model;
 
@@ -95,6 +96,10 @@ impl Cell {
     pub fn read(text: &[u8]) -> Option<Cell>
         ensures { (c : ℕ) → (result ≡ Some c) ↔ ((c < CELLS) × (text.now ≡ cell_name c)) }
     {
+        // a letter and a digit at least
+        if text.len() < 2 {
+            return None;
+        }
         if text.len() > NAME_BYTES {
             return None;
         }
@@ -160,12 +165,17 @@ impl Cell {
     }
 }
 
-/// How many upper-case letters a text begins with.
+/// How many upper-case letters a text begins with, of which two are counted at most.
+#[inline(always)]
 fn letter_count(text: &[u8]) -> usize
-    ensures counted { result ≡ length (take_while is_ascii_uppercase text.now) }
+    ensures counted { result ≡ length (take_while is_ascii_uppercase (take 2 text.now)) }
     ensures within { result ≤ length text.now }
 {
-    text.iter().take_while(|b| b.is_ascii_uppercase()).count()
+    match text {
+        [first, second, ..] if first.is_ascii_uppercase() && second.is_ascii_uppercase() => 2,
+        [first, ..] if first.is_ascii_uppercase() => 1,
+        _ => 0,
+    }
 }
 
 /// The column that letters name, if the grid has it.
@@ -225,14 +235,8 @@ fn row_named(digits: &[u8]) -> Option<u16>
     if digits[0] == b'0' {
         return None;
     }
-    let mut row = 0u32;
-    for digit in digits {
-        if *digit < b'0' || *digit > b'9' {
-            return None;
-        }
-        row = row * 10 + u32::from(*digit - b'0');
-    }
-    if row as usize > ROWS {
+    let row = read_digits(digits)?;
+    if row > ROWS as u64 {
         return None;
     }
     Some(row as u16)

@@ -55,10 +55,6 @@ fn read_many(digits: &[u8]) -> Option<u64>
 fn digit_number(byte: u8) -> Option<u64>
     ensures { SomeIff result (digit_value byte < 10) (digit_value byte) }
 {
-    let number = byte.wrapping_sub(b'0');
-    if number < 10 {
-        Some(u64::from(number))
-    } else {
-        None
-    }
+    let number = u64::from(byte).wrapping_sub(u64::from(b'0'));
+    if number < 10 { Some(number) } else { None }
 }
