@@ -1,7 +1,7 @@
 -- A corner is read from a text exactly where one stands at its front.
 use Rattle.std.proofs.Common.{◌≡◌, ℕ, ◌<◌, ◌^◌, ◌==◌, Bool, true, false}
 use Rattle.std.proofs.Common.{Option, Some, List, [], ◌∷◌, ◌++◌, length, take, drop, refl, sym, ap, subst, ◌∙◌}
-use Rattle.std.proofs.Common.{append_assoc, arith}
+use Rattle.std.proofs.Common.{append_assoc, arith, ⊎_elim, ◌≤◌}
 use Rattle.std.specs.Char.{is_ascii_digit, is_ascii_uppercase}
 use Rattle.std.specs.Fmt.{decimal}
 use Rattle.std.specs.Int.{IsInRange}
@@ -15,13 +15,13 @@ use Rattle.std.proofs.lemmas.List.{take-append-drop}
 use Rattle.std.proofs.lemmas.Str.Parse.{digit_from_value}
 use Rattle.ps_grid.specs.Place.{column_name, column_of, row_of}
 use Rattle.ps_grid.specs.declared.size.TheConstants.{CELLS, COLUMNS}
-use Rattle.ps_grid.proofs.NameLemmas.{all_letters, some_letter}
+use Rattle.ps_grid.proofs.NameLemmas.{all_letters, length-column_name, some_letter}
 use Rattle.ps_tokens.specs.Inside.Lexing.{capitals_at, cell_in, corner_at, digits_at, unmarked}
 use Rattle.ps_tokens.specs.Text.{mark, IsCorner}
 use Rattle.ps_tokens.proofs.OptionLemmas.{option_map_from}
 use Rattle.ps_tokens.proofs.MarkLemmas.{unmarked-mark, unmarked_text}
 use Rattle.ps_tokens.proofs.NamedCells.{cell_in-name, cell_in-some}
-use Rattle.ps_tokens.proofs.LongestRuns.{Stops, drop-run, take-run}
+use Rattle.ps_tokens.proofs.LongestRuns.{Stops, drop-run, drop-short_run, take-run, take-short_run}
 
 -- the front of s is a corner of the cell, and r stands after it
 pub record TakesCorner (s : List ℕ) (c : ℕ) (r : List ℕ) : Type 0 where
@@ -122,8 +122,9 @@ corner_at-corner w c s corner stop =
     (cell_in l (take (digits_at u) u)) in
     ap (λ t. result (take (capitals_at t) t) (unmarked (drop (capitals_at t) t))) read_letters
     ∙ ap (λ v. result v (unmarked (drop (capitals_at whole) whole)))
-    (take-run is_ascii_uppercase letters middle capitals stop_letters)
-    ∙ ap (λ v. result letters (unmarked v)) (drop-run is_ascii_uppercase letters middle capitals stop_letters)
+    (take-short_run is_ascii_uppercase 2 letters middle capitals stop_letters (short (column_of c)))
+    ∙ ap (λ v. result letters (unmarked v))
+    (drop-short_run is_ascii_uppercase 2 letters middle capitals stop_letters (short (column_of c)))
     ∙ ap (result letters) read_digits
     ∙ ap (λ v. option_map (λ (k : ℕ). (k, drop (digits_at last) last)) (cell_in letters v))
     (take-run is_ascii_digit digits s (all_digits digits numeral.1) stop)
@@ -132,6 +133,9 @@ corner_at-corner w c s corner stop =
   where
     row_small : (k : ℕ) → k < CELLS → row_of k < 2 ^ 64
     row_small k h = omega arith
+
+    short : (k : ℕ) → length (column_name k) ≤ 2
+    short k = ⊎_elim (λ one. omega (arith, one)) (λ two. omega (arith, two)) (length-column_name k)
 
     column_below : (k : ℕ) → k < CELLS → column_of k < COLUMNS
     column_below k h = omega arith

@@ -1,5 +1,5 @@
 -- The longest front of a text whose bytes pass a test.
-use Rattle.std.proofs.Common.{◌≡◌, ℕ, ◌+◌, ◌<◌, Bool, true, false, cond, ◌&&◌, List, [], ◌∷◌, ◌++◌, length, take}
+use Rattle.std.proofs.Common.{◌≡◌, ℕ, zero, suc, ◌+◌, ◌<◌, ◌≤◌, Bool, true, false, cond, ◌&&◌, List, [], ◌∷◌, ◌++◌, length, take}
 use Rattle.std.proofs.Common.{drop, refl, sym, ap, ◌∙◌, arith}
 use Rattle.std.specs.Char.{is_ascii_digit, digit_value}
 use Rattle.std.specs.List.{prefix_len, list_all}
@@ -49,6 +49,26 @@ take-run p w s h k = take_at w s _ (sym (prefix_len-run p w s h k))
 pub drop-run : (p : ℕ → Bool) (w s : List ℕ) → list_all p w ≡ true → Stops p s
     → drop (prefix_len p (w ++ s)) (w ++ s) ≡ s
 drop-run p w s h k = drop_at w s _ (sym (prefix_len-run p w s h k))
+
+-- a run that stops is also the longest front of the first bytes, where it has no more than these
+prefix_len-short_run : (p : ℕ → Bool) (n : ℕ) (w s : List ℕ) → list_all p w ≡ true → Stops p s → length w ≤ n
+    → prefix_len p (take n (w ++ s)) ≡ length w
+prefix_len-short_run p zero [] s h k few = refl
+prefix_len-short_run p zero (c ∷ w) s h k few = absurd (omega (arith, few))
+prefix_len-short_run p (suc n) [] [] h k few = refl
+prefix_len-short_run p (suc n) [] (c ∷ s) h k few = ap (λ b. cond b (1 + prefix_len p (take n s)) 0) k
+prefix_len-short_run p (suc n) (c ∷ w) s h k few =
+    let parts = list_all_parts p c w h in
+    ap (λ b. cond b (1 + prefix_len p (take n (w ++ s))) 0) parts.0
+    ∙ omega (arith, prefix_len-short_run p n w s parts.1 k (omega (arith, few)))
+
+pub take-short_run : (p : ℕ → Bool) (n : ℕ) (w s : List ℕ) → list_all p w ≡ true → Stops p s → length w ≤ n
+    → take (prefix_len p (take n (w ++ s))) (w ++ s) ≡ w
+take-short_run p n w s h k few = take_at w s _ (sym (prefix_len-short_run p n w s h k few))
+
+pub drop-short_run : (p : ℕ → Bool) (n : ℕ) (w s : List ℕ) → list_all p w ≡ true → Stops p s → length w ≤ n
+    → drop (prefix_len p (take n (w ++ s))) (w ++ s) ≡ s
+drop-short_run p n w s h k few = drop_at w s _ (sym (prefix_len-short_run p n w s h k few))
 
 -- a digit has a value below ten, and only a digit has
 pub digit_value-lt : (c : ℕ) → is_ascii_digit c ≡ true → digit_value c < 10

@@ -61,14 +61,17 @@ fn digits_at(text: &[u8]) -> usize
     text.iter().take_while(|byte| byte.is_ascii_digit()).count()
 }
 
-/// How many capital letters stand at the front.
+/// How many capital letters stand at the front, of which two are counted at most.
+#[inline(always)]
 fn capitals_at(text: &[u8]) -> usize
     ensures count { result ≡ capitals_at text.now }
     ensures in_text { result ≤ length text.now }
 {
-    text.iter()
-        .take_while(|byte| byte.is_ascii_uppercase())
-        .count()
+    match text {
+        [first, second, ..] if first.is_ascii_uppercase() && second.is_ascii_uppercase() => 2,
+        [first, ..] if first.is_ascii_uppercase() => 1,
+        _ => 0,
+    }
 }
 
 /// How many letters stand at the front.

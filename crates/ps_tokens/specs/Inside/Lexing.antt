@@ -33,8 +33,9 @@ unmarked s = if slice_index s 0 == 36 then drop 1 s else s
 abbrev pub digits_at : List ℕ → ℕ
 digits_at s = prefix_len is_ascii_digit s
 
+-- .. capital letters, of which a column has two at most
 abbrev pub capitals_at : List ℕ → ℕ
-capitals_at s = prefix_len is_ascii_uppercase s
+capitals_at s = prefix_len is_ascii_uppercase (take 2 s)
 
 abbrev pub letters_at : List ℕ → ℕ
 letters_at s = prefix_len is_ascii_alphabetic s
