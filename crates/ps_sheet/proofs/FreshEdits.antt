@@ -1,6 +1,6 @@
 -- A delta that an edit makes over a state is not below it.
-use Rattle.std.proofs.Common.{◌≡◌, ℕ, ◌<◌, ◌≤◌, Bool, true, false, not, List, [], ◌∷◌, length, map, Result, Ok}
-use Rattle.std.proofs.Common.{refl, sym, arith, subst}
+use Rattle.std.proofs.Common.{◌≡◌, ℕ, ◌<◌, ◌≤◌, Bool, true, false, not, List, [], ◌∷◌, length, map, Result, Ok, Err}
+use Rattle.std.proofs.Common.{IfOk, refl, sym, arith, subst}
 use Rattle.std.specs.List.{list_any}
 use Rattle.std.proofs.lemmas.Grind.{common_steps}
 use Rattle.std.proofs.lemmas.List.{length-map}
@@ -15,8 +15,10 @@ use Rattle.ps_content.specs.declared.content.Content.{Content}
 use Rattle.ps_delta.specs.declared.cell_state.CellState.{CellState}
 use Rattle.ps_delta.specs.State.{State, IsBelow, joined_cell}
 use Rattle.ps_delta.specs.Deltas.{Entries, IsDelta, state_of}
+use Rattle.ps_sheet.specs.declared.edit.Edit.{Edit}
 use Rattle.ps_sheet.specs.declared.edit.Edit.TheVariants.{Set, SetAll, Add, Sub, Choose, Unchoose}
-use Rattle.ps_sheet.specs.Edits.{assigned, delta_of_batch, is_clock_full, refused_if, EditsAreFresh}
+use Rattle.ps_sheet.specs.Edits.{assigned, delta_of_batch, is_clock_full, delta_of_edit, refused_if}
+use Rattle.ps_sheet.specs.Edits.{EditsAreFresh}
 use Rattle.ps_sheet.proofs.FreshCells.{new_one, new_tally, new_choice}
 use Rattle.ps_sheet.proofs.BatchDeltas.{batch_new}
 
@@ -84,3 +86,11 @@ edits_are_fresh r s (Unchoose c option) d delta h =
     one_fresh s c _ d chosen.1
     (new_choice (s c) _
     (withdrawn_is_fresh (s c).choice option (not_false (is_chosen (s c).choice option) chosen.0)))
+
+-- so is what an answer to an edit holds
+pub answers_are_fresh : {A : Type 0} (value : A → Entries) (r : ℕ) (s t : State) (e : Edit) (answer : Result A Refusal)
+    → s ≡ t → IfOk answer (λ d. delta_of_edit r s e ≡ Ok (value d)) → IfOk answer (λ d. IsDelta (value d))
+    → IfOk answer (λ d. ¬ IsBelow (state_of (value d)) t)
+answers_are_fresh value r s t e (Ok d) is made delta =
+    subst (λ (u : State). ¬ IsBelow (state_of (value d)) u) is (edits_are_fresh r s e (value d) delta made)
+answers_are_fresh value r s t e (Err x) is made delta = tt

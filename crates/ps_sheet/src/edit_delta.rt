@@ -2,6 +2,7 @@
 
 ghost use Rattle.std.specs.Prelude.{◌≡◌, ◌≢◌, ◌⊎◌, ◌≤◌, [], ◌∷◌, Ok, Err, IfOk, IfErr, if◌then◌else◌, nat_le};
 ghost use Rattle.std.specs.Prelude.{IsOk, IsErrOf};
+ghost use Rattle.std.specs.Arc.{arc_value};
 ghost use Rattle.std.specs.List.{list_any};
 ghost use Rattle.ps_grid.specs.declared.refusal.Refusal.{Refusal};
 ghost use Rattle.ps_delta.specs.State.{empty_cell, state_at};
@@ -20,6 +21,7 @@ use ps_delta::{CellState, Delta, Grid};
 use ps_grid::{Cell, REPLICAS, Refusal};
 use ps_lattice::{AMOUNT_LIMIT, Choice, OPTIONS, Register, Tally};
 use std::alloc::Global;
+use std::sync::Arc;
 
 /// The delta of an edit at the replica over the grid, or the first refusal that holds.
 #[inline(always)]
@@ -28,10 +30,10 @@ pub(crate) fn delta_of(
     grid: &Grid,
     replica: u8,
     edit: Edit,
-) -> Result<Delta, Refusal>
+) -> Result<Arc<Delta>, Refusal>
     requires { (1 ≤ replica) × (replica ≤ REPLICAS) }
-    ensures made { IfOk result (λ d. delta_of_edit replica (state_at grid.now) edit ≡ Ok d) }
-    ensures delta { IfOk result IsDelta }
+    ensures made { IfOk result (λ d. delta_of_edit replica (state_at grid.now) edit ≡ Ok (arc_value d)) }
+    ensures delta { IfOk result (λ d. IsDelta (arc_value d)) }
     ensures refused { IfErr result (λ e. (e ≡ Refusal.Memory)
         ⊎ (delta_of_edit replica (state_at grid.now) edit ≡ Err e)) }
     ensures asked { IsErrOf result Refusal.Memory → IsOk (delta_of_edit replica (state_at grid.now) edit) }
@@ -39,32 +41,35 @@ pub(crate) fn delta_of(
     match edit {
         Edit::Set(cell, content) => {
             let register = grid.at(cell).register.assign(replica, content)?;
-            Ok(of_cell(cell, with_register(alloc, register)))
+            of_cell(alloc, cell, with_register(alloc, register))
         }
-        Edit::SetAll(batch) => all_assigned(alloc, grid, replica, batch.into_cells()),
+        Edit::SetAll(batch) => {
+            let delta = all_assigned(alloc, grid, replica, batch.into_cells())?;
+            Ok(Arc::new(alloc, delta)?)
+        }
         Edit::Add(cell, amount) => {
             let state = grid.at(cell);
             check_tally(state, amount)?;
             let tally = state.tally.add(alloc, replica, amount)?;
-            Ok(of_cell(cell, with_tally(alloc, tally)))
+            of_cell(alloc, cell, with_tally(alloc, tally))
         }
         Edit::Sub(cell, amount) => {
             let state = grid.at(cell);
             check_tally(state, amount)?;
             let tally = state.tally.sub(alloc, replica, amount)?;
-            Ok(of_cell(cell, with_tally(alloc, tally)))
+            of_cell(alloc, cell, with_tally(alloc, tally))
         }
         Edit::Choose(cell, option) => {
             let state = grid.at(cell);
             check_choice(state, option)?;
             let choice = state.choice.choose(alloc, replica, option)?;
-            Ok(of_cell(cell, with_choice(alloc, choice)))
+            of_cell(alloc, cell, with_choice(alloc, choice))
         }
         Edit::Unchoose(cell, option) => {
             let state = grid.at(cell);
             check_choice(state, option)?;
             let choice = state.choice.unchoose(alloc, option)?;
-            Ok(of_cell(cell, with_choice(alloc, choice)))
+            of_cell(alloc, cell, with_choice(alloc, choice))
         }
     }
 }
@@ -170,13 +175,15 @@ fn with_choice(alloc: Global, choice: Choice) -> CellState
 }
 
 /// The delta of one cell.
-fn of_cell(cell: Cell, state: CellState) -> Delta
+#[inline(always)]
+fn of_cell(alloc: Global, cell: Cell, state: CellState) -> Result<Arc<Delta>, Refusal>
     requires { state ≢ empty_cell }
-    ensures made { result ≡ (cell, state) ∷ [] }
-    ensures delta { IsDelta result }
+    ensures made { IfOk result (λ d. arc_value d ≡ (cell, state) ∷ []) }
+    ensures delta { IfOk result (λ d. IsDelta (arc_value d)) }
+    ensures memory { IfErr result (λ e. e ≡ Refusal.Memory) }
 {
     match Delta::of_one(cell, state) {
-        Some(delta) => delta,
+        Some(delta) => Ok(Arc::new(alloc, delta)?),
         None => unreachable!(),
     }
 }

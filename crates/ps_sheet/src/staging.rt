@@ -250,9 +250,7 @@ impl Staging {
             → IsOk (delta_of_edit self.now.replica (joined_history self.now.history) edit) }
         ensures staging { IsStaging self.now }
     {
-        let delta = delta_of(alloc, self.cells.grid(), self.replica, edit)?;
-        let made = Arc::new(alloc, delta)?;
-        Ok(made)
+        delta_of(alloc, self.cells.grid(), self.replica, edit)
     }
 
     /// Whether a delta is below the state.
