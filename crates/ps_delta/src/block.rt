@@ -64,8 +64,23 @@ impl Block {
         mem::swap(&mut self.cells[place], state);
     }
 
-    /// Adds empty states until the block has all its cells.
+    /// Adds empty states where the block hasn't all its cells.
+    #[inline(always)]
     pub(crate) fn fill(&mut self, alloc: Global) -> Result<(), Refusal>
+        ensures same { (p : ℕ) → slice_index_or self.new p empty_cell ≡ slice_index_or self.old p empty_cell }
+        ensures longer { length self.old ≤ length self.new }
+        ensures full { OnOk result (BLOCK ≤ length self.new) }
+        ensures memory { IfErr result (λ e. e ≡ Refusal.Memory) }
+    {
+        if self.cells.len() < BLOCK {
+            self.add_cells(alloc)?;
+        }
+        Ok(())
+    }
+
+    /// Adds empty states until the block has all its cells.
+    #[inline(never)]
+    fn add_cells(&mut self, alloc: Global) -> Result<(), Refusal>
         ensures same { (p : ℕ) → slice_index_or self.new p empty_cell ≡ slice_index_or self.old p empty_cell }
         ensures longer { length self.old ≤ length self.new }
         ensures full { OnOk result (BLOCK ≤ length self.new) }

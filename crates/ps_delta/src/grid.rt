@@ -139,6 +139,7 @@ impl Grid {
     ///
     /// Cost: for each cell of the delta, the counts and pairs that it has here and there; and 64 states for each block
     /// that is made.
+    #[inline(always)]
     pub fn changes_by(
         &mut self,
         alloc: Global,
@@ -183,6 +184,7 @@ impl Grid {
     }
 
     /// Makes the blocks of the cells, where they aren't there.
+    #[inline(always)]
     fn make_places(&mut self, alloc: Global, cells: &[(Cell, CellState)]) -> Result<(), Refusal>
         ensures same { state_at self.new ≡ state_at self.old }
         ensures ready { OnOk result (HasRoomFor self.new cells.now) }
@@ -207,6 +209,7 @@ impl Grid {
 
 /// The cells that a join of the delta would change in the grid, each with the state that it would have, in the room of
 /// the given list.
+#[inline(always)]
 fn changes_of(
     alloc: Global,
     grid: &Grid,

@@ -131,11 +131,8 @@ impl<V: Linear + Twin + Drop> Register<V> {
         ensures ok { IfOk result (λ r. r ≡ joined_registers V.cmp self.now other.now) }
         ensures memory { IfErr result (λ e. e ≡ Refusal.Memory) }
     {
-        if other.below(self) {
-            self.twin(alloc)
-        } else {
-            other.twin(alloc)
-        }
+        let newer = if other.below(self) { self } else { other };
+        newer.twin(alloc)
     }
 }
 

@@ -1,7 +1,7 @@
 use Rattle.std.proofs.Common.{◌≡◌, ◌-◌, ◌≤◌, ℕ, length, get_or}
 use Rattle.ps_delta.specs.declared.block.TheConstants.{BLOCK}
 use Rattle.ps_delta.specs.State.{empty_cell}
-use Rattle.ps_delta.proofs.block.Block.fill.Given as goal
+use Rattle.ps_delta.proofs.block.Block.add_cells.Given as goal
 
 abbrev pub invariant-loop-alloc : goal.invariant-loop-alloc
 invariant-loop-alloc l = record {
