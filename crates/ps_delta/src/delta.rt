@@ -9,7 +9,7 @@ ghost use Rattle.ps_delta.specs.State.{empty_cell, joined_state};
 ghost use Rattle.ps_delta.specs.Deltas.{AreEntries, AreInGrid, IsDelta, joined_history, state_of};
 
 use crate::cell_state::CellState;
-use crate::parts::Parts;
+use crate::delta_cells::DeltaCells;
 use ps_grid::{Cell, Refusal};
 use ps_lattice::{is_ascending, merge_entries};
 use std::alloc::Global;
@@ -20,12 +20,12 @@ use std::sync::Arc;
 /// else. A contract sees it as the list of the cells with their states.
 #[derive(Drop)]
 pub struct Delta {
-    parts: Parts,
+    cells: DeltaCells,
 }
 
 impl Model for Delta {
     ghost use Rattle.ps_delta.specs.Deltas.{Entries, IsDelta, AreInGrid};
-    ghost use Rattle.ps_delta.specs.Inside.Parts.{parts_of};
+    ghost use Rattle.ps_delta.specs.Inside.DeltaCells.{kept_entries};
     ghost use Rattle.ps_delta.specs.contracts.cell_state.CellState as cell_state;
     ghost use Rattle.std.specs.Coded.{codes};
 
@@ -33,9 +33,9 @@ impl Model for Delta {
 
     ghost coded = { Prim.hlevel (codes, cell_state.the_row.coded) };
 
-    ghost view = { λ d. parts_of d.parts };
+    ghost view = { λ d. kept_entries d.cells };
 
-    ghost invariant = { λ d. IsDelta (parts_of d.parts) × AreInGrid (parts_of d.parts) };
+    ghost invariant = { λ d. IsDelta (kept_entries d.cells) × AreInGrid (kept_entries d.cells) };
 }
 
 impl Delta {
@@ -49,7 +49,7 @@ impl Delta {
     {
         if are_entries(&cells) && !cells.is_empty() {
             Some(Delta {
-                parts: Parts::new(cells),
+                cells: DeltaCells::new(cells),
             })
         } else {
             None
@@ -69,7 +69,7 @@ impl Delta {
             None
         } else {
             Some(Delta {
-                parts: Parts::One((cell, state)),
+                cells: DeltaCells::One((cell, state)),
             })
         }
     }
@@ -89,7 +89,7 @@ impl Delta {
             cells = merge_entries(alloc, &cells, delta.parts())?;
         }
         Ok(Delta {
-            parts: Parts::new(cells),
+            cells: DeltaCells::new(cells),
         })
     }
 
@@ -101,7 +101,7 @@ impl Delta {
         ensures delta { IsDelta result.now }
         ensures in_grid { AreInGrid result.now }
     {
-        self.parts.as_slice()
+        self.cells.as_slice()
     }
 }
 

@@ -24,9 +24,9 @@
 mod block;
 mod cell_state;
 mod delta;
+mod delta_cells;
 mod grid;
 mod laws;
-mod parts;
 mod places;
 mod touched;
 

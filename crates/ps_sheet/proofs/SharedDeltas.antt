@@ -13,7 +13,7 @@ use Rattle.std.specs.contracts.alloc.Global as Global
 use Rattle.std.specs.contracts.impls.GlobalAllocator.TheImpl.{ghosts}
 use Rattle.ps_grid.specs.contracts.cell.Cell as cell
 use Rattle.ps_delta.specs.contracts.cell_state.CellState as cell_state
-use Rattle.ps_delta.specs.contracts.parts.Parts as parts
+use Rattle.ps_delta.specs.contracts.delta_cells.DeltaCells as delta_cells
 use Rattle.ps_delta.specs.contracts.delta.Delta as delta
 use Rattle.ps_delta.specs.contracts.delta.Delta.TheInside as inside
 
@@ -35,14 +35,14 @@ pair_send Q R q r = search sendable depth 20
 pair_sync : (Q R : RattleType) → IsSync Q → IsSync R → IsSync (Tuple (Q ∷ R ∷ []))
 pair_sync Q R q r = search sendable depth 20
 
-parts_send : IsSend entry → IsSend list → IsSend parts.the_row
-parts_send e l = variants_send parts.enum (
+cells_send : IsSend entry → IsSend list → IsSend delta_cells.the_row
+cells_send e l = variants_send delta_cells.enum (
   (search (sendable, e) depth 20, tt),
   ((as_row_send (Vec.the_field entry Global.the_row ghosts) l, tt), tt),
 )
 
-parts_sync : IsSync entry → IsSync list → IsSync parts.the_row
-parts_sync e l = variants_sync parts.enum (
+cells_sync : IsSync entry → IsSync list → IsSync delta_cells.the_row
+cells_sync e l = variants_sync delta_cells.enum (
   (search (sendable, e) depth 20, tt),
   ((as_row_sync (Vec.the_field entry Global.the_row ghosts) l, tt), tt),
 )
@@ -50,12 +50,12 @@ parts_sync e l = variants_sync parts.enum (
 pub delta_send : IsSend cell_state.the_row → IsSend delta.the_row
 delta_send a =
     let e : IsSend entry = pair_send cell.the_row cell_state.the_row cell_send a in
-    view_send _ _ _ _ _ (declared_send inside.the_type (parts_send e (crossing.Vec-send entry e), tt))
+    view_send _ _ _ _ _ (declared_send inside.the_type (cells_send e (crossing.Vec-send entry e), tt))
 
 pub delta_sync : IsSync cell_state.the_row → IsSync delta.the_row
 delta_sync a =
     let e : IsSync entry = pair_sync cell.the_row cell_state.the_row cell_sync a in
-    view_sync _ _ _ _ _ (declared_sync inside.the_type (parts_sync e (crossing.Vec-sync entry e), tt))
+    view_sync _ _ _ _ _ (declared_sync inside.the_type (cells_sync e (crossing.Vec-sync entry e), tt))
 
 abbrev pub shared_delta : RattleType
 shared_delta = Arc.the_row delta.the_row Global.the_row ghosts

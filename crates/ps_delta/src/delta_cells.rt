@@ -1,7 +1,7 @@
 //! Cells with their states, as a delta keeps them.
 
 ghost use Rattle.std.specs.Prelude.{◌≡◌};
-ghost use Rattle.ps_delta.specs.Inside.Parts.{parts_of};
+ghost use Rattle.ps_delta.specs.Inside.DeltaCells.{kept_entries};
 
 use crate::cell_state::CellState;
 use ps_grid::Cell;
@@ -9,30 +9,30 @@ use std::slice;
 
 /// Cells with their states. One alone takes no memory beside this value: most deltas are of one cell.
 #[derive(Drop)]
-pub(crate) enum Parts {
+pub(crate) enum DeltaCells {
     One((Cell, CellState)),
     Several(Vec<(Cell, CellState)>),
 }
 
-impl Parts {
+impl DeltaCells {
     /// The cells of the list, without spare room.
-    pub(crate) fn new(mut cells: Vec<(Cell, CellState)>) -> Parts
-        ensures { parts_of result ≡ cells.items }
+    pub(crate) fn new(mut cells: Vec<(Cell, CellState)>) -> DeltaCells
+        ensures { kept_entries result ≡ cells.items }
     {
         if cells.len() == 1 {
-            return Parts::One(cells.swap_remove(0));
+            return DeltaCells::One(cells.swap_remove(0));
         }
         cells.shrink_to_fit();
-        Parts::Several(cells)
+        DeltaCells::Several(cells)
     }
 
     /// The cells with their states.
     pub(crate) fn as_slice(&self) -> &[(Cell, CellState)]
-        ensures { result.now ≡ parts_of self.now }
+        ensures { result.now ≡ kept_entries self.now }
     {
         match self {
-            Parts::One(part) => slice::from_ref(part),
-            Parts::Several(cells) => cells,
+            DeltaCells::One(entry) => slice::from_ref(entry),
+            DeltaCells::Several(cells) => cells,
         }
     }
 }
