@@ -7,7 +7,7 @@ ghost use Rattle.std.specs.Mem.{FitsInMemory};
 ghost use Rattle.std.specs.declared.cmp.Ordering.{Ordering};
 ghost use Rattle.ps_grid.specs.declared.refusal.Refusal.{Refusal};
 ghost use Rattle.ps_lattice.specs.Maps.{joined_maps};
-ghost use Rattle.ps_lattice.specs.Inside.Shared.{items_of, EntryFits};
+ghost use Rattle.ps_lattice.specs.Inside.Shared.{items_of, joined_entries, EntryFits};
 
 use crate::entries::{self, Merge};
 use crate::join::{Join, Linear};
@@ -91,8 +91,7 @@ pub(crate) fn joined<K: Linear + Copy, X: Merge + Copy>(
     requires mine { IsTrue (map.is_sorted K.cmp (items_of mine.now)) }
     requires theirs { IsTrue (map.is_sorted K.cmp (items_of theirs.now)) }
     ensures ok { IfOk result (λ v. items_of v
-        ≡ map.entries (joined_maps X.joined (map.from_sorted {R = K.cmp} (items_of mine.now))
-        (map.from_sorted {R = K.cmp} (items_of theirs.now)))) }
+        ≡ joined_entries K.cmp X.joined (items_of mine.now) (items_of theirs.now)) }
     ensures memory { IfErr result (λ e. e ≡ Refusal.Memory) }
 {
     match (mine, theirs) {
@@ -113,8 +112,7 @@ fn joined_filled<K: Linear + Copy, X: Merge + Copy>(
     requires mine { IsTrue (map.is_sorted K.cmp (items_of mine.now)) }
     requires theirs { IsTrue (map.is_sorted K.cmp (items_of theirs.now)) }
     ensures ok { IfOk result (λ v. items_of v
-        ≡ map.entries (joined_maps X.joined (map.from_sorted {R = K.cmp} (items_of mine.now))
-        (map.from_sorted {R = K.cmp} (items_of theirs.now)))) }
+        ≡ joined_entries K.cmp X.joined (items_of mine.now) (items_of theirs.now)) }
     ensures memory { IfErr result (λ e. e ≡ Refusal.Memory) }
 {
     match (mine, theirs) {
@@ -158,8 +156,7 @@ fn merged<K: Linear + Copy, X: Merge + Copy>(
     requires mine { IsTrue (map.is_sorted K.cmp (items_of mine.now)) }
     requires theirs { IsTrue (map.is_sorted K.cmp (items_of theirs.now)) }
     ensures ok { IfOk result (λ v. items_of v
-        ≡ map.entries (joined_maps X.joined (map.from_sorted {R = K.cmp} (items_of mine.now))
-        (map.from_sorted {R = K.cmp} (items_of theirs.now)))) }
+        ≡ joined_entries K.cmp X.joined (items_of mine.now) (items_of theirs.now)) }
     ensures memory { IfErr result (λ e. e ≡ Refusal.Memory) }
 {
     if entries::is_below(theirs.items(), mine.items()) {
