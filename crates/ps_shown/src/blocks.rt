@@ -208,7 +208,7 @@ pub(crate) fn forget(sums: &mut Vec<Option<Summary>>, runs: &mut Runs, place: us
     ensures capacity { vec_capacity sums.old ≤ vec_capacity sums.new }
 {
     let block = place / BLOCK;
-    if block < sums.len() {
+    if block < sums.len() && sums[block].is_some() {
         sums[block] = None;
         runs.cut(block);
     }
