@@ -150,5 +150,10 @@ pub fn eval_level<R: Threads + Sync, F: Formulas + Sync, K: Look + Sync, G: Gate
         look,
         gate,
     };
-    meter.add(task.by_several(0, workers.min(cells.len()), cells, out));
+    let count = workers.min(cells.len());
+    if count == 1 {
+        meter.add(task.by_one(0, cells, out));
+    } else {
+        meter.add(task.by_several(0, count, cells, out));
+    }
 }
