@@ -14,7 +14,7 @@ use Rattle.ps_index.proofs.ColumnsSorted.{by_cell_within, ends_rise, within_key}
 use Rattle.ps_index.proofs.KeysOnTheWay.{OnTheWay, below_node, key_of_within, no_higher, no_lower, on_the_way}
 use Rattle.ps_index.specs.Inside.Columns.{AreBelow, IsBelowLevel, IsColumn, IsFromLevel, IsSole, IsSpan, key_at}
 use Rattle.ps_index.specs.Inside.Nodes.{key_of, node_of, rounded}
-use Rattle.ps_index.specs.Inside.Walks.{IsAhead, IsHead, IsLooked, IsMoved, IsRuns, IsWalk}
+use Rattle.ps_index.specs.Inside.Walks.{AreHeads, IsAhead, IsAt, IsHead, IsLooked, IsMoved, IsOn, IsRuns, IsWalk}
 use Rattle.ps_index.specs.Spans.{cell_of, cells_from, holds, refers_at}
 use Rattle.ps_index.proofs.BoolTests.{never_true, true_or_false}
 use Rattle.ps_index.proofs.SpansCounted.{holds_both, is_there, one_there, refers_at-some, refers_at-true}
@@ -577,6 +577,98 @@ head_at spans y starts ends runs least run first start cell is lt len from to go
     head_in_grid in_grid (inl e) = omega arith
     head_in_grid in_grid (inr h) = let d = any_span spans h.0 in
         let c : cell_of spans h.0 d < CELLS = in_grid h.0 d h.1 in omega (arith, (h.2 d).1)
+
+-- a walk of the cells from a later one on
+pub walk_later : (spans : List Span) (y : ℕ) (starts ends : List ℕ) (runs least more : ℕ)
+    → IsWalk spans y starts ends runs least → least ≤ more → IsWalk spans y starts ends runs more
+walk_later spans y starts ends runs least more is le = record {
+  few = is.few;
+  rising = is.rising;
+  within = is.within;
+  by_cell = is.by_cell;
+  whole = λ (i : ℕ) (d : Span) (within : i < length spans) (has : holds (get_or spans i d) y ≡ true)
+      (from : more ≤ cell_of spans i d). is.whole i d within has (omega arith);
+  in_grid = is.in_grid;
+}
+
+module _ (spans : List Span) (y own_end upper_end : ℕ) where
+  -- both runs go on
+  pub two_on : (least own own' own_cell upper upper' upper_cell : ℕ)
+      → IsWalk spans y (own ∷ upper ∷ []) (own_end ∷ upper_end ∷ []) 2 least
+      → IsOn spans y least own own_end own' own_cell → IsOn spans y least upper upper_end upper' upper_cell
+      → IsWalk spans y (own' ∷ upper' ∷ []) (own_end ∷ upper_end ∷ []) 2 least
+  two_on least own own' own_cell upper upper' upper_cell walk on on' =
+      let ends = own_end ∷ upper_end ∷ [] in
+      let one : IsWalk spans y (own' ∷ upper ∷ []) ends 2 least =
+      walk_past spans y (own ∷ upper ∷ []) ends 2 least 0 own' walk (omega arith) (omega arith) on.from on.to
+      on.passed in
+      walk_past spans y (own' ∷ upper ∷ []) ends 2 least 1 upper' one (omega arith) (omega arith) on'.from on'.to
+      on'.passed
+
+  -- the lesser of what they are at comes first
+  pub two_heads : (least own own_cell upper upper_cell : ℕ)
+      → IsWalk spans y (own ∷ upper ∷ []) (own_end ∷ upper_end ∷ []) 2 least
+      → IsAt spans y own own_end own_cell → IsAt spans y upper upper_end upper_cell
+      → least ≤ own_cell → least ≤ upper_cell
+      → IsHead spans y (own ∷ upper ∷ []) (own_end ∷ upper_end ∷ []) 2 least 2 (min own_cell upper_cell)
+  two_heads least own own_cell upper upper_cell walk at at' le le' =
+      let starts = own ∷ upper ∷ [] in
+      let ends = own_end ∷ upper_end ∷ [] in
+      let one : IsHead spans y starts ends 2 least 1 (min CELLS own_cell) =
+      head_at spans y starts ends 2 least 0 CELLS own own_cell (head_start spans y starts ends 2 least walk)
+      (omega arith) (omega arith) (omega arith) (walk.rising 0 (omega arith))
+      (λ (i : ℕ) (d : Span) (lo : own ≤ i) (hi : i < own). absurd (omega arith)) at.none at.is at.has_row
+      (λ (lt : own < own_end) (d : Span). omega (arith, at.is lt d)) in
+      let two : IsHead spans y starts ends 2 least 2 (min (min CELLS own_cell) upper_cell) =
+      head_at spans y starts ends 2 least 1 (min CELLS own_cell) upper upper_cell one (omega arith) (omega arith)
+      (omega arith) (walk.rising 1 (omega arith))
+      (λ (i : ℕ) (d : Span) (lo : upper ≤ i) (hi : i < upper). absurd (omega arith)) at'.none at'.is at'.has_row
+      (λ (lt : upper < upper_end) (d : Span). omega (arith, at'.is lt d)) in
+      let e : min (min CELLS own_cell) upper_cell ≡ min own_cell upper_cell = omega (arith, at.small) in
+      subst (λ n. IsHead spans y starts ends 2 least 2 n) e two
+
+  -- and what comes next is the lesser of what they are at then
+  pub heads_on : (least own own' own_cell upper upper' upper_cell : ℕ)
+      → IsWalk spans y (own ∷ upper ∷ []) (own_end ∷ upper_end ∷ []) 2 least
+      → IsOn spans y least own own_end own' own_cell → IsOn spans y least upper upper_end upper' upper_cell
+      → AreHeads spans y own' own_end own_cell upper' upper_end upper_cell
+  heads_on least own own' own_cell upper upper' upper_cell walk on on' = record {
+    walk = walk_later spans y (own' ∷ upper' ∷ []) (own_end ∷ upper_end ∷ []) 2 least (min own_cell upper_cell)
+        (two_on least own own' own_cell upper upper' upper_cell walk on on') (omega (arith, on.later, on'.later));
+    own_at = on.at;
+    upper_at = on'.at;
+  }
+
+  pub cells_on : (least own own' own_cell upper upper' upper_cell : ℕ)
+      → IsWalk spans y (own ∷ upper ∷ []) (own_end ∷ upper_end ∷ []) 2 least
+      → IsOn spans y least own own_end own' own_cell → IsOn spans y least upper upper_end upper' upper_cell
+      → cells_from (refers_at spans y) least CELLS ≡ cells_from (refers_at spans y) (min own_cell upper_cell) CELLS
+  cells_on least own own' own_cell upper upper' upper_cell walk on on' =
+      let on_both = two_on least own own' own_cell upper upper' upper_cell walk on on' in
+      (IsMoved-head spans y (own' ∷ upper' ∷ []) (own_end ∷ upper_end ∷ []) 2 least 2 (min own_cell upper_cell)
+      (two_heads least own' own_cell upper' upper_cell on_both on.at on'.at on.later on'.later) (omega arith)).none_passed
+
+  -- a step gives the lesser cell, and both runs go on past it
+  pub heads_yield : (own own' own_cell own_cell' upper upper' upper_cell upper_cell' first : ℕ)
+      → AreHeads spans y own own_end own_cell upper upper_end upper_cell → first ≡ min own_cell upper_cell
+      → IsOn spans y (first + 1) own own_end own' own_cell'
+      → IsOn spans y (first + 1) upper upper_end upper' upper_cell'
+      → (v : List ℕ) (c : ℕ) → cells_from (refers_at spans y) (min own_cell upper_cell) CELLS ≡ v → first < CELLS
+      → c ≡ first → v ≡ c ∷ cells_from (refers_at spans y) (min own_cell' upper_cell') CELLS
+  heads_yield own own' own_cell own_cell' upper upper' upper_cell upper_cell' first are is on on' v c view lt at =
+      let starts = own ∷ upper ∷ [] in
+      let ends = own_end ∷ upper_end ∷ [] in
+      let next = min own_cell upper_cell in
+      let head : IsHead spans y starts ends 2 next 2 next =
+      two_heads next own own_cell upper upper_cell are.walk are.own_at are.upper_at (omega arith) (omega arith) in
+      let moved = IsMoved-head spans y starts ends 2 next 2 next head (omega arith) in
+      let past = cells_on (first + 1) own own' own_cell' upper upper' upper_cell'
+      (walk_later spans y starts ends 2 next (first + 1) are.walk (omega arith)) on on' in
+      let moves : cells_from (refers_at spans y) (next + 1) CELLS
+      ≡ cells_from (refers_at spans y) (min own_cell' upper_cell') CELLS =
+      ap (λ n. cells_from (refers_at spans y) (n + 1) CELLS) (sym is) ∙ past in
+      next_yields spans y starts ends 2 next (min own_cell' upper_cell') moved.ahead moves v (Some c) view
+      (omega arith, at ∙ is)
 
 -- the spans that may have a row are kept at it, or at the one row above it of the level of ranges
 pub two_runs : (column : List ℕ) (level above y key : ℕ) → above ≡ level + 1 → 1 ≤ y → y ≤ ROWS

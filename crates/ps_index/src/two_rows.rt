@@ -1,11 +1,11 @@
 //! The walk of the cells that refer to a row of a column where all spans of several rows are kept at one level.
 
-ghost use Rattle.std.specs.Prelude.{◌≡◌, ℕ, ◌+◌, ◌∷◌, [], ◌<◌, ◌≤◌, length};
+ghost use Rattle.std.specs.Prelude.{◌≡◌, ℕ, ◌+◌, ◌<◌, ◌≤◌, length, min};
 ghost use Rattle.std.specs.Iterator.{YieldsFirst, item_count};
 ghost use Rattle.ps_grid.specs.declared.size.TheConstants.{CELLS as ALL};
 ghost use Rattle.ps_index.specs.Inside.Columns.{AreBelow, IsColumn};
 ghost use Rattle.ps_index.specs.Inside.Nodes.{node_of};
-ghost use Rattle.ps_index.specs.Inside.Walks.{IsHead, IsWalk};
+ghost use Rattle.ps_index.specs.Inside.Walks.{IsAt, IsOn};
 ghost use Rattle.ps_index.specs.Spans.{cell_of, cells_from, refers_at};
 ghost use Rattle.ps_index.specs.declared.span.Span.{Span as TheSpan};
 
@@ -14,41 +14,47 @@ use crate::walk::passed;
 use ps_grid::{CELLS, Cell, ROWS};
 use std::marker::Model;
 
+/// What is left of a run of spans: the place of its first one, and the cell of that; `CELLS` where nothing is left.
+#[derive(Clone, Copy)]
+struct Head {
+    place: usize,
+    cell: usize,
+}
+
 /// A walk of the cells that refer to a row of a column whose ranges are all kept at one level of rows: in order, and so
 /// each once. Their spans are kept at the row itself, and at the one row of that level which is above it in the tree. A
 /// contract sees it as the list of those that are still to come.
 ///
-/// Cost: a step looks at the first span that is left of either row, and at those that it passes over: of cells that
-/// came already, and such as don't have the row.
+/// Cost: a step looks at the spans that it passes over: that of its cell, others of cells that came already, and such as
+/// don't have the row.
 #[derive(Drop)]
 pub struct TwoRowReaders<'a> {
     /// the spans of the column
     spans: &'a [Span],
     /// the row that is referred to
     row: usize,
-    /// of the spans that are kept at the row itself, the place of the first that is left
-    own: usize,
+    /// of the spans that are kept at the row itself, the first that is left and has the row
+    own: Head,
     /// the place after the last of these
     own_end: usize,
-    /// of the spans that are kept at the row above it, the place of the first that is left
-    upper: usize,
+    /// of the spans that are kept at the row above it, the first that is left and has the row
+    upper: Head,
     /// the place after the last of these
     upper_end: usize,
-    /// the cells below this one came already
-    least: usize,
 }
 
 impl<'a> Model for TwoRowReaders<'a> {
-    ghost use Rattle.std.specs.Prelude.{List, ℕ, ◌∷◌, []};
+    ghost use Rattle.std.specs.Prelude.{List, ℕ, min};
     ghost use Rattle.ps_grid.specs.declared.size.TheConstants.{CELLS};
-    ghost use Rattle.ps_index.specs.Inside.Walks.{IsWalk};
+    ghost use Rattle.ps_index.specs.Inside.Walks.{AreHeads};
     ghost use Rattle.ps_index.specs.Spans.{cells_from, refers_at};
 
     ghost Value = { List ℕ };
 
-    ghost view = { λ w. cells_from (refers_at w.spans.now w.row) w.least CELLS };
+    ghost view = { λ w. cells_from (refers_at w.spans.now w.row) (min w.own.cell w.upper.cell) CELLS };
 
-    ghost invariant = { λ w. IsWalk w.spans.now w.row (w.own ∷ w.upper ∷ []) (w.own_end ∷ w.upper_end ∷ []) 2 w.least };
+    ghost invariant = { λ w. AreHeads w.spans.now w.row w.own.place w.own_end w.own.cell w.upper.place w.upper_end
+        w.upper.cell };
 }
 
 impl<'a> TwoRowReaders<'a> {
@@ -69,14 +75,17 @@ impl<'a> TwoRowReaders<'a> {
         requires key_in_grid { key ≤ ROWS }
         ensures { result ≡ cells_from (refers_at spans.now row) 0 ALL }
     {
+        let own_end = column[row] as usize;
+        let upper_end = column[key] as usize;
+        let own = head_from(spans, row, 0, column[row - 1] as usize, own_end);
+        let upper = head_from(spans, row, 0, column[key - 1] as usize, upper_end);
         TwoRowReaders {
             spans,
             row,
-            own: column[row - 1] as usize,
-            own_end: column[row] as usize,
-            upper: column[key - 1] as usize,
-            upper_end: column[key] as usize,
-            least: 0,
+            own,
+            own_end,
+            upper,
+            upper_end,
         }
     }
 }
@@ -90,42 +99,46 @@ impl Iterator for TwoRowReaders<'_> {
 
     #[inline]
     fn next(&mut self) -> Option<Cell> {
-        let first = lesser_head(
-            self.spans,
-            self.row,
-            self.least,
-            &mut self.own,
-            self.own_end,
-            &mut self.upper,
-            self.upper_end,
-        );
+        let first = self.own.cell.min(self.upper.cell);
         let cell = Cell::from_index(first)?;
-        self.least = first + 1;
+        let own = past(self.spans, self.row, first, self.own, self.own_end);
+        let upper = past(self.spans, self.row, first, self.upper, self.upper_end);
+        self.own = own;
+        self.upper = upper;
         Some(cell)
     }
 }
 
-/// Moves two runs of spans on, past those whose cell came already or that don't have the row. Returns the lesser cell
-/// of what they begin with then; `CELLS` if nothing is left.
+/// The first of these spans that has the row and a cell which isn't below `least`.
 #[inline]
-fn lesser_head(
-    spans: &[Span],
-    row: usize,
-    least: usize,
-    own: &mut usize,
-    own_end: usize,
-    upper: &mut usize,
-    upper_end: usize,
-) -> usize
-    requires { IsWalk spans.now row (own.old ∷ upper.old ∷ []) (own_end ∷ upper_end ∷ []) 2 least }
-    ensures { IsHead spans.now row (own.new ∷ upper.new ∷ []) (own_end ∷ upper_end ∷ []) 2 least 2 result }
+fn head_from(spans: &[Span], row: usize, least: usize, from: usize, to: usize) -> Head
+    requires ordered { from ≤ to }
+    requires within { to ≤ length spans.now }
+    requires least { least ≤ ALL }
+    ensures { IsOn spans.now row least from to result.place result.cell }
 {
-    let next = passed(spans, row, least, *own, own_end);
-    let above = passed(spans, row, least, *upper, upper_end);
-    *own = next;
-    *upper = above;
-    let first = cell_at(spans, next, own_end);
-    first.min(cell_at(spans, above, upper_end))
+    let place = passed(spans, row, least, from, to);
+    Head {
+        place,
+        cell: cell_at(spans, place, to),
+    }
+}
+
+/// What is left of a run after the cell `first` came, which none that is left is below.
+#[inline]
+fn past(spans: &[Span], row: usize, first: usize, head: Head, end: usize) -> Head
+    requires at { IsAt spans.now row head.place end head.cell }
+    requires ordered { head.place ≤ end }
+    requires within { end ≤ length spans.now }
+    requires first { first ≤ head.cell }
+    requires small { first < ALL }
+    ensures { IsOn spans.now row (first + 1) head.place end result.place result.cell }
+{
+    if head.cell == first {
+        head_from(spans, row, first + 1, head.place + 1, end)
+    } else {
+        head
+    }
 }
 
 /// The cell of the span at a place; `CELLS` if that is the end.

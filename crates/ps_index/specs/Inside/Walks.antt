@@ -1,5 +1,5 @@
 -- How a walk goes through the spans of a column that may have a row.
-use Rattle.std.specs.Prelude.{◌≡◌, ℕ, ◌+◌, ◌-◌, ◌<◌, ◌≤◌, ◌⊎◌, true, List, length, get_or}
+use Rattle.std.specs.Prelude.{◌≡◌, ℕ, ◌+◌, ◌-◌, ◌<◌, ◌≤◌, ◌⊎◌, true, List, [], ◌∷◌, length, get_or, min}
 use Rattle.ps_grid.specs.declared.size.TheConstants.{CELLS, ROWS}
 use Rattle.ps_index.specs.declared.span.Span.{Span}
 use Rattle.ps_index.specs.Inside.Nodes.{node_of, rounded}
@@ -61,3 +61,25 @@ pub record IsRowWalk (spans : List Span) (y place end least : ℕ) : Type 0 wher
       → least ≤ cell_of spans i d
       → (place ≤ i) × (i < end)
   pub in_grid : (i : ℕ) (d : Span) → i < length spans → cell_of spans i d < CELLS
+
+-- a place in a run of spans that ends at another, and the cell of its span, which has row y; CELLS where it is the end
+pub record IsAt (spans : List Span) (y place «end» cell : ℕ) : Type 0 where
+  pub small : cell ≤ CELLS
+  pub none : «end» ≤ place → cell ≡ CELLS
+  pub is : place < «end» → (d : Span) → cell_of spans place d ≡ cell
+  pub has_row : place < «end» → (d : Span) → holds (get_or spans place d) y ≡ true
+
+-- where a run comes to from a place on: past the spans that don't have row y, and those of cells below `least`
+pub record IsOn (spans : List Span) (y least start «end» place cell : ℕ) : Type 0 where
+  pub from : start ≤ place
+  pub to : place ≤ «end»
+  pub passed : (i : ℕ) (d : Span) → start ≤ i → i < place → holds (get_or spans i d) y ≡ true
+      → cell_of spans i d < least
+  pub at : IsAt spans y place «end» cell
+  pub later : least ≤ cell
+
+-- a walk of the cells with a span that has row y, by two runs that are each at such a span
+pub record AreHeads (spans : List Span) (y own own_end own_cell upper upper_end upper_cell : ℕ) : Type 0 where
+  pub walk : IsWalk spans y (own ∷ upper ∷ []) (own_end ∷ upper_end ∷ []) 2 (min own_cell upper_cell)
+  pub own_at : IsAt spans y own own_end own_cell
+  pub upper_at : IsAt spans y upper upper_end upper_cell
