@@ -3,6 +3,7 @@ use Rattle.std.proofs.Common.{◌≡◌, ◌≢◌, ℕ, ◌+◌, ◌-◌, ◌<�
 use Rattle.std.proofs.Common.{◌||◌, inl, inr, List, [], ◌∷◌, ◌++◌, length, refl, sym, ap, ◌∙◌, arith, ⊎_elim, eqb}
 use Rattle.std.proofs.Common.{subst, get_or, set}
 use Rattle.std.proofs.lemmas.Bool.{cases_eq}
+use Rattle.std.proofs.lemmas.Bool.Decides.{nat_tests}
 use Rattle.std.proofs.lemmas.List.{get_or-set_same, get_or-set_other, append-nil, append_assoc, length-set}
 use Rattle.std.proofs.lemmas.Cmp.{nat_eq_equiv}
 use Rattle.std.proofs.lemmas.Map.Keys.{IsDistinct-push}
@@ -172,3 +173,52 @@ module _ (refers : References) (d k : ℕ) where
       (Released-more walked left level order left2 level2 order2 e (get_or left2 e 0 - 1) rel ref new lt long
       (omega arith) (omega arith)))
       (cases_eq (get_or left2 e 0) 1)
+
+  -- those of one cell, and then of another
+  pub Released-both : (left level order left2 level2 order2 left3 level3 order3 : List ℕ) (e f : ℕ) → e ≢ f
+      → Released refers d k (e ∷ []) left level order left2 level2 order2
+      → Released refers d k (f ∷ []) left2 level2 order2 left3 level3 order3
+      → Released refers d k (e ∷ f ∷ []) left level order left3 level3 order3
+  Released-both left level order left2 level2 order2 left3 level3 order3 e f apart one two =
+      let before : (c : ℕ) → In order2 c → In order3 c =
+      in-grows order2 order3 two.grows.0 two.grows.1 in
+      record {
+        queued = two.queued;
+        counted = λ c. ⊎_elim
+            (λ at. let other : eqb c f ≡ false = other_than c f (λ same. apart (sym at ∙ same)) in
+            let here : eqb c e ≡ true = same_as c e at in
+            let a = rw here at (one.counted c) in
+            let b = rw other at (two.counted c) in
+            rw here (omega arith))
+            (λ ne. let not_e : eqb c e ≡ false = other_than c e ne in
+            let a = rw not_e at (one.counted c) in
+            let b = two.counted c in
+            rw not_e (omega arith))
+            (cases_eq c e);
+        grows = (
+          one.grows.0 ++ two.grows.0,
+          two.grows.1 ∙ ap (λ xs. xs ++ two.grows.0) one.grows.1 ∙ append_assoc order one.grows.0 two.grows.0,
+        );
+        fresh = λ c h. ⊎_elim
+            (λ old. ⊎_elim
+            (λ o. inl o)
+            (λ n. inr (n.0, two.kept c old ∙ n.1))
+            (one.fresh c old))
+            (λ n. inr n)
+            (two.fresh c h);
+        kept = λ c h. two.kept c (in-grows order order2 one.grows.0 one.grows.1 c h) ∙ one.kept c h;
+        found = λ c h r z. ⊎_elim
+            (λ at. let other : eqb c f ≡ false = other_than c f (λ same. apart (sym at ∙ same)) in
+            let here : eqb c e ≡ true = same_as c e at in
+            let b = rw other at (two.counted c) in
+            before c (one.found c (rw here refl) r (omega arith)))
+            (λ ne. let not_e : eqb c e ≡ false = other_than c e ne in
+            two.found c (rw not_e at h) r z)
+            (cases_eq c e);
+      }
+    where
+      other_than : (c x : ℕ) → c ≢ x → eqb c x ≡ false
+      other_than c x ne = grind (arith, nat_tests, ne)
+
+      same_as : (c x : ℕ) → c ≡ x → eqb c x ≡ true
+      same_as c x e = grind (arith, nat_tests, e)

@@ -14,14 +14,9 @@ ghost use Rattle.ps_region.specs.Listed.{listed};
 use crate::after::After;
 use crate::change::{MarkedChange, still_refers};
 use crate::members::{enter, enter_all, has_formula};
-use ps_grid::{CELLS, Cell};
+use crate::noted::{NONE, noted_with};
+use ps_grid::Cell;
 use ps_index::Readers;
-
-/// What is noted of a cell that no cell refers to.
-const NONE: u32 = CELLS as u32;
-
-/// What is noted of a cell that several cells refer to.
-const SEVERAL: u32 = CELLS as u32 + 1;
 
 /// Counts one more reference.
 pub(crate) fn add_one(left: &mut [u32], e: Cell)
@@ -40,16 +35,6 @@ fn is_counted<A: After>(change: &MarkedChange<'_, A>, counted: bool, e: Cell, d:
     ensures { result ≡ (counted && A.refers change.now.after.now e d) }
 {
     counted && still_refers(change, e, d)
-}
-
-/// What is noted of some cells and one more: the cell where it is the first, and else `SEVERAL`.
-fn noted_with(noted: u32, e: Cell) -> u32
-    ensures first { noted ≡ ALL → result ≡ e }
-    ensures more { noted ≢ ALL → ALL < result }
-{
-    // known by its contract: the cell is in the grid
-    let place = e.index() as u32;
-    if noted == NONE { place } else { SEVERAL }
 }
 
 /// Puts the cell `e`, which refers to the cell `d`, into the region, and counts its reference if `d` is a formula cell.
@@ -85,7 +70,7 @@ fn enter_one<A: After>(
 }
 
 /// Puts each cell of a walk, which are those that refer to the cell `d`, into the region, and counts its reference if
-/// `d` is a formula cell. Returns what is noted of them: the one cell where there is just one.
+/// `d` is a formula cell. Returns what is noted of them.
 fn enter_each<A: After, W: Iterator<Item = Cell> + Drop>(
     change: &MarkedChange<'_, A>,
     marks: &mut [bool],
@@ -129,7 +114,7 @@ fn enter_each<A: After, W: Iterator<Item = Cell> + Drop>(
 }
 
 /// Puts each cell that refers to the cell `d` into the region, counts its reference if `d` is a formula cell, and notes
-/// the one such cell where there is just one. They are walked only where there may be several.
+/// which these are, where they are few. They are walked only where there may be several.
 fn enter_dependents<A: After>(
     change: &MarkedChange<'_, A>,
     marks: &mut [bool],
@@ -180,7 +165,7 @@ fn enter_dependents<A: After>(
 }
 
 /// Grows the region from the touched cells, counts for each member its references to formula cells of the region, and
-/// notes for each the one cell that refers to it, where there is just one.
+/// notes for each which cells refer to it, where they are few.
 pub(crate) fn grow<A: After>(
     change: &MarkedChange<'_, A>,
     marks: &mut [bool],

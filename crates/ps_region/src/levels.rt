@@ -14,7 +14,8 @@ ghost use Rattle.ps_region.specs.Listed.{listed};
 use crate::after::After;
 use crate::change::{MarkedChange, still_refers};
 use crate::members::has_formula;
-use ps_grid::{CELLS, Cell};
+use crate::noted::{SEVERAL, pair_of};
+use ps_grid::Cell;
 use ps_index::Readers;
 
 /// Whether a member is a formula cell of which no reference is left.
@@ -134,8 +135,37 @@ fn release_each<A: After, W: Iterator<Item = Cell> + Drop>(
     }
 }
 
-/// Counts each reference to the cell `d` as released: by what is noted where at most one cell refers there, and else by
-/// a walk of the index.
+/// Counts the references of the two cells that are listed for the cell `d` as released.
+fn release_pair<A: After>(
+    change: &MarkedChange<'_, A>,
+    left: &mut [u32],
+    level: &mut [u32],
+    order: &mut Vec<Cell>,
+    d: Cell,
+    pair: (Cell, Cell),
+    k: u32,
+)
+    requires fresh_length { length change.now.fresh.now ≡ ALL }
+    requires left_length { length left.old ≡ ALL }
+    requires level_length { length level.old ≡ ALL }
+    requires apart { pair.0 ≢ pair.1 }
+    requires first { slice_index_or change.now.fresh.now pair.0 false ≡ false
+        → A.refers change.now.after.now pair.0 d ≡ true }
+    requires second { slice_index_or change.now.fresh.now pair.1 false ≡ false
+        → A.refers change.now.after.now pair.1 d ≡ true }
+    requires some { (c : ℕ) → A.refers change.now.after.now c d ≡ true → 0 < slice_index left.old c }
+    requires queued { Queued left.old order.old.items }
+    requires room { ALL ≤ vec_capacity order.old }
+    ensures released { Released (A.refers change.now.after.now) d k (pair.0 ∷ pair.1 ∷ []) left.old level.old
+        order.old.items left.new level.new order.new.items }
+    ensures room { ALL ≤ vec_capacity order.new }
+{
+    release_sole(change, left, level, order, d, pair.0, k);
+    release_sole(change, left, level, order, d, pair.1, k);
+}
+
+/// Counts each reference to the cell `d` as released: by what is noted where few cells refer there, and else by a walk
+/// of the index.
 fn release<A: After>(
     change: &MarkedChange<'_, A>,
     sole: &[u32],
@@ -160,9 +190,13 @@ fn release<A: After>(
         left.old level.old order.old.items left.new level.new order.new.items }
     ensures room { ALL ≤ vec_capacity order.new }
 {
-    let noted = sole[d.index()] as usize;
-    if noted <= CELLS {
-        if let Some(e) = Cell::from_index(noted) {
+    let noted = sole[d.index()];
+    if noted > SEVERAL {
+        release_pair(change, left, level, order, d, pair_of(noted), k);
+        return;
+    }
+    if noted < SEVERAL {
+        if let Some(e) = Cell::from_index(noted as usize) {
             release_sole(change, left, level, order, d, e, k);
         }
         return;

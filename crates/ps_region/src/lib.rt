@@ -16,7 +16,7 @@
 //! may still list what touched cells referred to before the change.
 //!
 //! Cost: `Region::new` makes the tables, 34 bytes for each cell of the grid, and no other call takes memory. A mark
-//! costs the cells of the region and two walks of the references to each, or one where at most one cell refers there.
+//! costs the cells of the region and two walks of the references to each, or one where few cells refer there.
 //! It doesn't pass over the grid. It goes once through the list of cyclic cells that it is lent, and walks the
 //! references to those outside the region. So with many cyclic cells about, a small change costs more than its region:
 //! that is the worst case, and where no cell is cyclic nothing is paid for it.
@@ -28,6 +28,7 @@ mod grow;
 mod laws;
 mod levels;
 mod members;
+mod noted;
 mod outside;
 mod region;
 

@@ -33,7 +33,7 @@ pub struct Region {
     left: Vec<u32>,
     // for each cell of a level its number
     level: Vec<u32>,
-    // for each member the one cell that refers to it; CELLS where none does, and a greater number where several do
+    // for each member what is noted of the cells that refer to it: which these are, where they are few
     sole: Vec<u32>,
     // the cells of the region, each once
     members: Vec<Cell>,

@@ -84,7 +84,7 @@ loop-e-preserved g c =
       ];
       noted = rw (n.push, n.more) (sole_more (take i all) c.loop-e.noted c.noted_with-noted.result e
           c.loop-e.invariant.noted (listed_below c.args.change.now.index.now c.args.d e n.inside)
-          c.noted_with-noted.ensures.first c.noted_with-noted.ensures.more);
+          c.noted_with-noted.ensures.first c.noted_with-noted.ensures.second c.noted_with-noted.ensures.more);
     }
 
 pub returns-clause-members : goal.returns-clause-members
