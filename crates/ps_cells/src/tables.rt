@@ -26,7 +26,7 @@ use crate::walk::{clear, close_all, settle_frame, show_all_first};
 use ps_delta::{CellState, Delta, Grid};
 use ps_eval::Meter;
 use ps_grid::{CELLS, Cell, Refusal};
-use ps_index::Index;
+use ps_index::{Index, Readers};
 use ps_region::Region;
 use ps_shown::Kept;
 use ps_workers::Gate;
@@ -281,7 +281,13 @@ impl Tables {
 fn is_unread(index: &Index, cell: Cell) -> bool
     ensures { result ≡ is_empty (listed index.now cell) }
 {
-    index.dependents(cell).next().is_none()
+    match index.readers(cell) {
+        Readers::Nobody => true,
+        Readers::One(_) => false,
+        Readers::Row(mut walk) => walk.next().is_none(),
+        Readers::TwoRows(mut walk) => walk.next().is_none(),
+        Readers::Several => index.dependents(cell).next().is_none(),
+    }
 }
 
 /// Whether the cell has no formula, and no formula refers to it.
