@@ -191,14 +191,14 @@ fn release<A: After>(
     ensures room { ALL ≤ vec_capacity order.new }
 {
     let noted = sole[d.index()];
-    if noted > SEVERAL {
-        release_pair(change, left, level, order, d, pair_of(noted), k);
-        return;
-    }
     if noted < SEVERAL {
         if let Some(e) = Cell::from_index(noted as usize) {
             release_sole(change, left, level, order, d, e, k);
         }
+        return;
+    }
+    if noted > SEVERAL {
+        release_pair(change, left, level, order, d, pair_of(noted), k);
         return;
     }
     match change.index.readers(d) {

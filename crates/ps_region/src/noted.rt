@@ -25,7 +25,10 @@ pub(crate) fn noted_with(noted: u32, e: Cell) -> u32
 {
     // known by its contract: the cell is in the grid
     let place = e.index() as u32;
-    if noted == NONE {
+    // mostly there are several already
+    if noted > NONE {
+        SEVERAL
+    } else if noted == NONE {
         place
     } else if noted < FIRSTS {
         SEVERAL + 1 + noted * NONE + place
