@@ -60,7 +60,7 @@ impl<'a> Model for TwoRowReaders<'a> {
 impl<'a> TwoRowReaders<'a> {
     /// The walk of the cells that refer to a row, at its beginning. Ranges are kept at one level alone, and `key` is
     /// its row on the way down to this one.
-    #[inline]
+    #[inline(always)]
     pub(crate) fn new(
         spans: &'a [Span],
         column: &[u32],
@@ -97,7 +97,7 @@ impl Iterator for TwoRowReaders<'_> {
 
     ghost remaining = { item_count (λ rest. rest) };
 
-    #[inline]
+    #[inline(always)]
     fn next(&mut self) -> Option<Cell> {
         let first = self.own.cell.min(self.upper.cell);
         let cell = Cell::from_index(first)?;
@@ -110,7 +110,7 @@ impl Iterator for TwoRowReaders<'_> {
 }
 
 /// The first of these spans that has the row and a cell which isn't below `least`.
-#[inline]
+#[inline(always)]
 fn head_from(spans: &[Span], row: usize, least: usize, from: usize, to: usize) -> Head
     requires ordered { from ≤ to }
     requires within { to ≤ length spans.now }
@@ -125,7 +125,7 @@ fn head_from(spans: &[Span], row: usize, least: usize, from: usize, to: usize) -
 }
 
 /// What is left of a run after the cell `first` came, which none that is left is below.
-#[inline]
+#[inline(always)]
 fn past(spans: &[Span], row: usize, first: usize, head: Head, end: usize) -> Head
     requires at { IsAt spans.now row head.place end head.cell }
     requires ordered { head.place ≤ end }
@@ -142,7 +142,7 @@ fn past(spans: &[Span], row: usize, first: usize, head: Head, end: usize) -> Hea
 }
 
 /// The cell of the span at a place; `CELLS` if that is the end.
-#[inline]
+#[inline(always)]
 fn cell_at(spans: &[Span], place: usize, end: usize) -> usize
     requires { end ≤ length spans.now }
     ensures small { result ≤ ALL }

@@ -52,6 +52,7 @@ struct Task<'a, R, F, K, G> {
 
 impl<R: Threads + Sync, F: Formulas + Sync, K: Look + Sync, G: Gate> Task<'_, R, F, K, G> {
     /// Evaluates the cells of one worker, one after the other, and counts them by a meter of its own.
+    #[inline(always)]
     fn by_one(&self, worker: usize, cells: &[Cell], out: &mut [Kept]) -> Counted
         requires { IsWorkFor (F.formula_at self.now.formulas.now) worker 1 cells.now out.old }
         ensures { IsDone (F.formula_at self.now.formulas.now) (K.value_at self.now.look.now) cells.now out.new result }
@@ -60,6 +61,7 @@ impl<R: Threads + Sync, F: Formulas + Sync, K: Look + Sync, G: Gate> Task<'_, R,
     }
 
     /// The same, with a meter over a blank.
+    #[inline(always)]
     fn by_one_counted<L: Ledger>(
         &self,
         blank: Blank,
