@@ -646,7 +646,8 @@ module _ (spans : List Span) (y own_end upper_end : ℕ) where
   cells_on least own own' own_cell upper upper' upper_cell walk on on' =
       let on_both = two_on least own own' own_cell upper upper' upper_cell walk on on' in
       (IsMoved-head spans y (own' ∷ upper' ∷ []) (own_end ∷ upper_end ∷ []) 2 least 2 (min own_cell upper_cell)
-      (two_heads least own' own_cell upper' upper_cell on_both on.at on'.at on.later on'.later) (omega arith)).none_passed
+      (two_heads least own' own_cell upper' upper_cell on_both on.at on'.at on.later on'.later)
+      (omega arith)).none_passed
 
   -- a step gives the lesser cell, and both runs go on past it
   pub heads_yield : (own own' own_cell own_cell' upper upper' upper_cell upper_cell' first : ℕ)

@@ -25,8 +25,8 @@ struct Head {
 /// each once. Their spans are kept at the row itself, and at the one row of that level which is above it in the tree. A
 /// contract sees it as the list of those that are still to come.
 ///
-/// Cost: a step looks at the spans that it passes over: that of its cell, others of cells that came already, and such as
-/// don't have the row.
+/// Cost: a step looks at the spans that it passes over: that of its cell, others of cells that came already, and such
+/// as don't have the row.
 #[derive(Drop)]
 pub struct TwoRowReaders<'a> {
     /// the spans of the column
