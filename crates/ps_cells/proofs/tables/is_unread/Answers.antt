@@ -15,7 +15,8 @@ returns-in-One c =
 pub returns-in-Row : goal.returns-in-Row
 returns-in-Row c =
     empty_by_first c.in-Row.walk _ c.next.result c.is_none.result c.next.ensures.steps c.is_none.ensures
-    ∙ ap is_empty (listed_is c.args.index.now c.args.cell c.in-Row.walk (c.readers.ensures.row c.in-Row.walk c.in-Row.is))
+    ∙ ap is_empty (listed_is c.args.index.now c.args.cell c.in-Row.walk
+    (c.readers.ensures.row c.in-Row.walk c.in-Row.is))
 
 pub returns-in-TwoRows : goal.returns-in-TwoRows
 returns-in-TwoRows c =
