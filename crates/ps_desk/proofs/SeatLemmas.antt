@@ -116,13 +116,9 @@ module _ (r : ℕ) (h : List Entries) where
       answer_of_command old new line text (Pull from most) reads
       (pulled old new from (unwrap_or most 1) text did.0 did.1 did.2)
       (went old new from (max (unwrap_or most 1) 1) did.0 did.1)
-  answer_of old new line text (Ok (Push delta)) reads (inl did) =
+  answer_of old new line text (Ok (Push delta)) reads did =
       answer_of_command old new line text (Push delta) reads
       (subst (λ (t : List ℕ). Does (Ok (Push delta)) old t new) (sym did.2) did.1.0) did.1.1
-  answer_of old new line text (Ok (Push delta)) reads (inr lacks) =
-      answer_of_command old new line text (Push delta) reads
-      (inr (record { some = tt; told = lacks.1; counted = ap (λ (p : PassView). p.appended) lacks.0 }))
-      (subst (GoesOn old) (sym lacks.0) (goes_itself old))
   answer_of old new line text (Ok (Replica named)) reads did =
       answer_of_command old new line text (Replica named) reads
       (inl (did.1.1, did.2 ∙ ap replica_text did.1.0)) (subst (GoesOn old) (sym did.1.1) (goes_itself old))

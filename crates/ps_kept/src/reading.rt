@@ -17,7 +17,6 @@ use ps_keep::first_line;
 use ps_session::{Command, line_of_replica, told_replica};
 use ps_sheet::Sheet;
 use std::alloc::Global;
-use std::sync::Arc;
 use std::sync::ledger::Ledger;
 use std::thread::Threads;
 
@@ -62,12 +61,12 @@ fn take_in<R: Threads + Sync, L: Ledger>(
     ensures sheet { IsSheet sheet.old → IsSheet sheet.new }
 {
     let delta = match Command::read(alloc, line) {
-        Ok(Command::Push(delta)) => delta,
+        Ok(Command::Push(delta)) => delta.owner(),
         Err(Refusal::Memory) => return Err(Refusal::Memory),
         _ => return Ok(false),
     };
     let before = sheet.version();
-    let report = sheet.receive(rt, alloc, Arc::new(alloc, delta)?, meter)?;
+    let report = sheet.receive(rt, alloc, delta, meter)?;
     Ok(before < report.version)
 }
 

@@ -138,12 +138,10 @@ module _ (old new : SheetView) (line text : List ℕ) where
       ) (replica_stays same)
   obeyed (Ok (commands.Pull from most)) reads (Err refusal, (inr memory, same), told) =
       lacks (Ok (commands.Pull from most)) reads memory.1 (told ∙ ap refusal_text memory.0) same
-  obeyed (Ok (commands.Push delta)) reads (inl (Ok number, taken, told)) =
+  obeyed (Ok (commands.Push delta)) reads (Ok number, taken, told) =
       serves (commands.Push delta) reads (taken.0, told ∙ ap done_text taken.1.number) taken.1.replica
-  obeyed (Ok (commands.Push delta)) reads (inl (Err refusal, memory, told)) =
+  obeyed (Ok (commands.Push delta)) reads (Err refusal, memory, told) =
       lacks (Ok (commands.Push delta)) reads tt (told ∙ ap refusal_text memory.0) memory.1
-  obeyed (Ok (commands.Push delta)) reads (inr memory) =
-      lacks (Ok (commands.Push delta)) reads tt memory.1 memory.0
   obeyed (Ok (commands.Replica named)) reads (number, told, is) =
       serves (commands.Replica named) reads (stays told.1, is ∙ ap replica_text told.0) (replica_stays told.1)
   obeyed (Err refusal) reads refused = elim (memory_or_other refusal) [

@@ -52,7 +52,7 @@ HandsOn from most (Ok (d ∷ ds)) reply =
     HandsGroup from most (d ∷ ds) reply ⊎ (reply ≡ refusal_text refusals.Memory)
 
 -- what a board does where a line asks for this: the reply, and the board afterwards. A pull asks for one delta at
--- least, so that there is none only at the end. A delta that is pushed may find no memory before the board is asked
+-- least, so that there is none only at the end
 abbrev pub Obeyed : {State : Type 0} → Calls State → State → Read Command → List ℕ → State → Type 0
 Obeyed calls old (Ok (Edit edit)) reply new = TellsAnswer (λ answer. calls.edits old edit answer new) done_text reply
 Obeyed calls old (Ok (Get cell)) reply new = TellsAnswer (λ answer. calls.shows old cell answer new) value_text reply
@@ -66,7 +66,6 @@ Obeyed calls old (Ok (Pull from most)) reply new = (answer : Read (List Entries)
     × calls.pulls old from (max (unwrap_or most 1) 1) answer new × HandsOn from (unwrap_or most 1) answer reply
 Obeyed calls old (Ok (Push delta)) reply new =
     TellsAnswer (λ answer. calls.receives old delta answer new) done_text reply
-    ⊎ ((new ≡ old) × (reply ≡ refusal_text refusals.Memory))
 Obeyed calls old (Ok (Replica named)) reply new =
     (number : ℕ) × calls.replica old number new × (reply ≡ replica_text number)
 Obeyed calls old (Err refusal) reply new = (new ≡ old) × (reply ≡ refusal_text refusal)

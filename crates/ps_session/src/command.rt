@@ -6,10 +6,10 @@ ghost use Rattle.ps_session.specs.Commands.{AtCell, ReadsCorners, ReadsLine, Rea
 ghost use Rattle.ps_session.specs.Commands.{ReadsRectangle, ReadsReplica, ReadsSet, ReadsVerb, Pushes};
 ghost use Rattle.ps_session.specs.Commands.{TakesMemoryToRead, group_size, replica_number};
 
+use crate::shared::SharedDelta;
 use crate::verb::Verb;
 use crate::words::{read_whole, split_part, split_word};
 use ps_content::read_entry;
-use ps_delta::Delta;
 use ps_grid::{Cell, REPLICAS, Refusal};
 use ps_sheet::Edit;
 use ps_wire::decode;
@@ -36,7 +36,7 @@ pub enum Command {
         most: Option<u8>,
     },
     /// To take in a delta made elsewhere.
-    Push(Delta),
+    Push(SharedDelta),
     /// To tell the own replica, whichever is named beside it.
     Replica(Option<u8>),
 }
@@ -219,7 +219,7 @@ fn read_corners(corners: &[u8]) -> Result<(Cell, Cell), Refusal>
 fn read_push(alloc: Global, line: &[u8]) -> Result<Command, Refusal>
     ensures { Pushes line.now result }
 {
-    let delta = decode(alloc, line)?;
+    let delta = SharedDelta::new(alloc, decode(alloc, line)?)?;
     Ok(Command::Push(delta))
 }
 

@@ -1,17 +1,17 @@
 //! Obeys a line, whatever the board.
-ghost use Rattle.std.specs.Prelude.{◌≡◌, ◌⊎◌, List, Ok, map, max};
+ghost use Rattle.std.specs.Prelude.{List, Ok, map, max};
 ghost use Rattle.std.specs.Arc.{arc_value};
 ghost use Rattle.ps_delta.specs.Deltas.{Entries};
 ghost use Rattle.ps_session.specs.Boards.{BoardAnswers, HandsOn, Obeyed, TellsAnswer};
 ghost use Rattle.ps_session.specs.Commands.{Read};
-ghost use Rattle.ps_session.specs.Replies.{done_text, entries_reply, refusal_text, reply_text, rows_text};
+ghost use Rattle.ps_session.specs.Replies.{done_text, entries_reply, reply_text, rows_text};
 
 use crate::board::Board;
 use crate::command::Command;
 use crate::group::greatest_group;
 use crate::reply::Reply;
 use ps_delta::Delta;
-use ps_grid::{Rect, Refusal};
+use ps_grid::Rect;
 use std::alloc::Global;
 use std::sync::Arc;
 use std::thread::Threads;
@@ -58,7 +58,7 @@ fn obey<R: Threads + Sync, B: Board<M>, M>(
         },
         Command::Entries(first, last) => list_entries(alloc, Rect::new(first, last), board),
         Command::Pull { from, most } => hand_out(alloc, from, most.unwrap_or(1) as usize, board),
-        Command::Push(delta) => take_in(rt, alloc, delta, board, meter),
+        Command::Push(delta) => take_in(rt, alloc, delta.owner(), board, meter),
         Command::Replica(_) => Reply::Replica(board.replica()),
     }
 }
@@ -108,19 +108,14 @@ fn hand_out<B: Board<M>, M>(alloc: Global, from: u64, most: usize, board: &mut B
 fn take_in<R: Threads + Sync, B: Board<M>, M>(
     rt: &R,
     alloc: Global,
-    delta: Delta,
+    delta: Arc<Delta>,
     board: &mut B,
     meter: &mut M,
 ) -> Reply
-    ensures taken { TellsAnswer (λ answer. B.calls.receives board.old delta answer board.new) done_text
-        (reply_text result)
-        ⊎ ((board.new ≡ board.old) × (reply_text result ≡ refusal_text Refusal.Memory)) }
+    ensures taken { TellsAnswer (λ answer. B.calls.receives board.old (arc_value delta) answer board.new) done_text
+        (reply_text result) }
 {
-    let pushed = match Arc::new(alloc, delta) {
-        Ok(pushed) => pushed,
-        Err(_) => return Reply::Refused(Refusal::Memory),
-    };
-    match board.apply_delta(rt, alloc, pushed, meter) {
+    match board.apply_delta(rt, alloc, delta, meter) {
         Ok(taken) if taken.had_own => Reply::Done(taken.number),
         Ok(taken) => Reply::DoneElsewhere(taken.number),
         Err(refusal) => Reply::Refused(refusal),

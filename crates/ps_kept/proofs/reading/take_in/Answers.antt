@@ -22,7 +22,7 @@ returns-clause-taken g c = λ less.
     taken_new c.args.line.now (Ok c.in-Ok-Push.field-0) c.in-Ok-Push.ensures.read c.in-Ok-Push.delta
     (let e = c.in-Ok-Push.field-0-is in cc)
     c.args.sheet.now.history c.receive.new.self.history
-    (subst (λ x. Takes x c.args.sheet.now.history c.receive.new.self.history) c.in_ok-new.ensures.ok
+    (subst (λ x. Takes x c.args.sheet.now.history c.receive.new.self.history) c.owner-delta.ensures
     c.in_ok-report.ensures.taken)
     (omega (
       arith,
