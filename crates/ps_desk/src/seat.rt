@@ -9,7 +9,7 @@ use crate::place::Place;
 use ps_delta::Delta;
 use ps_eval::Meter;
 use ps_grid::{Cell, Rect, Refusal};
-use ps_session::{Board, Taken};
+use ps_session::Board;
 use ps_sheet::Edit;
 use ps_value::Value;
 use std::alloc::Global;
@@ -90,22 +90,22 @@ impl<L: DeskName, W: Wait + Drop, V: Wait, M: Ledger> Board<Meter<M>> for Seat<'
         }
     }
 
+    fn has_own(&self, delta: &Delta) -> bool {
+        self.desk.has_own(self.wait, delta)
+    }
+
     fn apply_delta<R: Threads + Sync>(
         &mut self,
         rt: &R,
         alloc: Global,
         delta: Arc<Delta>,
         meter: &mut Meter<M>,
-    ) -> Result<Taken, Refusal> {
-        let had_own = self.desk.has_own(self.wait, &delta);
+    ) -> Result<u64, Refusal> {
         match self
             .desk
             .receive(rt, self.wait, alloc, &mut self.pass, delta, meter)
         {
-            Ok(receipt) => Ok(Taken {
-                number: receipt.number,
-                had_own,
-            }),
+            Ok(taken) => Ok(taken.number),
             Err(refusal) => Err(refusal),
         }
     }

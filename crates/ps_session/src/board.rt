@@ -5,7 +5,6 @@ ghost use Rattle.std.specs.Thread.{IsSync};
 ghost use Rattle.ps_session.specs.Boards.{Calls};
 ghost use Rattle.ps_session.specs.Commands.{with_part};
 
-use crate::taken::Taken;
 use ps_delta::Delta;
 use ps_grid::{Cell, Rect, Refusal};
 use ps_sheet::Edit;
@@ -35,8 +34,12 @@ pub trait Board<M> {
         requires shared { IsSync R.row }
         ensures edited { calls.edits self.old edit result self.new };
 
-    /// Takes in a delta made elsewhere: the number that is told as `ok`, and whether the board had all of it that its
-    /// own replica made.
+    /// Whether the board has all of a delta that its own replica made. No contract says so, for no reply tells it.
+    ///
+    /// Cost: the counts and the pairs of the delta, each with a walk over those of its cell.
+    fn has_own(&self, delta: &Delta) -> bool;
+
+    /// Takes in a delta made elsewhere: the number that is told as `ok`.
     ///
     /// Cost: that of the change, and of what it makes others show.
     fn apply_delta<R: Threads + Sync>(
@@ -45,10 +48,9 @@ pub trait Board<M> {
         alloc: Global,
         delta: Arc<Delta>,
         meter: &mut M,
-    ) -> Result<Taken, Refusal>
+    ) -> Result<u64, Refusal>
         requires shared { IsSync R.row }
-        ensures received { calls.receives self.old (arc_value delta) (with_part (λ taken. taken.number) result)
-            self.new };
+        ensures received { calls.receives self.old (arc_value delta) result self.new };
 
     /// What a cell shows.
     ///

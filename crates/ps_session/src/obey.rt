@@ -115,9 +115,10 @@ fn take_in<R: Threads + Sync, B: Board<M>, M>(
     ensures taken { TellsAnswer (λ answer. B.calls.receives board.old (arc_value delta) answer board.new) done_text
         (reply_text result) }
 {
+    let had_own = board.has_own(&delta);
     match board.apply_delta(rt, alloc, delta, meter) {
-        Ok(taken) if taken.had_own => Reply::Done(taken.number),
-        Ok(taken) => Reply::DoneElsewhere(taken.number),
+        Ok(number) if had_own => Reply::Done(number),
+        Ok(number) => Reply::DoneElsewhere(number),
         Err(refusal) => Reply::Refused(refusal),
     }
 }

@@ -3,7 +3,6 @@ ghost use Rattle.std.specs.Prelude.{◌≡◌, ◌⊎◌, ◌↔◌, ◌<◌, Er
 ghost use Rattle.std.specs.Arc.{arc_value};
 
 use crate::board::Board;
-use crate::taken::Taken;
 use ps_csv::{entries_text, entry_of, exported_text};
 use ps_delta::Delta;
 use ps_eval::Meter;
@@ -33,19 +32,19 @@ impl<L: Ledger> Board<Meter<L>> for Sheet {
         }
     }
 
+    fn has_own(&self, delta: &Delta) -> bool {
+        Sheet::has_own(self, delta)
+    }
+
     fn apply_delta<R: Threads + Sync>(
         &mut self,
         rt: &R,
         alloc: Global,
         delta: Arc<Delta>,
         meter: &mut Meter<L>,
-    ) -> Result<Taken, Refusal> {
-        let had_own = self.has_own(&delta);
+    ) -> Result<u64, Refusal> {
         match self.receive(rt, alloc, delta, meter) {
-            Ok(report) => Ok(Taken {
-                number: report.version,
-                had_own,
-            }),
+            Ok(report) => Ok(report.version),
             Err(refusal) => Err(refusal),
         }
     }
