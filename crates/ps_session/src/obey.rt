@@ -17,6 +17,7 @@ use std::sync::Arc;
 use std::thread::Threads;
 
 /// Reads a line that isn't empty as a command, and obeys it; another line is refused, and nothing is changed.
+#[inline(always)]
 pub(crate) fn answer<R: Threads + Sync, B: Board<M>, M>(
     rt: &R,
     alloc: Global,
@@ -33,6 +34,7 @@ pub(crate) fn answer<R: Threads + Sync, B: Board<M>, M>(
 }
 
 /// Does what a command asks for, by the board's calls.
+#[inline(always)]
 fn obey<R: Threads + Sync, B: Board<M>, M>(
     rt: &R,
     alloc: Global,
