@@ -78,9 +78,8 @@ fn delta_of_one(alloc: Global, entry: &(Cell, CellState)) -> Result<Delta, Refus
     ensures delta { IfOk result (λ d. d ≡ entry.now ∷ []) }
     ensures memory { IfErr result (λ e. e ≡ refusals.Memory) }
 {
-    let mut cells = Vec::with_capacity(alloc, 1)?;
-    cells.push((entry.0, entry.1.twin(alloc)?))?;
-    Ok(Delta::new(cells).unwrap())
+    let state = entry.1.twin(alloc)?;
+    Ok(Delta::of_one(entry.0, state).unwrap())
 }
 
 /// The delta of these cells.
