@@ -1,4 +1,8 @@
 //! Why lines aren't squashed.
+ghost use Rattle.std.specs.Prelude.{◌≡◌};
+ghost use Rattle.ps_squash.specs.declared.fault.SquashFault.TheVariants.{Memory};
+
+use std::alloc::AllocError;
 
 /// Why lines aren't squashed.
 #[derive(Clone, Copy, PartialEq, Eq)]
@@ -13,4 +17,12 @@ pub enum SquashFault {
     Source,
     /// The sink failed.
     Sink,
+}
+
+impl From<AllocError> for SquashFault {
+    ghost from_gives = { λ _ fault. fault ≡ Memory };
+
+    fn from(_error: AllocError) -> SquashFault {
+        SquashFault::Memory
+    }
 }

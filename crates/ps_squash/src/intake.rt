@@ -67,13 +67,12 @@ fn join_first(alloc: Global, line: &[u8], state: &mut Grid) -> Result<Option<u8>
     ensures untold { result ≡ Err refusals.Delta → TellsNone line.now }
     ensures refused { IfErr result (λ e. (e ≡ refusals.Delta) ⊎ (e ≡ refusals.Memory)) }
 {
-    match told_replica(alloc, line) {
-        Ok(Some(replica)) => Ok(Some(replica)),
-        Ok(None) => match join_line(alloc, line, state) {
+    match told_replica(alloc, line)? {
+        Some(replica) => Ok(Some(replica)),
+        None => match join_line(alloc, line, state) {
             Ok(()) => Ok(None),
             Err(refusal) => Err(refusal),
         },
-        Err(_) => Err(Refusal::Memory),
     }
 }
 
@@ -124,7 +123,8 @@ impl Intake {
             Line::Full => match self.join() {
                 Ok(()) => {}
                 Err(Refusal::Delta) => return Err(SquashFault::Line(number)),
-                Err(_) => return Err(SquashFault::Memory),
+                Err(Refusal::Memory) => return Err(SquashFault::Memory),
+                Err(_) => unreachable!(),
             },
             Line::TooLong => return Err(SquashFault::Line(number)),
         }
@@ -261,13 +261,11 @@ fn begin(alloc: Global) -> Result<Intake, SquashFault>
         StandsAfter [] intake.session.pending intake.told (state_at intake.state) intake.ended) }
     ensures memory { IfErr result (λ f. f ≡ SquashFault.Memory) }
 {
-    let session = match Session::new(alloc) {
-        Ok(session) => session,
-        Err(_) => return Err(SquashFault::Memory),
-    };
+    let session = Session::new(alloc)?;
     let state = match Grid::new(alloc) {
         Ok(state) => state,
-        Err(_) => return Err(SquashFault::Memory),
+        Err(Refusal::Memory) => return Err(SquashFault::Memory),
+        Err(_) => unreachable!(),
     };
     Ok(Intake {
         alloc,

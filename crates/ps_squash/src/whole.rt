@@ -1,5 +1,5 @@
 //! A source of lines, and the fewer lines that say the same.
-ghost use Rattle.std.specs.Prelude.{◌≡◌, ◌≢◌, ◌<◌, ◌∷◌, ℕ, List, [], Err, IfErr, IfOk, OnOk, take};
+ghost use Rattle.std.specs.Prelude.{◌≡◌, ◌≢◌, ◌⊎◌, ◌<◌, ◌∷◌, ℕ, List, [], Err, IfErr, IfOk, OnOk, take};
 ghost use Rattle.std.specs.Io.KnownBytes.{Appends, Consumes, IsAtEnd};
 ghost use Rattle.ps_grid.specs.declared.refusal.Refusal.TheVariants as refusals;
 ghost use Rattle.ps_delta.specs.State.{state_at};
@@ -88,7 +88,8 @@ fn squashed<S: Source>(alloc: Global, source: &mut S) -> Result<Vec<u8>, SquashF
     match text_of(alloc, told, &state) {
         Ok(text) => Ok(text),
         Err(Refusal::TooLong) => Err(SquashFault::TooLong),
-        Err(_) => Err(SquashFault::Memory),
+        Err(Refusal::Memory) => Err(SquashFault::Memory),
+        Err(_) => unreachable!(),
     }
 }
 
@@ -97,6 +98,7 @@ fn text_of(alloc: Global, told: Option<u8>, state: &Grid) -> Result<Vec<u8>, Ref
     ensures same { IfOk result (λ text. IsText told (state_at state.now) text.items) }
     ensures wide { IfErr result (λ e. e ≡ refusals.TooLong
         → (c : ℕ) × ¬ FitsLine ((c, state_at state.now c) ∷ [])) }
+    ensures refused { IfErr result (λ e. (e ≡ refusals.TooLong) ⊎ (e ≡ refusals.Memory)) }
 {
     let entries = entries_of(alloc, state)?;
     let mut text = begun(alloc, told)?;
