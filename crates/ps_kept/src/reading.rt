@@ -92,7 +92,8 @@ fn read_pushes<R: Threads + Sync, L: Ledger>(
         match take_in(rt, alloc, line, sheet, meter) {
             Ok(true) => {}
             Ok(false) => return Err(KeepFault::Line(number + 1)),
-            Err(_) => return Err(KeepFault::Memory),
+            Err(Refusal::Memory) => return Err(KeepFault::Memory),
+            Err(_) => unreachable!(),
         }
         left = rest;
         number += 1;
@@ -120,7 +121,8 @@ pub(crate) fn read_sheet<R: Threads + Sync, L: Ledger>(
     let others = after_first(alloc, bytes, replica)?;
     let mut sheet = match Sheet::open(alloc, replica, workers) {
         Ok(sheet) => sheet,
-        Err(_) => return Err(KeepFault::Memory),
+        Err(Refusal::Memory) => return Err(KeepFault::Memory),
+        Err(_) => unreachable!(),
     };
     match read_pushes(rt, alloc, others, &mut sheet, meter) {
         Ok(()) => Ok(sheet),
