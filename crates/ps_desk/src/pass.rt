@@ -1,13 +1,13 @@
 //! A session's pass.
 
-ghost use Rattle.std.specs.Prelude.{◌≡◌, ◌+◌, ◌<◌, ◌≤◌, ◌^◌, length, IfNone, IfSome};
+ghost use Rattle.std.specs.Prelude.{◌≡◌, ◌+◌, ◌<◌, ◌≤◌, ◌^◌, length, IfNone, IfSome, IsSome};
 ghost use mathlib.Core.List.{IsPrefix};
 ghost use Rattle.ps_grid.specs.Rectangle.{LiesInGrid};
 ghost use Rattle.ps_grid.specs.declared.size.TheConstants.{CELLS};
 ghost use Rattle.ps_face.specs.Legal.{IsLegal, Shows, history_of};
 ghost use Rattle.ps_session.specs.Commands.{with_part};
 ghost use Rattle.ps_desk.specs.Closing.{EndsAt};
-ghost use Rattle.ps_desk.specs.Passes.{IsShown, owned_by};
+ghost use Rattle.ps_desk.specs.Passes.{IsShown, entered, owned_by, seen_by};
 ghost use Rattle.ps_desk.specs.Seats.{GoesOn, Tabled};
 
 use crate::name::DeskName;
@@ -92,22 +92,15 @@ impl<L: DeskName> Pass<L> {
         ensures gone { IfNone result (self.new.list ≡ self.old.list) }
         ensures same { (self.new.appended ≡ self.old.appended) × (self.new.seat ≡ self.old.seat) }
     {
-        match self.reader.take().unwrap().enter() {
-            Ok(seen) => {
-                let shot = Shot {
-                    version: seen.version(),
-                    value: seen.at(cell),
-                };
-                // for the fact that the cell is in the grid
-                let _ = cell.index();
-                self.reader = Some(seen.leave());
-                Some(shot)
-            }
-            Err(reader) => {
-                self.reader = Some(reader);
-                None
-            }
-        }
+        let seen = enter(&mut self.reader)?;
+        let shot = Shot {
+            version: seen.version(),
+            value: seen.at(cell),
+        };
+        // for the fact that the cell is in the grid
+        let _ = cell.index();
+        self.reader = Some(seen.leave());
+        Some(shot)
     }
 
     /// Writes what all cells show now, in order, and answers the version that it is of. None means that the desk is
@@ -128,18 +121,11 @@ impl<L: DeskName> Pass<L> {
         ensures gone { IfNone result ((self.new.list ≡ self.old.list) × (values.new ≡ values.old)) }
         ensures same { (self.new.appended ≡ self.old.appended) × (self.new.seat ≡ self.old.seat) }
     {
-        match self.reader.take().unwrap().enter() {
-            Ok(seen) => {
-                let version = seen.version();
-                copy_all(&seen, values);
-                self.reader = Some(seen.leave());
-                Some(version)
-            }
-            Err(reader) => {
-                self.reader = Some(reader);
-                None
-            }
-        }
+        let seen = enter(&mut self.reader)?;
+        let version = seen.version();
+        copy_all(&seen, values);
+        self.reader = Some(seen.leave());
+        Some(version)
     }
 
     /// What the cells of a rectangle show now, as a table, by one look at the published copies.
@@ -152,17 +138,12 @@ impl<L: DeskName> Pass<L> {
         ensures shown { Tabled L.opening self.old rect (with_part (λ text. text.items) result) self.new }
         ensures goes_on { GoesOn self.old self.new }
     {
-        match self.reader.take().unwrap().enter() {
-            Ok(seen) => {
-                let table = exported_text(alloc, &seen, rect);
-                self.reader = Some(seen.leave());
-                table
-            }
-            Err(reader) => {
-                self.reader = Some(reader);
-                Err(Refusal::Seat)
-            }
-        }
+        let Some(seen) = enter(&mut self.reader) else {
+            return Err(Refusal::Seat);
+        };
+        let table = exported_text(alloc, &seen, rect);
+        self.reader = Some(seen.leave());
+        table
     }
 
     /// The seat that the pass is for.
@@ -243,6 +224,26 @@ impl<L: DeskName> Pass<L> {
         self.catch_up(wait, front);
         let Pass { share, .. } = self;
         share
+    }
+}
+
+/// Takes the copy that is published now, with the reader, which is out until it leaves. None means that the desk is
+/// gone, and then the reader is there still.
+#[inline(always)]
+fn enter<L: DeskName>(reader: &mut Option<FaceReader<L>>) -> Option<Seen<L>>
+    requires here { IsSome reader.old }
+    ensures later { IfSome result (λ seen. IsPrefix (seen_by reader.old) seen.list) }
+    ensures legal { IfSome result (λ seen. IsLegal L.opening seen.list) }
+    ensures whole { IfSome result (λ seen. Shows (history_of L.opening seen.list) seen.values) }
+    ensures step { IfSome result (λ seen. seen.enters ≡ entered reader.old + 1) }
+    ensures gone { IfNone result (IsSome reader.new × (seen_by reader.new ≡ seen_by reader.old)) }
+{
+    match reader.take().unwrap().enter() {
+        Ok(seen) => Some(seen),
+        Err(back) => {
+            *reader = Some(back);
+            None
+        }
     }
 }
 

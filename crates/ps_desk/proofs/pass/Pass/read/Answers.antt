@@ -7,10 +7,10 @@ use Rattle.ps_desk.specs.Passes.{IsShown}
 use Rattle.ps_desk.proofs.Read.{shown_one}
 use Rattle.ps_desk.proofs.pass.Pass.read.Goals as goal
 
-pub returns-in-Ok-clause-value : goal.returns-in-Ok-clause-value
-returns-in-Ok-clause-value g c =
+pub returns-clause-value : goal.returns-clause-value
+returns-clause-value g c =
     let h = g.L.Named.opening in
     subst (λ (list : List Note). IsShown (history_of h list) c.args.cell c.at.result)
     (sym (ap (λ (v : View). v.list) c.leave.ensures))
-    (shown_one (history_of h c.in-Ok.seen.list) c.in-Ok.seen.values c.args.cell c.at.result
-    c.in-Ok.ensures.whole (subst (λ k. k < CELLS) c.index.ensures.index c.index.ensures.in_grid) c.at.ensures.value)
+    (shown_one (history_of h c.in_ok-seen.seen.list) c.in_ok-seen.seen.values c.args.cell c.at.result
+    c.in_ok-seen.ensures.whole (subst (λ k. k < CELLS) c.index.ensures.index c.index.ensures.in_grid) c.at.ensures.value)
