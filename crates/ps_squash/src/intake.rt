@@ -69,10 +69,10 @@ fn join_first(alloc: Global, line: &[u8], state: &mut Grid) -> Result<Option<u8>
 {
     match told_replica(alloc, line)? {
         Some(replica) => Ok(Some(replica)),
-        None => match join_line(alloc, line, state) {
-            Ok(()) => Ok(None),
-            Err(refusal) => Err(refusal),
-        },
+        None => {
+            join_line(alloc, line, state)?;
+            Ok(None)
+        }
     }
 }
 
@@ -93,13 +93,8 @@ impl Intake {
         if self.ended != 0 {
             return join_line(self.alloc, self.session.line(), &mut self.state);
         }
-        match join_first(self.alloc, self.session.line(), &mut self.state) {
-            Ok(told) => {
-                self.told = told;
-                Ok(())
-            }
-            Err(refusal) => Err(refusal),
-        }
+        self.told = join_first(self.alloc, self.session.line(), &mut self.state)?;
+        Ok(())
     }
 
     /// Takes in the line that has ended.
