@@ -3,7 +3,8 @@ ghost use Rattle.std.specs.Prelude.{◌≤◌};
 ghost use Rattle.ps_grid.specs.Blanks.{IsBlankOf};
 ghost use Rattle.ps_grid.specs.declared.parties.TheConstants.{REPLICAS};
 
-use ps_commands::{Serving, serve_on, sync_on};
+use crate::sync::between;
+use ps_commands::{Entrance, Serving, serve_on, sync_on};
 use ps_device::MemorySink;
 use ps_sheet::Sheet;
 use std::alloc::Global;
@@ -62,14 +63,14 @@ fn served<R: Threads + Wait + Clock + Sync>(
 ) -> Option<Vec<u8>>
     requires replica { (1 ≤ replica) × (replica ≤ REPLICAS) }
 {
-    served_on::<R, Brand>(rt, alloc, listener, serving, replica, Blank::new(1))
+    let entrance = Entrance { listener, serving };
+    served_on::<R, Brand>(rt, alloc, entrance, replica, Blank::new(1))
 }
 
 fn served_on<R: Threads + Wait + Clock + Sync, O: Ledger>(
     rt: &R,
     alloc: Global,
-    listener: &TcpListener,
-    serving: Serving,
+    entrance: Entrance<'_>,
     replica: u8,
     output: Blank,
 ) -> Option<Vec<u8>>
@@ -78,7 +79,7 @@ fn served_on<R: Threads + Wait + Clock + Sync, O: Ledger>(
 {
     let mut out = MemorySink::<O>::new(alloc, output);
     let sheet = Sheet::open(alloc, replica, 1).ok()?;
-    serve_on(rt, alloc, listener, serving, sheet, &mut out).ok()?;
+    serve_on(rt, alloc, entrance, sheet, &mut out).ok()?;
     let MemorySink { bytes, failed } = out;
     drop(failed);
     Some(bytes)
@@ -104,7 +105,7 @@ fn synced_on<R: Net<Stream = TcpStream>, O: Ledger>(
     requires output { IsBlankOf output O.name O.parts }
 {
     let mut out = MemorySink::<O>::new(alloc, output);
-    sync_on(rt, alloc, from, to, &mut out).ok()?;
+    sync_on(rt, alloc, between(from, to)?, &mut out).ok()?;
     let MemorySink { bytes, failed } = out;
     drop(failed);
     Some(bytes)

@@ -3,11 +3,24 @@ ghost use Rattle.ps_grid.specs.Blanks.{IsBlankOf};
 
 use ps_commands::{PortTrouble, ProgramFault, port_fault, status_of, sync_on};
 use ps_device::MemorySink;
+use ps_words::SyncOptions;
 use std::alloc::Global;
 use std::marker::Brand;
 use std::net::{Ipv4Addr, Net, TcpListener, TcpStream};
 use std::sync::ledger::{Blank, Ledger};
 use std::test::Fail;
+
+/// What a sync from one port to another is asked for; none where one of them is 0.
+pub(crate) fn between(from: u16, to: u16) -> Option<SyncOptions> {
+    if from == 0 || to == 0 {
+        return None;
+    }
+    Some(SyncOptions {
+        from,
+        to,
+        explain: false,
+    })
+}
 
 /// The fault of a sync from a port on which nothing listens.
 fn unheard<R: Net<Listener = TcpListener, Stream = TcpStream>>(
@@ -29,7 +42,7 @@ fn unheard_on<R: Net<Stream = TcpStream>, O: Ledger>(
     requires output { IsBlankOf output O.name O.parts }
 {
     let mut out = MemorySink::<O>::new(alloc, output);
-    sync_on(rt, alloc, port, port, &mut out).err()
+    sync_on(rt, alloc, between(port, port)?, &mut out).err()
 }
 
 /// A port on which nothing listens is a device that failed, with its own words, and the exit status is 1.

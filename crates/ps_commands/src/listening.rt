@@ -78,7 +78,11 @@ pub fn serve<
         Ok(()) => {}
         Err(fault) => return Err(fault),
     }
-    serve_on(rt, alloc, &listener, serving_of(options), sheet, out)
+    let entrance = Entrance {
+        listener: &listener,
+        serving: serving_of(options),
+    };
+    serve_on(rt, alloc, entrance, sheet, out)
 }
 
 /// Listens on a port of this machine, opens the sheet of the replica that was asked for from the file of this path, and

@@ -29,7 +29,6 @@ use ps_sheet::Sheet;
 use std::alloc::Global;
 use std::io::Write;
 use std::marker::Brand;
-use std::net::TcpListener;
 use std::sync::Wait;
 use std::thread::Threads;
 use std::time::Clock;
@@ -62,13 +61,12 @@ pub struct Closed<J = ()> {
 pub fn serve_on<R: Threads + Wait + Clock + Sync, K: Sink>(
     rt: &R,
     alloc: Global,
-    listener: &TcpListener,
-    serving: Serving,
+    entrance: Entrance<'_>,
     sheet: Sheet,
     out: &mut K,
 ) -> Result<Closed, ProgramFault>
-    ensures asked { IfOk result (λ closed. serving.sessions ≡ Some closed.sessions) }
-    ensures served { IfOk result (λ closed. IsServed serving.seats closed.sessions sheet closed.sheet) }
+    ensures asked { IfOk result (λ closed. entrance.entry.serving.sessions ≡ Some closed.sessions) }
+    ensures served { IfOk result (λ closed. IsServed entrance.entry.serving.seats closed.sessions sheet closed.sheet) }
     ensures told { IfOk result (λ closed. Appends (K.contents out.old) (K.contents out.new)
         (closed_text (length closed.sheet.history))) }
     ensures flushed { OnOk result (K.waiting out.new ≡ []) }
@@ -77,7 +75,6 @@ pub fn serve_on<R: Threads + Wait + Clock + Sync, K: Sink>(
         ⊎ ((f ≡ Refused Device) × (K.failures out.old < K.failures out.new))) }
     ensures refused { IfErr result IsServerFault }
 {
-    let entrance = Entrance { listener, serving };
     // (where nothing is kept, nobody is warned)
     let mut warner = Warner::<Vec<u8>>::new(alloc, None);
     let Closed {

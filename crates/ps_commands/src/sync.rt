@@ -12,6 +12,7 @@ use crate::peers::{PeerStream, peer_of};
 use crate::port::connect;
 use ps_device::Sink;
 use ps_session::sync;
+use ps_words::SyncOptions;
 use std::alloc::Global;
 use std::marker::Brand;
 use std::net::{Net, TcpStream};
@@ -33,8 +34,8 @@ fn sync_between<I: Ledger, O: Ledger, J: Ledger, P: Ledger>(
     Ok(sync(alloc, &mut from, &mut to)?)
 }
 
-/// Connects to two ports of this machine, first to `p` and then to `q`, hands all that the replica at `p` has to the
-/// one at `q`, and writes `synced` and the number of lines that were pushed.
+/// Connects to the two ports of this machine that were asked for, first to `from` and then to `to`, hands all that the
+/// replica at the one has to that at the other, and writes `synced` and the number of lines that were pushed.
 ///
 /// A port that can't be connected to is a fault of its own. Refused as `Device` where a connection or `out` fails; else
 /// as [`sync`] is.
@@ -43,8 +44,7 @@ fn sync_between<I: Ledger, O: Ledger, J: Ledger, P: Ledger>(
 pub fn sync_on<R: Net<Stream = TcpStream>, K: Sink>(
     rt: &R,
     alloc: Global,
-    p: u16,
-    q: u16,
+    options: SyncOptions,
     out: &mut K,
 ) -> Result<(), ProgramFault>
     ensures told { OnOk result ((lines : ℕ) × Appends (K.contents out.old) (K.contents out.new) (synced_text lines)) }
@@ -52,8 +52,8 @@ pub fn sync_on<R: Net<Stream = TcpStream>, K: Sink>(
     ensures calm { OnOk result (K.failures out.new ≡ K.failures out.old) }
     ensures untold { IfErr result (λ f. f ≢ Refused Refusal.Device → out.new ≡ out.old) }
 {
-    let first = connect(rt, p)?;
-    let second = connect(rt, q)?;
+    let first = connect(rt, options.from)?;
+    let second = connect(rt, options.to)?;
     let lines = sync_between::<Brand, Brand, Brand, Brand>(
         alloc,
         PeerStream::new(&first),

@@ -175,7 +175,7 @@ fn on_standard<
         }
         Options::Sync(options) => {
             let mut sink = ConsoleOutput::<_, O>::new(rt.alloc(), rt.stdout(), counts.output)?;
-            sync_on(threads, rt.alloc(), options.from, options.to, &mut sink)
+            sync_on(threads, rt.alloc(), options, &mut sink)
         }
         Options::Follow(options) => {
             let mut sink = ConsoleOutput::<_, O>::new(rt.alloc(), rt.stdout(), counts.output)?;
