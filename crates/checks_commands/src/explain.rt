@@ -10,7 +10,7 @@ use ps_session::{Outcome, Watcher};
 use ps_words::TableOptions;
 use std::alloc::Global;
 use std::marker::Brand;
-use std::sync::ledger::{Blank, Ledger};
+use std::sync::ledger::Ledger;
 use std::test::Fail;
 use std::thread::Threads;
 
@@ -33,12 +33,7 @@ const TABLES: [(&str, &str); 4] = [
 
 /// What an onlooker tells while a table is taken in.
 fn told_of<R: Threads + Sync>(rt: &R, alloc: Global, table: &[u8]) -> Vec<u8> {
-    let counts = Counts {
-        input: Blank::new(1),
-        output: Blank::new(1),
-        held: Blank::new(1),
-        evaluations: Blank::new(1),
-    };
+    let counts = Counts::new();
     told_counted::<R, Brand, Brand, Brand>(rt, alloc, table, counts)
 }
 

@@ -14,7 +14,7 @@ use std::alloc::Global;
 use std::marker::Brand;
 use std::net::{Shutdown, TcpStream};
 use std::sync::Wait;
-use std::sync::ledger::{Blank, Ledger};
+use std::sync::ledger::Ledger;
 use std::thread::Threads;
 
 /// Answers each line of a connection at a seat of a desk, to the end of its input, and gives the pass back. Where the
@@ -32,12 +32,7 @@ pub(crate) fn attend<L: DeskName, W: Wait + Drop, R: Threads + Wait + Sync, D: D
 ) -> Pass<L>
     ensures { IsAttended L.replica L.opening pass result }
 {
-    let counts = Counts {
-        input: Blank::new(1),
-        output: Blank::new(1),
-        held: Blank::new(1),
-        evaluations: Blank::new(1),
-    };
+    let counts = Counts::new();
     attend_counted::<L, W, R, D, Brand, Brand, Brand, Brand>(
         rt, alloc, desk, host, pass, stream, counts,
     )

@@ -40,7 +40,7 @@ use std::net::{Net, TcpListener, TcpStream};
 use std::process::ExitCode;
 use std::rt::Files;
 use std::sync::Wait;
-use std::sync::ledger::{Blank, Ledger};
+use std::sync::ledger::Ledger;
 use std::thread::Threads;
 use std::time::Clock;
 
@@ -106,12 +106,7 @@ fn run_command<
         + Clock
         + Sync,
 >(rt: &HostRuntime, threads: &R, options: Options<'_>) -> Result<ExitCode, ProgramFault> {
-    let counts = Counts {
-        input: Blank::new(1),
-        output: Blank::new(1),
-        held: Blank::new(1),
-        evaluations: Blank::new(1),
-    };
+    let counts = Counts::new();
     let done = on_standard::<R, Brand, Brand, Brand, Brand>(rt, threads, counts, options);
     match done {
         Ok(()) => Ok(ExitCode::SUCCESS),
