@@ -1,21 +1,19 @@
 -- How a line is divided into words, and what a word of digits writes.
-use Rattle.std.proofs.Common.{◌≡◌, ◌+◌, ◌-◌, ◌*◌, ◌<◌, ◌≤◌, ◌^◌, ◌==◌, ℕ, Bool, true, false, cond, ◌&&◌}
+use Rattle.std.proofs.Common.{◌≡◌, ◌+◌, ◌-◌, ◌<◌, ◌≤◌, ◌^◌, ◌==◌, ℕ, Bool, true, false, cond, ◌&&◌}
 use Rattle.std.proofs.Common.{List, [], ◌∷◌, ◌++◌, get_or, length, subst}
-use Rattle.std.proofs.Common.{take, drop, nat_lt, Some, None, refl, sym, ap, ◌∙◌, arith, rules}
+use Rattle.std.proofs.Common.{take, drop, nat_lt, Option, Some, None, refl, sym, ap, ◌∙◌, arith, rules}
 use Rattle.std.specs.Prelude.{position}
-use Rattle.std.specs.Char.{digit_value, is_ascii_digit}
+use Rattle.std.specs.Char.{is_ascii_digit}
 use Rattle.std.specs.Fmt.{decimal}
 use Rattle.std.specs.List.{list_all, onto_first, position_or_len}
-use Rattle.std.specs.Int.{IsInRange}
-use Rattle.std.specs.Str.Parse.{AllDigits, digits_value}
+use Rattle.std.specs.Option.{SomeIff}
+use Rattle.std.specs.Str.Parse.{IsNumeral, digits_value}
 use Rattle.std.proofs.lemmas.Bool.{eqb-true, ltb-true, ltb-false, lt-ltb}
 use Rattle.std.proofs.lemmas.Fmt.{decimal_nonempty, digits_decimal, digits_value-decimal}
-use Rattle.std.proofs.lemmas.Int.Digits.{digits_value_more}
-use Rattle.std.proofs.lemmas.List.{take_all, take_rest}
+use Rattle.std.proofs.lemmas.List.{take_rest}
 use Rattle.std.proofs.lemmas.List.Splits.{slice_split_first, slice_split_none}
 use Rattle.std.proofs.lemmas.List.Sums.{fails_before_first, passes_at_first, split_at_first}
-use Rattle.std.proofs.lemmas.Str.{digit_value_digit}
-use Rattle.std.proofs.lemmas.Str.Parse.{IsNumeralModel, digit_at, digits_value-take-le, numerals_by_value}
+use Rattle.std.proofs.lemmas.Str.Parse.{IsNumeralModel, numerals_by_value}
 use Rattle.ps_session.specs.Words.{is_whole, parts, whole_number}
 
 position_cases : (b : Bool) (m n : ℕ) → cond b (Some m) None ≡ Some n → (b ≡ true) × (m ≡ n)
@@ -111,40 +109,17 @@ whole_number-none word all refuted =
     rw all (no_number (length word) (digits_value 10 word) (nat_lt 0 (length word))
     (nat_lt (digits_value 10 word) (2 ^ 64)) refl refl refuted)
 
--- no number is written by an empty word
-pub whole_number-empty : (word : List ℕ) → length word ≡ 0 → None ≡ whole_number word
-whole_number-empty word empty = by (list_all is_ascii_digit word) refl
-  where
-    by : (b : Bool) → list_all is_ascii_digit word ≡ b → None ≡ whole_number word
-    by false other = whole_number-other word other
-    by true all = sym (whole_number-none word all (λ both. absurd (omega (arith, both.0, empty))))
-
--- no number is written where a byte is no digit, or the number has more than 64 bits with it
-pub whole_number-stops : (word : List ℕ) (i : ℕ) → i < length word
-    → (digit_value (get_or word i 0) < 10
-    → 2 ^ 64 ≤ digits_value 10 (take i word) * 10 + digit_value (get_or word i 0))
-    → None ≡ whole_number word
-whole_number-stops word i within stops = by (list_all is_ascii_digit word) refl
+-- what is read of digits is the number that they write
+pub whole_number-read : (word : List ℕ) (r : Option ℕ)
+    → SomeIff r (IsNumeral 10 word × (digits_value 10 word < 2 ^ 64)) (digits_value 10 word) → r ≡ whole_number word
+whole_number-read word (Some n) is =
+    ap Some is.1 ∙ sym (whole_number-fits word (digits.from word is.0.0.1) is.0.0.0 is.0.1)
+whole_number-read word None refuted = by (list_all is_ascii_digit word) refl
   where
     by : (b : Bool) → list_all is_ascii_digit word ≡ b → None ≡ whole_number word
     by false other = whole_number-other word other
     by true all =
-        let inside : IsInRange 48 57 (get_or word i 0) = digit_at word i (digits.to word all) within in
-        let worth = digit_value_digit (get_or word i 0) inside in
-        let large : 2 ^ 64 ≤ digits_value 10 (take i word) * 10 + digit_value (get_or word i 0) =
-        stops (omega (arith, inside, worth)) in
-        let more = digits_value_more 10 word i within in
-        let least = digits_value-take-le 10 word (i + 1) (omega arith) in
-        sym (whole_number-none word all (λ both. absurd (omega (arith, large, more, least, both.1))))
-
--- and else by a word of digits alone
-pub whole_number-read : (word : List ℕ) (i n : ℕ) → 0 < length word → length word ≤ i → AllDigits 10 (take i word)
-    → digits_value 10 (take i word) ≡ n → n < 2 ^ 64 → Some n ≡ whole_number word
-whole_number-read word i n some all read value fits =
-    let whole : take i word ≡ word = take_all i word all in
-    let is : digits_value 10 word ≡ n = ap (digits_value 10) (sym whole) ∙ value in
-    ap Some (sym is) ∙ sym (whole_number-fits word (digits.from word (subst (AllDigits 10) whole read)) some
-    (subst (λ v. v < 2 ^ 64) (sym is) fits))
+        sym (whole_number-none word all (λ both. refuted ((both.0, digits.to word all), both.1)))
 
 -- the number whose decimal digits a word is
 pub whole_number-decimal : (n : ℕ) → n < 2 ^ 64 → whole_number (decimal n) ≡ Some n

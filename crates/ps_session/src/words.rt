@@ -1,9 +1,10 @@
 //! The words of a line.
-ghost use Rattle.std.specs.Prelude.{◌≡◌, ◌<◌, ◌≤◌, ◌+◌, ◌*◌, ◌^◌, ◌==◌, ◌++◌, ◌∷◌, [], MatchOption, position};
-ghost use Rattle.std.specs.Char.{digit_value};
+ghost use Rattle.std.specs.Prelude.{◌≡◌, ◌==◌, ◌++◌, ◌∷◌, [], MatchOption, position};
 ghost use Rattle.std.specs.Option.{option_map_or};
 ghost use Rattle.ps_session.specs.Words.{after_part, after_word, first_part, first_word, parts, whole_number};
 ghost use Rattle.ps_session.specs.Words.{words};
+
+use ps_grid::read_digits;
 
 /// The bytes before the first space, and those after it where there is one.
 ///
@@ -46,24 +47,5 @@ fn first_place(text: &[u8], separator: u8) -> Option<usize>
 pub(crate) fn read_whole(word: &[u8]) -> Option<u64>
     ensures { result ≡ whole_number word.now }
 {
-    if word.is_empty() {
-        return None;
-    }
-    let mut number = 0u64;
-    'digits: for digit in word {
-        number = with_digit(number, *digit)?;
-    }
-    Some(number)
-}
-
-/// The number with one digit more at its end; none where the byte is no decimal digit, or it has more than 64 bits.
-#[inline(always)]
-fn with_digit(number: u64, digit: u8) -> Option<u64>
-    ensures { MatchOption result (digit_value digit < 10 → 2 ^ 64 ≤ number * 10 + digit_value digit)
-        (λ longer. (digit_value digit < 10) × (longer ≡ number * 10 + digit_value digit) × (longer < 2 ^ 64)) }
-{
-    if !digit.is_ascii_digit() {
-        return None;
-    }
-    number.checked_mul(10)?.checked_add(u64::from(digit - b'0'))
+    read_digits(word)
 }
