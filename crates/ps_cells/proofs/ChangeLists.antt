@@ -17,7 +17,7 @@ use Rattle.ps_eval.specs.Items.{Assignment}
 use Rattle.ps_shown.specs.declared.kept.Kept.{Kept}
 use Rattle.ps_shown.specs.Kept.{value_of as value_kept}
 use Rattle.ps_shown.specs.Shown.{with_value}
-use Rattle.ps_cells.specs.Changes.{IsChanged, IsChanges}
+use Rattle.ps_cells.specs.ChangedCells.{IsChanged, IsChanges}
 use Rattle.ps_cells.specs.Inside.Screens.{Differ, ListsDiffering, cells_in, put_back}
 use Rattle.ps_cells.proofs.PutValues.{with_value-here}
 use Rattle.ps_cells.proofs.ListedCells.{In-pushed, In-end, In-pushed_cases, fresh_place}

@@ -6,7 +6,7 @@ use Rattle.ps_shown.specs.declared.kept.Kept.{Kept}
 use Rattle.ps_shown.specs.Shown.{shown_at}
 use Rattle.ps_delta.specs.State.{Blocks, State, state_at}
 use Rattle.ps_delta.specs.Deltas.{Entries, overlaid}
-use Rattle.ps_cells.specs.Changes.{put_back}
+use Rattle.ps_cells.specs.ChangedCells.{put_back}
 
 -- what each cell holds and shows; what some showed before the staged change; the cells that were listed last as showing
 -- another value, and those whose values were listed last, with these; how many workers there are; and where a change is

@@ -1,6 +1,6 @@
 pub mod Cells
 pub mod CellsCode
-pub mod Changes
+pub mod ChangedCells
 pub mod Inside
 pub mod Recalculated
 pub mod ScreenCode

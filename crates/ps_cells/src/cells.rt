@@ -6,7 +6,7 @@ ghost use Rattle.ps_delta.specs.State.{IsInGrid, empty_state, joined_state};
 ghost use Rattle.ps_delta.specs.Deltas.{state_of};
 ghost use Rattle.ps_shown.specs.Shown.{shown_at};
 ghost use Rattle.ps_cells.specs.Cells.{AreTheSame, shown_before, shown_now, state_before, state_now};
-ghost use Rattle.ps_cells.specs.Changes.{IsChanged};
+ghost use Rattle.ps_cells.specs.ChangedCells.{IsChanged};
 ghost use Rattle.ps_cells.specs.Recalculated.{IsRecalculated};
 ghost use Rattle.ps_cells.specs.Settled.{IsSettled};
 
@@ -150,7 +150,8 @@ impl Cells {
         self.tables.shown.list_changed();
     }
 
-    /// Lists what the cells show that were listed last.
+    /// Lists what the cells show that were listed last, for a change that is handed out with its values (`Prepared`).
+    /// Who publishes a change reads the values from [`Cells::shown`].
     ///
     /// Cost: linear in these.
     pub fn list_values(&mut self)
@@ -171,7 +172,7 @@ impl Cells {
         self.tables.shown.changed()
     }
 
-    /// The cells whose values were listed last, with these.
+    /// The cells whose values were listed last by [`Cells::list_values`], with these.
     ///
     /// Cost: constant.
     pub fn changes(&self) -> &[(Cell, Value)]

@@ -20,15 +20,15 @@
 mod cells;
 mod change;
 mod contents;
-mod crossing;
 mod level;
 mod region;
 mod screen;
 mod sums;
 mod tables;
+mod threads;
 mod walk;
 
 pub use cells::Cells;
 pub use contents::content;
-pub use crossing::cells_cross;
 pub use tables::Work;
+pub use threads::cells_are_send;

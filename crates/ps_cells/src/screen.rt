@@ -14,7 +14,7 @@ ghost use Rattle.ps_eval.specs.Items.{Assignment, range_items};
 ghost use Rattle.ps_cells.specs.Inside.Screens.{AddsCyclic, Differ, IsNoted, ListsDiffering, ShowCycle};
 ghost use Rattle.ps_cells.specs.Inside.Screens.{before_of, cells_in, put_back, was_cyclic};
 ghost use Rattle.ps_cells.specs.Inside.Waiting.{is_waiting};
-ghost use Rattle.ps_cells.specs.Changes.{IsChanged};
+ghost use Rattle.ps_cells.specs.ChangedCells.{IsChanged};
 
 use crate::tables::no_flags;
 use ps_eval::Summary;

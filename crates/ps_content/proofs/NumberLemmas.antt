@@ -1,6 +1,6 @@
 -- What an entry writes as a number.
-use Rattle.std.proofs.Common.{◌<◌, zero, suc, subst, ◌≡◌, ℕ, ℤ, pos, negsuc, ◌^◌, Bool, true, false, cond, ◌&&◌, List, length}
-use Rattle.std.proofs.Common.{Option, None, Some, refl, sym, ap, ◌∙◌, arith}
+use Rattle.std.proofs.Common.{◌<◌, zero, suc, subst, ◌≡◌, ℕ, ℤ, pos, negsuc, ◌^◌, Bool, true, false, cond, ◌&&◌}
+use Rattle.std.proofs.Common.{List, length, Option, None, Some, refl, sym, ap, ◌∙◌, arith}
 use Rattle.std.specs.Prelude.{FitsSigned, MatchBool, neg_ℤ, ◌≤◌, nat_lt}
 use Rattle.std.specs.Int.{w64}
 use mir.Val.{to_z, of_z}

@@ -7,7 +7,7 @@ use Rattle.std.proofs.lemmas.List.Elements.{All-cons, All-nil}
 use Rattle.ps_grid.specs.Chains.{In}
 use Rattle.ps_value.specs.declared.value.Value.{Value}
 use Rattle.ps_eval.specs.Items.{Assignment}
-use Rattle.ps_cells.specs.Changes.{IsChanged, IsChanges}
+use Rattle.ps_cells.specs.ChangedCells.{IsChanged, IsChanges}
 use Rattle.ps_sheet.specs.Prepared.{PreparedView, shown_after, shown_before}
 use Rattle.ps_sheet.specs.Staging.{IsListed, IsSameChange, IsStagedAs, IsStaging, IsWorkedOut}
 use Rattle.ps_sheet.specs.Staging.{StagedView, StagingView, prepared_of}

@@ -8,7 +8,7 @@ ghost use Rattle.ps_grid.specs.declared.refusal.Refusal.TheVariants.{Memory};
 ghost use Rattle.ps_shown.specs.Shown.{shown_at};
 ghost use Rattle.ps_delta.specs.State.{IsBelow};
 ghost use Rattle.ps_delta.specs.Deltas.{joined_history, state_of};
-ghost use Rattle.ps_cells.specs.Changes.{IsChanged};
+ghost use Rattle.ps_cells.specs.ChangedCells.{IsChanged};
 ghost use Rattle.ps_sheet.specs.Prepared.{shown_before};
 ghost use Rattle.ps_sheet.specs.Staging.{IsWorkedOut};
 ghost use Rattle.ps_face.specs.Legal.{history_of};

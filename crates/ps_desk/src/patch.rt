@@ -4,7 +4,7 @@ ghost use Rattle.std.specs.Prelude.{◌≡◌, true, is_some, map, IfOk, IfErr};
 ghost use Rattle.std.specs.Arc.{arc_value};
 ghost use Rattle.ps_grid.specs.declared.refusal.Refusal.TheVariants.{Memory};
 ghost use Rattle.ps_shown.specs.Shown.{shown_at};
-ghost use Rattle.ps_cells.specs.Changes.{IsChanged};
+ghost use Rattle.ps_cells.specs.ChangedCells.{IsChanged};
 ghost use Rattle.ps_sheet.specs.Prepared.{shown_before};
 ghost use Rattle.ps_face.specs.Legal.{Follows};
 ghost use Rattle.ps_face.specs.Values.{valued};

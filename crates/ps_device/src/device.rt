@@ -86,6 +86,10 @@ pub fn put_all<K: Sink>(sink: &mut K, bytes: &[u8]) -> Result<(), Failed>
         if count == 0 {
             return Err(Failed);
         }
+        // most sinks take all at once, and then there is nothing to go on with
+        if count == bytes.len() - start {
+            return Ok(());
+        }
         start += count;
     }
     Ok(())

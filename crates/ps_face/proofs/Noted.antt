@@ -12,7 +12,7 @@ use Rattle.ps_shown.specs.Shown.{with_value}
 use Rattle.ps_delta.specs.State.{IsBelow}
 use Rattle.ps_delta.specs.Deltas.{Entries, joined_history, state_of}
 use Rattle.ps_cells.specs.Settled.{IsSettled}
-use Rattle.ps_cells.specs.Changes.{IsChanges}
+use Rattle.ps_cells.specs.ChangedCells.{IsChanges}
 use Rattle.ps_sheet.specs.Prepared.{IsPrepared, PreparedView, history_after, shown_after, shown_before}
 use Rattle.ps_cells.proofs.PutValues.{with_value-here, with_value-there}
 use Rattle.ps_face.specs.Legal.{AreShownChanges, Follows}

@@ -9,7 +9,7 @@ use Rattle.ps_shown.specs.declared.kept.Kept.{Kept}
 use Rattle.ps_shown.specs.Shown.{shown_at}
 use Rattle.ps_delta.specs.State.{IsBelow}
 use Rattle.ps_delta.specs.Deltas.{Entries, state_of, joined_history}
-use Rattle.ps_cells.specs.Changes.{IsChanged, put_back}
+use Rattle.ps_cells.specs.ChangedCells.{IsChanged, put_back}
 use Rattle.ps_cells.proofs.ChangeLists.{changes_of}
 use Rattle.ps_sheet.specs.Edits.{delta_of_edit}
 use Rattle.ps_sheet.specs.Prepared.{IsDeltaOf, IsOf, IsPrepared, IsRefusedBy, IsToAppend, PreparedView}

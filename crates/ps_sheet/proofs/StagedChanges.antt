@@ -13,7 +13,7 @@ use Rattle.ps_delta.specs.State.{State, IsBelow, IsInGrid, empty_state, joined_s
 use Rattle.ps_delta.specs.Deltas.{Entries, state_of, joined_history}
 use Rattle.ps_delta.proofs.HistoryLemmas.{joined_history-nil, joined_history-push}
 use Rattle.ps_cells.specs.Cells.{CellsView, state_before, state_now}
-use Rattle.ps_cells.specs.Changes.{put_back}
+use Rattle.ps_cells.specs.ChangedCells.{put_back}
 use Rattle.ps_cells.specs.Recalculated.{IsRecalculated}
 use Rattle.ps_cells.specs.Settled.{IsSettled}
 use Rattle.ps_cells.proofs.ScreenLemmas.{back_none}

@@ -11,7 +11,7 @@ use Rattle.ps_delta.specs.State.{State, IsBelow}
 use Rattle.ps_delta.specs.Deltas.{Entries, state_of, joined_history}
 use Rattle.ps_cells.specs.Settled.{IsSettled}
 use Rattle.ps_cells.specs.Recalculated.{IsRecalculated}
-use Rattle.ps_cells.specs.Changes.{put_back}
+use Rattle.ps_cells.specs.ChangedCells.{put_back}
 use Rattle.ps_sheet.specs.Sheet.{IsFresh}
 use Rattle.ps_sheet.specs.Staging.{IsWorkedOut}
 use Rattle.ps_sheet.proofs.AppendedDeltas.{fresh_push}

@@ -11,7 +11,7 @@ use Rattle.ps_delta.specs.State.{State, IsBelow}
 use Rattle.ps_delta.specs.Deltas.{Entries, state_of, joined_history}
 use Rattle.ps_sheet.specs.Edits.{delta_of_edit}
 use Rattle.ps_sheet.specs.Reports.{IsReport}
-use Rattle.ps_cells.specs.Changes.{put_back, IsChanges}
+use Rattle.ps_cells.specs.ChangedCells.{put_back, IsChanges}
 use Rattle.ps_cells.specs.Settled.{IsSettled}
 use Rattle.ps_sheet.specs.Sheet.{SheetView, Takes}
 use Rattle.ps_sheet.specs.declared.sheet.Report.{Report}

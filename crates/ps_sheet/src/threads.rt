@@ -4,7 +4,7 @@
 ghost use denote.Param.Send.{IsSend, IsSync};
 ghost use Rattle.ps_sheet.specs.contracts.staging.Staging as staging;
 
-use ps_cells::cells_cross;
+use ps_cells::cells_are_send;
 use ps_delta::CellState;
 
 /// What the bounds say of a type.
@@ -20,5 +20,5 @@ pub fn staging_is_send()
     ensures { IsSend staging.the_row }
 {
     is_send_and_sync::<CellState>();
-    cells_cross();
+    cells_are_send();
 }

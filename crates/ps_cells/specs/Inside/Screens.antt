@@ -9,7 +9,7 @@ use Rattle.ps_eval.specs.Items.{Assignment}
 use Rattle.ps_shown.specs.declared.kept.Kept.{Kept}
 use Rattle.ps_shown.specs.Kept.{value_of as value_kept}
 use Rattle.ps_shown.specs.Shown.{shown_at}
-unfoldable pub use Rattle.ps_cells.specs.Changes.{put_back}
+unfoldable pub use Rattle.ps_cells.specs.ChangedCells.{put_back}
 use Rattle.ps_cells.specs.Inside.Steps.{flag_at}
 use Rattle.ps_cells.specs.Inside.Waiting.{is_waiting}
 

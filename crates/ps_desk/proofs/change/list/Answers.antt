@@ -1,5 +1,5 @@
 use Rattle.ps_shown.specs.Shown.{shown_at}
-use Rattle.ps_cells.specs.Changes.{IsChanged}
+use Rattle.ps_cells.specs.ChangedCells.{IsChanged}
 use Rattle.ps_sheet.specs.Prepared.{shown_before}
 use Rattle.ps_sheet.specs.Staging.{StagedView, StagingView, prepared_of}
 use Rattle.ps_desk.proofs.Noted.{at_staged, keeps_listed}

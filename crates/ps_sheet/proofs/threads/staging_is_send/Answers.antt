@@ -46,4 +46,4 @@ returns c =
     let a = c.is_send_and_sync.ensures in
     let d : IsSend cell_state.the_row = record { owned = a.send.owned; leaving = λ k x w. (tt, (tt, (tt, tt))) } in
     let e : IsSync cell_state.the_row = record { shared = a.sync.shared } in
-    view_send _ _ _ _ _ (staging_send (shared_send (delta_send d) (delta_sync e)) c.cells_cross.ensures)
+    view_send _ _ _ _ _ (staging_send (shared_send (delta_send d) (delta_sync e)) c.cells_are_send.ensures)

@@ -1,7 +1,7 @@
 use Rattle.std.proofs.Common.{ℕ, List, length, ap, subst, arith}
 use Rattle.ps_shown.specs.declared.kept.Kept.{Kept}
 use Rattle.ps_shown.specs.Shown.{shown_at}
-use Rattle.ps_cells.specs.Changes.{IsChanged}
+use Rattle.ps_cells.specs.ChangedCells.{IsChanged}
 use Rattle.ps_cells.specs.Inside.Screens.{Differ, ScreenView, before_of, put_back}
 use Rattle.ps_cells.proofs.ChangeLists.{changed_of}
 use Rattle.ps_cells.proofs.ScreenLemmas.{noted_few}

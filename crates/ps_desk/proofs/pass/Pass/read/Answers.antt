@@ -13,4 +13,5 @@ returns-clause-value g c =
     subst (λ (list : List Note). IsShown (history_of h list) c.args.cell c.at.result)
     (sym (ap (λ (v : View). v.list) c.leave.ensures))
     (shown_one (history_of h c.in_ok-seen.seen.list) c.in_ok-seen.seen.values c.args.cell c.at.result
-    c.in_ok-seen.ensures.whole (subst (λ k. k < CELLS) c.index.ensures.index c.index.ensures.in_grid) c.at.ensures.value)
+    c.in_ok-seen.ensures.whole (subst (λ k. k < CELLS) c.index.ensures.index c.index.ensures.in_grid)
+    c.at.ensures.value)

@@ -11,7 +11,7 @@ use ps_index::Index;
 use ps_region::Region;
 
 /// What the bounds say of a type.
-fn crosses<T: Send + Sync>()
+fn is_send_and_sync<T: Send + Sync>()
     ensures send { IsSend T.row }
     ensures sync { IsSync T.row }
 {}
@@ -19,13 +19,13 @@ fn crosses<T: Send + Sync>()
 /// Cells may go to another thread.
 ///
 /// Cost: none.
-pub fn cells_cross()
+pub fn cells_are_send()
     ensures { IsSend cells.the_row }
 {
-    crosses::<CellState>();
-    crosses::<Grid>();
-    crosses::<Index>();
-    crosses::<Screen>();
-    crosses::<Region>();
-    crosses::<Level>();
+    is_send_and_sync::<CellState>();
+    is_send_and_sync::<Grid>();
+    is_send_and_sync::<Index>();
+    is_send_and_sync::<Screen>();
+    is_send_and_sync::<Region>();
+    is_send_and_sync::<Level>();
 }

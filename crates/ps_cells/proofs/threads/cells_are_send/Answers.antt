@@ -23,7 +23,7 @@ use Rattle.ps_delta.specs.contracts.cell_state.CellState as cell_state
 use Rattle.ps_shown.specs.contracts.kept.Kept as kept
 use Rattle.ps_cells.specs.contracts.level.Level as level
 use Rattle.ps_cells.specs.contracts.screen.Screen as screen
-use Rattle.ps_cells.proofs.crossing.cells_cross.Goals as goal
+use Rattle.ps_cells.proofs.threads.cells_are_send.Goals as goal
 
 -- from what the bounds say of the parts, one after another, that the whole may go to another thread
 
@@ -107,11 +107,11 @@ cells_send t a = declared_send cells_inside.the_type (t, (a, tt))
 pub returns : goal.returns
 returns c =
     let a : IsSend cell_state.the_row =
-    record { owned = c.crosses.ensures.send.owned; leaving = λ k x w. (tt, (tt, (tt, tt))) } in
-    let g : IsSend grid.the_row = record { owned = c.crosses-2.ensures.send.owned; leaving = λ k x w. tt } in
-    let i : IsSend index.the_row = record { owned = c.crosses-3.ensures.send.owned; leaving = λ k x w. tt } in
-    let s : IsSend screen.the_row = record { owned = c.crosses-4.ensures.send.owned; leaving = λ k x w. tt } in
-    let r : IsSend region.the_row = record { owned = c.crosses-5.ensures.send.owned; leaving = λ k x w. tt } in
+    record { owned = c.is_send_and_sync.ensures.send.owned; leaving = λ k x w. (tt, (tt, (tt, tt))) } in
+    let g : IsSend grid.the_row = record { owned = c.is_send_and_sync-2.ensures.send.owned; leaving = λ k x w. tt } in
+    let i : IsSend index.the_row = record { owned = c.is_send_and_sync-3.ensures.send.owned; leaving = λ k x w. tt } in
+    let s : IsSend screen.the_row = record { owned = c.is_send_and_sync-4.ensures.send.owned; leaving = λ k x w. tt } in
+    let r : IsSend region.the_row = record { owned = c.is_send_and_sync-5.ensures.send.owned; leaving = λ k x w. tt } in
     let l : IsSend level.the_row =
-    record { owned = c.crosses-6.ensures.send.owned; leaving = λ k x w. (tt, (tt, tt)) } in
+    record { owned = c.is_send_and_sync-6.ensures.send.owned; leaving = λ k x w. (tt, (tt, tt)) } in
     view_send _ _ _ _ _ (cells_send (tables_send g i s r (lists_send a) l) (staged_send (olds_send a)))
