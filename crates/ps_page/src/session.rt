@@ -1,12 +1,12 @@
 //! A session of lines with a server.
 ghost use Rattle.std.specs.Prelude.{◌≡◌, ◌≤◌, ◌∷◌, ◌++◌, [], ℕ, List, IsTrue, OnErr, OnOk, All, length, vec_len};
-ghost use Rattle.std.specs.Char.{is_ascii_digit};
 ghost use Rattle.std.specs.Io.KnownBytes.{Appends, Consumes, Keeps};
 ghost use Rattle.std.specs.List.{list_all};
 ghost use Rattle.std.specs.Prelude.{◌==◌, ◌&&◌, not};
 ghost use Rattle.ps_page.specs.Lines.{AppendsFront, HasNoFeed, IsReply, carriage_return, count_after, ended};
 ghost use Rattle.ps_page.specs.Lines.{is_request, line_feed, rows_after, text_of, whole_number};
 
+use ps_grid::read_digits;
 use std::io::{BufRead, Write};
 
 /// The greatest number of bytes of a reply.
@@ -66,20 +66,7 @@ fn count_after(first: &[u8], word: &[u8]) -> Option<u64>
 fn read_whole(word: &[u8]) -> Option<u64>
     ensures { result ≡ whole_number word.now }
 {
-    if !are_digits(word) {
-        return None;
-    }
-    match str::from_utf8(word) {
-        Ok(text) => text.parse::<u64>().ok(),
-        Err(_) => None,
-    }
-}
-
-/// Whether each byte of a word is a decimal digit.
-fn are_digits(word: &[u8]) -> bool
-    ensures { result ≡ list_all is_ascii_digit word.now }
-{
-    word.iter().all(|b| b.is_ascii_digit())
+    read_digits(word)
 }
 
 /// Writes all of these bytes, or a front of them.
