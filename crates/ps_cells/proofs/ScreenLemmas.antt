@@ -1,16 +1,16 @@
 -- Old values that are kept aside, and put back.
-use Rattle.std.proofs.Common.{◌≡◌, ◌≢◌, ℕ, ◌+◌, ◌<◌, ◌≤◌, Bool, true, false, List, [], ◌∷◌, ◌++◌, length, set}
-use Rattle.std.proofs.Common.{Vec, refl, sym, ap, ◌∙◌, arith, ⊎_elim, eqb, eq-eqb, subst, get_or, drop}
+use Rattle.std.proofs.Common.{◌≡◌, ◌≢◌, ℕ, ◌<◌, ◌≤◌, Bool, true, false, List, [], ◌∷◌, ◌++◌, length, set}
+use Rattle.std.proofs.Common.{Vec, refl, sym, ap, ◌∙◌, arith, ⊎_elim, eqb, eq-eqb, subst}
 use Rattle.std.specs.Prelude.{if◌then◌else◌}
 use Rattle.std.specs.Vec.{with_items}
 use Rattle.std.specs.List.{IsDistinct}
 use Rattle.std.proofs.Math.Path.{fun_ext}
 use Rattle.std.proofs.lemmas.Bool.{cases_eq, cases_lt}
-use Rattle.std.proofs.lemmas.List.{get_or_past, map-append, length-map, length-append, length-set, drop_more, drop_all}
+use Rattle.std.proofs.lemmas.List.{get_or_past, map-append, length-map, length-append, length-set}
 use Rattle.std.proofs.lemmas.List.{with_items_is}
 use Rattle.ps_grid.specs.Chains.{In}
 use Rattle.ps_grid.specs.declared.size.TheConstants.{CELLS}
-use Rattle.ps_grid.proofs.ChainLemmas.{bool_cases, In-one, In-cases}
+use Rattle.ps_grid.proofs.ChainLemmas.{In-one, In-cases}
 use Rattle.ps_value.specs.declared.value.Value.{Value}
 use Rattle.ps_eval.specs.Items.{Assignment}
 use Rattle.ps_shown.specs.declared.kept.Kept.{Kept}
@@ -184,30 +184,3 @@ noted_few olds flags noted =
     let few = distinct_below_cells (cells_in olds) noted.once (noted_below olds flags noted) in
     let same = length-map olds (λ (e : ℕ × Kept). e.0) in
     omega (arith, few, same)
-
--- the cells of a list lose their flags one after the other: those that are flagged still come later in the list
-pub put_cleared : (flags : List Bool) (olds : List (ℕ × Kept)) (i : ℕ) (e : ℕ × Kept) → i < length olds
-    → e ≡ get_or olds i e → e.0 < length flags
-    → ((c : ℕ) → flag_at flags c ≡ true → In (cells_in (drop i olds)) c)
-    → (c : ℕ) → flag_at (set flags e.0 false) c ≡ true → In (cells_in (drop (i + 1) olds)) c
-put_cleared flags olds i e lt at inside so_far c on =
-    ⊎_elim
-    (λ same. absurd (true_not_false (flag_at (set flags e.0 false) c) on
-    (subst (λ q. flag_at (set flags e.0 false) q ≡ false) (sym same) (flag_here flags e.0 false inside))))
-    (λ ne. ⊎_elim
-    (λ same. absurd (ne same))
-    (λ later. later)
-    (In-cases c e.0 (cells_in (drop (i + 1) olds))
-    (subst (λ (xs : List (ℕ × Kept)). In (cells_in xs) c)
-    (drop_more olds i e lt ∙ ap (λ (q : ℕ × Kept). q ∷ drop (i + 1) olds) (sym at))
-    (so_far c (sym (flag_there flags e.0 c false ne) ∙ on)))))
-    (cases_eq c e.0)
-
-pub put_cleared_all : (flags : List Bool) (olds : List (ℕ × Kept)) (i : ℕ) → length olds ≤ i
-    → ((c : ℕ) → flag_at flags c ≡ true → In (cells_in (drop i olds)) c) → (c : ℕ) → flag_at flags c ≡ false
-put_cleared_all flags olds i all so_far c =
-    ⊎_elim
-    (λ on. let f : false ≡ true =
-    subst (λ (xs : List (ℕ × Kept)). In (cells_in xs) c) (drop_all i olds all) (so_far c on) in cc)
-    (λ off. off)
-    (bool_cases (flag_at flags c))

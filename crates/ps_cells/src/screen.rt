@@ -322,7 +322,7 @@ fn note(olds: &mut Vec<(Cell, Kept)>, is_put: &mut [bool], cell: Cell, old: Kept
     }
 }
 
-/// Forgets old values.
+/// Forgets old values, the last one first.
 fn forget(olds: &mut Vec<(Cell, Kept)>, is_put: &mut [bool])
     requires whole { length is_put.old ≡ CELLS }
     requires noted { (c : ℕ) → flag_at is_put.old c ≡ true → In (cells_in olds.old.items) c }
@@ -330,18 +330,8 @@ fn forget(olds: &mut Vec<(Cell, Kept)>, is_put: &mut [bool])
     ensures off { (c : ℕ) → flag_at is_put.new c ≡ false }
     ensures room { vec_capacity olds.old ≤ vec_capacity olds.new }
 {
-    clear_put(olds, is_put);
-    olds.clear();
-}
-
-/// Takes away the flags of the cells of old values.
-fn clear_put(olds: &[(Cell, Kept)], is_put: &mut [bool])
-    requires whole { length is_put.old ≡ CELLS }
-    requires noted { (c : ℕ) → flag_at is_put.old c ≡ true → In (cells_in olds.now) c }
-    ensures off { (c : ℕ) → flag_at is_put.new c ≡ false }
-{
-    for entry in olds {
-        is_put[entry.0.index()] = false;
+    'olds: while let Some(last) = olds.pop() {
+        is_put[last.0.index()] = false;
     }
 }
 
