@@ -1,6 +1,6 @@
 -- A change of cells without formulas that no formula refers to: these cells are its region.
 use Rattle.std.proofs.Common.{◌≡◌, ◌<◌, ◌≤◌, ◌-◌, ℕ, Bool, true, false, not, ◌&&◌, List, [], ◌∷◌}
-use Rattle.std.proofs.Common.{refl, sym, ap, ◌∙◌, arith, eqb, subst, take}
+use Rattle.std.proofs.Common.{refl, sym, ap, ◌∙◌, ⊎_elim, arith, eqb, subst, take}
 use Rattle.std.specs.Iterator.{YieldsFirst}
 use Rattle.std.specs.List.{IsDistinct, list_all, list_any}
 use Rattle.std.specs.Prelude.{Option, Some, None, is_some, slice_index, slice_index_or}
@@ -10,20 +10,21 @@ use Rattle.std.proofs.lemmas.List.{get_or-replicate}
 use Rattle.std.proofs.lemmas.List.Sums.{AllPass-from_list_all}
 use Rattle.ps_grid.specs.declared.size.TheConstants.{CELLS}
 use Rattle.ps_grid.specs.Chains.{References, In, InRegion, IsDepth}
-use Rattle.ps_grid.proofs.ChainLemmas.{All-In}
+use Rattle.ps_grid.proofs.ChainLemmas.{All-In, In-decided}
 use Rattle.ps_grid.proofs.RegionLemmas.{InRegion-touched, InRegion-least}
 use Rattle.ps_region.specs.Found.{Found, IsFound, level_cells}
 use Rattle.ps_cells.specs.Inside.Alone.{is_alone, is_empty}
 use Rattle.ps_eval.specs.Items.{Assignment}
 use Rattle.ps_delta.specs.State.{State}
 use Rattle.ps_cells.specs.Settled.{refers_to, Cyclic, IsSettled}
-use Rattle.ps_cells.specs.Inside.Steps.{AreListed, BeginsAll}
+use Rattle.ps_cells.specs.Inside.Steps.{AreListed}
+use Rattle.ps_cells.specs.Inside.Waiting.{first_value}
 use Rattle.ps_cells.specs.Inside.Walk.{formula_at, AreLevels, InFrame, IsStateChange, IsCount, IsPassed, IsWork}
 use Rattle.ps_cells.specs.Inside.Walk.{Begun, ListsCyclic, Walked}
-use Rattle.ps_cells.proofs.FirstValues.{begun_start}
-use Rattle.ps_cells.proofs.FoundLevels.{walked_flags, walked_settled, walked_counted, cyclic_counted}
+use Rattle.ps_cells.proofs.FoundLevels.{walked_settled, walked_counted, cyclic_counted}
 use Rattle.ps_cells.proofs.Recalculations.{cyclic_now, deepest_now, levels_found, walked_now}
-use Rattle.ps_cells.proofs.WalkSteps.{frame_none}
+use Rattle.ps_cells.proofs.SettledValues.{true_not_false}
+use Rattle.ps_cells.proofs.WalkSteps.{first_value-plain, frame_none}
 
 -- what the first of a walk tells of the whole of it
 pub empty_by_first : (all rest : List ℕ) (first : Option ℕ) (none : Bool)
@@ -147,26 +148,42 @@ module _ (s t : State) (v : Assignment) (touched : List ℕ) (change : IsStateCh
         → (k : ℕ) × IsDepth (refers_to t) (InFrame t touched) c k × (k ≤ 0)
     deepest_alone = deepest_now s t v touched change inside (found_alone touched) found
 
-    module _ (cells : List ℕ) (cells_are : cells ≡ touched) (u : Assignment) (flags0 flags1 : ℕ → Bool)
-        (off : (c : ℕ) → flags0 c ≡ false) (begins : BeginsAll t list cells v u flags0 flags1) where
-      walked : Walked t v touched (IsPassed (level_cells (found_alone touched)) 1 []) u flags1 0
-      walked =
-          let begun : Begun t v touched touched [] u flags1 =
-          subst (λ (xs : List ℕ). Begun t v touched xs [] u flags1) cells_are
-          (begins v touched lists
-          (λ c i. let j : In touched c = subst (λ xs. In xs c) cells_are i in (j, inside c j))
-          (begun_start t v touched v flags0 (λ c. refl) off)) in
-          walked_now s t v touched change inside (found_alone touched) found list lists u u flags1 flags1 0 begun
-          (frame_none t list (level_cells (found_alone touched)) 0 u flags1)
+    -- where each touched cell shows its first value, and no other cell another one
+    module _ (u : Assignment) (firsts : (c : ℕ) → In touched c → u c ≡ first_value (t c))
+        (others : (c : ℕ) → ¬ In touched c → u c ≡ v c) where
+      flags : ℕ → Bool
+      flags c = false
 
-      pub flags_alone : (c : ℕ) → flags1 c ≡ true → In touched c
-      flags_alone = walked_flags s t v touched change (level_cells (found_alone touched)) 0 levels u flags1 0 walked
-          touched found.region_sound found.region_complete
+      begun : Begun t v touched touched [] u flags
+      unfolding flags
+      begun = record {
+        among = λ c i. i;
+        cyclic = λ c i. absurd (let f : false ≡ true = i in cc);
+        plain = λ c i p. firsts c i ∙ first_value-plain t c u p;
+        cycle = λ c i. absurd (let f : false ≡ true = i in cc);
+        kept = λ c formula out. ⊎_elim
+            (λ i. absurd (true_not_false (formula_at t c) (formula i)
+            (alone_plain (formula_at t) list touched alone c i)))
+            (others c)
+            (In-decided touched c);
+        formula = λ c i f.
+            absurd (true_not_false (formula_at t c) f (alone_plain (formula_at t) list touched alone c i));
+        passed = λ c d r acyclic off. ⊎_elim
+            (λ i. absurd (unread c d i r))
+            (others d)
+            (In-decided touched d);
+        flagged = λ c on. absurd (let f : false ≡ true = on in cc);
+        inside = λ c on. absurd (let f : false ≡ true = on in cc);
+      }
+
+      walked : Walked t v touched (IsPassed (level_cells (found_alone touched)) 1 []) u flags 0
+      walked = walked_now s t v touched change inside (found_alone touched) found list lists u u flags flags 0 begun
+          (frame_none t list (level_cells (found_alone touched)) 0 u flags)
 
       pub settled_alone : IsSettled t u
-      settled_alone = walked_settled s t v touched change (level_cells (found_alone touched)) 0 levels u flags1 0 walked
+      settled_alone = walked_settled s t v touched change (level_cells (found_alone touched)) 0 levels u flags 0 walked
           touched found.region_sound found.region_complete
 
       pub counted_alone : IsCount (IsWork t touched v u) 0
-      counted_alone = walked_counted s t v touched change (level_cells (found_alone touched)) 0 levels u flags1 0 walked
+      counted_alone = walked_counted s t v touched change (level_cells (found_alone touched)) 0 levels u flags 0 walked
           touched found.region_sound found.region_complete

@@ -16,6 +16,7 @@ pub mod ListedCells
 pub mod ListedFormulas
 pub mod Middles
 pub mod PendingChanges
+pub mod PutFirsts
 pub mod PutFormulas
 pub mod PutValues
 pub mod Puts

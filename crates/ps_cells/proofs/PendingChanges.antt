@@ -19,7 +19,6 @@ use Rattle.ps_cells.specs.Inside.Formulas.{forms_of, with_puts}
 use Rattle.ps_cells.specs.Inside.Kept.{IsTidy, Recalculates}
 use Rattle.ps_cells.specs.Inside.Pending.{IsPending}
 use Rattle.ps_cells.specs.Inside.Screens.{ScreenView, before_of}
-use Rattle.ps_cells.specs.declared.change.Lists.{Lists}
 use Rattle.ps_cells.specs.declared.tables.Tables.{Tables}
 use Rattle.ps_cells.proofs.PutFormulas.{cells_of-from, entries_hold, overlaid_from, overlaid_others, swapped}
 
@@ -43,12 +42,10 @@ entries_again s t (e ∷ es) hold =
     (entries_again s t es (All-tail (λ (q : ℕ × CellState). q.1 ≡ t q.0) e es hold))
 
 -- after the states were exchanged back the index has the new formulas beside the old ones
-pub new_formulas_of : (s t : State) (index : List (List Span)) (olds given taken back : Entries) → back ≡ taken
-    → taken ≡ entries_from t given → given ≡ olds → Stands index (with_puts (entries_from t olds) (forms_of s))
-    → Stands index (with_puts back (forms_of s))
-new_formulas_of s t index olds given taken back back_is taken_is given_is stood =
-    subst (λ (xs : Entries). Stands index (with_puts xs (forms_of s)))
-    (sym (back_is ∙ (taken_is ∙ ap (entries_from t) given_is))) stood
+pub new_formulas_of : (s t : State) (index : List (List Span)) (olds taken : Entries) → taken ≡ entries_from t olds
+    → Stands index (with_puts (entries_from t olds) (forms_of s)) → Stands index (with_puts taken (forms_of s))
+new_formulas_of s t index olds taken taken_is stood =
+    subst (λ (xs : Entries). Stands index (with_puts xs (forms_of s))) (sym taken_is) stood
 
 -- after a recalculation the change is pending
 pub pending_of : (s d : State) (v : Assignment) (es olds : Entries) (x y : Tables) (touched : List ℕ)
@@ -82,10 +79,10 @@ pending_of s d v es olds x y touched evaluated closed levels in_grid settled bef
       tidy = subst (λ (q : State). IsTidy q y) (sym (ap state_at did.grid)) did.tidy;
     }
 
--- tidy is what it is with another grid, index and screen too, and with other lists
-pub tidy_with : (s : State) (x : Tables) (grid : Blocks) (index : List (List Span)) (shown : ScreenView) (lists : Lists)
-    → IsTidy s x → IsTidy s (record x { grid = grid; index = index; shown = shown; lists = lists })
-tidy_with s x grid index shown lists tidy = record {
+-- tidy is what it is with another grid, index and screen too
+pub tidy_with : (s : State) (x : Tables) (grid : Blocks) (index : List (List Span)) (shown : ScreenView)
+    → IsTidy s x → IsTidy s (record x { grid = grid; index = index; shown = shown })
+tidy_with s x grid index shown tidy = record {
   cyclic = tidy.cyclic;
   room = tidy.room;
   length = tidy.length;
@@ -93,20 +90,4 @@ tidy_with s x grid index shown lists tidy = record {
   level = tidy.level;
   workers = tidy.workers;
   region = tidy.region;
-}
-
--- a change is pending with other lists too
-pub pending_with : (s : State) (x : Tables) (olds : Entries) (lists : Lists) → IsPending s x olds
-    → IsPending s (record x { lists = lists }) olds
-pending_with s x olds lists p = record {
-  was_in_grid = p.was_in_grid;
-  was_settled = p.was_settled;
-  gives = p.gives;
-  ready = p.ready;
-  ascending = p.ascending;
-  stood = p.stood;
-  in_grid = p.in_grid;
-  settled = p.settled;
-  stands = p.stands;
-  tidy = tidy_with (state_at x.grid) x x.grid x.index x.shown lists p.tidy;
 }

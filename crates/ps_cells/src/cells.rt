@@ -10,8 +10,9 @@ ghost use Rattle.ps_cells.specs.ChangedCells.{IsChanged};
 ghost use Rattle.ps_cells.specs.Recalculated.{IsRecalculated};
 ghost use Rattle.ps_cells.specs.Settled.{IsSettled};
 
+use crate::change::Lists;
 use crate::tables::{Tables, Work};
-use ps_delta::{CellState, Delta, Grid};
+use ps_delta::{Delta, Grid};
 use ps_eval::Meter;
 use ps_grid::{Cell, Refusal};
 use ps_shown::Shown;
@@ -19,7 +20,6 @@ use ps_value::Value;
 use ps_workers::Gate;
 use std::alloc::Global;
 use std::marker::Model;
-use std::mem;
 use std::sync::ledger::Ledger;
 use std::thread::Threads;
 
@@ -29,8 +29,10 @@ use std::thread::Threads;
 #[derive(Drop)]
 pub struct Cells {
     tables: Tables,
-    /// the touched cells of the staged change, ascending, each with the state that it had
-    staged: Option<Vec<(Cell, CellState)>>,
+    /// the touched cells of the staged change, each with the state that it had
+    lists: Lists,
+    /// whether a change is staged
+    is_staged: bool,
 }
 
 impl Model for Cells {
@@ -66,7 +68,8 @@ impl Cells {
     {
         Ok(Cells {
             tables: Tables::new(alloc, workers)?,
-            staged: None,
+            lists: Lists::new(alloc),
+            is_staged: false,
         })
     }
 
@@ -101,8 +104,10 @@ impl Cells {
         ensures kept { OnErr result (AreTheSame self.old self.new) }
         ensures unmetered { OnErr result (meter.new ≡ meter.old) }
     {
-        let (work, olds) = self.tables.join(rt, gate, alloc, delta, meter)?;
-        self.staged = Some(olds);
+        let work = self
+            .tables
+            .join(rt, gate, alloc, delta, &mut self.lists, meter)?;
+        self.is_staged = true;
         Ok(work)
     }
 
@@ -116,10 +121,9 @@ impl Cells {
         ensures kept { (self.new.grid ≡ self.old.grid) × (self.new.shown ≡ self.old.shown) }
         ensures workers { self.new.workers ≡ self.old.workers }
     {
-        let Some(olds) = mem::replace(&mut self.staged, None) else {
-            unreachable!()
-        };
-        self.tables.leave(olds);
+        self.tables.leave(&self.lists.states);
+        self.lists.states.clear();
+        self.is_staged = false;
     }
 
     /// Takes the staged change back: the cells hold and show what they did. It takes no memory.
@@ -132,10 +136,9 @@ impl Cells {
         ensures shown { shown_now self.new ≡ shown_before self.old }
         ensures workers { self.new.workers ≡ self.old.workers }
     {
-        let Some(olds) = mem::replace(&mut self.staged, None) else {
-            unreachable!()
-        };
-        self.tables.take_back(olds);
+        self.tables.take_back(&mut self.lists.states);
+        self.lists.states.clear();
+        self.is_staged = false;
     }
 
     /// Lists the cells that show another value than before the staged change.
@@ -205,6 +208,6 @@ impl Cells {
     pub fn is_staged(&self) -> bool
         ensures staged { result ≡ is_some self.now.staged }
     {
-        self.staged.is_some()
+        self.is_staged
     }
 }

@@ -23,8 +23,9 @@ pub(crate) struct Lists {
     pub(crate) touched: Vec<Cell>,
     /// the touched cells, each with what it shows at first; between two changes nothing is kept there
     pub(crate) first: Vec<(Cell, Kept)>,
-    /// nothing, in the room for the touched cells with their states; that goes out with these while a change is staged
-    spare: Vec<(Cell, CellState)>,
+    /// the touched cells, ascending, each with its state: the new one until the cells have got these, and from then on
+    /// the one that it had; between two changes none
+    pub(crate) states: Vec<(Cell, CellState)>,
 }
 
 impl Lists {
@@ -33,47 +34,41 @@ impl Lists {
         Lists {
             touched: Vec::new(alloc),
             first: Vec::new(alloc),
-            spare: Vec::new(alloc),
+            states: Vec::new(alloc),
         }
-    }
-
-    /// Keeps the room of a list for the next change. Its cells and their states are dropped; it takes no memory.
-    pub(crate) fn keep_room(&mut self, list: Vec<(Cell, CellState)>) {
-        let mut list = list;
-        list.clear();
-        self.spare = list;
     }
 }
 
-/// Begins the change that a delta makes: its formulas are put into the index beside the old ones. The touched cells,
-/// ascending, each with its new state.
+/// Begins the change that a delta makes: its formulas are put into the index beside the old ones, and the touched cells
+/// are listed, with their new states.
 ///
-/// Refused only when out of memory, and then the index stands for what it stood for; the room that was spare is given
-/// back then.
+/// Refused only when out of memory, and then the index stands for what it stood for; the room of the list of states is
+/// given back then.
 pub(crate) fn begin(
     alloc: Global,
     grid: &mut Grid,
     index: &mut Index,
     lists: &mut Lists,
     delta: &Delta,
-) -> Result<Vec<(Cell, CellState)>, Refusal>
+) -> Result<(), Refusal>
     requires stands { (forms : Puts) × Stands index.old forms }
-    ensures changes { IfOk result (λ x. AreChangesBy (state_at grid.old) (state_of delta.now) x.items) }
-    ensures ready { IfOk result (λ x. HasRoomFor grid.new x.items) }
-    ensures touched { IfOk result (λ x. lists.new.touched.items ≡ cells_of x.items) }
-    ensures first { IfOk result (λ x. shown_firsts lists.new.first.items ≡ firsts x.items) }
-    ensures put { IfOk result (λ x. (forms : Puts) → Stands index.old forms
-        → Stands index.new (with_puts x.items forms)) }
+    ensures changes { OnOk result (AreChangesBy (state_at grid.old) (state_of delta.now) lists.new.states.items) }
+    ensures ready { OnOk result (HasRoomFor grid.new lists.new.states.items) }
+    ensures touched { OnOk result (lists.new.touched.items ≡ cells_of lists.new.states.items) }
+    ensures first { OnOk result (shown_firsts lists.new.first.items ≡ firsts lists.new.states.items) }
+    ensures put { OnOk result ((forms : Puts) → Stands index.old forms
+        → Stands index.new (with_puts lists.new.states.items forms)) }
     ensures undone { OnErr result ((forms : Puts) → Stands index.old forms → Stands index.new forms) }
     ensures same { state_at grid.new ≡ state_at grid.old }
     ensures memory { IfErr result (λ e. e ≡ Refusal.Memory) }
 {
-    let spare = mem::replace(&mut lists.spare, Vec::new(alloc));
-    let changes = grid.changes_by(alloc, delta, spare)?;
+    let room = mem::replace(&mut lists.states, Vec::new(alloc));
+    let changes = grid.changes_by(alloc, delta, room)?;
     list_cells(&changes, &mut lists.touched)?;
     list_first(alloc, &changes, &mut lists.first)?;
     put_formulas(index, &changes)?;
-    Ok(changes)
+    lists.states = changes;
+    Ok(())
 }
 
 /// Lists the cells alone.

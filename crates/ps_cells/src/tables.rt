@@ -9,7 +9,7 @@ ghost use Rattle.ps_delta.specs.State.{State, empty_state, joined_state, state_a
 ghost use Rattle.ps_delta.specs.Deltas.{Entries, state_of};
 ghost use Rattle.ps_cells.specs.Recalculated.{IsRecalculated};
 ghost use Rattle.ps_cells.specs.Inside.Steps.{flag_at};
-ghost use Rattle.ps_cells.specs.Inside.Screens.{before_of, ShowCycle};
+ghost use Rattle.ps_cells.specs.Inside.Screens.{before_of, cells_in, ShowCycle};
 ghost use Rattle.ps_cells.specs.Inside.Kept.{IsWhole, MayRecalculate, Recalculates};
 ghost use Rattle.ps_cells.specs.Inside.Pending.{IsPending};
 ghost use Rattle.ps_cells.specs.Inside.Alone.{is_alone, is_empty};
@@ -22,7 +22,7 @@ use crate::contents::holds_formula;
 use crate::level::{Inputs, Level, Workers};
 use crate::region::find_region;
 use crate::screen::Screen;
-use crate::walk::{clear, close_all, settle_frame, show_all_first};
+use crate::walk::{clear, close_all, put_all_first, settle_frame, show_all_first};
 use ps_delta::{CellState, Delta, Grid};
 use ps_eval::Meter;
 use ps_grid::{CELLS, Cell, Refusal};
@@ -31,7 +31,6 @@ use ps_region::Region;
 use ps_shown::Kept;
 use ps_workers::Gate;
 use std::alloc::Global;
-use std::mem;
 use std::sync::ledger::Ledger;
 use std::thread::Threads;
 
@@ -52,8 +51,6 @@ pub(crate) struct Tables {
     pub(crate) cyclic: Vec<Cell>,
     /// which cells are due, while a change is made
     flags: Vec<bool>,
-    /// the touched cells of the last change
-    lists: Lists,
     /// the due cells of one level
     level: Level,
     /// how many workers evaluate a level
@@ -93,14 +90,13 @@ impl Tables {
             source: None,
             cyclic,
             flags,
-            lists: Lists::new(alloc),
             level,
             workers,
         })
     }
 
-    /// Joins a delta to what the cells hold, and settles again what they show. The work that this was, and the touched
-    /// cells, ascending, each with the state that it had.
+    /// Joins a delta to what the cells hold, and settles again what they show. The work that this was. The touched
+    /// cells are listed, each with the state that it had.
     ///
     /// Refused only when out of memory, and then the cells hold and show what they did.
     pub(crate) fn join<R: Threads + Sync, G: Gate, L: Ledger>(
@@ -109,16 +105,17 @@ impl Tables {
         gate: &G,
         alloc: Global,
         delta: &Delta,
+        lists: &mut Lists,
         meter: &mut Meter<L>,
-    ) -> Result<(Work, Vec<(Cell, CellState)>), Refusal>
+    ) -> Result<Work, Refusal>
         requires whole { IsWhole self.old }
-        ensures pending { IfOk result (λ m. IsPending (state_at self.old.grid) self.new m.1.items) }
+        ensures pending { OnOk result (IsPending (state_at self.old.grid) self.new lists.new.states.items) }
         ensures before { OnOk result (before_of self.new.shown ≡ shown_at self.old.shown.kept) }
         ensures joined { OnOk result (state_at self.new.grid
             ≡ joined_state (state_at self.old.grid) (state_of delta.now)) }
-        ensures work { IfOk result (λ m. IsRecalculated (state_at self.old.grid) (state_at self.new.grid)
-            (shown_at self.old.shown.kept) (shown_at self.new.shown.kept) m.0.evaluated m.0.cyclic m.0.levels) }
-        ensures metered { IfOk result (λ m. meter.new ≡ meter.old + m.0.evaluated) }
+        ensures work { IfOk result (λ w. IsRecalculated (state_at self.old.grid) (state_at self.new.grid)
+            (shown_at self.old.shown.kept) (shown_at self.new.shown.kept) w.evaluated w.cyclic w.levels) }
+        ensures metered { IfOk result (λ w. meter.new ≡ meter.old + w.evaluated) }
         ensures memory { IfErr result (λ e. e ≡ Refusal.Memory) }
         ensures workers { self.new.workers ≡ self.old.workers }
         ensures whole { OnErr result (IsWhole self.new) }
@@ -126,90 +123,75 @@ impl Tables {
             × (self.new.shown ≡ self.old.shown)) }
         ensures unmetered { OnErr result (meter.new ≡ meter.old) }
     {
-        let mut changes = begin(
-            alloc,
-            &mut self.grid,
-            &mut self.index,
-            &mut self.lists,
-            delta,
-        )?;
-        self.grid.exchange(&mut changes);
-        let mut lists = mem::replace(&mut self.lists, Lists::new(alloc));
-        let work = self.recalculate(rt, gate, &lists.touched, &mut lists.first, meter);
-        self.lists = lists;
-        Ok((work, changes))
+        begin(alloc, &mut self.grid, &mut self.index, lists, delta)?;
+        self.grid.exchange(&mut lists.states);
+        Ok(self.recalculate(rt, gate, &lists.touched, &mut lists.first, meter))
     }
 
     /// Leaves a change as it was made, where these were the states of the touched cells. It takes no memory.
-    pub(crate) fn leave(&mut self, olds: Vec<(Cell, CellState)>)
-        requires pending { (s : State) × IsPending s self.old olds.items }
+    pub(crate) fn leave(&mut self, olds: &[(Cell, CellState)])
+        requires pending { (s : State) × IsPending s self.old olds.now }
         ensures whole { IsWhole self.new }
         ensures grid { self.new.grid ≡ self.old.grid }
         ensures shown { self.new.shown.kept ≡ self.old.shown.kept }
         ensures workers { self.new.workers ≡ self.old.workers }
     {
-        take_formulas(&mut self.index, &olds);
+        take_formulas(&mut self.index, olds);
         self.shown.keep();
-        self.lists.keep_room(olds);
     }
 
-    /// Takes a change back, where these were the states of the touched cells. It takes no memory.
-    pub(crate) fn take_back(&mut self, mut olds: Vec<(Cell, CellState)>)
-        requires pending { (s : State) × IsPending s self.old olds.items }
+    /// Takes a change back, where these were the states of the touched cells, in whose place are those that they got by
+    /// it. It takes no memory.
+    pub(crate) fn take_back(&mut self, olds: &mut [(Cell, CellState)])
+        requires pending { (s : State) × IsPending s self.old olds.old }
         ensures whole { IsWhole self.new }
-        ensures back { (s : State) → IsPending s self.old olds.items → state_at self.new.grid ≡ s }
+        ensures back { (s : State) → IsPending s self.old olds.old → state_at self.new.grid ≡ s }
         ensures shown { shown_at self.new.shown.kept ≡ before_of self.old.shown }
         ensures workers { self.new.workers ≡ self.old.workers }
     {
-        self.grid.exchange(&mut olds);
-        take_formulas(&mut self.index, &olds);
+        self.grid.exchange(olds);
+        take_formulas(&mut self.index, olds);
         self.shown.add_cyclic(&mut self.cyclic);
         self.shown.take_back();
         keep_cyclic(&self.shown, &mut self.cyclic);
         self.source = None;
-        self.lists.keep_room(olds);
     }
 
     /// Settles what the cells show, after the touched cells got what they hold.
+    #[inline(always)]
     fn recalculate<R: Threads + Sync, G: Gate, L: Ledger>(
         &mut self,
         rt: &R,
         gate: &G,
         touched: &[Cell],
-        first: &mut [(Cell, Kept)],
+        first: &mut Vec<(Cell, Kept)>,
         meter: &mut Meter<L>,
     ) -> Work
-        requires may { MayRecalculate self.old touched.now first.old }
+        requires may { MayRecalculate self.old touched.now first.old.items }
         ensures done { Recalculates self.old self.new touched.now result.evaluated result.cyclic result.levels }
         ensures before { before_of self.new.shown ≡ before_of self.old.shown }
         ensures metered { meter.new ≡ meter.old + result.evaluated }
     {
         if self.cyclic.is_empty() && are_alone(&self.grid, &self.index, touched) {
-            self.show_alone(touched, first)
+            self.show_alone(first)
         } else {
             self.recalculate_region(rt, gate, touched, first, meter)
         }
     }
 
     /// Settles what the cells show where no touched cell has a formula, no formula refers to one, and no cell was
-    /// cyclic: the touched cells are the region.
-    fn show_alone(&mut self, touched: &[Cell], first: &mut [(Cell, Kept)]) -> Work
-        requires may { MayRecalculate self.old touched.now first.old }
-        requires alone { list_all (is_alone (formula_at (state_at self.old.grid)) (listed self.old.index)) touched.now
-            ≡ true }
+    /// cyclic: the touched cells are the region, and show their first values.
+    fn show_alone(&mut self, first: &mut Vec<(Cell, Kept)>) -> Work
+        requires may { MayRecalculate self.old (cells_in first.old.items) first.old.items }
+        requires alone { list_all (is_alone (formula_at (state_at self.old.grid)) (listed self.old.index))
+            (cells_in first.old.items) ≡ true }
         requires none { self.old.cyclic.items ≡ [] }
-        ensures done { Recalculates self.old self.new touched.now result.evaluated result.cyclic result.levels }
+        ensures done { Recalculates self.old self.new (cells_in first.old.items) result.evaluated result.cyclic
+            result.levels }
         ensures before { before_of self.new.shown ≡ before_of self.old.shown }
         ensures idle { result.evaluated ≡ 0 }
     {
-        show_all_first(
-            &self.grid,
-            &self.index,
-            first,
-            &mut self.shown,
-            &mut self.flags,
-        );
-        clear(touched, &mut self.flags);
+        put_all_first(first, &mut self.shown);
         self.source = None;
         Work {
             evaluated: 0,
@@ -218,7 +200,9 @@ impl Tables {
         }
     }
 
-    /// Settles what the cells show, by the region of the change.
+    /// Settles what the cells show, by the region of the change. It isn't inlined, so that a change of cells that are
+    /// alone makes no room for its locals.
+    #[inline(never)]
     fn recalculate_region<R: Threads + Sync, G: Gate, L: Ledger>(
         &mut self,
         rt: &R,

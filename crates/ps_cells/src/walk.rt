@@ -14,7 +14,7 @@ ghost use Rattle.ps_cells.specs.Inside.Waiting.{first_value};
 ghost use Rattle.ps_cells.specs.Inside.Walk.{formula_at, Shows};
 ghost use Rattle.ps_cells.specs.Inside.Steps.{BeginsAll, ClosesAll, flag_at, HasRoom, IsFirst, MayWalk};
 ghost use Rattle.ps_cells.specs.Inside.Steps.{StepsLevels};
-ghost use Rattle.ps_cells.specs.Inside.Screens.{before_of};
+ghost use Rattle.ps_cells.specs.Inside.Screens.{before_of, put_back};
 
 use crate::contents::holds_formula;
 use crate::level::{Inputs, Level, Step, Workers};
@@ -73,6 +73,17 @@ pub(crate) fn show(index: &Index, cell: Cell, kept: Kept, shown: &mut Screen, fl
     shown.put(cell, kept);
     if !same {
         flag_dependents(index, cell, flags);
+    }
+}
+
+/// Lets cells show their first values, which leave the list.
+#[inline(always)]
+pub(crate) fn put_all_first(first: &mut Vec<(Cell, Kept)>, shown: &mut Screen)
+    ensures put { shown_at shown.new.kept ≡ put_back first.old.items (shown_at shown.old.kept) }
+    ensures before { before_of shown.new ≡ before_of shown.old }
+{
+    'first: while let Some(last) = first.pop() {
+        shown.put(last.0, last.1);
     }
 }
 

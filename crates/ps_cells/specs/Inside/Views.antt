@@ -1,6 +1,5 @@
 -- What cells keep beside what contracts see.
-use Rattle.std.specs.Prelude.{Option, Some, None}
-use Rattle.std.specs.Option.{option_map}
+use Rattle.std.specs.Prelude.{Bool, true, false, Option, Some, None}
 use Rattle.ps_delta.specs.State.{state_at}
 use Rattle.ps_delta.specs.Deltas.{Entries, overlaid}
 use Rattle.ps_cells.specs.Cells.{CellsView}
@@ -9,8 +8,13 @@ use Rattle.ps_cells.specs.Inside.Pending.{IsPending}
 use Rattle.ps_cells.specs.declared.tables.Tables.{Tables}
 use Rattle.ps_cells.specs.declared.cells.Cells.TheInside.{Inside}
 
+-- the states that the touched cells had, where a change is staged
+abbrev pub staged_by : Bool → Entries → Option Entries
+staged_by true olds = Some olds
+staged_by false olds = None
+
 abbrev pub staged_of : Inside → Option Entries
-staged_of x = option_map (λ es. es.items) x.staged
+staged_of x = staged_by x.is_staged x.lists.states.items
 
 abbrev pub view_of : Inside → CellsView
 view_of x = record {

@@ -37,8 +37,8 @@ source_send : IsSend (as_row (Option.the_field cell.the_row))
 source_send = search (crosses, sendable) depth 20
 
 tables_send : IsSend grid.the_row → IsSend index.the_row → IsSend screen.the_row → IsSend region.the_row
-    → IsSend lists.the_row → IsSend level.the_row → IsSend tables.the_row
-tables_send g i s r o l = declared_send tables.the_type (
+    → IsSend level.the_row → IsSend tables.the_row
+tables_send g i s r l = declared_send tables.the_type (
   as_row_send grid.the_field g,
   (
     as_row_send index.the_field i,
@@ -50,7 +50,7 @@ tables_send g i s r o l = declared_send tables.the_type (
           source_send,
           (
             as_row_send (Vec.the_field cell.the_row Global.the_row ghosts) list_send,
-            (as_row_send (Vec.the_field bool Global.the_row ghosts) flags_send, (o, (l, (search sendable, tt)))),
+            (as_row_send (Vec.the_field bool Global.the_row ghosts) flags_send, (l, (search sendable, tt))),
           ),
         ),
       ),
@@ -63,9 +63,6 @@ olds_row = Vec.the_row (Tuple (cell.the_row ∷ cell_state.the_row ∷ [])) Glob
 
 pair_send : (Q R : RattleType) → IsSend Q → IsSend R → IsSend (Tuple (Q ∷ R ∷ []))
 pair_send Q R q r = search sendable depth 20
-
-option_send : (R : RattleType) → IsSend R → IsSend (Option.the_row R)
-option_send R r = search sendable depth 12
 
 cell_send : IsSend cell.the_row
 cell_send = search (crosses, sendable) depth 20
@@ -95,14 +92,8 @@ lists_send a = declared_send lists.the_type (
   ),
 )
 
-abbrev staged_row : RattleType
-staged_row = as_row (Option.the_field olds_row)
-
-staged_send : IsSend olds_row → IsSend staged_row
-staged_send a = option_send olds_row a
-
-cells_send : IsSend tables.the_row → IsSend staged_row → IsSend (S.row cells_inside.the_type)
-cells_send t a = declared_send cells_inside.the_type (t, (a, tt))
+cells_send : IsSend tables.the_row → IsSend lists.the_row → IsSend (S.row cells_inside.the_type)
+cells_send t o = declared_send cells_inside.the_type (t, (o, (search sendable, tt)))
 
 pub returns : goal.returns
 returns c =
@@ -114,4 +105,4 @@ returns c =
     let r : IsSend region.the_row = record { owned = c.is_send_and_sync-5.ensures.send.owned; leaving = λ k x w. tt } in
     let l : IsSend level.the_row =
     record { owned = c.is_send_and_sync-6.ensures.send.owned; leaving = λ k x w. (tt, (tt, tt)) } in
-    view_send _ _ _ _ _ (cells_send (tables_send g i s r (lists_send a) l) (staged_send (olds_send a)))
+    view_send _ _ _ _ _ (cells_send (tables_send g i s r l) (lists_send a))

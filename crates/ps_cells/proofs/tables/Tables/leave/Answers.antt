@@ -1,11 +1,9 @@
 use Rattle.std.proofs.Common.{List, sym, subst}
 use Rattle.ps_delta.specs.State.{state_at}
-use Rattle.ps_delta.specs.Deltas.{Entries}
-use Rattle.ps_index.specs.Stands.{Stands}
 use Rattle.ps_shown.specs.declared.kept.Kept.{Kept}
 use Rattle.ps_shown.specs.Shown.{shown_at}
 use Rattle.ps_cells.specs.Settled.{IsSettled}
-use Rattle.ps_cells.specs.Inside.Formulas.{forms_of, with_puts}
+use Rattle.ps_cells.specs.Inside.Formulas.{forms_of}
 use Rattle.ps_cells.proofs.PendingChanges.{tidy_with}
 use Rattle.ps_cells.proofs.tables.Tables.leave.Goals as goal
 
@@ -15,8 +13,7 @@ take_formulas-requires c =
     record {
       stands = (
         forms_of t,
-        subst (λ (es : Entries). Stands c.args.self.now.index (with_puts es (forms_of t))) (sym c.deref.ensures.value)
-            c.requires.pending.1.stands,
+        c.requires.pending.1.stands,
       );
     }
 
@@ -27,10 +24,7 @@ returns-clause-whole c =
     record {
       in_grid = p.in_grid;
       settled = subst (λ (xs : List Kept). IsSettled t (shown_at xs)) (sym c.keep.ensures.kept) p.settled;
-      stands = c.take_formulas.ensures.taken (forms_of t)
-          (subst (λ (es : Entries). Stands c.args.self.now.index (with_puts es (forms_of t)))
-          (sym c.deref.ensures.value) p.stands);
-      tidy = tidy_with t c.args.self.now c.args.self.now.grid c.take_formulas.new.index c.keep.new.self
-          c.keep_room.new.self p.tidy;
+      stands = c.take_formulas.ensures.taken (forms_of t) p.stands;
+      tidy = tidy_with t c.args.self.now c.args.self.now.grid c.take_formulas.new.index c.keep.new.self p.tidy;
       still = c.keep.ensures.still;
     }

@@ -1,8 +1,6 @@
-use Rattle.std.proofs.Common.{◌≡◌, ℕ, List, filter, sym, ap, ◌∙◌, subst, arith}
-use Rattle.std.proofs.lemmas.List.{with_items_is}
+use Rattle.std.proofs.Common.{◌≡◌, ℕ, List, filter, sym, ◌∙◌, subst, arith}
 use Rattle.ps_delta.specs.State.{State, IsInGrid, state_at}
 use Rattle.ps_shown.specs.Shown.{shown_at}
-use Rattle.ps_delta.specs.Deltas.{Entries, overlaid}
 use Rattle.ps_index.specs.Stands.{Stands}
 use Rattle.ps_eval.specs.Items.{Assignment}
 use Rattle.ps_cells.specs.Settled.{IsSettled}
@@ -18,11 +16,8 @@ pub take_formulas-requires : goal.take_formulas-requires
 take_formulas-requires c = record {
   stands = (
     forms_of c.requires.pending.0,
-    new_formulas_of c.requires.pending.0 (state_at c.args.self.now.grid) c.args.self.now.index c.args.olds.items
-        c.deref_mut.result.now c.exchange.new.cells c.deref.result.now
-        (c.deref.ensures.value
-        ∙ with_items_is c.args.olds c.exchange.new.cells (c.exchange.auto.cells ∙ c.deref_mut.ensures.len))
-        c.exchange.ensures.taken c.deref_mut.ensures.value c.requires.pending.1.stood,
+    new_formulas_of c.requires.pending.0 (state_at c.args.self.now.grid) c.args.self.now.index c.args.olds.now
+        c.exchange.new.cells c.exchange.ensures.taken c.requires.pending.1.stood,
   );
 }
 
@@ -40,8 +35,7 @@ returns-clause-whole c =
     let s = c.requires.pending.0 in
     let p = c.requires.pending.1 in
     let now : state_at c.exchange.new.self ≡ s =
-    c.exchange.ensures.given
-    ∙ (ap (λ (xs : Entries). overlaid (state_at c.args.self.now.grid) xs) c.deref_mut.ensures.value ∙ p.gives) in
+    c.exchange.ensures.given ∙ p.gives in
     let room = p.tidy.room in
     let added = c.add_cyclic.ensures.room in
     let kept = c.keep_cyclic.ensures.room in
@@ -51,12 +45,9 @@ returns-clause-whole c =
       settled = subst (λ (v : Assignment). IsSettled (state_at c.exchange.new.self) v) (sym c.take_back.ensures.shown)
           (subst (λ (q : State). IsSettled q (before_of c.args.self.now.shown)) (sym now) p.was_settled);
       stands = subst (λ (q : State). Stands c.take_formulas.new.index (forms_of q)) (sym now)
-          (c.take_formulas.ensures.taken (forms_of s) (new_formulas_of c.requires.pending.0
-          (state_at c.args.self.now.grid) c.args.self.now.index c.args.olds.items
-          c.deref_mut.result.now c.exchange.new.cells c.deref.result.now
-          (c.deref.ensures.value
-          ∙ with_items_is c.args.olds c.exchange.new.cells (c.exchange.auto.cells ∙ c.deref_mut.ensures.len))
-          c.exchange.ensures.taken c.deref_mut.ensures.value c.requires.pending.1.stood));
+          (c.take_formulas.ensures.taken (forms_of s) (new_formulas_of s
+          (state_at c.args.self.now.grid) c.args.self.now.index c.args.olds.now c.exchange.new.cells
+          c.exchange.ensures.taken p.stood));
       tidy = record {
         cyclic = subst (λ (q : State). ListsCyclic q c.keep_cyclic.new.cells.items) (sym now)
             (subst (λ (xs : List ℕ). ListsCyclic s xs) (sym c.keep_cyclic.ensures.items)
