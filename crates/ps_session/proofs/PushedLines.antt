@@ -1,13 +1,12 @@
--- The first word of a line that pushes a delta.
-use Rattle.std.proofs.Common.{◌≡◌, ◌≢◌, ◌++◌, ◌∷◌, ℕ, Bool, true, false, cond, Bor, List, Option, Some, None}
-use Rattle.std.proofs.Common.{refl, sym, ap, ◌∙◌, subst, codes, rules, drop}
+-- The verb of a line that pushes a delta, and what stands after it.
+use Rattle.std.proofs.Common.{◌≡◌, ◌≢◌, ◌++◌, ℕ, Bool, true, false, cond, Bor, List, Option, Some, None}
+use Rattle.std.proofs.Common.{refl, codes, rules, drop}
 use Rattle.std.specs.Prelude.{MatchOption, bytes_eq, nat_eq}
 use Rattle.std.specs.List.{starts_with}
 use Rattle.std.proofs.lemmas.Bool.{false_from_ne_true}
 use Rattle.std.proofs.lemmas.Slice.Eq.{bytes_eq-Decides}
 use Rattle.ps_session.specs.Commands.{verb_of}
 use Rattle.ps_session.specs.PushLine.{push_word}
-use Rattle.ps_session.specs.Words.{first_word}
 use Rattle.ps_session.specs.declared.verb.Verb.{Verb}
 use Rattle.ps_session.specs.declared.verb.Verb.TheVariants.{Add, Choose, Entries as AllEntries, Entry, Get, Pull, Push}
 use Rattle.ps_session.specs.declared.verb.Verb.TheVariants.{Replica, Rows, Set, Sub, Unchoose}
@@ -40,25 +39,12 @@ push_spelled word e =
     (passed _ Unchoose _ (λ x. cc) (passed _ Choose _ (λ x. cc) (passed _ Sub _ (λ x. cc)
     (passed _ Add _ (λ x. cc) (passed _ Set _ (λ x. cc) (passed _ Get _ (λ x. cc) e))))))))))
 
--- what stands after the verb and its space
-pub after_verb : (line word : List ℕ) (rest : Option (Bor (List ℕ))) → Some Push ≡ verb_of word
-    → MatchOption rest (line ≡ word) (λ r. line ≡ word ++ 32 ∷ r.now)
-    → MatchOption rest (starts_with nat_eq line push_word ≡ false) (λ r. line ≡ push_word ++ r.now)
-after_verb line word None is whole =
-    subst (λ l. starts_with nat_eq l push_word ≡ false) (sym (whole ∙ push_spelled word (sym is))) refl
-after_verb line word (Some r) is whole = whole ∙ ap (λ w. w ++ 32 ∷ r.now) (push_spelled word (sym is))
-
--- a line that begins with the word and its space has this verb
-push_first : (rest : List ℕ) → verb_of (first_word (push_word ++ rest)) ≡ Some Push
-unfolding verb_of
-push_first rest = refl
-
 split_push : (line : List ℕ) → starts_with nat_eq line push_word ≡ true → line ≡ push_word ++ drop 5 line
 split_push line is = search rules
 
--- a line with another first word pushes nothing
-pub no_push : (line word : List ℕ) → word ≡ first_word line → verb_of word ≢ Some Push
-    → starts_with nat_eq line push_word ≡ false
-no_push line word first other =
-    false_from_ne_true _
-    (λ is. other (ap verb_of (first ∙ ap first_word (split_push line is)) ∙ push_first (drop 5 line)))
+-- what stands after the verb and its space, where a line begins with them
+pub rest_is_pushed : (line : List ℕ) (r : Option (Bor (List ℕ)))
+    → MatchOption r ((rest : List ℕ) → line ≢ push_word ++ rest) (λ x. line ≡ push_word ++ x.now)
+    → MatchOption r (starts_with nat_eq line push_word ≡ false) (λ x. line ≡ push_word ++ x.now)
+rest_is_pushed line None never = false_from_ne_true _ (λ is. never (drop 5 line) (split_push line is))
+rest_is_pushed line (Some x) is = is

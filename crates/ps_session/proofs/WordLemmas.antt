@@ -1,8 +1,8 @@
 -- How a line is divided into words, and what a word of digits writes.
-use Rattle.std.proofs.Common.{◌≡◌, ◌+◌, ◌-◌, ◌<◌, ◌≤◌, ◌^◌, ◌==◌, ℕ, Bool, true, false, cond, ◌&&◌}
-use Rattle.std.proofs.Common.{List, [], ◌∷◌, ◌++◌, get_or, length, subst}
+use Rattle.std.proofs.Common.{◌≡◌, ◌≢◌, ◌+◌, ◌-◌, ◌<◌, ◌≤◌, ◌^◌, ◌==◌, ℕ, Bool, true, false, cond, ◌&&◌}
+use Rattle.std.proofs.Common.{Bor, List, [], ◌∷◌, ◌++◌, get_or, length, subst}
 use Rattle.std.proofs.Common.{take, drop, nat_lt, Option, Some, None, refl, sym, ap, ◌∙◌, arith, rules}
-use Rattle.std.specs.Prelude.{position}
+use Rattle.std.specs.Prelude.{MatchOption, position}
 use Rattle.std.specs.Char.{is_ascii_digit}
 use Rattle.std.specs.Fmt.{decimal}
 use Rattle.std.specs.List.{list_all, onto_first, position_or_len}
@@ -10,7 +10,7 @@ use Rattle.std.specs.Option.{SomeIff}
 use Rattle.std.specs.Str.Parse.{IsNumeral, digits_value}
 use Rattle.std.proofs.lemmas.Bool.{eqb-true, ltb-true, ltb-false, lt-ltb}
 use Rattle.std.proofs.lemmas.Fmt.{decimal_nonempty, digits_decimal, digits_value-decimal}
-use Rattle.std.proofs.lemmas.List.{take_rest}
+use Rattle.std.proofs.lemmas.List.{append_cancel_left, take_rest}
 use Rattle.std.proofs.lemmas.List.Splits.{slice_split_first, slice_split_none}
 use Rattle.std.proofs.lemmas.List.Sums.{fails_before_first, passes_at_first, split_at_first}
 use Rattle.std.proofs.lemmas.Str.Parse.{IsNumeralModel, numerals_by_value}
@@ -128,3 +128,11 @@ whole_number-decimal n fits =
     whole_number-fits (decimal n) (digits_decimal digits n fits) (decimal_nonempty n fits)
     (subst (λ v. v < 2 ^ 64) (sym value) fits)
     ∙ ap Some value
+
+-- after a word of a text, the space and what stands after it
+pub after_space : (text word after : List ℕ) (r : Option (Bor (List ℕ))) → text ≡ word ++ after
+    → MatchOption r ((rest : List ℕ) → after ≢ 32 ∷ rest) (λ x. after ≡ 32 ∷ x.now)
+    → MatchOption r ((rest : List ℕ) → text ≢ word ++ 32 ∷ rest) (λ x. text ≡ word ++ 32 ∷ x.now)
+after_space text word after None whole never =
+    λ rest e. never rest (append_cancel_left word after (32 ∷ rest) (sym whole ∙ e))
+after_space text word after (Some x) whole is = whole ∙ ap (λ a. word ++ a) is

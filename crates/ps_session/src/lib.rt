@@ -40,6 +40,7 @@ mod push_line;
 mod reading;
 mod replica_line;
 mod reply;
+mod reply_words;
 mod resources;
 mod shared;
 mod sheet_board;

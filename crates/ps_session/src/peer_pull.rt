@@ -9,6 +9,7 @@ ghost use Rattle.ps_session.specs.declared.peer_pull.SyncFault.TheVariants.{Refu
 use crate::command::LARGEST_GROUP;
 use crate::peer::{Peer, PeerFault};
 use crate::peer_reply::{PeerReply, read_reply};
+use crate::verb::PULL;
 use itoa::Buffer;
 use ps_device::{Sink, Source};
 use ps_grid::Refusal;
@@ -69,8 +70,9 @@ fn ask_after<S: Source + Drop, K: Sink + Drop>(
 {
     let mut after = Buffer::new();
     let mut most = Buffer::new();
-    let request: [&[u8]; 5] = [
-        b"pull ",
+    let request: [&[u8]; 6] = [
+        PULL.as_bytes(),
+        b" ",
         after.format(version).as_bytes(),
         b" ",
         most.format(LARGEST_GROUP).as_bytes(),

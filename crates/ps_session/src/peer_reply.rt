@@ -2,6 +2,7 @@
 ghost use Rattle.std.specs.Prelude.{◌≡◌, ◌++◌, IfSome};
 ghost use Rattle.ps_session.specs.Exchange.{IsTold};
 
+use crate::reply_words::{DELTA, END, ERR, OK};
 use crate::words::{read_whole, split_word};
 
 /// What a peer replied to a `pull` or a `push`.
@@ -22,18 +23,18 @@ pub(crate) fn read_reply(line: &[u8]) -> Option<PeerReply<'_>>
     ensures { IfSome result (IsTold line.now) }
 {
     let text = str::from_utf8(line).ok()?;
-    if let Some(rest) = after(line, b"delta ") {
+    if let Some(rest) = after(line, DELTA) {
         let (digits, delta) = split_word(rest);
         return Some(PeerReply::Delta(read_whole(digits)?, delta?));
     }
-    if let Some(digits) = after(line, b"end ") {
+    if let Some(digits) = after(line, END) {
         return Some(PeerReply::End(read_whole(digits)?));
     }
-    if let Some(digits) = after(line, b"ok ") {
+    if let Some(digits) = after(line, OK) {
         read_whole(digits)?;
         return Some(PeerReply::Taken);
     }
-    if line.starts_with(b"err ") {
+    if line.starts_with(ERR) {
         return Some(PeerReply::Refused(text));
     }
     None

@@ -7,15 +7,12 @@ ghost use Rattle.ps_wire.specs.Line.{IsLine, delta_text};
 ghost use Rattle.ps_wire.specs.declared.TheConstants.{DELTA_LINE_LIMIT};
 ghost use Rattle.ps_session.specs.PushLine.{push_line, push_text, push_word};
 
-use crate::verb::Verb;
-use crate::words::split_word;
+use crate::verb::PUSH;
+use crate::words::rest_after;
 use ps_delta::Delta;
 use ps_grid::Refusal;
 use ps_wire::encode;
 use std::alloc::Global;
-
-/// The first word of the line, that of [`Verb::Push`], with its space.
-const PUSH: &[u8] = b"push ";
 
 /// Appends the line that pushes a delta, without a line feed.
 ///
@@ -29,27 +26,24 @@ pub fn put_push_line(alloc: Global, delta: &Delta, text: &mut Vec<u8>) -> Result
     ensures too_long { result ≡ Err refusals.TooLong → DELTA_LINE_LIMIT < length (delta_text delta.now) }
     ensures refused { IfErr result (λ e. (e ≡ refusals.TooLong) ⊎ (e ≡ refusals.Memory)) }
 {
-    text.extend_from_slice(PUSH)?;
+    text.extend_from_slice(PUSH.as_bytes())?;
+    text.push(b' ')?;
     encode(alloc, delta, text)
 }
 
 /// What a line pushes: all after its first word, where that is `push`.
 ///
-/// Cost: O(n) in the n bytes of its first word.
+/// Cost: constant.
 pub fn pushed(line: &[u8]) -> Option<&[u8]>
     ensures { MatchOption result (starts_with nat_eq line.now push_word ≡ false)
         (λ delta. line.now ≡ push_word ++ delta.now) }
 {
-    let (word, rest) = split_word(line);
-    match Verb::read(word)? {
-        Verb::Push => rest,
-        _ => None,
-    }
+    rest_after(line, PUSH)
 }
 
 /// The pieces of the line that pushes a delta's line, with its line feed.
-pub(crate) fn push_pieces(delta: &[u8]) -> [&[u8]; 3]
+pub(crate) fn push_pieces(delta: &[u8]) -> [&[u8]; 4]
     ensures { flat_map (λ piece. piece.now) result ≡ push_text delta.now }
 {
-    [PUSH, delta, b"\n"]
+    [PUSH.as_bytes(), b" ", delta, b"\n"]
 }

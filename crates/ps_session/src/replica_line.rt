@@ -4,13 +4,10 @@ ghost use Rattle.ps_grid.specs.declared.parties.TheConstants.{REPLICAS};
 ghost use Rattle.ps_session.specs.ReplicaLine.{Tells, TellsNone, replica_line};
 
 use crate::command::read_number;
-use crate::verb::Verb;
-use crate::words::split_word;
+use crate::verb::REPLICA;
+use crate::words::rest_after;
 use itoa::Buffer;
 use std::alloc::{AllocError, Global};
-
-/// The first word of the line, that of `Verb::Replica`, with its space.
-const REPLICA: &[u8] = b"replica ";
 
 /// Appends the line of a replica, without a line feed. Refused out of memory.
 ///
@@ -18,7 +15,8 @@ const REPLICA: &[u8] = b"replica ";
 pub fn put_replica_line(replica: u8, text: &mut Vec<u8>) -> Result<(), AllocError>
     ensures { OnOk result (text.new.items ≡ text.old.items ++ replica_line replica) }
 {
-    text.extend_from_slice(REPLICA)?;
+    text.extend_from_slice(REPLICA.as_bytes())?;
+    text.push(b' ')?;
     let mut digits = Buffer::new();
     text.extend_from_slice(digits.format(replica).as_bytes())?;
     Ok(())
@@ -57,9 +55,5 @@ fn named_replica(line: &[u8]) -> Option<u8>
     ensures replica { IfSome result (λ n. (1 ≤ n) × (n ≤ REPLICAS)) }
     ensures told { (n : ℕ) → Tells line.now n → result ≡ Some n }
 {
-    let (word, digits) = split_word(line);
-    match Verb::read(word)? {
-        Verb::Replica => read_number(digits?).ok(),
-        _ => None,
-    }
+    read_number(rest_after(line, REPLICA)?).ok()
 }

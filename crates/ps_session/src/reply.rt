@@ -6,6 +6,7 @@ ghost use Rattle.ps_device.specs.Device.{Sends};
 ghost use Rattle.ps_value.specs.Shown.{shown_text};
 ghost use Rattle.ps_session.specs.Replies.{entry_reply, reply_text};
 
+use crate::reply_words::{DELTA, END, ENTRIES, ENTRY, ERR, OK, REPLICA, ROWS, VAL};
 use crate::watcher::Outcome;
 use itoa::{Buffer, write_digits};
 use ps_device::{Failed, Sink, put_all};
@@ -88,7 +89,7 @@ fn send_other<K: Sink>(value: Value, sink: &mut K) -> Result<(), Failed>
     ensures calm { OnOk result (K.failures sink.new ≡ K.failures sink.old) }
     ensures failed { OnErr result (K.failures sink.old < K.failures sink.new) }
 {
-    put_all(sink, b"val ")?;
+    put_all(sink, VAL)?;
     send_value(value, sink)?;
     Ok(())
 }
@@ -117,16 +118,16 @@ pub fn send<K: Sink>(reply: &Reply, sink: &mut K) -> Result<(), Failed>
     ensures failed { OnErr result (K.failures sink.old < K.failures sink.new) }
 {
     match reply {
-        Reply::Done(version) | Reply::DoneElsewhere(version) => send_number(b"ok ", *version, sink),
+        Reply::Done(version) | Reply::DoneElsewhere(version) => send_number(OK, *version, sink),
         Reply::Shown(value) => send_shown(value, sink),
-        Reply::Rows(count, table) => send_table(b"rows ", *count, table, sink),
+        Reply::Rows(count, table) => send_table(ROWS, *count, table, sink),
         Reply::Entry(entry) => send_entry(entry, sink),
-        Reply::Entries(count, table) => send_table(b"entries ", *count, table, sink),
-        Reply::Delta(last, line) => send_words(b"delta ", *last, line, sink),
-        Reply::End(version) => send_number(b"end ", *version, sink),
-        Reply::Replica(number) => send_number(b"replica ", u64::from(*number), sink),
+        Reply::Entries(count, table) => send_table(ENTRIES, *count, table, sink),
+        Reply::Delta(last, line) => send_words(DELTA, *last, line, sink),
+        Reply::End(version) => send_number(END, *version, sink),
+        Reply::Replica(number) => send_number(REPLICA, u64::from(*number), sink),
         Reply::Refused(refusal) => send_words(
-            b"err ",
+            ERR,
             u64::from(refusal.number()),
             refusal.name().as_bytes(),
             sink,
@@ -163,7 +164,7 @@ fn send_signed<K: Sink>(number: i64, sink: &mut K) -> Result<(), Failed>
 {
     let mut line = [b'\n'; ROOM];
     let digits = write_signed(number, &mut line, ROOM - 1);
-    let start = write_before(b"val ", &mut line, digits);
+    let start = write_before(VAL, &mut line, digits);
     put_all(sink, &line[start..])
 }
 
@@ -215,7 +216,7 @@ fn send_entry<K: Sink>(entry: &[u8], sink: &mut K) -> Result<(), Failed>
     ensures calm { OnOk result (K.failures sink.new ≡ K.failures sink.old) }
     ensures failed { OnErr result (K.failures sink.old < K.failures sink.new) }
 {
-    let pieces: [&[u8]; 3] = [b"entry ", entry, b"\n"];
+    let pieces: [&[u8]; 3] = [ENTRY, entry, b"\n"];
     send_pieces(pieces.as_slice(), sink)
 }
 

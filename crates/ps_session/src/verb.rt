@@ -2,6 +2,31 @@
 ghost use Rattle.std.specs.Prelude.{◌≡◌, Contains, Some};
 ghost use Rattle.ps_session.specs.Commands.{verb_of};
 
+// The word of each verb, which a line is read by and written with.
+const GET: &str = "get";
+
+const SET: &str = "set";
+
+const ADD: &str = "add";
+
+const SUB: &str = "sub";
+
+const CHOOSE: &str = "choose";
+
+const UNCHOOSE: &str = "unchoose";
+
+const ROWS: &str = "rows";
+
+const ENTRY: &str = "entry";
+
+const ENTRIES: &str = "entries";
+
+pub(crate) const PUSH: &str = "push";
+
+pub(crate) const PULL: &str = "pull";
+
+pub(crate) const REPLICA: &str = "replica";
+
 /// What a line is to do: its first word.
 #[derive(Clone, Copy, Debug)]
 pub enum Verb {
@@ -62,18 +87,18 @@ impl Verb {
         ensures { verb_of result.now ≡ Some self }
     {
         match self {
-            Verb::Get => "get",
-            Verb::Set => "set",
-            Verb::Add => "add",
-            Verb::Sub => "sub",
-            Verb::Choose => "choose",
-            Verb::Unchoose => "unchoose",
-            Verb::Rows => "rows",
-            Verb::Entry => "entry",
-            Verb::Entries => "entries",
-            Verb::Push => "push",
-            Verb::Pull => "pull",
-            Verb::Replica => "replica",
+            Verb::Get => GET,
+            Verb::Set => SET,
+            Verb::Add => ADD,
+            Verb::Sub => SUB,
+            Verb::Choose => CHOOSE,
+            Verb::Unchoose => UNCHOOSE,
+            Verb::Rows => ROWS,
+            Verb::Entry => ENTRY,
+            Verb::Entries => ENTRIES,
+            Verb::Push => PUSH,
+            Verb::Pull => PULL,
+            Verb::Replica => REPLICA,
         }
     }
 
@@ -85,29 +110,29 @@ impl Verb {
     pub fn read(word: &[u8]) -> Option<Verb>
         ensures { result ≡ verb_of word.now }
     {
-        if word == b"get".as_slice() {
+        if word == GET.as_bytes() {
             Some(Verb::Get)
-        } else if word == b"set".as_slice() {
+        } else if word == SET.as_bytes() {
             Some(Verb::Set)
-        } else if word == b"add".as_slice() {
+        } else if word == ADD.as_bytes() {
             Some(Verb::Add)
-        } else if word == b"sub".as_slice() {
+        } else if word == SUB.as_bytes() {
             Some(Verb::Sub)
-        } else if word == b"choose".as_slice() {
+        } else if word == CHOOSE.as_bytes() {
             Some(Verb::Choose)
-        } else if word == b"unchoose".as_slice() {
+        } else if word == UNCHOOSE.as_bytes() {
             Some(Verb::Unchoose)
-        } else if word == b"rows".as_slice() {
+        } else if word == ROWS.as_bytes() {
             Some(Verb::Rows)
-        } else if word == b"entry".as_slice() {
+        } else if word == ENTRY.as_bytes() {
             Some(Verb::Entry)
-        } else if word == b"entries".as_slice() {
+        } else if word == ENTRIES.as_bytes() {
             Some(Verb::Entries)
-        } else if word == b"push".as_slice() {
+        } else if word == PUSH.as_bytes() {
             Some(Verb::Push)
-        } else if word == b"pull".as_slice() {
+        } else if word == PULL.as_bytes() {
             Some(Verb::Pull)
-        } else if word == b"replica".as_slice() {
+        } else if word == REPLICA.as_bytes() {
             Some(Verb::Replica)
         } else {
             None

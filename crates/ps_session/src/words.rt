@@ -1,5 +1,5 @@
 //! The words of a line.
-ghost use Rattle.std.specs.Prelude.{◌≡◌, ◌==◌, ◌++◌, ◌∷◌, [], MatchOption, position};
+ghost use Rattle.std.specs.Prelude.{◌≡◌, ◌≢◌, ◌==◌, ◌++◌, ◌∷◌, [], List, MatchOption, position, ℕ};
 ghost use Rattle.std.specs.Option.{option_map_or};
 ghost use Rattle.ps_session.specs.Words.{after_part, after_word, first_part, first_word, parts, whole_number};
 ghost use Rattle.ps_session.specs.Words.{words};
@@ -41,6 +41,14 @@ fn first_place(text: &[u8], separator: u8) -> Option<usize>
     ensures { result ≡ position (λ b. b == separator) text.now }
 {
     text.iter().position(|b| *b == separator)
+}
+
+/// What stands after a word and a space, where a text begins with them.
+pub(crate) fn rest_after<'a>(text: &'a [u8], word: &str) -> Option<&'a [u8]>
+    ensures { MatchOption result ((rest : List ℕ) → text.now ≢ word.now ++ 32 ∷ rest)
+        (λ rest. text.now ≡ word.now ++ 32 ∷ rest.now) }
+{
+    text.strip_prefix(word.as_bytes())?.strip_prefix(b" ")
 }
 
 /// The number that a word of decimal digits writes; none where it is no such word, or the number has more than 64 bits.

@@ -1,0 +1,28 @@
+//! The first word of each reply, with its space: what writes a reply and what reads one take it from here.
+
+/// Of [`Reply::Done`](crate::Reply::Done).
+pub(crate) const OK: &[u8] = b"ok ";
+
+/// Of [`Reply::Shown`](crate::Reply::Shown).
+pub(crate) const VAL: &[u8] = b"val ";
+
+/// Of [`Reply::Rows`](crate::Reply::Rows).
+pub(crate) const ROWS: &[u8] = b"rows ";
+
+/// Of [`Reply::Entry`](crate::Reply::Entry).
+pub(crate) const ENTRY: &[u8] = b"entry ";
+
+/// Of [`Reply::Entries`](crate::Reply::Entries).
+pub(crate) const ENTRIES: &[u8] = b"entries ";
+
+/// Of [`Reply::Delta`](crate::Reply::Delta).
+pub(crate) const DELTA: &[u8] = b"delta ";
+
+/// Of [`Reply::End`](crate::Reply::End).
+pub(crate) const END: &[u8] = b"end ";
+
+/// Of [`Reply::Replica`](crate::Reply::Replica).
+pub(crate) const REPLICA: &[u8] = b"replica ";
+
+/// Of [`Reply::Refused`](crate::Reply::Refused).
+pub(crate) const ERR: &[u8] = b"err ";
