@@ -87,7 +87,17 @@ fn read_alone(verb: Verb) -> Result<Command, Refusal>
 {
     match verb {
         Verb::Replica => Ok(Command::Replica(None)),
-        _ => Err(Refusal::Command),
+        Verb::Get
+        | Verb::Set
+        | Verb::Add
+        | Verb::Sub
+        | Verb::Choose
+        | Verb::Unchoose
+        | Verb::Rows
+        | Verb::Entry
+        | Verb::Entries
+        | Verb::Push
+        | Verb::Pull => Err(Refusal::Command),
     }
 }
 

@@ -96,7 +96,9 @@ fn due_reply(alloc: Global, reply: &[u8], version: u64) -> Result<Due, SyncFault
         }
         Some(PeerReply::End(last)) if last == version => Ok(Due::End),
         Some(PeerReply::Refused(text)) => Err(refused(alloc, text)),
-        _ => Err(SyncFault::Refused(Refusal::Line)),
+        Some(PeerReply::Delta(..) | PeerReply::End(_) | PeerReply::Taken) | None => {
+            Err(SyncFault::Refused(Refusal::Line))
+        }
     }
 }
 

@@ -104,7 +104,9 @@ fn send_shown<K: Sink>(value: &Value, sink: &mut K) -> Result<(), Failed>
 {
     match value {
         Value::Num(number) => send_signed(*number, sink),
-        _ => send_other(*value, sink),
+        Value::Empty | Value::Text(_) | Value::Choice(_) | Value::Err(_) => {
+            send_other(*value, sink)
+        }
     }
 }
 

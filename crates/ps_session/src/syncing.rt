@@ -32,7 +32,9 @@ fn push<S: Source + Drop, K: Sink + Drop>(
     match read_reply(to.reply()) {
         Some(PeerReply::Taken) => Ok(()),
         Some(PeerReply::Refused(reply)) => Err(refused(alloc, reply)),
-        _ => Err(SyncFault::Refused(Refusal::Line)),
+        Some(PeerReply::Delta(..) | PeerReply::End(_)) | None => {
+            Err(SyncFault::Refused(Refusal::Line))
+        }
     }
 }
 
