@@ -13,7 +13,7 @@ use crate::verb::PULL;
 use itoa::Buffer;
 use ps_device::{Sink, Source};
 use ps_grid::Refusal;
-use std::alloc::Global;
+use std::alloc::{AllocError, Global};
 
 /// What ends an exchange between replicas early.
 #[derive(Debug, Drop)]
@@ -54,7 +54,7 @@ pub(crate) fn refused(alloc: Global, reply: &str) -> SyncFault
 {
     match reply.to_string(alloc) {
         Ok(text) => SyncFault::PeerRefused(text),
-        Err(_) => SyncFault::Refused(Refusal::Memory),
+        Err(AllocError) => SyncFault::Refused(Refusal::Memory),
     }
 }
 

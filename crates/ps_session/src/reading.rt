@@ -15,7 +15,7 @@ use crate::resources::Resources;
 use crate::transcript::{Conversation, RunFault};
 use crate::watcher::Watcher;
 use ps_device::{PIECE_BYTES, Source};
-use std::alloc::Global;
+use std::alloc::{AllocError, Global};
 use std::thread::Threads;
 
 /// Has all kept that the board has, and then hands on what waits.
@@ -225,7 +225,7 @@ pub(crate) fn converse<
 {
     let session = match Session::new(resources.alloc) {
         Ok(session) => session,
-        Err(_) => return Err(RunFault::Memory),
+        Err(AllocError) => return Err(RunFault::Memory),
     };
     let mut conversation = Conversation {
         resources,
