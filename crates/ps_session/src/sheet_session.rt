@@ -1,4 +1,6 @@
 //! A session of a sheet, from bytes to bytes.
+//!
+//! The clauses of [`run`] are those of [`run_watched`], each spelled out in both, as with the talks that they are of.
 ghost use Rattle.std.specs.Prelude.{◌≡◌, ◌≢◌, ◌⊎◌, ◌<◌, ℕ, List, [], Err, IfOk, OnOk};
 ghost use Rattle.std.specs.Io.KnownBytes.{Consumes, IsAtEnd};
 ghost use Rattle.std.specs.List.{All};

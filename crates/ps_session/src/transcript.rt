@@ -1,4 +1,7 @@
 //! A session from bytes to bytes.
+//!
+//! The clauses of [`talk`] are those of [`talk_watched`], each spelled out in both, so that either promise is read in one
+//! place; a relation over both would have a dozen parameters whose places a reader would have to look up.
 ghost use Rattle.std.specs.Prelude.{◌≡◌, ◌≢◌, ◌⊎◌, [], ◌<◌, ◌≤◌, ◌++◌, ◌+◌, ◌-◌, ◌^◌, ℕ, min, List, Option, Result, Ok};
 ghost use Rattle.std.specs.Prelude.{Err, IfOk, OnOk, OnErr, ⊤, length, take, MatchResult};
 ghost use Rattle.std.specs.Io.KnownBytes.{Consumes, IsAtEnd};
