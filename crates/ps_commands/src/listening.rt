@@ -1,5 +1,5 @@
 //! The command `serve`: the lines of several sessions in, the replies of one sheet out.
-ghost use Rattle.std.specs.Prelude.{◌≡◌, ◌⊎◌, ◌<◌, ◌++◌, [], IfErr, IfOk, OnOk, Some, length};
+ghost use Rattle.std.specs.Prelude.{◌≡◌, ◌⊎◌, ◌<◌, ◌++◌, [], IfErr, IfOk, OnErr, OnOk, Some, length};
 ghost use Rattle.std.specs.Io.KnownBytes.{Appends};
 ghost use Rattle.ps_grid.specs.declared.refusal.Refusal.TheVariants.{Device};
 ghost use Rattle.ps_sheet.specs.Sheet.{SheetView};
@@ -47,6 +47,31 @@ fn serving_of(options: ServeOptions<'_>) -> Serving
     }
 }
 
+/// Writes `listening` and the port, and gives the entrance by which sessions come in then: this listener, and the seats
+/// as the words ask for them. Refused as `Device` where the output fails.
+fn open_entrance<'a, K: Sink>(
+    listener: &'a TcpListener,
+    options: ServeOptions<'_>,
+    out: &mut K,
+) -> Result<Entrance<'a>, ProgramFault>
+    ensures sessions { IfOk result (λ entrance. entrance.serving.sessions ≡ options.entry.sessions) }
+    ensures seats { IfOk result (λ entrance. entrance.serving.seats ≡ options.entry.seats) }
+    ensures told { OnOk result (Appends (K.contents out.old) (K.contents out.new)
+        (listening_text options.entry.port)) }
+    ensures flushed { OnOk result (K.waiting out.new ≡ []) }
+    ensures calm { OnOk result (K.failures out.new ≡ K.failures out.old) }
+    ensures failed { OnErr result (K.failures out.old < K.failures out.new) }
+    ensures refused { IfErr result (λ f. f ≡ Refused Device) }
+{
+    match tell(b"listening ", u64::from(options.port), out) {
+        Ok(()) => Ok(Entrance {
+            listener,
+            serving: serving_of(options),
+        }),
+        Err(fault) => Err(fault),
+    }
+}
+
 /// Listens on a port of this machine, opens an empty sheet of the replica that was asked for, writes `listening` and
 /// the port, and serves sessions on the sheet as [`serve_on`] does. Returns the sheet that it closed.
 ///
@@ -74,13 +99,9 @@ pub fn serve<
 {
     let listener = listen(rt, options.port)?;
     let sheet = open_sheet(alloc, options.sheet)?;
-    match tell(b"listening ", u64::from(options.port), out) {
-        Ok(()) => {}
+    let entrance = match open_entrance(&listener, options, out) {
+        Ok(entrance) => entrance,
         Err(fault) => return Err(fault),
-    }
-    let entrance = Entrance {
-        listener: &listener,
-        serving: serving_of(options),
     };
     serve_on(rt, alloc, entrance, sheet, out)
 }
@@ -121,15 +142,11 @@ pub fn serve_kept<
 {
     let listener = listen(rt, options.port)?;
     let (sheet, keeper) = open_kept_sheet(rt, alloc, path, options.sheet, meter)?;
-    match tell(b"listening ", u64::from(options.port), out) {
-        Ok(()) => {}
+    let entrance = match open_entrance(&listener, options, out) {
+        Ok(entrance) => entrance,
         Err(fault) => return Err(fault),
-    }
-    let mut warner = tell_opened(alloc, path, &sheet, told);
-    let entrance = Entrance {
-        listener: &listener,
-        serving: serving_of(options),
     };
+    let mut warner = tell_opened(alloc, path, &sheet, told);
     serve_kept_on(
         rt,
         alloc,

@@ -5,7 +5,7 @@ use Rattle.ps_commands.proofs.listening.serve_kept.Goals as goal
 
 pub returns-clause-told : goal.returns-clause-told
 returns-clause-told g c =
-    let told = rw c.from.ensures at c.in-Ok.ensures.told in
+    let told = c.in-Ok.ensures.told in
     IfOk-weaker c.serve_kept_on.result _ _ (λ closed more. Appends-append _ _ _ _ _ told more)
     c.serve_kept_on.ensures.told
 
