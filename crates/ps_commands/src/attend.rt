@@ -4,7 +4,7 @@ ghost use Rattle.ps_commands.specs.Sessions.{IsAttended};
 
 use crate::connection::{KeptSeat, attend_kept, attend_lines};
 use crate::counts::Counts;
-use crate::host::Host;
+use crate::shared::SharedState;
 use ps_desk::{Desk, DeskName, Pass};
 use ps_device::{ConsoleOutput, Reading, Writing};
 use ps_eval::Meter;
@@ -18,15 +18,15 @@ use std::sync::ledger::Ledger;
 use std::thread::Threads;
 
 /// Answers each line of a connection at a seat of a desk, to the end of its input, and gives the pass back. Where the
-/// host has a keeper nothing is handed on but what is kept.
+/// sessions have a keeper nothing is handed on but what is kept.
 ///
 /// A failure of the connection ends it early, and so does a lack of memory before the first line, which then isn't
-/// read. Where what the session has seen can't be kept it stops the host.
+/// read. Where what the session has seen can't be kept it stops all sessions.
 pub(crate) fn attend<L: DeskName, W: Wait + Drop, R: Threads + Wait + Sync, D: Device + Drop>(
     rt: &R,
     alloc: Global,
     desk: &Desk<L, W>,
-    host: &Host<L, D>,
+    shared: &SharedState<L, D>,
     pass: Pass<L>,
     stream: &TcpStream,
 ) -> Pass<L>
@@ -34,7 +34,7 @@ pub(crate) fn attend<L: DeskName, W: Wait + Drop, R: Threads + Wait + Sync, D: D
 {
     let counts = Counts::new();
     attend_counted::<L, W, R, D, Brand, Brand, Brand, Brand>(
-        rt, alloc, desk, host, pass, stream, counts,
+        rt, alloc, desk, shared, pass, stream, counts,
     )
 }
 
@@ -52,7 +52,7 @@ fn attend_counted<
     rt: &R,
     alloc: Global,
     desk: &Desk<L, W>,
-    host: &Host<L, D>,
+    shared: &SharedState<L, D>,
     pass: Pass<L>,
     stream: &TcpStream,
     counts: Counts,
@@ -67,7 +67,7 @@ fn attend_counted<
     let _ = stream.set_nodelay(true);
     let mut source = Reading::<&TcpStream, I>::new(stream, counts.input);
     let mut meter = Meter::<M>::new(counts.evaluations);
-    let Some(keeper) = host.keeper() else {
+    let Some(keeper) = shared.keeper() else {
         let mut sink = match ConsoleOutput::<&TcpStream, O>::new(alloc, stream, counts.output) {
             Ok(sink) => sink,
             Err(_) => return pass,
@@ -77,7 +77,7 @@ fn attend_counted<
     };
     let writing = Writing::<&TcpStream, O>::new(stream, counts.output);
     let mut sink = HeldOutput::<_, N>::new(alloc, writing, counts.held);
-    let mut marker = host.marker();
+    let mut marker = shared.marker();
     let at = KeptSeat { desk, keeper, pass };
     let attended = attend_kept(
         rt,
@@ -89,9 +89,9 @@ fn attend_counted<
         &mut marker,
     );
     if matches!(attended.ended, Err(RunFault::Keep)) {
-        host.stop();
+        shared.stop();
     }
-    // (its second would keep the connection open)
+    // (the chair's handle to the connection would keep it open)
     let _ = stream.shutdown(Shutdown::Both);
     attended.pass
 }

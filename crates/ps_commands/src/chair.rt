@@ -4,7 +4,7 @@ ghost use Rattle.ps_commands.specs.Sessions.{Attended, IsAttended};
 
 use crate::attend::attend;
 use crate::door::Door;
-use crate::host::Hosted;
+use crate::shared::Server;
 use ps_desk::{DeskName, Pass, desk_is_sync};
 use ps_keep::Device;
 use ps_kept_desk::keeper_is_sync;
@@ -62,8 +62,8 @@ pub(crate) struct Chair<'s, L: DeskName> {
     first: Snapshot<Pass<L>>,
     begun: u64,
     flag: EndFlag<'s>,
-    /// the connection of the last session once more, where the host keeps it
-    second: Option<TcpStream>,
+    /// a second handle to the connection of the last session, where it may have to be closed
+    closing_handle: Option<TcpStream>,
     /// out while it changes
     state: Option<Holder<L>>,
 }
@@ -94,7 +94,7 @@ impl<'s, L: DeskName> Chair<'s, L> {
             first: Snapshot::of(&pass),
             begun: 0,
             flag,
-            second: None,
+            closing_handle: None,
             state: Some(Err(pass)),
         }
     }
@@ -123,9 +123,9 @@ impl<'s, L: DeskName> Chair<'s, L> {
         }
     }
 
-    /// Closes the connection of the session that has it, where the host keeps it, so that the session ends.
+    /// Closes the connection of the session that has it, where there is a handle to it, so that the session ends.
     pub(crate) fn hang_up(&self) {
-        match &self.second {
+        match &self.closing_handle {
             Some(stream) => {
                 let _ = stream.shutdown(Shutdown::Both);
             }
@@ -153,7 +153,7 @@ impl<'s, L: DeskName> Chair<'s, L> {
         scope: &Scope<'s, E>,
         rt: &'s R,
         alloc: Global,
-        at: &Hosted<'s, L, W, D>,
+        server: &Server<'s, L, W, D>,
         door: &mut Door<'_>,
     )
     where
@@ -163,7 +163,7 @@ impl<'s, L: DeskName> Chair<'s, L> {
         self.take_back(rt);
         if self.is_free() {
             if let Some(stream) = door.next() {
-                self.begin(scope, rt, alloc, at, stream);
+                self.begin(scope, rt, alloc, server, stream);
             }
         }
     }
@@ -174,7 +174,7 @@ impl<'s, L: DeskName> Chair<'s, L> {
         scope: &Scope<'s, E>,
         rt: &'s R,
         alloc: Global,
-        at: &Hosted<'s, L, W, D>,
+        server: &Server<'s, L, W, D>,
         stream: TcpStream,
     )
     where
@@ -185,8 +185,8 @@ impl<'s, L: DeskName> Chair<'s, L> {
     {
         let pass = given_back(rt, self.state.take().unwrap());
         self.flag.lower();
-        self.second = at.host.second(&stream);
-        self.state = Some(begin(scope, rt, alloc, at, pass, stream, self.flag));
+        self.closing_handle = server.shared.closing_handle(&stream);
+        self.state = Some(begin(scope, rt, alloc, server, pass, stream, self.flag));
         self.begun += 1;
     }
 }
@@ -203,7 +203,7 @@ fn begin<
     scope: &Scope<'s, E>,
     rt: &'s R,
     alloc: Global,
-    at: &Hosted<'s, L, W, D>,
+    server: &Server<'s, L, W, D>,
     pass: Pass<L>,
     stream: TcpStream,
     flag: EndFlag<'s>,
@@ -213,15 +213,15 @@ fn begin<
     // for the facts that threads may share the desk and the keeper
     desk_is_sync::<L, W>();
     keeper_is_sync::<L, D>();
-    let desk = at.desk;
-    let host = at.host;
+    let desk = server.desk;
+    let shared = server.shared;
     let promise = ComesBack(Snapshot::of(&pass));
     let begun = scope.spawn_with(
         promise,
         move || -> Pass<L>
             ensures { IsAttended L.replica L.opening pass result }
         {
-            let back = attend(rt, alloc, desk, host, pass, &stream);
+            let back = attend(rt, alloc, desk, shared, pass, &stream);
             drop(stream);
             flag.raise();
             back

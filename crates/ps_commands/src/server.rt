@@ -16,10 +16,10 @@ ghost use Rattle.ps_commands.specs.declared.fault.ProgramFault.TheVariants.{Refu
 
 use crate::elsewhere::Warner;
 use crate::fault::ProgramFault;
-use crate::host::Host;
 use crate::notice::tell;
 use crate::serving::{Entrance, Serving};
 use crate::sessions::serve_all;
+use crate::shared::SharedState;
 use ps_desk::{Desk, DeskName, Parts, Pass};
 use ps_device::Sink;
 use ps_grid::Refusal;
@@ -223,12 +223,12 @@ fn serve_parts<
         Ok(opened) => opened,
         Err((_, refusal)) => return Err(refusal),
     };
-    let host = Host::new(keeper_of(journal, &desk, passes.as_slice(), changes));
-    let (sessions, back) = match serve_all(rt, alloc, &desk, &host, entrance, passes, warner) {
+    let shared = SharedState::new(keeper_of(journal, &desk, passes.as_slice(), changes));
+    let (sessions, back) = match serve_all(rt, alloc, &desk, &shared, entrance, passes, warner) {
         Ok(served) => served,
         Err(refusal) => return Err(refusal),
     };
-    match close(rt, alloc, desk, back, host.into_keeper()) {
+    match close(rt, alloc, desk, back, shared.into_keeper()) {
         Ok((sheet, journal)) => Ok(Closed {
             sheet,
             sessions,

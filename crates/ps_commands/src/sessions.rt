@@ -6,8 +6,8 @@ ghost use Rattle.ps_commands.specs.Sessions.{AreBack, Back};
 use crate::chair::{Chair, EndFlag};
 use crate::door::Door;
 use crate::elsewhere::Warner;
-use crate::host::{Host, Hosted};
 use crate::serving::Entrance;
+use crate::shared::{Server, SharedState};
 use ps_desk::{Desk, DeskName, Pass};
 use ps_grid::Refusal;
 use ps_keep::Device;
@@ -66,19 +66,19 @@ fn turn_all<
     scope: &Scope<'s, E>,
     rt: &'s R,
     alloc: Global,
-    at: &Hosted<'s, L, W, D>,
+    server: &Server<'s, L, W, D>,
     door: &mut Door<'_>,
     chairs: &mut Vec<Chair<'s, L>>,
 )
     ensures { map (λ t. t.first) chairs.new.items ≡ map (λ t. t.first) chairs.old.items }
 {
     for chair in chairs.iter_mut() {
-        chair.turn(scope, rt, alloc, at, door);
+        chair.turn(scope, rt, alloc, server, door);
     }
 }
 
 /// Gives the seats to the connections that come, until as many sessions as were asked for have begun, and returns their
-/// number; none where a connection can't be accepted, or sessions may not go on. It warns where the host says so.
+/// number; none where a connection can't be accepted, or sessions may not go on. Meanwhile it warns as `warn_by` does.
 fn give_seats<
     's,
     E,
@@ -91,42 +91,42 @@ fn give_seats<
     scope: &Scope<'s, E>,
     rt: &'s R,
     alloc: Global,
-    at: &Hosted<'s, L, W, D>,
+    server: &Server<'s, L, W, D>,
     door: &mut Door<'_>,
     chairs: &mut Vec<Chair<'s, L>>,
     warner: &mut Warner<'_, T>,
 ) -> Option<u64>
     ensures firsts { map (λ t. t.first) chairs.new.items ≡ map (λ t. t.first) chairs.old.items }
-    ensures asked { IfSome result (λ n. (at.now.asked ≡ Some n) × (sum_by (λ t. t.begun) chairs.new.items ≡ n)) }
+    ensures asked { IfSome result (λ n. (server.now.asked ≡ Some n) × (sum_by (λ t. t.begun) chairs.new.items ≡ n)) }
 {
     for _ in rt.forever() {
-        let left = left_of(at.asked, chairs);
+        let left = left_of(server.asked, chairs);
         if left == Some(0) {
-            return at.asked;
+            return server.asked;
         }
-        if !at.host.goes_on() || door.let_in(rt, left).is_err() {
+        if !server.shared.goes_on() || door.let_in(rt, left).is_err() {
             return None;
         }
-        turn_all(scope, rt, alloc, at, door, chairs);
+        turn_all(scope, rt, alloc, server, door, chairs);
         door.turn_away_late(rt);
-        warn_by(at.host, warner);
+        warn_by(server.shared, warner);
     }
     unreachable!()
 }
 
 /// Warns once the sessions were pushed changes of the desk's own replica that were new.
 fn warn_by<L: DeskName, D: Device + Drop, T: Write + Drop>(
-    host: &Host<L, D>,
+    shared: &SharedState<L, D>,
     warner: &mut Warner<'_, T>,
 ) {
-    if host.is_elsewhere() {
+    if shared.is_elsewhere() {
         warner.warn();
     }
 }
 
 /// Has each session that is under way end soon, where they may not go on.
-fn hang_up<L: DeskName, D: Device + Drop>(host: &Host<L, D>, chairs: &Vec<Chair<'_, L>>) {
-    if !host.goes_on() {
+fn hang_up<L: DeskName, D: Device + Drop>(shared: &SharedState<L, D>, chairs: &Vec<Chair<'_, L>>) {
+    if !shared.goes_on() {
         for chair in chairs {
             chair.hang_up();
         }
@@ -161,7 +161,7 @@ pub(crate) fn serve_all<
     rt: &R,
     alloc: Global,
     desk: &Desk<L, W>,
-    host: &Host<L, D>,
+    shared: &SharedState<L, D>,
     entrance: Entrance<'_>,
     passes: Vec<Pass<L>>,
     warner: &mut Warner<'_, T>,
@@ -184,15 +184,19 @@ pub(crate) fn serve_all<
         {
             let mut chairs = Vec::with_capacity(alloc, passes.len())?;
             let mut back = Vec::with_capacity(alloc, passes.len())?;
-            let mut door = Door::new(alloc, entrance, host.is_watchful())?;
+            let mut door = Door::new(alloc, entrance, shared.is_watchful())?;
             set_up(passes, flags, &mut chairs);
             let asked = entrance.serving.sessions;
-            let at = Hosted { desk, host, asked };
-            let given = give_seats(scope, rt, alloc, &at, &mut door, &mut chairs, warner);
+            let server = Server {
+                desk,
+                shared,
+                asked,
+            };
+            let given = give_seats(scope, rt, alloc, &server, &mut door, &mut chairs, warner);
             door.close();
-            hang_up(host, &chairs);
+            hang_up(shared, &chairs);
             end_all(rt, chairs, &mut back);
-            warn_by(host, warner);
+            warn_by(shared, warner);
             match given {
                 Some(sessions) => Ok((sessions, back)),
                 None => Err(Refusal::Device),

@@ -1,4 +1,4 @@
-//! How the sessions of a desk are held: with a keeper, or with none.
+//! What the sessions of a server share: a desk and, where it is kept, its keeper.
 ghost use Rattle.std.specs.Prelude.{◌≡◌};
 
 use crate::elsewhere::Marker;
@@ -9,9 +9,9 @@ use std::net::TcpStream;
 use std::sync::Wait;
 use std::sync::atomic::{AtomicBool, Ordering};
 
-/// Holds the sessions of a desk. Where there is a keeper they are told nothing but what it keeps.
+/// What the sessions of a desk share besides it. Where there is a keeper they are told nothing but what it keeps.
 #[derive(Drop)]
-pub(crate) struct Host<L: DeskName, D: Device + Drop> {
+pub(crate) struct SharedState<L: DeskName, D: Device + Drop> {
     keeper: Option<DeskKeeper<L, D>>,
     /// a sync failed
     is_stopped: AtomicBool,
@@ -19,12 +19,12 @@ pub(crate) struct Host<L: DeskName, D: Device + Drop> {
     is_elsewhere: AtomicBool,
 }
 
-impl<L: DeskName, D: Device + Drop> Host<L, D> {
-    /// A host with this keeper, or with none.
-    pub(crate) fn new(keeper: Option<DeskKeeper<L, D>>) -> Host<L, D>
+impl<L: DeskName, D: Device + Drop> SharedState<L, D> {
+    /// The state of sessions with this keeper, or with none.
+    pub(crate) fn new(keeper: Option<DeskKeeper<L, D>>) -> SharedState<L, D>
         ensures { result.keeper ≡ keeper }
     {
-        Host {
+        SharedState {
             keeper,
             is_stopped: AtomicBool::new(false),
             is_elsewhere: AtomicBool::new(false),
@@ -35,7 +35,7 @@ impl<L: DeskName, D: Device + Drop> Host<L, D> {
     pub(crate) fn into_keeper(self) -> Option<DeskKeeper<L, D>>
         ensures { result ≡ self.keeper }
     {
-        let Host { keeper, .. } = self;
+        let SharedState { keeper, .. } = self;
         keeper
     }
 
@@ -71,8 +71,8 @@ impl<L: DeskName, D: Device + Drop> Host<L, D> {
         self.keeper.is_some()
     }
 
-    /// The connection once more, where it is to be closed once sessions may not go on.
-    pub(crate) fn second(&self, stream: &TcpStream) -> Option<TcpStream> {
+    /// A second handle to the connection, where it is to be closed once sessions may not go on.
+    pub(crate) fn closing_handle(&self, stream: &TcpStream) -> Option<TcpStream> {
         match self.keeper {
             Some(_) => stream.try_clone().ok(),
             None => None,
@@ -80,11 +80,11 @@ impl<L: DeskName, D: Device + Drop> Host<L, D> {
     }
 }
 
-/// A desk, who holds its sessions, and how many are asked for.
+/// A server: its desk, what its sessions share besides, and how many of them are asked for.
 #[derive(Drop)]
-pub(crate) struct Hosted<'s, L: DeskName, W: Wait + Drop, D: Device + Drop> {
+pub(crate) struct Server<'s, L: DeskName, W: Wait + Drop, D: Device + Drop> {
     pub(crate) desk: &'s Desk<L, W>,
-    pub(crate) host: &'s Host<L, D>,
+    pub(crate) shared: &'s SharedState<L, D>,
     /// none where there is no end to them
     pub(crate) asked: Option<u64>,
 }
