@@ -34,13 +34,13 @@ use ps_session::{HeldOutput, Resources};
 use ps_words::{Options, RunOptions, ServeOptions, TableOptions, read_words};
 use std::fs::File;
 use std::io;
-use std::io::{IsTerminal, Write};
+use std::io::{IsTerminal, Stdout, Write};
 use std::marker::Brand;
 use std::net::{Net, TcpListener, TcpStream};
 use std::process::ExitCode;
 use std::rt::Files;
 use std::sync::Wait;
-use std::sync::ledger::Ledger;
+use std::sync::ledger::{Blank, Ledger};
 use std::thread::Threads;
 use std::time::Clock;
 
@@ -164,20 +164,20 @@ fn on_standard<
         },
         Options::Table(options) => put_table::<R, I, O, M>(rt, threads, counts, options),
         Options::Serve(options) => {
-            let mut sink = ConsoleOutput::<_, O>::new(rt.alloc(), rt.stdout(), counts.output)?;
+            let mut sink = console::<O>(rt, counts.output)?;
             let mut meter = Meter::<M>::new(counts.evaluations);
             serve_sessions(rt, threads, &mut sink, &mut meter, options)
         }
         Options::Sync(options) => {
-            let mut sink = ConsoleOutput::<_, O>::new(rt.alloc(), rt.stdout(), counts.output)?;
+            let mut sink = console::<O>(rt, counts.output)?;
             sync_on(threads, rt.alloc(), options, &mut sink)
         }
         Options::Follow(options) => {
-            let mut sink = ConsoleOutput::<_, O>::new(rt.alloc(), rt.stdout(), counts.output)?;
+            let mut sink = console::<O>(rt, counts.output)?;
             follow_on(threads, rt, rt.alloc(), options, &mut sink)
         }
         Options::Page(options) => {
-            let mut sink = ConsoleOutput::<_, O>::new(rt.alloc(), rt.stdout(), counts.output)?;
+            let mut sink = console::<O>(rt, counts.output)?;
             open_page(threads, rt.alloc(), options, &mut sink)
         }
         Options::Squash => {
@@ -186,6 +186,14 @@ fn on_standard<
             squash_on(rt.alloc(), &mut source, &mut sink)
         }
     }
+}
+
+/// Standard output, whose bytes wait in memory until they are handed on. This blank counts its failures. Refused out of
+/// memory.
+fn console<O: Ledger>(rt: &HostRuntime, output: Blank) -> Result<ConsoleOutput<Stdout, O>, Refusal>
+    requires { IsBlankOf output O.name O.parts }
+{
+    ConsoleOutput::new(rt.alloc(), rt.stdout(), output)
 }
 
 /// Whether hints are told: where they are asked for, and where a person types and reads what is told.
@@ -206,7 +214,7 @@ fn run_lines<R: Threads + Sync, I: Ledger, O: Ledger, M: Ledger>(
 {
     let mut meter = Meter::<M>::new(counts.evaluations);
     let mut source = Reading::<_, I>::new(rt.reader(), counts.input);
-    let mut sink = ConsoleOutput::<_, O>::new(rt.alloc(), rt.stdout(), counts.output)?;
+    let mut sink = console::<O>(rt, counts.output)?;
     let told = is_explained(rt, options.explain).then_some(rt.stderr());
     let mut onlooker = Onlooker::new(rt.alloc(), told);
     answer_lines(
