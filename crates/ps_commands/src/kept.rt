@@ -12,7 +12,7 @@ use ps_keep::{FileFault, Found, FoundFile, KeptFile};
 use ps_kept::{KeepFault, SheetKeeper, open_kept};
 use ps_sheet::Sheet;
 use ps_words::SheetOptions;
-use std::alloc::Global;
+use std::alloc::{AllocError, Global};
 use std::fmt;
 use std::fs::File;
 use std::rt::Files;
@@ -80,7 +80,7 @@ fn not_taken(alloc: Global, path: &str, trouble: KeptTrouble) -> ProgramFault
 {
     match path.to_string(alloc) {
         Ok(path) => ProgramFault::KeptFailed(FileNotTaken { path, trouble }),
-        Err(_) => ProgramFault::Refused(Refusal::Memory),
+        Err(AllocError) => ProgramFault::Refused(Refusal::Memory),
     }
 }
 

@@ -21,7 +21,7 @@ use crate::serving::{Entrance, Serving};
 use crate::sessions::serve_all;
 use crate::shared::SharedState;
 use ps_desk::{Desk, DeskName, Parts, Pass};
-use ps_device::Sink;
+use ps_device::{Failed, Sink};
 use ps_grid::Refusal;
 use ps_keep::{Device, Journal, MemoryDevice};
 use ps_kept_desk::{DeskKeeper, Ended};
@@ -289,6 +289,6 @@ fn close<L: DeskName, W: Wait + Drop, D: Device + Drop, V: Wait>(
     // failure has no cause, so where memory lacked it is told as a device's, too)
     match synced {
         Ok(()) => Ok((sheet, Some(journal))),
-        Err(_) => Err(Refusal::Device),
+        Err(Failed) => Err(Refusal::Device),
     }
 }

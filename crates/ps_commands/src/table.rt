@@ -8,7 +8,7 @@ ghost use Rattle.ps_commands.specs.declared.fault.ProgramFault.TheVariants.{Refu
 
 use crate::fault::{ProgramFault, fault_of_import};
 use ps_csv::{Imported, TableWatcher, export, export_entries, import_watched};
-use ps_device::{Sink, Source, hand_on};
+use ps_device::{Failed, Sink, Source, hand_on};
 use ps_eval::Meter;
 use ps_grid::{Cell, Rect, Refusal};
 use ps_sheet::Sheet;
@@ -116,7 +116,7 @@ fn put_table<K: Sink>(
     }
     match hand_on(sink) {
         Ok(()) => Ok(()),
-        Err(_) => Err(Refusal::Device),
+        Err(Failed) => Err(Refusal::Device),
     }
 }
 
