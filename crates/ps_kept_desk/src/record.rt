@@ -226,7 +226,7 @@ impl<L: DeskName, D: Device + Drop> Record<L, D> {
                 };
                 Ok(())
             }
-            Err(_) => {
+            Err(Failed) => {
                 self.is_stopped = true;
                 Err(Failed)
             }
