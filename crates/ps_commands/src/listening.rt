@@ -112,6 +112,8 @@ pub fn serve<
 ///
 /// A port that can't be listened on, and a file that isn't taken, are faults of their own, at which nothing is written.
 ///
+/// The path is what `options.keep` has. It comes by itself too, so that no call can be made of options without a file.
+///
 /// Cost: that of [`open_kept_sheet`] and of [`serve_kept_on`].
 pub fn serve_kept<
     R: Files<File = File>

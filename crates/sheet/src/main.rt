@@ -230,7 +230,7 @@ fn run_lines<R: Threads + Sync, I: Ledger, O: Ledger, M: Ledger>(
 }
 
 /// Answers the lines of standard input on standard output by the sheet that a file keeps, with what was opened, hints
-/// and a warning on standard error.
+/// and a warning on standard error. The path is what `options.keep` has, so that there is one.
 fn run_kept<R: Files<File = File> + Threads + Sync, I: Ledger, O: Ledger, H: Ledger, M: Ledger>(
     rt: &HostRuntime,
     threads: &R,
