@@ -3,7 +3,7 @@ ghost use Rattle.std.specs.Prelude.{◌≡◌};
 ghost use Rattle.ps_grid.specs.Blanks.{IsBlankOf};
 ghost use Rattle.ps_desk.specs.Opening.{IsNamed};
 
-use ps_commands::attend_lines;
+use ps_commands::{DeskSeat, attend_lines};
 use ps_desk::{Desk, DeskName, Parts};
 use ps_device::{MemorySink, Reading};
 use ps_eval::Meter;
@@ -46,7 +46,8 @@ fn answered<L: DeskName, R: Threads + Wait + Sync, I: Ledger, O: Ledger, M: Ledg
     let mut source = Reading::<&[u8], I>::new(lines, counts.input);
     let mut sink = MemorySink::<O>::new(alloc, counts.output);
     let mut meter = Meter::<M>::new(counts.evaluations);
-    let attended = attend_lines(rt, alloc, &mut source, &mut sink, &desk, pass, &mut meter);
+    let at = DeskSeat { desk: &desk, pass };
+    let attended = attend_lines(rt, alloc, &mut source, &mut sink, at, &mut meter);
     let MemorySink { bytes, failed } = sink;
     drop(failed);
     Ok((bytes, attended.ended.ok()))

@@ -2,7 +2,7 @@
 ghost use Rattle.ps_grid.specs.Blanks.{IsBlankOf};
 ghost use Rattle.ps_commands.specs.Sessions.{IsAttended};
 
-use crate::connection::{KeptSeat, attend_kept, attend_lines};
+use crate::connection::{DeskSeat, KeptSeat, attend_kept, attend_lines};
 use crate::counts::Counts;
 use crate::shared::SharedState;
 use ps_desk::{Desk, DeskName, Pass};
@@ -72,13 +72,15 @@ fn attend_counted<
             Ok(sink) => sink,
             Err(_) => return pass,
         };
-        let attended = attend_lines(rt, alloc, &mut source, &mut sink, desk, pass, &mut meter);
+        let at = DeskSeat { desk, pass };
+        let attended = attend_lines(rt, alloc, &mut source, &mut sink, at, &mut meter);
         return attended.pass;
     };
     let writing = Writing::<&TcpStream, O>::new(stream, counts.output);
     let mut sink = HeldOutput::<_, N>::new(alloc, writing, counts.held);
     let mut marker = shared.marker();
-    let at = KeptSeat { desk, keeper, pass };
+    let seat = DeskSeat { desk, pass };
+    let at = KeptSeat { seat, keeper };
     let attended = attend_kept(
         rt,
         alloc,

@@ -30,6 +30,15 @@ pub struct Attended<L: DeskName, K = ()> {
     pub ended: Result<u64, RunFault>,
 }
 
+/// A seat at a desk.
+#[derive(Drop)]
+pub struct DeskSeat<'a, L: DeskName, W: Wait + Drop> {
+    /// The desk.
+    pub desk: &'a Desk<L, W>,
+    /// The pass of the seat.
+    pub pass: Pass<L>,
+}
+
 /// Answers each line of a source on a sink by a seat at a desk, to the end of the input.
 ///
 /// What was read and written is the transcript of a session at the desk, as far as the two devices tell their bytes.
@@ -48,32 +57,33 @@ pub fn attend_lines<
     alloc: Global,
     source: &mut S,
     sink: &mut K,
-    desk: &Desk<L, W>,
-    pass: Pass<L>,
+    at: DeskSeat<'_, L, W>,
     meter: &mut Meter<M>,
 ) -> Attended<L>
     ensures transcribed { IfOk result.ended (λ answered. (read : List ℕ)
         × Consumes (S.remaining source.old) (S.remaining source.new) read
         × IsAtEnd (S.remaining source.new)
-        × Transcribed (SeatLines L.replica L.opening) pass (K.contents sink.old) read
+        × Transcribed (SeatLines L.replica L.opening) at.entry.pass (K.contents sink.old) read
         result.pass (K.contents sink.new) answered) }
     ensures sink { result.ended ≡ Err RunFault.Sink
         → (read : List ℕ) × Consumes (S.remaining source.old) (S.remaining source.new) read
-        × Stopped (SeatLines L.replica L.opening) (IsAtEnd (S.remaining source.new)) pass (K.contents sink.old) read
-        result.pass (K.contents sink.new) }
+        × Stopped (SeatLines L.replica L.opening) (IsAtEnd (S.remaining source.new))
+        at.entry.pass (K.contents sink.old) read result.pass (K.contents sink.new) }
     ensures source { result.ended ≡ Err RunFault.Source
         → (read : List ℕ) × Consumes (S.remaining source.old) (S.remaining source.new) read
-        × Answered (SeatLines L.replica L.opening) pass (K.contents sink.old) read result.pass (K.contents sink.new) }
+        × Answered (SeatLines L.replica L.opening) at.entry.pass (K.contents sink.old) read
+        result.pass (K.contents sink.new) }
     ensures memory { result.ended ≡ Err RunFault.Memory
-        → (source.new ≡ source.old) × (sink.new ≡ sink.old) × (result.pass ≡ pass) }
+        → (source.new ≡ source.old) × (sink.new ≡ sink.old) × (result.pass ≡ at.entry.pass) }
     ensures flushed { OnOk result.ended (K.waiting sink.new ≡ []) }
     ensures source_flushed { result.ended ≡ Err RunFault.Source → K.waiting sink.new ≡ [] }
     ensures calm { OnOk result.ended ((S.failures source.new ≡ S.failures source.old)
         × (K.failures sink.new ≡ K.failures sink.old)) }
     ensures sink_failed { result.ended ≡ Err RunFault.Sink → K.failures sink.old < K.failures sink.new }
     ensures source_failed { result.ended ≡ Err RunFault.Source → S.failures source.old < S.failures source.new }
-    ensures attended { IsAttended L.replica L.opening pass result.pass }
+    ensures attended { IsAttended L.replica L.opening at.entry.pass result.pass }
 {
+    let DeskSeat { desk, pass } = at;
     let mut seat = Seat::new(desk, rt, pass);
     let ended = talk(rt, alloc, source, sink, &mut seat, meter);
     Attended {
@@ -86,12 +96,10 @@ pub fn attend_lines<
 /// A seat at a desk that is kept.
 #[derive(Drop)]
 pub struct KeptSeat<'a, L: DeskName, W: Wait + Drop, D: Device + Drop> {
-    /// The desk.
-    pub desk: &'a Desk<L, W>,
-    /// The keeper that was made for it.
+    /// The seat.
+    pub seat: DeskSeat<'a, L, W>,
+    /// The keeper that was made for the desk.
     pub keeper: &'a DeskKeeper<L, D>,
-    /// The pass of the seat.
-    pub pass: Pass<L>,
 }
 
 /// Answers each line of a source on an output by a seat at a kept desk, to the end of the input, while a watcher looks
@@ -122,13 +130,16 @@ pub fn attend_kept<
 ) -> Attended<L, KeptPlace<L>>
     ensures covered { (read : List ℕ) × Consumes (S.remaining source.old) (S.remaining source.new) read
         × IsCovered (SeatLines L.replica L.opening) (λ seen. IsPrefix seen.list result.kept)
-        (IsAtEnd (S.remaining source.new)) at.entry.pass (held_contents K.contents sink.old) read
+        (IsAtEnd (S.remaining source.new)) at.entry.seat.pass (held_contents K.contents sink.old) read
         result.pass (held_contents K.contents sink.new) (held_waiting K.waiting sink.new) }
     ensures kept { OnOk result.ended (IsPrefix result.pass.list result.kept) }
     ensures flushed { OnOk result.ended (held_waiting K.waiting sink.new ≡ []) }
-    ensures attended { IsAttended L.replica L.opening at.entry.pass result.pass }
+    ensures attended { IsAttended L.replica L.opening at.entry.seat.pass result.pass }
 {
-    let KeptSeat { desk, keeper, pass } = at;
+    let KeptSeat {
+        seat: DeskSeat { desk, pass },
+        keeper,
+    } = at;
     let mut seat = Seat::new(desk, rt, pass);
     let mut own = SeatKeeper::new(keeper, desk, rt);
     let resources = Resources { threads: rt, alloc };

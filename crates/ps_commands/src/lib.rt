@@ -49,7 +49,7 @@ mod squash;
 mod sync;
 mod table;
 
-pub use connection::{Attended, KeptSeat, attend_kept, attend_lines};
+pub use connection::{Attended, DeskSeat, KeptSeat, attend_kept, attend_lines};
 pub use counts::Counts;
 pub use elsewhere::{KeptOnlooker, NumberElsewhere, Warner, tell_opened};
 pub use explain::Onlooker;
