@@ -1,5 +1,8 @@
 -- What the sessions of a server leave.
-use Rattle.std.specs.Prelude.{◌≡◌, ◌+◌, ◌≤◌, ⊤, ℕ, zero, suc, List, [], ◌∷◌, length, map, sum_by}
+use Rattle.std.specs.Prelude.{◌≡◌, ◌+◌, ◌<◌, ◌≤◌, ◌⊎◌, ⊤, ℕ, zero, suc, List, [], ◌∷◌, length, map, sum_by}
+use Rattle.std.specs.Prelude.{Option, Some, Result, IfErr, IfOk, OnOk}
+use Rattle.std.specs.Io.KnownBytes.{Appends}
+use Rattle.ps_grid.specs.declared.refusal.Refusal.TheVariants.{Device}
 use Rattle.ps_delta.specs.Deltas.{Entries}
 use Rattle.ps_session.specs.Transcript.{Run}
 use Rattle.ps_desk.specs.Closing.{HistoryBegins, IsClosed, appended_of}
@@ -7,6 +10,11 @@ use Rattle.ps_desk.specs.Opening.{new_passes}
 use Rattle.ps_desk.specs.Passes.{PassView}
 use Rattle.ps_desk.specs.Seats.{GoesOn, SeatLines}
 use Rattle.ps_sheet.specs.Sheet.{IsSheet, SheetView}
+use Rattle.ps_commands.specs.Commands.{closed_text}
+use Rattle.ps_commands.specs.Status.{IsServerFault}
+use Rattle.ps_commands.specs.declared.fault.ProgramFault.{ProgramFault}
+use Rattle.ps_commands.specs.declared.fault.ProgramFault.TheVariants.{Refused}
+use Rattle.ps_commands.specs.declared.server.Closed.{Closed}
 
 -- ATTENDED: from the pass `old` on, a seat at a desk of this replica and opening history answered these lines, one
 -- after another, with this text, and its pass is `new` after them
@@ -55,3 +63,17 @@ pub record IsServed (seats sessions : ℕ) (first last : SheetView) : Type 0 whe
   pub begins : HistoryBegins first.history last.history passes
   pub grown : length last.history ≡ length first.history + appended_of passes
   pub closed : IsClosed first.history last.history passes
+
+-- SERVES: what a server comes to that is asked for so many sessions, at most `seats` of them at a time, on the sheet
+-- `first`. It has served as many as were asked for (SERVED) and has written `closed` and the version; or it is refused,
+-- and then nothing was written, or the output failed. The output was `old` and is `new`
+pub record Serves {J K : Type 0} (contents : K → Option (List ℕ)) (waiting : K → List ℕ) (failures : K → ℕ)
+    (sessions : Option ℕ) (seats : ℕ) (first : SheetView) (old new : K) (result : Result (Closed J) ProgramFault)
+    : Type 0 where
+  pub asked : IfOk result (λ closed. sessions ≡ Some closed.sessions)
+  pub served : IfOk result (λ closed. IsServed seats closed.sessions first closed.sheet)
+  pub told : IfOk result (λ closed. Appends (contents old) (contents new) (closed_text (length closed.sheet.history)))
+  pub flushed : OnOk result (waiting new ≡ [])
+  pub calm : OnOk result (failures new ≡ failures old)
+  pub untold : IfErr result (λ f. (new ≡ old) ⊎ ((f ≡ Refused Device) × (failures old < failures new)))
+  pub refused : IfErr result IsServerFault

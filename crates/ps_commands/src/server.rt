@@ -1,18 +1,13 @@
 //! A server: the sessions of a sheet, which is kept in a journal, or isn't.
-ghost use Rattle.std.specs.Prelude.{◌≡◌, ◌+◌, ◌⊎◌, ◌<◌, ◌≤◌, [], IfErr, IfOk, IfSome, IsSome, OnOk, Some};
-ghost use Rattle.std.specs.Prelude.{length, vec_len};
-ghost use Rattle.std.specs.Io.KnownBytes.{Appends};
+ghost use Rattle.std.specs.Prelude.{◌≡◌, ◌+◌, ◌⊎◌, ◌≤◌, IfErr, IfOk, IfSome, IsSome, Some, length, vec_len};
 ghost use Rattle.ps_grid.specs.declared.refusal.Refusal.TheVariants.{Device, Memory, Seat};
 ghost use Rattle.ps_sheet.specs.Sheet.{IsSheet};
 ghost use Rattle.ps_desk.specs.Closing.{HistoryBegins, IsClosed, appended_of};
 ghost use Rattle.ps_desk.specs.Opening.{IsNamed, new_passes};
 ghost use Rattle.ps_keep.specs.Journals.{IsJournal};
 ghost use Rattle.ps_kept.specs.Kept.{TellHistory};
-ghost use Rattle.ps_commands.specs.Commands.{closed_text};
 ghost use Rattle.ps_commands.specs.Kept.{KeepsHistory};
-ghost use Rattle.ps_commands.specs.Sessions.{IsServed};
-ghost use Rattle.ps_commands.specs.Status.{IsServerFault};
-ghost use Rattle.ps_commands.specs.declared.fault.ProgramFault.TheVariants.{Refused};
+ghost use Rattle.ps_commands.specs.Sessions.{IsServed, Serves};
 
 use crate::elsewhere::Warner;
 use crate::fault::ProgramFault;
@@ -65,15 +60,8 @@ pub fn serve_on<R: Threads + Wait + Clock + Sync, K: Sink>(
     sheet: Sheet,
     out: &mut K,
 ) -> Result<Closed, ProgramFault>
-    ensures asked { IfOk result (λ closed. entrance.entry.serving.sessions ≡ Some closed.sessions) }
-    ensures served { IfOk result (λ closed. IsServed entrance.entry.serving.seats closed.sessions sheet closed.sheet) }
-    ensures told { IfOk result (λ closed. Appends (K.contents out.old) (K.contents out.new)
-        (closed_text (length closed.sheet.history))) }
-    ensures flushed { OnOk result (K.waiting out.new ≡ []) }
-    ensures calm { OnOk result (K.failures out.new ≡ K.failures out.old) }
-    ensures untold { IfErr result (λ f. (out.new ≡ out.old)
-        ⊎ ((f ≡ Refused Device) × (K.failures out.old < K.failures out.new))) }
-    ensures refused { IfErr result IsServerFault }
+    ensures { Serves K.contents K.waiting K.failures entrance.entry.serving.sessions entrance.entry.serving.seats
+        sheet out.old out.new result }
 {
     // (where nothing is kept, nobody is warned)
     let mut warner = Warner::<Vec<u8>>::new(alloc, None);
@@ -122,17 +110,10 @@ pub fn serve_kept_on<
     warner: &mut Warner<'_, W>,
 ) -> Result<Closed<Journal<D>>, ProgramFault>
     requires { KeepsHistory sheet.replica sheet.history journal }
-    ensures asked { IfOk result (λ closed. entrance.entry.serving.sessions ≡ Some closed.sessions) }
-    ensures served { IfOk result (λ closed. IsServed entrance.entry.serving.seats closed.sessions sheet closed.sheet) }
+    ensures serves { Serves K.contents K.waiting K.failures entrance.entry.serving.sessions entrance.entry.serving.seats
+        sheet out.old out.new result }
     ensures kept { IfOk result (λ closed. TellHistory closed.sheet.replica closed.journal.kept closed.sheet.history) }
     ensures journal { IfOk result (λ closed. IsJournal closed.journal) }
-    ensures told { IfOk result (λ closed. Appends (K.contents out.old) (K.contents out.new)
-        (closed_text (length closed.sheet.history))) }
-    ensures flushed { OnOk result (K.waiting out.new ≡ []) }
-    ensures calm { OnOk result (K.failures out.new ≡ K.failures out.old) }
-    ensures untold { IfErr result (λ f. (out.new ≡ out.old)
-        ⊎ ((f ≡ Refused Device) × (K.failures out.old < K.failures out.new))) }
-    ensures refused { IfErr result IsServerFault }
 {
     let Closed {
         sheet,
@@ -158,19 +139,12 @@ fn serve_sheet<R: Threads + Wait + Clock + Sync, D: Device + Drop + Send, K: Sin
     warner: &mut Warner<'_, W>,
 ) -> Result<Closed<Option<Journal<D>>>, ProgramFault>
     requires { IfSome journal (KeepsHistory sheet.replica sheet.history) }
-    ensures asked { IfOk result (λ closed. entrance.entry.serving.sessions ≡ Some closed.sessions) }
-    ensures served { IfOk result (λ closed. IsServed entrance.entry.serving.seats closed.sessions sheet closed.sheet) }
+    ensures serves { Serves K.contents K.waiting K.failures entrance.entry.serving.sessions entrance.entry.serving.seats
+        sheet out.old out.new result }
     ensures some { IfOk result (λ closed. IsSome journal → IsSome closed.journal) }
     ensures kept { IfOk result (λ closed. IfSome closed.journal
         (λ j. TellHistory closed.sheet.replica j.kept closed.sheet.history)) }
     ensures journal { IfOk result (λ closed. IfSome closed.journal (λ j. IsJournal j)) }
-    ensures told { IfOk result (λ closed. Appends (K.contents out.old) (K.contents out.new)
-        (closed_text (length closed.sheet.history))) }
-    ensures flushed { OnOk result (K.waiting out.new ≡ []) }
-    ensures calm { OnOk result (K.failures out.new ≡ K.failures out.old) }
-    ensures untold { IfErr result (λ f. (out.new ≡ out.old)
-        ⊎ ((f ≡ Refused Device) × (K.failures out.old < K.failures out.new))) }
-    ensures refused { IfErr result IsServerFault }
 {
     let changes = sheet.version();
     let parts = Parts::new(sheet, seats_for(entrance.serving));
