@@ -4,7 +4,7 @@ ghost use Rattle.std.specs.Prelude.{◌≡◌, ◌≢◌, ◌⊎◌, ◌<◌, �
 ghost use Rattle.std.specs.Io.KnownBytes.{Consumes, IsAtEnd};
 ghost use Rattle.ps_csv.specs.Faults.{TooManyBytes};
 
-use ps_device::{PIECE_BYTES, Source};
+use ps_device::{Failed, PIECE_BYTES, Source};
 use ps_grid::{CELLS, Refusal};
 use std::alloc::Global;
 
@@ -30,7 +30,7 @@ pub(crate) fn read_all<S: Source>(alloc: Global, source: &mut S) -> Result<Vec<u
     'pieces: loop {
         let count = match source.take(&mut piece) {
             Ok(count) => count,
-            Err(_) => return Err(Refusal::Device),
+            Err(Failed) => return Err(Refusal::Device),
         };
         if count == 0 {
             return Ok(bytes);

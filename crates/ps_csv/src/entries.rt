@@ -6,7 +6,7 @@ ghost use Rattle.ps_csv.specs.Exports.{entry_text, exported_entries};
 
 use crate::holds::Holds;
 use crate::rows::{CellText, rows_text};
-use ps_device::{MemorySink, Sink, put_all};
+use ps_device::{Failed, MemorySink, Sink, put_all};
 use ps_grid::{Cell, Rect, Refusal};
 use std::alloc::Global;
 use std::sync::ledger::Ledger;
@@ -38,7 +38,7 @@ pub fn export_entries<H: Holds, K: Sink>(
     let text = entries_text(alloc, holds, rect)?;
     match put_all(sink, &text) {
         Ok(()) => Ok(()),
-        Err(_) => Err(Refusal::Device),
+        Err(Failed) => Err(Refusal::Device),
     }
 }
 

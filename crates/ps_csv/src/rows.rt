@@ -7,7 +7,7 @@ ghost use Rattle.csv.specs.Writing.{default_writer, row_text};
 ghost use Rattle.ps_csv.specs.Exports.{CellTexts, row_record, tabled};
 ghost use Rattle.ps_csv.specs.Inside.{HasWritten};
 
-use csv::{ByteRecord, Writer, WriterBuilder};
+use csv::{ByteRecord, Error, Writer, WriterBuilder};
 use ps_device::MemorySink;
 use ps_grid::{Cell, Rect, Refusal};
 use std::alloc::Global;
@@ -73,7 +73,7 @@ fn put_record(row: &ByteRecord, writer: &mut Writer<Vec<u8>>) -> Result<(), Refu
 {
     match writer.write_byte_record(row) {
         Ok(()) => Ok(()),
-        Err(_) => Err(Refusal::Memory),
+        Err(error) => Err(refusal_of(error)),
     }
 }
 
@@ -84,8 +84,19 @@ fn finish(writer: Writer<Vec<u8>>) -> Result<Vec<u8>, Refusal>
 {
     match writer.into_inner() {
         Ok(text) => Ok(text),
-        Err(_) => Err(Refusal::Memory),
+        Err(error) => Err(refusal_of(error.into_error())),
     }
+}
+
+/// What an error of the writer of a table is refused as: memory ran out.
+///
+/// No clause of `csv` says so. Its writer raises the errors of what it writes to, and `UnequalLengths`. It writes to a
+/// `Vec`, whose `write` fails as `OutOfMemory` alone (`kind`, of std) and whose `flush` doesn't fail (`ok`); and all
+/// records of a rectangle have as many fields.
+fn refusal_of(_error: Error) -> Refusal
+    ensures { result ≡ Refusal.Memory }
+{
+    Refusal::Memory
 }
 
 /// Makes the record of the texts of the k-th row's cells.

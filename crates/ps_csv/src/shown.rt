@@ -6,7 +6,7 @@ ghost use Rattle.ps_value.specs.Shown.{shown_text};
 ghost use Rattle.ps_csv.specs.Exports.{exported};
 
 use crate::rows::{CellText, rows_text};
-use ps_device::{MemorySink, Sink, put_all};
+use ps_device::{Failed, MemorySink, Sink, put_all};
 use ps_eval::Look;
 use ps_grid::{Cell, Rect, Refusal};
 use ps_value::write_shown;
@@ -38,7 +38,7 @@ pub fn export<G: Look, K: Sink>(
     let text = exported_text(alloc, look, rect)?;
     match put_all(sink, &text) {
         Ok(()) => Ok(()),
-        Err(_) => Err(Refusal::Device),
+        Err(Failed) => Err(Refusal::Device),
     }
 }
 
@@ -66,7 +66,9 @@ impl<G: Look> CellText for ShownTexts<'_, G> {
     fn put<L: Ledger>(&self, cell: Cell, text: &mut MemorySink<L>) -> Result<(), Refusal> {
         match write_shown(self.look.at(cell), text) {
             Ok(()) => Ok(()),
-            Err(_) => Err(Refusal::Memory),
+            // (a sink over memory fails only where there is none)
+            Err(Refusal::Device) => Err(Refusal::Memory),
+            Err(_) => unreachable!(),
         }
     }
 }
