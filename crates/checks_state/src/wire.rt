@@ -3,6 +3,7 @@
 use ps_delta::Delta;
 use ps_grid::Refusal;
 use ps_wire::{DELTA_LINE_LIMIT, decode, encode, fits_line, outgrows_line};
+use serde_json::Value;
 use std::alloc::Global;
 use std::process::Abort;
 use std::sync::Arc;
@@ -72,6 +73,35 @@ fn compact_lines_stay_as_they_are(rt: HostRuntime) -> Result<(), Refusal> {
     ] {
         assert!(rt; stays(rt.alloc(), line)?, "{line}");
     }
+    Ok(())
+}
+
+/// A delta with each kind of content, the greatest and the least number, escapes, counts and pairs.
+const ALL_KINDS: &str = r#"[
+    ["A1",[1,1,""],[],[]],
+    ["B1",[2,32,"9223372036854775807"],[],[]],
+    ["C1",[3,2,"-9223372036854775808"],[[1,1099511627776,0],[32,7,1]],[]],
+    ["D1",[4,2,"'\"a\\b/\u00e9\u20ac\ud83d\ude00\""],[],[]],
+    ["E1",[5,2,"=SUM([.A1:.B2];-[.C1])"],[],[[0,1,1,1]]],
+    ["A2",[6,2,"@tally"],[[3,0,5]],[]],
+    ["B2",null,[[1,1,1]],[[0,1,1,0]]],
+    ["CZ1024",[9007199254740991,2,"@choice"],[],[[7,1,1,1],[7,2,256,0],[63,32,9,0]]]
+]"#;
+
+/// What serde_json writes for the value that it reads.
+fn written_by_serde_json(alloc: Global, text: &[u8]) -> Result<Vec<u8>, Refusal> {
+    match Value::from_slice(alloc, text) {
+        Ok(value) => Ok(value.to_vec(alloc)?),
+        Err(_) => Err(Refusal::Delta),
+    }
+}
+
+/// The text of a delta is the one that serde_json writes for the value that it reads there.
+#[test]
+fn texts_are_those_of_serde_json(rt: HostRuntime) -> Result<(), Refusal> {
+    let text = rewritten(rt.alloc(), ALL_KINDS.as_bytes())?;
+    let other = written_by_serde_json(rt.alloc(), &text)?;
+    assert!(rt; text.as_slice() == other.as_slice());
     Ok(())
 }
 

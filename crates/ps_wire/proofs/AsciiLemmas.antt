@@ -1,4 +1,4 @@
--- Canonical texts are UTF-8.
+-- The names of cells and the canonical texts of contents are UTF-8.
 use Rattle.std.proofs.Common.{◌≡◌, ℕ, ℤ, pos, negsuc, zero, suc, ◌-◌, ◌/◌, ◌%◌, ◌<◌, Bool, true, false, cond}
 use Rattle.std.proofs.Common.{List, [], ◌∷◌, ◌++◌, refl, arith}
 use Rattle.std.proofs.lemmas.Bool.{and_parts, ltb-true}
@@ -20,11 +20,9 @@ use Rattle.ps_tokens.specs.declared.token.Operator.TheVariants as operators
 use Rattle.ps_tokens.specs.declared.token.Token.{Token}
 use Rattle.ps_tokens.specs.declared.token.Token.TheVariants.{Numeral, Reference, Range, Name, Symbol, Open, Close}
 use Rattle.ps_tokens.specs.declared.token.Token.TheVariants.{Separator}
-use Rattle.ps_formula.specs.Canonical.{tokens_of}
+use Rattle.ps_formula.specs.Canonical.{canon, tokens_of}
+use Rattle.ps_formula.specs.Tree.{Tree}
 use Rattle.ps_value.specs.Label.{is_label, IsLabel}
-use Rattle.ps_content.specs.Content.{canonical_text, IsContent}
-use Rattle.ps_content.specs.declared.content.Content.{Content}
-use Rattle.ps_content.specs.declared.content.Content.TheVariants.{Blank, Number, Text, Formula, Tally, Choice}
 
 -- a text whose bytes are tested
 ascii : (bytes : List ℕ) → list_all (λ b. nat_lt b 128) bytes ≡ true → IsAscii bytes
@@ -129,14 +127,12 @@ label_utf8 text label = IsUtf8-from_is_utf8 text (and_parts _ _ label).1
 pub name_utf8 : (c : ℕ) → IsUtf8 (cell_name c)
 name_utf8 c = IsUtf8-from_ascii (cell_name c) (name_ascii c)
 
--- the canonical text of a content is UTF-8
-pub content_utf8 : (c : Content) → IsContent c → IsUtf8 (canonical_text c)
-content_utf8 Blank h = IsUtf8-nil
-content_utf8 (Number z) h = IsUtf8-from_ascii (signed_decimal z) (signed_ascii z)
-content_utf8 (Text t) h =
-    IsUtf8-append (39 ∷ []) t (IsUtf8-from_ascii (39 ∷ []) (ascii (39 ∷ []) refl)) (label_utf8 t h)
-content_utf8 (Formula t) h =
+-- a label with the quote that marks it as a text is UTF-8, and so is the canonical text of a formula
+pub quoted_utf8 : (label : List ℕ) → IsLabel label → IsUtf8 (39 ∷ label)
+quoted_utf8 label h =
+    IsUtf8-append (39 ∷ []) label (IsUtf8-from_ascii (39 ∷ []) (ascii (39 ∷ []) refl)) (label_utf8 label h)
+
+pub formula_utf8 : (t : Tree) → IsUtf8 (canon t)
+formula_utf8 t =
     let text = tokens_text (tokens_of t) in
     IsUtf8-from_ascii (61 ∷ text) (IsAscii-cons 61 text (omega arith) (tokens_ascii (tokens_of t)))
-content_utf8 Tally h = IsUtf8-from_ascii (canonical_text Tally) (ascii (canonical_text Tally) refl)
-content_utf8 Choice h = IsUtf8-from_ascii (canonical_text Choice) (ascii (canonical_text Choice) refl)

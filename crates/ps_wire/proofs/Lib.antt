@@ -15,3 +15,4 @@ pub mod PartLemmas
 pub mod SharingLemmas
 pub mod ShorterLemmas
 pub mod SizeLemmas
+pub mod WrittenLemmas

@@ -1,16 +1,15 @@
-//! The entries of counters and sets: read from the items of an array, and written as one.
+//! The entries of counters and sets, as they are read from the items of an array.
 
 ghost use Rattle.std.specs.Prelude.{◌≡◌, Bool, List, map as each, IsTrue, IfOk, IfErr};
 ghost use Rattle.std.specs.List.{list_all};
 ghost use Rattle.serde_json.specs.Data.{Data};
 ghost use Rattle.serde_json.specs.View.{view};
-ghost use Rattle.ps_grid.specs.declared.refusal.Refusal.TheVariants.{Memory};
 ghost use Rattle.ps_lattice.specs.Tally.{is_count};
 ghost use Rattle.ps_lattice.specs.Choice.{is_pair};
 ghost use Rattle.ps_wire.specs.Value.{array_of, whole, count_value, pair_value, gone_number};
 ghost use Rattle.ps_wire.specs.Inside.{RefusedAs, RefusedSince};
 
-use crate::parts::{four, items, middling, quadruple, short, three, triple, whole};
+use crate::parts::{items, middling, quadruple, short, triple, whole};
 use ps_grid::Refusal;
 use ps_lattice::{Count, Pair};
 use serde_json::Value;
@@ -29,11 +28,6 @@ pub(crate) trait Entry: Copy {
         ensures found { IfOk result (λ e. view value.now ≡ spelled e) }
         ensures refused { IfErr result (λ r. RefusedSince r
             ((e : Self) → IsTrue (is_good e) → view value.now ≡ spelled e → ⊥)) };
-
-    /// The value that stands for it.
-    fn value(self, alloc: Global) -> Result<Value, Refusal>
-        ensures value { IfOk result (λ v. view v ≡ spelled self) }
-        ensures memory { IfErr result (λ e. e ≡ Memory) };
 }
 
 /// A replica with its two counts.
@@ -49,16 +43,6 @@ impl Entry for (u8, Count) {
             subtracted: whole(subtracted)?,
         };
         Ok((short(replica)?, count))
-    }
-
-    fn value(self, alloc: Global) -> Result<Value, Refusal> {
-        let (replica, count) = self;
-        three(
-            alloc,
-            Value::from(replica),
-            Value::from(count.added),
-            Value::from(count.subtracted),
-        )
     }
 }
 
@@ -77,17 +61,6 @@ impl Entry for (Pair, bool) {
         };
         Ok((pair, read_gone(gone)?))
     }
-
-    fn value(self, alloc: Global) -> Result<Value, Refusal> {
-        let (pair, gone) = self;
-        four(
-            alloc,
-            Value::from(pair.option),
-            Value::from(pair.replica),
-            Value::from(pair.sequence),
-            Value::from(gone_number(gone)),
-        )
-    }
 }
 
 /// The entries that the items of an array stand for, in their order.
@@ -104,18 +77,6 @@ pub(crate) fn read_entries<E: Entry>(alloc: Global, value: &Value) -> Result<Vec
     Ok(entries)
 }
 
-/// The array of the entries.
-pub(crate) fn entries_value<E: Entry>(alloc: Global, entries: &[E]) -> Result<Value, Refusal>
-    ensures value { IfOk result (λ v. view v ≡ array_of (each E.spelled entries.now)) }
-    ensures memory { IfErr result (λ e. e ≡ Memory) }
-{
-    let mut items = Vec::with_capacity(alloc, entries.len())?;
-    for entry in entries {
-        items.push(entry.value(alloc)?)?;
-    }
-    Ok(Value::Array(items))
-}
-
 /// 0 for what is added alone, 1 for what is removed too.
 fn read_gone(value: &Value) -> Result<bool, Refusal>
     ensures found { IfOk result (λ b. view value.now ≡ whole (gone_number b)) }
@@ -126,11 +87,4 @@ fn read_gone(value: &Value) -> Result<bool, Refusal>
         1 => Ok(true),
         _ => Err(Refusal::Delta),
     }
-}
-
-/// 0 for what is added alone, 1 for what is removed too.
-fn gone_number(gone: bool) -> u8
-    ensures { result ≡ gone_number gone }
-{
-    if gone { 1 } else { 0 }
 }

@@ -10,6 +10,7 @@ ghost use Rattle.ps_content.specs.Content.{canonical_text};
 ghost use Rattle.ps_delta.specs.Deltas.{Entries, IsDelta, state_of};
 ghost use Rattle.ps_delta.specs.State.{IsBelow};
 ghost use Rattle.ps_wire.specs.Fits.{FitsLine};
+ghost use Rattle.ps_wire.specs.Line.{delta_text};
 ghost use Rattle.ps_wire.specs.Inside.{unescaped_size};
 ghost use Rattle.ps_wire.specs.Length.{OutgrowsLine, bare_value, lasting_size, size};
 ghost use Rattle.ps_wire.specs.Value.{array_of, whole, register_value, count_value, pair_value, cell_value};
@@ -62,11 +63,19 @@ fn bare_left(cell: &(Cell, CellState), left: usize) -> Option<usize>
 /// Whether the compact text of the delta is short enough for a line.
 ///
 /// Cost: that of the cells, counts and pairs for which a line has room, however many there are; it takes no memory.
-#[tactic(auto, unfolding(crate::specs::Line::delta_text, crate::specs::Value::delta_value))]
 pub fn fits_line(delta: &Delta) -> bool
     ensures { IsTrue result ↔ FitsLine delta.now }
 {
-    array_left(delta.parts(), DELTA_LINE_LIMIT).is_some()
+    text_size(delta).is_some()
+}
+
+/// How long the compact text of the delta is, if it is short enough for a line.
+#[tactic(auto, unfolding(crate::specs::Line::delta_text, crate::specs::Value::delta_value))]
+pub(crate) fn text_size(delta: &Delta) -> Option<usize>
+    ensures { SomeIff result (FitsLine delta.now) (length (delta_text delta.now)) }
+{
+    let left = array_left(delta.parts(), DELTA_LINE_LIMIT)?;
+    Some(DELTA_LINE_LIMIT - left)
 }
 
 /// A part of a delta that is an item of an array.

@@ -17,7 +17,8 @@
 //! `[["A1",[1,2,"5"],[],[]]]`, and so has every other spelling of that value, as one with blanks between the tokens.
 //! `[["A1",null,[],[]]]` says nothing of A1 and is no delta.
 //!
-//! Cost: time linear in the line either way, and memory for the delta's cells, counts and pairs.
+//! Cost: time linear in the line either way; memory for the line where it is written, and for the delta's cells,
+//! counts and pairs where it is read.
 #![tactic(auto)]
 
 mod cells;
@@ -28,7 +29,7 @@ mod line;
 mod parts;
 mod sharing;
 mod states;
-mod values;
+mod write;
 
 pub use laws::{
     decoded_lines_fit, delta_texts_are_one_line, edited_lines_fit, values_and_deltas_agree,

@@ -12,19 +12,21 @@ ghost use Rattle.ps_wire.specs.Inside.{ReadsAs, RefusedAs};
 
 use crate::DELTA_LINE_LIMIT;
 use crate::cells::read_cells;
-use crate::length::fits_line;
+use crate::length::text_size;
 use crate::parts::items;
-use crate::values::delta_value;
+use crate::write::write_delta;
+use json::Writer;
 use ps_delta::Delta;
 use ps_grid::Refusal;
 use serde_json::Value;
 use std::alloc::Global;
+use std::mem;
 
 /// Appends the compact text of the delta: JSON of its value without blanks. Refused as `TooLong` only where that text
 /// has more than `DELTA_LINE_LIMIT` bytes, and as `Memory` where memory ran out; then the line is as before.
 ///
-/// Cost: t, for t bytes of the text; memory for them and for the delta's cells, counts and pairs. A text that is too
-/// long costs what a line may hold, and no memory.
+/// Cost: t, for t bytes of the text; memory for them, asked for once. A text that is too long costs what a line may
+/// hold, and no memory.
 pub fn encode(alloc: Global, delta: &Delta, line: &mut Vec<u8>) -> Result<(), Refusal>
     ensures appended { OnOk result (line.new.items ≡ line.old.items ++ delta_text delta.now) }
     ensures is_line { OnOk result (IsLine (delta_text delta.now) delta.now) }
@@ -32,22 +34,32 @@ pub fn encode(alloc: Global, delta: &Delta, line: &mut Vec<u8>) -> Result<(), Re
     ensures too_long { result ≡ Err Refusal.TooLong → DELTA_LINE_LIMIT < length (delta_text delta.now) }
     ensures refused { IfErr result (λ e. (e ≡ Refusal.TooLong) ⊎ (e ≡ Memory)) }
 {
-    if !fits_line(delta) {
+    let Some(size) = text_size(delta) else {
         return Err(Refusal::TooLong);
-    }
-    let text = compact_text(alloc, delta)?;
-    line.extend_from_slice(&text)?;
-    Ok(())
+    };
+    // the writer wants room for a comma beside each token, so one more than the text takes
+    line.reserve(size + 1)?;
+    append_text(alloc, delta, line)
 }
 
-/// The text that serde_json writes for the value of the delta.
-fn compact_text(alloc: Global, delta: &Delta) -> Result<Vec<u8>, Refusal>
-    ensures text { IfOk result (λ text. text.items ≡ delta_text delta.now) }
-    ensures reads { IfOk result (λ text. ReadsAs text.items delta.now) }
+/// Appends the text that serde_json writes for the value of the delta, or leaves the line as it was.
+fn append_text(alloc: Global, delta: &Delta, line: &mut Vec<u8>) -> Result<(), Refusal>
+    ensures appended { OnOk result (line.new.items ≡ line.old.items ++ delta_text delta.now) }
+    ensures reads { OnOk result (ReadsAs (delta_text delta.now) delta.now) }
+    ensures kept { OnErr result (line.new.items ≡ line.old.items) }
     ensures memory { IfErr result (λ e. e ≡ Memory) }
 {
-    let value = delta_value(alloc, delta)?;
-    Ok(value.to_vec(alloc)?)
+    let before = line.len();
+    let mut out = Writer::new(mem::replace(line, Vec::new(alloc)));
+    let written = write_delta(delta, &mut out);
+    *line = out.into_inner();
+    match written {
+        Ok(()) => Ok(()),
+        Err(_) => {
+            line.truncate(before);
+            Err(Refusal::Memory)
+        }
+    }
 }
 
 /// The delta that a line stands for: any JSON text of its value, blanks and escapes as they may be, of at most

@@ -1,15 +1,13 @@
-//! The parts of a JSON value: its items, its whole number, its text; and arrays of three and four.
+//! The parts of a JSON value: its items, its whole number, its text.
 
 ghost use Rattle.std.specs.Prelude.{◌≡◌, ℕ, ◌^◌, ◌<◌, List, [], ◌∷◌, map, IfOk, IfErr};
 ghost use Rattle.serde_json.specs.Data.{Data, string};
 ghost use Rattle.serde_json.specs.View.{view};
-ghost use Rattle.ps_grid.specs.declared.refusal.Refusal.TheVariants.{Memory};
 ghost use Rattle.ps_wire.specs.Value.{array_of, whole};
 ghost use Rattle.ps_wire.specs.Inside.{RefusedSince};
 
 use ps_grid::Refusal;
 use serde_json::Value;
-use std::alloc::Global;
 
 /// The items of an array.
 pub(crate) fn items(value: &Value) -> Result<&[Value], Refusal>
@@ -84,41 +82,4 @@ pub(crate) fn text(value: &Value) -> Result<&str, Refusal>
     ensures refused { IfErr result (λ r. RefusedSince r ((s : List ℕ) → view value.now ≡ string s → ⊥)) }
 {
     value.as_str().ok_or(Refusal::Delta)
-}
-
-/// An array of these three.
-pub(crate) fn three(
-    alloc: Global,
-    first: Value,
-    second: Value,
-    third: Value,
-) -> Result<Value, Refusal>
-    ensures value { IfOk result (λ v. view v ≡ array_of (view first ∷ view second ∷ view third ∷ [])) }
-    ensures memory { IfErr result (λ e. e ≡ Memory) }
-{
-    let mut items = Vec::with_capacity(alloc, 3)?;
-    items.push(first)?;
-    items.push(second)?;
-    items.push(third)?;
-    Ok(Value::Array(items))
-}
-
-/// An array of these four.
-pub(crate) fn four(
-    alloc: Global,
-    first: Value,
-    second: Value,
-    third: Value,
-    fourth: Value,
-) -> Result<Value, Refusal>
-    ensures value { IfOk result (λ v. view v
-        ≡ array_of (view first ∷ view second ∷ view third ∷ view fourth ∷ [])) }
-    ensures memory { IfErr result (λ e. e ≡ Memory) }
-{
-    let mut items = Vec::with_capacity(alloc, 4)?;
-    items.push(first)?;
-    items.push(second)?;
-    items.push(third)?;
-    items.push(fourth)?;
-    Ok(Value::Array(items))
 }
