@@ -7,9 +7,10 @@
 //! The contract to use is that of [`FaceWriter::append`], [`FaceWriter::publish`] and [`FaceReader::enter`]. A
 //! [`Patch`] is a delta with its number in the history and exactly those cells whose settled value it changes. It may
 //! be appended where it `Follows` the history that the published list stands for, and `publish` shows all of it at one
-//! step. A reader that enters takes what is published at that one step: the list of patches is legal from the history
-//! that the copies were opened with, it begins with all that the reader had seen, and the [`Seen`] shows the settled
-//! values of the history that the list stands for, every cell at one version. There is no other kind of step.
+//! step; [`FaceWriter::publish_patch`] does both. A reader that enters takes what is published at that one step: the
+//! list of patches is legal from the history that the copies were opened with, it begins with all that the reader had
+//! seen, and the [`Seen`] shows the settled values of the history that the list stands for, every cell at one version.
+//! There is no other kind of step.
 //!
 //! Say the copies of an empty sheet are opened for two readers, and the edit `set A1 5` is told as patch number 1,
 //! whose one change is that A1 shows 5. A reader that enters after `append` sees version 0, and A1 shows nothing. One

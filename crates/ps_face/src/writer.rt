@@ -1,7 +1,7 @@
 //! The one writer of the copies.
 
 ghost use Rattle.std.specs.Prelude.{◌≡◌, ◌⊎◌, ◌+◌, ◌<◌, ◌≤◌, ◌++◌, ◌∷◌, [], All, IfOk, IfErr, MatchResult, OnOk, OnErr};
-ghost use Rattle.std.specs.Prelude.{drop, fold, length, map, vec_len};
+ghost use Rattle.std.specs.Prelude.{IsOk, drop, false, fold, length, map, vec_len};
 ghost use Rattle.std.specs.Arc.{arc_value};
 ghost use Rattle.ps_grid.specs.declared.parties.TheConstants.{SEATS as MOST};
 ghost use Rattle.ps_grid.specs.declared.refusal.Refusal.TheVariants.{Memory, Seat};
@@ -126,22 +126,35 @@ impl<L: Named, R: Wait + Drop> FaceWriter<L, R> {
         ensures list { self.new ≡ record { list = self.old.list ++ self.old.pending; pending = [] } }
         ensures delta { map delta_of self.old.pending ≡ arc_value result ∷ [] }
     {
+        let patch = self.staged.pop().unwrap();
+        self.publish_patch(patch)
+    }
+
+    /// Shows readers a patch that may come next, as [`FaceWriter::append`] and then [`FaceWriter::publish`] do, and
+    /// gives its delta back. It waits for those that still read what was published before the last patch.
+    ///
+    /// Cost: twice the changes of the patch; no memory.
+    pub fn publish_patch(&mut self, patch: Patch) -> Arc<Delta>
+        requires none { self.old.pending ≡ [] }
+        requires legal { Follows (history_of L.opening self.old.list) patch }
+        ensures list { self.new ≡ record self.old { list = self.old.list ++ patch ∷ [] } }
+        ensures delta { arc_value result ≡ patch.delta }
+    {
         let FaceWriter {
             copies,
             head,
             front,
-            staged,
             rt,
+            ..
         } = self;
-        let patch = staged.pop().unwrap();
         // for the fact that its cells are in the grid
         let _ = patch.delta();
         add_to(rt, head, front, &patch);
         let number = patch.number();
         let (delta, changes) = patch.split();
         let operation = Operation::new(number, changes, front.again());
-        hand_over(rt, copies, operation);
-        show(rt, copies);
+        // it isn't refused, since it may not be
+        let _ = turn_over(rt, copies, operation, false);
         delta
     }
 
@@ -192,11 +205,10 @@ fn open_copies<L: Named, R: Wait>(
     let second = Face::new(alloc, version, shown, front.again())?;
     let mut copies: Copies<L> = Writer::new(alloc, first, second, readers)?;
     let idle = Operation::idle(alloc, version, front.again());
-    if copies.append(idle).is_err() {
+    if let Err(refusal) = turn_over(rt, &mut copies, idle, true) {
         copies.take(rt);
-        return Err(Refusal::Memory);
+        return Err(refusal);
     }
-    show(rt, &mut copies);
     Ok(copies)
 }
 
@@ -235,17 +247,48 @@ fn add_to<R: Wait>(rt: &R, head: &Head, front: &mut BookPrefix, patch: &Patch)
     unreachable!()
 }
 
-/// Hands the operation to the copies. Their queue has had room since they were made.
-fn hand_over<L: Named, R: Wait>(rt: &R, copies: &mut Copies<L>, operation: Operation)
+/// Shows readers a copy that has taken in the operation. It is refused only where it may be, when out of memory.
+fn turn_over<L: Named, R: Wait>(
+    rt: &R,
+    copies: &mut Copies<L>,
+    operation: Operation,
+    refusable: bool,
+) -> Result<(), Refusal>
     requires queue { drop copies.old.behind copies.old.log.items ≡ [] }
-    ensures queue { drop copies.new.behind copies.new.log.items ≡ operation ∷ [] }
+    requires turn { MayShow L.opening L.book copies.old.desk.shown.value (operation ∷ []) }
+    ensures shown { OnOk result (copies.new.desk.shown.value ≡ turned copies.old.desk.shown.value operation) }
+    ensures stands { OnOk result (CopyStands L.opening L.book copies.new.desk.shown.value) }
+    ensures queue { OnOk result (drop copies.new.behind copies.new.log.items ≡ []) }
+    ensures made { refusable ≡ false → IsOk result }
+    ensures memory { IfErr result (λ e. e ≡ Memory) }
+{
+    hand_over(rt, copies, operation, refusable)?;
+    show(rt, copies);
+    Ok(())
+}
+
+/// Hands the operation to the copies. Where their queue has no room and no memory for it, that is refused, if it may
+/// be; else it tries again. The queue has room once it has taken one.
+fn hand_over<L: Named, R: Wait>(
+    rt: &R,
+    copies: &mut Copies<L>,
+    operation: Operation,
+    refusable: bool,
+) -> Result<(), Refusal>
+    requires queue { drop copies.old.behind copies.old.log.items ≡ [] }
+    ensures queue { OnOk result (drop copies.new.behind copies.new.log.items ≡ operation ∷ []) }
     ensures desk { copies.new.desk ≡ copies.old.desk }
+    ensures made { refusable ≡ false → IsOk result }
+    ensures memory { IfErr result (λ e. e ≡ Memory) }
 {
     let mut operation = operation;
     for _ in rt.forever() {
         match copies.append(operation) {
-            Ok(()) => return,
+            Ok(()) => return Ok(()),
             Err(back) => operation = back,
+        }
+        if refusable {
+            return Err(Refusal::Memory);
         }
     }
     unreachable!()
