@@ -1,7 +1,7 @@
 //! A staged change is told to those who read, and made; or it is given up.
 
-ghost use Rattle.std.specs.Prelude.{◌≡◌, ◌+◌, ◌<◌, ◌^◌, ◌∷◌, [], true, None, if◌then◌else◌, is_some};
-ghost use Rattle.std.specs.Prelude.{IfOk, IfErr, OnOk, OnErr, MatchResult};
+ghost use Rattle.std.specs.Prelude.{◌≡◌, ◌+◌, true, None, if◌then◌else◌, is_some};
+ghost use Rattle.std.specs.Prelude.{IfOk, IfErr, OnOk, OnErr};
 ghost use Rattle.std.specs.Arc.{arc_value};
 ghost use mathlib.Core.List.{IsPrefix};
 ghost use Rattle.ps_grid.specs.declared.refusal.Refusal.TheVariants.{Memory};
@@ -11,7 +11,7 @@ ghost use Rattle.ps_delta.specs.Deltas.{joined_history, state_of};
 ghost use Rattle.ps_cells.specs.ChangedCells.{IsChanged};
 ghost use Rattle.ps_sheet.specs.Prepared.{shown_before};
 ghost use Rattle.ps_sheet.specs.Staging.{IsWorkedOut};
-ghost use Rattle.ps_face.specs.Legal.{history_of};
+ghost use Rattle.ps_face.specs.Legal.{Follows, history_of};
 ghost use Rattle.ps_desk.specs.UnderLock.{IsUnderLock};
 ghost use Rattle.ps_desk.specs.Patches.{IsNoted, KeepsChange, change_in, note_of, staged_in};
 ghost use Rattle.ps_desk.specs.Receipts.{IsReceipt};
@@ -21,7 +21,7 @@ use crate::pass::Pass;
 use crate::patch::patch_of;
 use crate::receipt::Receipt;
 use ps_delta::Delta;
-use ps_face::FaceWriter;
+use ps_face::{FaceWriter, Patch};
 use ps_grid::Refusal;
 use ps_sheet::Staging;
 use std::alloc::Global;
@@ -95,11 +95,12 @@ fn append<L: DeskName, W: Wait + Drop, V: Wait>(
     ensures counted { OnOk result (pass.new.appended ≡ pass.old.appended + 1) }
     ensures seat { (pass.new.seat ≡ pass.old.seat) × (pass.new.enters ≡ pass.old.enters) }
 {
-    match tell(alloc, sheet, copies, pass.seat()) {
-        Ok(number) => {
+    match next_patch(alloc, sheet, pass.seat()) {
+        Ok(patch) => {
             // for the fact that the pass has seen what it appended
             let _ = pass.appended();
-            let delta = copies.publish();
+            let number = patch.number();
+            let delta = copies.publish_patch(patch);
             pass.catch_up(wait, copies.front());
             pass.count(book);
             sheet.commit();
@@ -116,31 +117,18 @@ fn append<L: DeskName, W: Wait + Drop, V: Wait>(
     }
 }
 
-/// Hands the writer the patch of a fresh change, and answers the number that it then has. Refused only when out of
-/// memory, and then nothing is pending.
-fn tell<L: DeskName, W: Wait + Drop>(
-    alloc: Global,
-    sheet: &mut Staging,
-    copies: &mut FaceWriter<L, W>,
-    seat: u64,
-) -> Result<u64, Refusal>
+/// The patch of the fresh change that is staged, made by the call of a seat. It may come next after the sheet's
+/// history. Refused only when out of memory.
+fn next_patch(alloc: Global, sheet: &mut Staging, seat: u64) -> Result<Patch, Refusal>
     requires staged { is_some sheet.old.staged ≡ true }
     requires fresh { (change_in sheet.old).fresh ≡ true }
-    requires history { sheet.old.history ≡ history_of L.opening copies.old.list }
-    requires none { copies.old.pending ≡ [] }
     ensures same { KeepsChange sheet.old sheet.new }
-    ensures pending { MatchResult result
-        (λ _. copies.new ≡ record copies.old { pending = note_of sheet.new seat ∷ [] })
-        (λ _. copies.new ≡ copies.old) }
-    ensures number { IfOk result (λ n. n ≡ (change_in sheet.old).report.version) }
-    ensures bound { IfOk result (λ n. n < 2 ^ 64) }
+    ensures patch { IfOk result (λ p. p ≡ note_of sheet.new seat) }
+    ensures follows { IfOk result (Follows sheet.old.history) }
     ensures memory { IfErr result (λ e. e ≡ Memory) }
 {
     list(sheet);
-    let number = sheet.report().version;
-    let patch = patch_of(alloc, sheet, seat)?;
-    copies.append(patch)?;
-    Ok(number)
+    patch_of(alloc, sheet, seat)
 }
 
 /// Lists the cells that the staged change makes show another value.

@@ -187,10 +187,10 @@ impl<L: DeskName> Pass<L> {
         ensures later { IsPrefix self.old.list front.now.list }
         ensures pass { self.new ≡ record self.old { list = front.now.list } }
     {
-        let mut reader = self.reader.take().unwrap();
-        let learned = reader.learn(front);
-        self.reader = Some(reader);
-        if !learned {
+        let Some(reader) = &mut self.reader else {
+            unreachable!()
+        };
+        if !reader.learn(front) {
             for _ in wait.forever() {}
             unreachable!()
         }

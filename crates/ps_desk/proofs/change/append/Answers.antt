@@ -1,11 +1,11 @@
-use Rattle.std.proofs.Common.{◌≡◌, ◌++◌, ◌∷◌, [], List, ap, map, refl, sym, subst, ◌≤◌, ◌∙◌}
+use Rattle.std.proofs.Common.{◌≡◌, ◌++◌, ◌∷◌, [], List, ap, refl, sym, subst, ◌≤◌, ◌∙◌}
 use Rattle.ps_shown.specs.Shown.{shown_at}
 use Rattle.ps_delta.specs.Deltas.{Entries}
 use Rattle.ps_sheet.specs.declared.sheet.Report.{Report}
 use Rattle.ps_sheet.specs.Prepared.{IsOf, history_after, shown_before}
 use Rattle.ps_sheet.specs.Staging.{StagedView, StagingView, prepared_of, sheet_of}
 use Rattle.ps_face.specs.declared.patch.Note.{Note}
-use Rattle.ps_face.specs.Legal.{delta_of}
+use Rattle.ps_face.specs.Legal.{Follows, history_of}
 use Rattle.ps_face.specs.Published.{Published}
 use Rattle.ps_face.specs.Seen.{Told}
 use Rattle.ps_desk.specs.Patches.{note_of}
@@ -16,53 +16,55 @@ use Rattle.ps_desk.proofs.Noted.{at_staged}
 use Rattle.ps_desk.proofs.Owners.{owned_next}
 use Rattle.ps_desk.proofs.change.append.Goals as goal
 
--- lists of one delta that are the same have the same delta
-only_same : (d e : Entries) → d ∷ [] ≡ e ∷ [] → d ≡ e
-only_same d e is = cc
+-- the published list, with the patch of the change behind what was there
+pub publish_patch-delta-requires-clause-legal : goal.publish_patch-delta-requires-clause-legal
+publish_patch-delta-requires-clause-legal g c =
+    subst (λ (h : List Entries). Follows h c.in-Ok.patch) c.requires.under_lock.history c.in-Ok.ensures.follows
 
 pub count-requires-clause-room : goal.count-requires-clause-room
 count-requires-clause-room g c =
+    let keeps = c.next_patch.ensures.same in
     room_left g.L.DeskName.replica g.L.Named.opening c.args.sheet.now c.args.copies.now c.args.book.now.total
-    c.requires.under_lock c.in-Ok.number c.requires.worked_out c.requires.fresh c.in-Ok.ensures.number
-    c.in-Ok.ensures.bound
+    c.requires.under_lock c.number-number.result c.requires.worked_out c.requires.fresh
+    (c.number-number.ensures.number ∙ ap (λ (p : Note). p.number) c.in-Ok.ensures.patch
+    ∙ ap (λ (r : Report). r.version) keeps.report)
+    c.number-number.type_inv
 
 pub count-requires-clause-owned : goal.count-requires-clause-owned
 count-requires-clause-owned g c =
     let pass : PassView = c.args.pass.now in
-    let patch : Note = note_of c.tell.new.sheet c.seat.result in
+    let patch : Note = note_of c.next_patch.new.sheet c.seat.result in
     let published : c.front.result.now.list ≡ pass.list ++ patch ∷ [] =
-    ap (λ (t : Told). t.list) c.front.ensures.front ∙ ap (λ (p : Published). p.list) c.publish-delta.ensures.list
-    ∙ ap (λ (p : Published). p.list ++ p.pending) c.in-Ok.ensures.pending
-    ∙ ap (λ (l : List Note). l ++ patch ∷ []) (sym c.requires.seen) in
+    ap (λ (t : Told). t.list) c.front.ensures.front ∙ ap (λ (p : Published). p.list) c.publish_patch-delta.ensures.list
+    ∙ (λ i. sym c.requires.seen i ++ c.in-Ok.ensures.patch i ∷ []) in
     owned_next pass c.catch_up.new.self c.front.result.now.list patch c.catch_up.ensures.pass published c.seat.ensures
     (subst (λ n. n ≤ owned_by pass.seat pass.list) c.appended.ensures.appended c.appended.ensures.owned)
 
 pub returns-in-Ok-clause-under_lock : goal.returns-in-Ok-clause-under_lock
 returns-in-Ok-clause-under_lock g c =
-    let y : StagingView = c.tell.new.sheet in
+    let y : StagingView = c.next_patch.new.sheet in
     let new : StagingView = c.commit.new.self in
     let of = at_staged (λ (p : StagedView). IsOf (sheet_of new) y.replica (history_after (prepared_of y p))
     (shown_at y.shown)) y.staged
     c.commit.ensures.of in
-    let published = c.publish-delta.ensures.list ∙ (λ i. record {
-      list = (c.in-Ok.ensures.pending i).list ++ (c.in-Ok.ensures.pending i).pending;
-      pending = [];
+    let published = c.publish_patch-delta.ensures.list ∙ (λ i. record {
+      list = c.args.copies.now.list ++ c.in-Ok.ensures.patch i ∷ [];
+      pending = c.requires.under_lock.none i;
     }) in
     appended_locked g.L.DeskName.replica g.L.Named.opening c.args.sheet.now c.args.copies.now c.args.book.now.total
-    c.requires.under_lock y (sheet_of new) (shown_at y.shown) c.publish-delta.new.self c.count.new.book.total
-    c.seat.result c.tell.ensures.same c.requires.fresh of published c.count.ensures.book
+    c.requires.under_lock y (sheet_of new) (shown_at y.shown) c.publish_patch-delta.new.self c.count.new.book.total
+    c.seat.result c.next_patch.ensures.same c.requires.fresh of published c.count.ensures.book
 
 pub returns-in-Ok-clause-published : goal.returns-in-Ok-clause-published
 returns-in-Ok-clause-published g c =
-    let keeps = c.tell.ensures.same in
-    let patch : Note = note_of c.tell.new.sheet c.seat.result in
+    let keeps = c.next_patch.ensures.same in
+    let patch : Note = note_of c.next_patch.new.sheet c.seat.result in
     record {
       patch = patch;
       last = ap (λ (q : PassView). q.list) c.count.ensures.pass ∙ ap (λ (q : PassView). q.list) c.catch_up.ensures.pass
           ∙ ap (λ (t : Told). t.list) c.front.ensures.front
-          ∙ ap (λ (p : Published). p.list) c.publish-delta.ensures.list
-          ∙ ap (λ (p : Published). p.list ++ p.pending) c.in-Ok.ensures.pending
-          ∙ ap (λ (l : List Note). l ++ patch ∷ []) (sym c.requires.seen);
+          ∙ ap (λ (p : Published). p.list) c.publish_patch-delta.ensures.list
+          ∙ (λ i. sym c.requires.seen i ++ c.in-Ok.ensures.patch i ∷ []);
       number = ap (λ (r : Report). r.version) keeps.report;
       delta = keeps.delta;
       owner = c.seat.ensures;
@@ -70,21 +72,19 @@ returns-in-Ok-clause-published g c =
 
 pub returns-in-Err-clause-under_lock : goal.returns-in-Err-clause-under_lock
 returns-in-Err-clause-under_lock g c =
-    let y : StagingView = c.tell.new.sheet in
+    let y : StagingView = c.next_patch.new.sheet in
     let new : StagingView = c.cancel.new.self in
-    let keeps = c.tell.ensures.same in
+    let keeps = c.next_patch.ensures.same in
     let of = at_staged (λ (p : StagedView). IsOf (sheet_of new) y.replica y.history
     (shown_before (prepared_of y p))) y.staged c.cancel.ensures.of in
-    subst (λ (p : Published). IsUnderLock g.L.DeskName.replica g.L.Named.opening new.replica new.history p
-    c.args.book.now.total) (sym c.in-Err.ensures.pending)
-    (same_locked g.L.DeskName.replica g.L.Named.opening c.args.sheet.now c.args.copies.now c.args.book.now.total
-    c.requires.under_lock new.replica new.history (of.replica ∙ keeps.replica) (of.history ∙ keeps.history))
+    same_locked g.L.DeskName.replica g.L.Named.opening c.args.sheet.now c.args.copies.now c.args.book.now.total
+    c.requires.under_lock new.replica new.history (of.replica ∙ keeps.replica) (of.history ∙ keeps.history)
 
 pub returns-in-Ok-clause-receipt : goal.returns-in-Ok-clause-receipt
 returns-in-Ok-clause-receipt g c =
-    let told : map delta_of c.tell.new.copies.pending ≡ (note_of c.tell.new.sheet c.seat.result).delta ∷ [] =
-    ap (λ (p : Published). map delta_of p.pending) c.in-Ok.ensures.pending in (
-      c.in-Ok.ensures.number,
-      only_same _ _ (sym c.publish-delta.ensures.delta ∙ told) ∙ c.tell.ensures.same.delta,
+    let keeps = c.next_patch.ensures.same in (
+      c.number-number.ensures.number ∙ ap (λ (p : Note). p.number) c.in-Ok.ensures.patch
+          ∙ ap (λ (r : Report). r.version) keeps.report,
+      c.publish_patch-delta.ensures.delta ∙ ap (λ (p : Note). p.delta) c.in-Ok.ensures.patch ∙ keeps.delta,
       refl,
     )
