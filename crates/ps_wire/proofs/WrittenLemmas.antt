@@ -10,7 +10,6 @@ use Rattle.json.specs.Tree as tree
 use Rattle.json.proofs.Printed.Trees.{value-json_tokens}
 use Rattle.serde_json.specs.Data.{Data, unsigned, null, number, string, array, Items, no_items, item, depth}
 use Rattle.serde_json.specs.Read.{read, max_depth, of_json, of_items}
-use Rattle.serde_json.specs.View.{items_of}
 use Rattle.serde_json.specs.Written.{WritesValue, WritesItems, compact_text, has_float}
 use Rattle.serde_json.proofs.Numbers.{number_of-decimal}
 use Rattle.serde_json.proofs.Texts.{tokens_from_order, print-outline, unless_float-number_of}

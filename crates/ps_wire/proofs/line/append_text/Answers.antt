@@ -1,6 +1,5 @@
-use Rattle.std.proofs.Common.{◌≡◌, ◌++◌, arith, ap, ap₂, sym, ◌∙◌, subst}
+use Rattle.std.proofs.Common.{◌++◌, arith, ap, ap₂, ◌∙◌, subst}
 use Rattle.std.specs.Prelude.{IsUtf8}
-use Rattle.json.specs.Print.{print}
 use Rattle.serde_json.specs.Written.{WritesValue}
 use Rattle.ps_wire.specs.Line.{delta_text}
 use Rattle.ps_wire.specs.Value.{delta_value}

@@ -1,4 +1,4 @@
-use Rattle.std.proofs.Common.{◌≡◌, map, rules, sym, ap, subst}
+use Rattle.std.proofs.Common.{map, rules}
 use Rattle.std.specs.FinMap as maps
 use Rattle.std.proofs.lemmas.Result.{on_ok_weaker}
 use Rattle.serde_json.specs.Written.{WritesValue}
