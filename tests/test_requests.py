@@ -3,7 +3,7 @@
 No clause says that a read, a refused edit, and a change that is made or given up once it is worked out take none. What
 can be seen from outside: lines that take none make no request, however many there are; each request of an edit is one
 whose refusal is the reply to it, so none is made once something has changed; and after a request that was refused
-there is no other.
+there is no other. A pull makes as many for a delta of many cells as for one of a single cell.
 """
 from program import Ended, ProgramTest, lines
 from shortage import ALL, build, each, run_short, serve_short
@@ -82,6 +82,17 @@ class Requests(ProgramTest):
                     replies, found = how((*OPENING, *[line] * TIMES))()
                     self.assertEqual(replies, [*opening, *[reply] * TIMES])
                     self.assertEqual(found - requests, 0)
+
+    def test_a_pull_makes_the_same_requests_whatever_its_delta_holds(self):
+        # one cell, and 104 that a line has room for
+        changes = ('push [["A1",[1,2,"5"],[],[]]]', *pushes(lambda column, row: f"=[.A{row}]+{column}", (2,)))
+        for how in self.each_way():
+            requests = set()
+            for change in changes:
+                few, many = (how((change, *["pull 0"] * times))() for times in (TIMES // 2, TIMES))
+                self.assertEqual(many[0][1:], [f"delta 1 {change.removeprefix('push ')}"] * TIMES)
+                requests.add((many[1] - few[1]) / (TIMES - TIMES // 2))
+            self.assertEqual(len(requests), 1, requests)
 
     def assert_requests_come_first(self, how, opening, changes, looks):
         """Each request of one of these changes comes before anything changes, and none after one that is refused."""
