@@ -10,9 +10,12 @@ pub mod LexLemmas
 pub mod LineLemmas
 pub mod NoFeedLemmas
 pub mod NoFloatLemmas
+pub mod NumberLemmas
 pub mod OneDeltaLemmas
 pub mod PartLemmas
+pub mod RegisterLemmas
 pub mod SharingLemmas
 pub mod ShorterLemmas
 pub mod SizeLemmas
+pub mod TokenLemmas
 pub mod WrittenLemmas

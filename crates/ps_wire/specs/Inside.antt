@@ -2,7 +2,10 @@
 use Rattle.std.specs.Prelude.{◌≡◌, ◌⊎◌, ℕ, ◌+◌, ◌<◌, ◌≤◌, List, length, get_or, sum_by, Contains}
 use Rattle.std.specs.Prelude.{Option, Some, None, IsUtf8}
 use Rattle.std.specs.List.{All}
-use Rattle.serde_json.specs.Read.{read}
+use Rattle.json.specs.Json as json
+use Rattle.json.specs.Token.{Token}
+use Rattle.serde_json.specs.Data.{Data}
+use Rattle.serde_json.specs.Read.{read, of_json, converted}
 use Rattle.ps_grid.specs.declared.refusal.Refusal.{Refusal}
 use Rattle.ps_grid.specs.declared.refusal.Refusal.TheVariants.{Delta, Memory}
 use Rattle.ps_lattice.specs.declared.register.Assignment.{Assignment}
@@ -21,6 +24,10 @@ RefusedAs refusal StandsForNothing = (refusal ≡ Memory) ⊎ ((refusal ≡ Delt
 -- refused since the value stands for nothing
 abbrev pub RefusedSince : Refusal → Type 0 → Type 0
 RefusedSince refusal StandsForNothing = (refusal ≡ Delta) × StandsForNothing
+
+-- the tokens begin with a spelling of the value, with arrays and objects nested no deeper than `depth`, and these follow
+pub record Spells (depth : ℕ) (tokens : List Token) (value : Data) (rest : List Token) : Type 0 where
+  pub read : converted of_json (json.value depth tokens) ≡ Some (value, rest)
 
 -- the bytes are UTF-8, and JSON that serde_json reads as the value of the delta
 pub record ReadsAs (bytes : List ℕ) (delta : Entries) : Type 0 where

@@ -7,7 +7,8 @@
 //! was read is handed on, and nothing is kept.
 //!
 //! The contract to use: [`decode`] returns the one delta that the bytes are a line of (`IsLine`), and refuses bytes as
-//! no delta only where they are a line of none; [`encode`] appends the delta's compact text, which is a line of it and
+//! no delta only where they are a line of none; a [`Decoder`] does so for many lines, one after another, by room that it
+//! keeps; [`encode`] appends the delta's compact text, which is a line of it and
 //! has no line feed ([`delta_texts_are_one_line`]), and refuses it only where it is too long. Which deltas never are,
 //! [`decoded_lines_fit`] and [`edited_lines_fit`] say. [`fits_line`] returns whether a delta's text fits a line,
 //! without writing it; [`outgrows_line`] returns whether a delta holds so much that no join with it has a line;
@@ -22,6 +23,7 @@
 #![tactic(auto)]
 
 mod cells;
+mod decoder;
 mod entries;
 mod laws;
 mod length;
@@ -31,11 +33,12 @@ mod sharing;
 mod states;
 mod write;
 
+pub use decoder::{Decoder, decode};
 pub use laws::{
     decoded_lines_fit, delta_texts_are_one_line, edited_lines_fit, values_and_deltas_agree,
 };
 pub use length::{fits_line, outgrows_line};
-pub use line::{decode, encode};
+pub use line::encode;
 pub use sharing::may_share_line;
 
 /// The most bytes of a delta's line. `edited_lines_fit` rests on it and on `COLUMNS`: a batch of a row's cells has to
