@@ -19,7 +19,8 @@ use Rattle.ps_wire.specs.Inside.{RefusedAs, Spells}
 use Rattle.ps_wire.specs.Value.{cell_value, delta_value, IsLawful}
 use Rattle.ps_wire.proofs.ArrayLemmas.{array_of-injective}
 use Rattle.ps_wire.proofs.OneDeltaLemmas.{Good, all_good, cells-injective, delta_value-injective}
-use Rattle.ps_wire.proofs.TokenLemmas.{Takes, array_read, array_spelled, same_rest, same_value, one_value, one_rest, unopened}
+use Rattle.ps_wire.proofs.TokenLemmas.{Takes, array_read, array_spelled, same_rest}
+use Rattle.ps_wire.proofs.TokenLemmas.{same_value, one_value, one_rest, unopened}
 
 -- the tokens spell no delta
 abbrev pub NoDelta : List Token → Type 0
@@ -82,7 +83,8 @@ cells_read old new all None read good bad =
           inr (
             refl,
             λ n d rest lawful h.
-                let values = array_of-injective (map cell_value all) (map cell_value d) (one_value _ old _ _ new rest (read n) h) in
+                let values = array_of-injective (map cell_value all) (map cell_value d)
+                (one_value _ old _ _ new rest (read n) h) in
                 let same = cells-injective all d good (all_good d lawful) values in
                 bad (subst IsDelta (sym same) lawful.cells),
           );
@@ -92,7 +94,12 @@ cells_read old new all (Some d) read good made =
       found = λ n. subst (λ x. Spells (suc (suc (suc (suc n)))) old (delta_value x) new) (sym made.1) (read n);
       lawful =
           subst IsLawful (sym made.1)
-          (record { cells = made.0; in_grid = λ i x within. (good i x within).0; states = λ i x within. (good i x within).1 });
+          (record {
+            cells = made.0;
+            in_grid = λ i x within. (good i x within).0;
+            states = λ i x within.
+                (good i x within).1;
+          });
       refused = tt;
     }
 

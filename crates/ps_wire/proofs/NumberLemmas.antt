@@ -15,7 +15,8 @@ no_unsigned false x k other e = cc
 no_float : (p : Parts) (sign : Bool) (k : ℕ) → float_of sign p ≡ Some (unsigned k) → ⊥
 no_float p sign k e = no_unsigned _ _ k (λ (f : _). cc) e
 
-negative_refused : (p : Parts) (k : ℕ) (b : Bool) (z : ℤ) → cond b (Some (negative z)) (float_of true p) ≡ Some (unsigned k)
+negative_refused : (p : Parts) (k : ℕ) (b : Bool) (z : ℤ) → cond b (Some (negative z)) (float_of true p)
+    ≡ Some (unsigned k)
     → ⊥
 negative_refused p k true z e = cc
 negative_refused p k false z e = no_float p true k e

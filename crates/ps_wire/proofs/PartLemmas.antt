@@ -87,7 +87,8 @@ module _ {K X : Type 0} (R : K → K → Ordering) (good : K × X → Bool) (ite
               refl,
               λ n m rest well h.
                   let same = one_value _ old _ _ new rest (read n) h in
-                  bad (rw (same_items all (maps.entries m) (array_of-injective (map item all) (map item (maps.entries m)) same)) well),
+                  bad (rw (same_items all (maps.entries m) (array_of-injective (map item all) (map item
+                  (maps.entries m)) same)) well),
             );
       }
   map_read old new all (Some m) read made =

@@ -79,7 +79,8 @@ module _ (ts t1 t2 last rest : List Token) (a : Assignment Content) where
       let spelled : (n : ℕ) → Spells (suc n) (Token.begin_array ∷ ts) (register_value (Some a)) rest =
       λ n. array_spelled n _ ts last rest (parts a) refl (three_taken (time n) (replica n) (content n)) ends in
       record {
-        found = λ n. subst (λ x. Spells (suc n) (Token.begin_array ∷ ts) (register_value x) rest) (sym made.1) (spelled n);
+        found = λ n. subst (λ x. Spells (suc n) (Token.begin_array ∷ ts) (register_value x) rest) (sym made.1)
+            (spelled n);
         well = subst IsRegister (sym made.1) (made.0, well);
         refused = tt;
       }

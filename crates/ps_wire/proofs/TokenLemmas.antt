@@ -9,7 +9,8 @@ use Rattle.std.specs.Option.{ok_or}
 use Rattle.json.specs.Token.{Token}
 use Rattle.json.specs.Reads.{token_of}
 use Rattle.json.specs.declared.token.Token.{Token as Taken}
-use Rattle.json.specs.declared.token.Token.TheVariants.{BeginObject, EndObject, BeginArray, EndArray, Key, String, Number, Bool}
+use Rattle.json.specs.declared.token.Token.TheVariants.{BeginObject, EndObject, BeginArray, EndArray}
+use Rattle.json.specs.declared.token.Token.TheVariants.{Key, String, Number, Bool}
 use Rattle.json.specs.declared.token.Token.TheVariants.{Null, Bad}
 use Rattle.json.specs.Json as json
 use Rattle.json.specs.Json.{Parse, parse_map, after_end_array, items_step, items, value, if_last}
@@ -32,7 +33,8 @@ abbrev rest_in : {A : Type 0} → Option (A × List Token) → List Token
 rest_in None = []
 rest_in (Some p) = p.1
 
-module _ {A : Type 0} (a b : A) (r s : List Token) (e : ◌≡◌ {A = Option (A × List Token)} (Some (a, r)) (Some (b, s))) where
+module _ {A : Type 0} (a b : A) (r s : List Token) (e : ◌≡◌ {A = Option (A × List Token)} (Some (a, r)) (Some
+    (b, s))) where
   pub same_value : a ≡ b
   same_value = ap (value_in a) e
 
@@ -41,7 +43,8 @@ module _ {A : Type 0} (a b : A) (r s : List Token) (e : ◌≡◌ {A = Option (A
 
 -- what is found under a conversion, before it
 module _ {A B : Type 0} (f : A → Option B) where
-  found_by : (a : A) (r s : List Token) (x : Option B) (b : B) → option_map {U = B × List Token} (λ y. (y, r)) x ≡ Some (b, s)
+  found_by : (a : A) (r s : List Token) (x : Option B) (b : B) → option_map {U = B × List Token} (λ y. (y, r)) x
+      ≡ Some (b, s)
       → (r ≡ s) × (x ≡ Some b)
   found_by a r s None b e = absurd cc
   found_by a r s (Some y) b e = (same_rest y b r s e, ap Some (same_value y b r s e))
@@ -73,7 +76,8 @@ one_array None = refl
 one_array (Some p) = mapped (of_items p.0)
   where
     mapped : (x : Option Items)
-        → option_map {U = Data × List Token} (λ b. (b, p.1)) (option_map array x) ≡ parse_map array (option_map (λ a. (a, p.1)) x)
+        → option_map {U = Data × List Token} (λ b. (b, p.1)) (option_map array x)
+        ≡ parse_map array (option_map (λ a. (a, p.1)) x)
     mapped None = refl
     mapped (Some a) = refl
 
@@ -98,7 +102,8 @@ abbrev Begins : ℕ → List Token → Data → List Token → Type 0
 Begins n [] v rest = ⊥
 Begins n (Token.begin_object ∷ ts) v rest = (ms : Members) × (v ≡ object ms)
 Begins n (Token.end_object ∷ ts) v rest = ⊥
-Begins n (Token.begin_array ∷ ts) v rest = (ds : Items) × (v ≡ array ds) × (converted of_items (inner_items n ts) ≡ Some (ds, rest))
+Begins n (Token.begin_array ∷ ts) v rest = (ds : Items) × (v ≡ array ds) × (converted of_items (inner_items n ts)
+    ≡ Some (ds, rest))
 Begins n (Token.end_array ∷ ts) v rest = ⊥
 Begins n (Token.key s ∷ ts) v rest = ⊥
 Begins n (Token.string s ∷ ts) v rest = (v ≡ string s) × (ts ≡ rest)
@@ -120,7 +125,8 @@ opened : (o : Option (json.Items × List Token)) (v : Data) (rest : List Token)
 opened None v rest e = absurd cc
 opened (Some p) v rest e = by_items (of_items p.0) e
   where
-    by_items : (x : Option Items) → option_map {U = Data × List Token} (λ d. (d, p.1)) (option_map array x) ≡ Some (v, rest)
+    by_items : (x : Option Items) → option_map {U = Data × List Token} (λ d. (d, p.1)) (option_map array x)
+        ≡ Some (v, rest)
         → (ds : Items) × (v ≡ array ds) × (option_map {U = Items × List Token} (λ d. (d, p.1)) x ≡ Some (ds, rest))
     by_items None e = absurd cc
     by_items (Some ds) e =
@@ -131,7 +137,8 @@ an_object : (o : Option (json.Members × List Token)) (v : Data) (rest : List To
 an_object None v rest e = absurd cc
 an_object (Some p) v rest e = by_members (of_members p.0 no_members) e
   where
-    by_members : (x : Option Members) → option_map {U = Data × List Token} (λ d. (d, p.1)) (option_map object x) ≡ Some (v, rest)
+    by_members : (x : Option Members) → option_map {U = Data × List Token} (λ d. (d, p.1)) (option_map object x)
+        ≡ Some (v, rest)
         → (ms : Members) × (v ≡ object ms)
     by_members None e = absurd cc
     by_members (Some ms) e = (ms, sym (same_value (object ms) v p.1 rest e))
@@ -169,7 +176,8 @@ one_value n ts v w r s h k = same_value v w r s (sym h.read ∙ k.read)
 pub one_whole : {n k m : ℕ} {ts q r : List Token} → Spells n ts (whole k) q → Spells n ts (whole m) r → k ≡ m
 one_whole {n} {k} {m} {ts} {q} {r} h l = let e = one_value n ts (whole k) (whole m) q r h l in cc
 
-pub spells_shorter : (n : ℕ) (ts : List Token) (v : Data) (rest : List Token) → Spells n ts v rest → length rest < length ts
+pub spells_shorter : (n : ℕ) (ts : List Token) (v : Data) (rest : List Token) → Spells n ts v rest
+    → length rest < length ts
 spells_shorter n ts v rest h =
     let found = found_before of_json (value n ts) v rest h.read in
     skip_value-shorter n ts rest (ap (option_map (λ p. p.1)) found.1)
@@ -424,7 +432,8 @@ pub array_opens : (n : ℕ) (old rest : List Token) (vs : List Data) → Spells 
     → (ts : List Token) × (old ≡ Token.begin_array ∷ ts)
 array_opens n old rest vs h = by_first old (begins (suc n) old (array_of vs) rest h)
   where
-    by_first : (old : List Token) → Begins (suc n) old (array_of vs) rest → (ts : List Token) × (old ≡ Token.begin_array ∷ ts)
+    by_first : (old : List Token) → Begins (suc n) old (array_of vs) rest → (ts : List Token) × (old
+        ≡ Token.begin_array ∷ ts)
     by_first [] b = absurd b
     by_first (Token.begin_object ∷ ts) b = absurd (let e = b.1 in cc)
     by_first (Token.end_object ∷ ts) b = absurd b

@@ -25,7 +25,8 @@ RefusedAs refusal StandsForNothing = (refusal ≡ Memory) ⊎ ((refusal ≡ Delt
 abbrev pub RefusedSince : Refusal → Type 0 → Type 0
 RefusedSince refusal StandsForNothing = (refusal ≡ Delta) × StandsForNothing
 
--- the tokens begin with a spelling of the value, with arrays and objects nested no deeper than `depth`, and these follow
+-- the tokens begin with a spelling of the value, with arrays and objects nested no deeper than `depth`, and these
+-- follow
 pub record Spells (depth : ℕ) (tokens : List Token) (value : Data) (rest : List Token) : Type 0 where
   pub read : converted of_json (json.value depth tokens) ≡ Some (value, rest)
 

@@ -7,8 +7,8 @@
 //! was read is handed on, and nothing is kept.
 //!
 //! The contract to use: [`decode`] returns the one delta that the bytes are a line of (`IsLine`), and refuses bytes as
-//! no delta only where they are a line of none; a [`Decoder`] does so for many lines, one after another, by room that it
-//! keeps; [`encode`] appends the delta's compact text, which is a line of it and
+//! no delta only where they are a line of none; a [`Decoder`] does so for many lines, one after another, by room that
+//! it keeps; [`encode`] appends the delta's compact text, which is a line of it and
 //! has no line feed ([`delta_texts_are_one_line`]), and refuses it only where it is too long. Which deltas never are,
 //! [`decoded_lines_fit`] and [`edited_lines_fit`] say. [`fits_line`] returns whether a delta's text fits a line,
 //! without writing it; [`outgrows_line`] returns whether a delta holds so much that no join with it has a line;

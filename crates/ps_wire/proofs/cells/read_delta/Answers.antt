@@ -38,7 +38,8 @@ returns-in_err-cells-clause-refused c =
     refused_so refusal
     (λ none n d rest lawful h.
     none n c.open_array.new.reader d rest
-    (subst (λ r. Spells (suc (suc (suc n))) c.open_array.new.reader (cell_value (c.in_ok-cell.cell, c.in_ok-cell.state)) r)
+    (subst (λ r. Spells (suc (suc (suc n))) c.open_array.new.reader (cell_value
+    (c.in_ok-cell.cell, c.in_ok-cell.state)) r)
     (sym c.if-take_end_array.ensures.1) (c.in_ok-cell.ensures.found n))
     (all_good d lawful) (subst (λ ts. Spells (suc (suc (suc (suc n)))) ts (delta_value d) rest) opens h))
     c.in_err-cells.ensures.refused in
@@ -53,6 +54,7 @@ returns-clause-refused c =
     (λ n.
     subst (λ ts. Spells (suc (suc (suc (suc n)))) ts (delta_value all) c.read_cells.new.reader) (sym opens)
     (c.in_ok-cells.ensures.found n c.open_array.new.reader
-    (subst (λ r. Spells (suc (suc (suc n))) c.open_array.new.reader (cell_value (c.in_ok-cell.cell, c.in_ok-cell.state)) r)
+    (subst (λ r. Spells (suc (suc (suc n))) c.open_array.new.reader (cell_value
+    (c.in_ok-cell.cell, c.in_ok-cell.state)) r)
     (sym c.if-take_end_array.ensures.1) (c.in_ok-cell.ensures.found n))))
     c.in_ok-cells.ensures.good c.new.ensures).refused

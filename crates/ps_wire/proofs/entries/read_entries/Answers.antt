@@ -42,7 +42,8 @@ entries-preserved g c =
     λ n.
     rw c.in_ok-push.ensures.items
     (takes_more E.spelled c.entries.entries.items entry (suc n) _ c.entries.reader _ (c.entries.invariant n)
-    (subst (λ ts. Spells (suc n) ts (E.spelled entry) c.read.new.reader) c.entries-test.ensures.1 (c.in_ok-read.ensures.found n)))
+    (subst (λ ts. Spells (suc n) ts (E.spelled entry) c.read.new.reader) c.entries-test.ensures.1
+    (c.in_ok-read.ensures.found n)))
 
 pub returns-clause-found : goal.returns-clause-found
 returns-clause-found g c =
