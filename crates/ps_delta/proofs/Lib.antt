@@ -4,7 +4,7 @@ pub mod ChangeLemmas
 pub mod EntryLemmas
 pub mod GridLemmas
 pub mod HistoryLemmas
-pub mod MergeLemmas
+pub mod JoiningLemmas
 pub mod PlaceLemmas
 pub mod StateLemmas
 pub mod WalkLemmas

@@ -10,8 +10,9 @@ ghost use Rattle.ps_delta.specs.Deltas.{AreEntries, AreInGrid, IsDelta, joined_h
 
 use crate::cell_state::CellState;
 use crate::delta_cells::DeltaCells;
+use crate::joining::{in_order, joined_in_order};
 use ps_grid::{Cell, Refusal};
-use ps_lattice::{is_ascending, merge_entries};
+use ps_lattice::is_ascending;
 use std::alloc::Global;
 use std::marker::Model;
 use std::sync::Arc;
@@ -78,16 +79,15 @@ impl Delta {
     ///
     /// Refused only when out of memory.
     ///
-    /// Cost: for each delta, the cells joined so far and its own, with their counts and pairs.
+    /// Cost: n log n, for n cells of all deltas together; each one's state is copied once, or joined with what its cell
+    /// has so far.
     pub fn joined(alloc: Global, deltas: &[Arc<Delta>]) -> Result<Delta, Refusal>
         requires { 0 < length deltas.now }
         ensures joined { IfOk result (λ d. state_of d ≡ joined_history (map arc_value deltas.now)) }
         ensures memory { IfErr result (λ e. e ≡ Refusal.Memory) }
     {
-        let mut cells = Vec::new(alloc);
-        for delta in deltas {
-            cells = merge_entries(alloc, &cells, delta.parts())?;
-        }
+        let entries = in_order(alloc, deltas)?;
+        let cells = joined_in_order(alloc, &entries)?;
         Ok(Delta {
             cells: DeltaCells::new(cells),
         })

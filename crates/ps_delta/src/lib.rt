@@ -26,6 +26,7 @@ mod cell_state;
 mod delta;
 mod delta_cells;
 mod grid;
+mod joining;
 mod laws;
 mod places;
 mod touched;
