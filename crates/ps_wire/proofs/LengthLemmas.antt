@@ -110,7 +110,7 @@ size-string s = omega (arith, length-escape s, length-append (escape s) (34 ∷ 
 -- ---- parts of cells
 
 -- a number below a power of ten
-size-whole : (k n : ℕ) → 0 < k → n < 10 ^ k → n < 2 ^ 64 → size (whole n) ≤ k
+pub size-whole : (k n : ℕ) → 0 < k → n < 10 ^ k → n < 2 ^ 64 → size (whole n) ≤ k
 size-whole k n some below small = length-decimal-le k n some below small
 
 column_name-short : (column : ℕ) (b : Bool)
@@ -118,7 +118,7 @@ column_name-short : (column : ℕ) (b : Bool)
 column_name-short column true = omega arith
 column_name-short column false = omega arith
 
-name-short : (c : ℕ) → c < CELLS → length (cell_name c) ≤ 6
+pub name-short : (c : ℕ) → c < CELLS → length (cell_name c) ≤ 6
 name-short c below =
     let row : row_of c < 10 ^ 4 = omega arith in
     let digits = length-decimal-le 4 (row_of c) (omega arith) row (omega arith) in
@@ -134,7 +134,7 @@ content-short Tally h = omega arith
 content-short Choice h = omega arith
 
 -- the parts of a stamp in range
-stamp_ranges : (time replica : ℕ) → is_stamp time replica ≡ true → (time ≤ LAST_TIME) × (replica ≤ REPLICAS)
+pub stamp_ranges : (time replica : ℕ) → is_stamp time replica ≡ true → (time ≤ LAST_TIME) × (replica ≤ REPLICAS)
 stamp_ranges time replica h = grind (arith, nat_tests, h)
 
 pub size-register : (r : Option (Assignment Content)) → IsRegister r → size (register_value r) ≤ 1565

@@ -1,5 +1,6 @@
 pub mod ArrayLemmas
 pub mod AsciiLemmas
+pub mod BriefLemmas
 pub mod ContentLemmas
 pub mod CostLemmas
 pub mod EscapeLemmas

@@ -6,7 +6,7 @@ ghost use Rattle.ps_wire.specs.Line.{IsLine, delta_text};
 ghost use Rattle.ps_wire.specs.Inside.{ReadsAs};
 
 use crate::DELTA_LINE_LIMIT;
-use crate::length::text_size;
+use crate::room::text_room;
 use crate::write::write_delta;
 use json::Writer;
 use ps_delta::Delta;
@@ -26,11 +26,11 @@ pub fn encode(alloc: Global, delta: &Delta, line: &mut Vec<u8>) -> Result<(), Re
     ensures too_long { result ≡ Err Refusal.TooLong → DELTA_LINE_LIMIT < length (delta_text delta.now) }
     ensures refused { IfErr result (λ e. (e ≡ Refusal.TooLong) ⊎ (e ≡ Memory)) }
 {
-    let Some(size) = text_size(delta) else {
+    let Some(room) = text_room(delta) else {
         return Err(Refusal::TooLong);
     };
     // the writer wants room for a comma beside each token, so one more than the text takes
-    line.reserve(size + 1)?;
+    line.reserve(room + 1)?;
     append_text(alloc, delta, line)
 }
 
