@@ -1,6 +1,7 @@
 //! Entries of several deltas, joined.
 
-ghost use Rattle.std.specs.Prelude.{◌≡◌, ◌++◌, ◌≤◌, ◌<◌, [], ◌∷◌, IfOk, IfErr, OnOk, length, map};
+ghost use Rattle.std.specs.Prelude.{◌≡◌, ◌-◌, ◌^◌, ◌++◌, ◌≤◌, ◌<◌, [], ◌∷◌, IfOk, IfErr, OnOk, length, map};
+ghost use Rattle.std.specs.Prelude.{min, sum_by};
 ghost use Rattle.std.specs.List.{All};
 ghost use Rattle.std.specs.List.Sorted.{IsNonDecreasingBy};
 ghost use Rattle.std.specs.Arc.{arc_value};
@@ -53,7 +54,9 @@ fn gathered<'a>(
 }
 
 /// How many cells the deltas have together, as far as a number goes.
-fn cell_count(deltas: &[Arc<Delta>]) -> usize {
+fn cell_count(deltas: &[Arc<Delta>]) -> usize
+    ensures { result ≡ min (sum_by (λ d. length (arc_value d)) deltas.now) (2 ^ 64 - 1) }
+{
     let mut count = 0usize;
     for delta in deltas {
         count = count.saturating_add(delta.parts().len());
