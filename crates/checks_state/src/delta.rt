@@ -499,7 +499,8 @@ fn exchange_twice(
     grid: &mut Grid,
     delta: &Delta,
 ) -> Result<(), Refusal> {
-    let mut changes = grid.changes_by(alloc, delta, Vec::new(alloc))?;
+    let mut changes = Vec::new(alloc);
+    grid.changes_by(alloc, delta, &mut changes)?;
     exchange_and_back(rt, grid, &mut changes, delta);
     Ok(())
 }

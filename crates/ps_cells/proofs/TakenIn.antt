@@ -1,6 +1,6 @@
 -- What holds within a change, between the exchange of the states and the end.
 use Rattle.std.proofs.Common.{◌≡◌, ◌<◌, ℕ, true, List, [], ◌∷◌, map, sym, ap, ◌∙◌, subst, refl, eqb, get_or, drop}
-use Rattle.std.specs.List.{All, IsDistinct}
+use Rattle.std.specs.List.{All, IsDistinct, list_all}
 use Rattle.std.proofs.lemmas.List.Elements.{All-nil, All-cons, All-head, All-tail}
 use Rattle.ps_grid.specs.declared.size.TheConstants.{CELLS}
 use Rattle.ps_grid.specs.Chains.{In}
@@ -20,11 +20,13 @@ use Rattle.std.specs.List.Sorted.{IsStrictlyIncreasing}
 use Rattle.ps_cells.specs.declared.tables.Tables.{Tables}
 use Rattle.ps_cells.specs.Settled.{content_of, refers_to, IsSettled}
 use Rattle.ps_cells.specs.Recalculated.{IsRecalculated}
+use Rattle.ps_cells.specs.Inside.Alone.{is_alone, is_alone_entry}
 use Rattle.ps_cells.specs.Inside.BoundedLaws.{mentions_formula}
 use Rattle.ps_cells.specs.Inside.Formulas.{firsts, forms_of, shown_firsts, with_puts}
 use Rattle.ps_cells.specs.Inside.Kept.{IsTidy, MayRecalculate, Recalculates}
 use Rattle.ps_cells.specs.Inside.Waiting.{first_value}
-use Rattle.ps_cells.specs.Inside.Walk.{IsStateChange, Lists}
+use Rattle.ps_cells.specs.Inside.Walk.{IsStateChange, Lists, formula_at}
+use Rattle.ps_cells.proofs.AloneEntries.{alone_cells}
 use Rattle.ps_cells.proofs.Begins.{touched_inside, change_of}
 use Rattle.ps_cells.proofs.ListedFormulas.{increasing_once, listed_both}
 use Rattle.ps_cells.proofs.PutFormulas.{entries_hold, swapped}
@@ -38,7 +40,7 @@ tail_same : (A : Type 0) (x y : A) (xs ys : List A) → (x ∷ xs) ≡ (y ∷ ys
 tail_same A x y xs ys h = ap (λ l. drop 1 l) h
 
 -- the first values are of the touched cells
-first_cells : (first : List (ℕ × Kept)) (es : Entries) → shown_firsts first ≡ firsts es
+pub first_cells : (first : List (ℕ × Kept)) (es : Entries) → shown_firsts first ≡ firsts es
     → map (λ (e : ℕ × Kept). e.0) first ≡ cells_of es
 first_cells [] [] h = refl
 first_cells [] (e ∷ es) h = absurd (cc)
@@ -66,6 +68,17 @@ first_values t (f ∷ first) (e ∷ es) h hold =
     (first_values t first es
     (tail_same (ℕ × Value) (f.0, value_kept f.1) (e.0, first_value e.1) (shown_firsts first) (firsts es) h)
     (All-tail (λ (q : ℕ × CellState). q.1 ≡ t q.0) e es hold))
+
+-- and they are alone where the entries are
+pub first_alone : (s t : State) (listed : ℕ → List ℕ) (es : Entries) (first : List (ℕ × Kept))
+    → IsStrictlyIncreasing (cells_of es) → t ≡ overlaid s es → shown_firsts first ≡ firsts es
+    → list_all (is_alone_entry listed) es ≡ true
+    → list_all (is_alone (formula_at t) listed) (map (λ (e : ℕ × Kept). e.0) first) ≡ true
+first_alone s t listed es first once given shows alone =
+    subst (λ (q : State). list_all (is_alone (formula_at q) listed) (map (λ (e : ℕ × Kept). e.0) first) ≡ true)
+    (sym given)
+    (ap (list_all (is_alone (formula_at (overlaid s es)) listed)) (first_cells first es shows)
+    ∙ (alone_cells (overlaid s es) listed es (entries_hold s es once) ∙ alone))
 
 -- only cells of the grid refer to others
 refer_below : (t : State) → IsInGrid t → (c d : ℕ) → refers_to t c d ≡ true → c < CELLS

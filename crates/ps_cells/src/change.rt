@@ -1,30 +1,32 @@
 //! The beginning of a change: everything that it needs memory for.
 
-ghost use Rattle.std.specs.Prelude.{◌≡◌, OnOk, OnErr, IfOk, IfErr};
+ghost use Rattle.std.specs.Prelude.{◌≡◌, [], true, false, OnOk, OnErr, IfOk, IfErr};
+ghost use Rattle.std.specs.List.{list_all};
 ghost use Rattle.ps_index.specs.Stands.{Puts, Stands};
+ghost use Rattle.ps_region.specs.Listed.{listed};
 ghost use Rattle.ps_delta.specs.State.{state_at};
 ghost use Rattle.ps_delta.specs.Deltas.{cells_of, state_of};
 ghost use Rattle.ps_delta.specs.Changes.{AreChangesBy, HasRoomFor};
+ghost use Rattle.ps_cells.specs.Inside.Alone.{is_alone_entry, is_empty};
 ghost use Rattle.ps_cells.specs.Inside.Formulas.{firsts, shown_firsts, with_puts};
 
-use crate::contents::{first_of, formula_of};
+use crate::contents::{first_of, formula_of, holds_formula};
 use ps_delta::{CellState, Delta, Grid};
 use ps_grid::{Cell, Refusal};
-use ps_index::Index;
+use ps_index::{Index, Readers};
 use ps_shown::Kept;
 use std::alloc::Global;
-use std::mem;
 
 /// Lists of the touched cells of a change. They are kept from one change to the next, so that a change asks for memory
 /// only where it touches more cells than all before.
 #[derive(Drop)]
 pub(crate) struct Lists {
-    /// the touched cells
+    /// the touched cells, where they aren't alone
     pub(crate) touched: Vec<Cell>,
     /// the touched cells, each with what it shows at first; between two changes nothing is kept there
     pub(crate) first: Vec<(Cell, Kept)>,
     /// the touched cells, ascending, each with its state: the new one until the cells have got these, and from then on
-    /// the one that it had; between two changes none
+    /// the one that it had; between two changes none, but where the last one was refused
     pub(crate) states: Vec<(Cell, CellState)>,
 }
 
@@ -39,36 +41,68 @@ impl Lists {
     }
 }
 
-/// Begins the change that a delta makes: its formulas are put into the index beside the old ones, and the touched cells
-/// are listed, with their new states.
+/// Begins the change that a delta makes: the touched cells are listed, with their new states and first values. Whether
+/// they are alone, and no cell is among the cyclic ones; else the new formulas are put into the index beside the old
+/// ones.
 ///
-/// Refused only when out of memory, and then the index stands for what it stood for; the room of the list of states is
-/// given back then.
+/// Refused only when out of memory, and then the index stands for what it stood for.
 pub(crate) fn begin(
     alloc: Global,
     grid: &mut Grid,
     index: &mut Index,
+    cyclic: &[Cell],
     lists: &mut Lists,
     delta: &Delta,
-) -> Result<(), Refusal>
+) -> Result<bool, Refusal>
     requires stands { (forms : Puts) × Stands index.old forms }
     ensures changes { OnOk result (AreChangesBy (state_at grid.old) (state_of delta.now) lists.new.states.items) }
     ensures ready { OnOk result (HasRoomFor grid.new lists.new.states.items) }
-    ensures touched { OnOk result (lists.new.touched.items ≡ cells_of lists.new.states.items) }
+    ensures touched { IfOk result (λ alone. alone ≡ false
+        → lists.new.touched.items ≡ cells_of lists.new.states.items) }
     ensures first { OnOk result (shown_firsts lists.new.first.items ≡ firsts lists.new.states.items) }
+    ensures alone { IfOk result (λ alone. alone ≡ true → (cyclic.now ≡ [])
+        × (list_all (is_alone_entry (listed index.new)) lists.new.states.items ≡ true)) }
     ensures put { OnOk result ((forms : Puts) → Stands index.old forms
         → Stands index.new (with_puts lists.new.states.items forms)) }
     ensures undone { OnErr result ((forms : Puts) → Stands index.old forms → Stands index.new forms) }
     ensures same { state_at grid.new ≡ state_at grid.old }
     ensures memory { IfErr result (λ e. e ≡ Refusal.Memory) }
 {
-    let room = mem::replace(&mut lists.states, Vec::new(alloc));
-    let changes = grid.changes_by(alloc, delta, room)?;
-    list_cells(&changes, &mut lists.touched)?;
-    list_first(alloc, &changes, &mut lists.first)?;
-    put_formulas(index, &changes)?;
-    lists.states = changes;
-    Ok(())
+    grid.changes_by(alloc, delta, &mut lists.states)?;
+    list_first(alloc, &lists.states, &mut lists.first)?;
+    if cyclic.is_empty() && are_alone(index, &lists.states) {
+        return Ok(true);
+    }
+    list_cells(&lists.states, &mut lists.touched)?;
+    put_formulas(index, &lists.states)?;
+    Ok(false)
+}
+
+/// Whether no state of these has a formula, and no formula refers to one of the cells.
+fn are_alone(index: &Index, cells: &[(Cell, CellState)]) -> bool
+    ensures { result ≡ list_all (is_alone_entry (listed index.now)) cells.now }
+{
+    cells.iter().all(|entry| is_alone(index, entry))
+}
+
+/// Whether the state isn't that of a formula, and no formula refers to the cell.
+fn is_alone(index: &Index, entry: &(Cell, CellState)) -> bool
+    ensures { result ≡ is_alone_entry (listed index.now) entry.now }
+{
+    !holds_formula(&entry.1) && is_unread(index, entry.0)
+}
+
+/// Whether no formula refers to the cell.
+fn is_unread(index: &Index, cell: Cell) -> bool
+    ensures { result ≡ is_empty (listed index.now cell) }
+{
+    match index.readers(cell) {
+        Readers::Nobody => true,
+        Readers::One(_) => false,
+        Readers::Row(mut walk) => walk.next().is_none(),
+        Readers::TwoRows(mut walk) => walk.next().is_none(),
+        Readers::Several => index.dependents(cell).next().is_none(),
+    }
 }
 
 /// Lists the cells alone.

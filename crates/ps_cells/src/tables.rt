@@ -12,13 +12,12 @@ ghost use Rattle.ps_cells.specs.Inside.Steps.{flag_at};
 ghost use Rattle.ps_cells.specs.Inside.Screens.{before_of, cells_in, ShowCycle};
 ghost use Rattle.ps_cells.specs.Inside.Kept.{IsWhole, MayRecalculate, Recalculates};
 ghost use Rattle.ps_cells.specs.Inside.Pending.{IsPending};
-ghost use Rattle.ps_cells.specs.Inside.Alone.{is_alone, is_empty};
+ghost use Rattle.ps_cells.specs.Inside.Alone.{is_alone};
 ghost use Rattle.ps_cells.specs.Inside.Waiting.{is_waiting};
 ghost use Rattle.ps_cells.specs.Inside.Walk.{formula_at};
 ghost use Rattle.ps_region.specs.Listed.{listed};
 
 use crate::change::{Lists, begin, take_formulas};
-use crate::contents::holds_formula;
 use crate::level::{Inputs, Level, Workers};
 use crate::region::find_region;
 use crate::screen::Screen;
@@ -26,7 +25,7 @@ use crate::walk::{clear, close_all, put_all_first, settle_frame, show_all_first}
 use ps_delta::{CellState, Delta, Grid};
 use ps_eval::Meter;
 use ps_grid::{CELLS, Cell, Refusal};
-use ps_index::{Index, Readers};
+use ps_index::Index;
 use ps_region::Region;
 use ps_shown::Kept;
 use ps_workers::Gate;
@@ -123,9 +122,16 @@ impl Tables {
             × (self.new.shown ≡ self.old.shown)) }
         ensures unmetered { OnErr result (meter.new ≡ meter.old) }
     {
-        begin(alloc, &mut self.grid, &mut self.index, lists, delta)?;
+        let are_alone = begin(
+            alloc,
+            &mut self.grid,
+            &mut self.index,
+            &self.cyclic,
+            lists,
+            delta,
+        )?;
         self.grid.exchange(&mut lists.states);
-        Ok(self.recalculate(rt, gate, &lists.touched, &mut lists.first, meter))
+        Ok(self.recalculate(rt, gate, are_alone, &lists.touched, &mut lists.first, meter))
     }
 
     /// Leaves a change as it was made, where these were the states of the touched cells. It takes no memory.
@@ -157,22 +163,28 @@ impl Tables {
         self.source = None;
     }
 
-    /// Settles what the cells show, after the touched cells got what they hold.
+    /// Settles what the cells show, once the touched cells have what they hold. They are listed unless alone.
     #[inline(always)]
     fn recalculate<R: Threads + Sync, G: Gate, L: Ledger>(
         &mut self,
         rt: &R,
         gate: &G,
+        are_alone: bool,
         touched: &[Cell],
         first: &mut Vec<(Cell, Kept)>,
         meter: &mut Meter<L>,
     ) -> Work
-        requires may { MayRecalculate self.old touched.now first.old.items }
-        ensures done { Recalculates self.old self.new touched.now result.evaluated result.cyclic result.levels }
+        requires may { MayRecalculate self.old (cells_in first.old.items) first.old.items }
+        requires touched { are_alone ≡ false → touched.now ≡ cells_in first.old.items }
+        requires alone { are_alone ≡ true → (self.old.cyclic.items ≡ [])
+            × (list_all (is_alone (formula_at (state_at self.old.grid)) (listed self.old.index))
+            (cells_in first.old.items) ≡ true) }
+        ensures done { Recalculates self.old self.new (cells_in first.old.items) result.evaluated result.cyclic
+            result.levels }
         ensures before { before_of self.new.shown ≡ before_of self.old.shown }
         ensures metered { meter.new ≡ meter.old + result.evaluated }
     {
-        if self.cyclic.is_empty() && are_alone(&self.grid, &self.index, touched) {
+        if are_alone {
             self.show_alone(first)
         } else {
             self.recalculate_region(rt, gate, touched, first, meter)
@@ -259,33 +271,6 @@ impl Tables {
             levels: self.region.levels() as u64,
         }
     }
-}
-
-/// Whether no formula refers to the cell.
-fn is_unread(index: &Index, cell: Cell) -> bool
-    ensures { result ≡ is_empty (listed index.now cell) }
-{
-    match index.readers(cell) {
-        Readers::Nobody => true,
-        Readers::One(_) => false,
-        Readers::Row(mut walk) => walk.next().is_none(),
-        Readers::TwoRows(mut walk) => walk.next().is_none(),
-        Readers::Several => index.dependents(cell).next().is_none(),
-    }
-}
-
-/// Whether the cell has no formula, and no formula refers to it.
-fn is_alone(grid: &Grid, index: &Index, cell: Cell) -> bool
-    ensures { result ≡ is_alone (formula_at (state_at grid.now)) (listed index.now) cell }
-{
-    !holds_formula(grid.at(cell)) && is_unread(index, cell)
-}
-
-/// Whether no cell of these has a formula, and no formula refers to one.
-fn are_alone(grid: &Grid, index: &Index, cells: &[Cell]) -> bool
-    ensures { result ≡ list_all (is_alone (formula_at (state_at grid.now)) (listed index.now)) cells.now }
-{
-    cells.iter().all(|cell| is_alone(grid, index, *cell))
 }
 
 /// A table of `n` flags, none of which is set.

@@ -181,12 +181,10 @@ pub room_none : (blocks : Blocks) → HasRoomFor blocks []
 unfolding HasRoomFor
 room_none blocks k d h = absurd (omega (arith, h))
 
-pub room_more : (blocks : Blocks) (es : Entries) (i : ℕ) (e : ℕ × CellState) → i < length es → e ≡ get_or es i e
-    → HasRoomFor blocks (take i es) → HasPlace blocks e.0 → HasRoomFor blocks (take (i + 1) es)
+pub room_more : (blocks : Blocks) (es : Entries) (e : ℕ × CellState) → HasRoomFor blocks es → HasPlace blocks e.0
+    → HasRoomFor blocks (es ++ e ∷ [])
 unfolding HasRoomFor
-room_more blocks es i e within is room place =
-    subst (λ l. All (λ d. HasPlace blocks d.0) l) (more_entries es i e within is)
-    (All-push (λ d. HasPlace blocks d.0) (take i es) e room place)
+room_more blocks es e room place = All-push (λ d. HasPlace blocks d.0) es e room place
 
 pub place_there : (blocks : Blocks) (s : State) (es cells : Entries) (i : ℕ) (d : ℕ × CellState)
     → HasRoomFor blocks es → i < length es → cells ≡ swapped s i es → HasPlace blocks (get_or cells i d).0

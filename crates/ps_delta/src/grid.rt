@@ -89,7 +89,8 @@ impl Grid {
         ensures err { OnErr result (state_at self.new ≡ state_at self.old) }
         ensures memory { IfErr result (λ e. e ≡ Refusal.Memory) }
     {
-        let mut changes = self.changes_by(alloc, delta, Vec::new(alloc))?;
+        let mut changes = Vec::new(alloc);
+        self.changes_by(alloc, delta, &mut changes)?;
         self.exchange(&mut changes);
         Ok(())
     }
@@ -129,13 +130,12 @@ impl Grid {
         }
     }
 
-    /// The cells that a join of the delta would change, ascending, each with the state that it would have. The grid has
-    /// room for them afterwards, so that `exchange` takes no memory.
+    /// Lists the cells that a join of the delta would change, ascending, each with the state that it would have. They
+    /// take the place of what the list has. The grid has room for them afterwards, so that `exchange` takes no memory.
     ///
-    /// They come in the room of the given list, whose own items are dropped: a list that is given again and again asks
-    /// for memory only where a delta has more cells than all before.
+    /// A list that is lent again and again asks for memory only where a delta has more cells than all before.
     ///
-    /// Refused only when out of memory, and then the list is gone too.
+    /// Refused only when out of memory, and then the list may have some of the cells.
     ///
     /// Cost: for each cell of the delta, the counts and pairs that it has here and there; and 64 states for each block
     /// that is made.
@@ -144,16 +144,25 @@ impl Grid {
         &mut self,
         alloc: Global,
         delta: &Delta,
-        list: Vec<(Cell, CellState)>,
-    ) -> Result<Vec<(Cell, CellState)>, Refusal>
-        ensures changes { IfOk result (λ r. AreChangesBy (state_at self.old) (state_of delta.now) r.items) }
-        ensures ready { IfOk result (λ r. HasRoomFor self.new r.items) }
+        list: &mut Vec<(Cell, CellState)>,
+    ) -> Result<(), Refusal>
+        ensures changes { OnOk result (AreChangesBy (state_at self.old) (state_of delta.now) list.new.items) }
+        ensures ready { OnOk result (HasRoomFor self.new list.new.items) }
         ensures same { state_at self.new ≡ state_at self.old }
         ensures memory { IfErr result (λ e. e ≡ Refusal.Memory) }
     {
-        let changes = changes_of(alloc, self, delta, list)?;
-        self.make_places(alloc, &changes)?;
-        Ok(changes)
+        let parts = delta.parts();
+        list.clear();
+        list.reserve(parts.len())?;
+        for part in parts {
+            self.make_place(alloc, part.0)?;
+            let here = self.at(part.0);
+            if !part.1.below(here) {
+                let state = here.joined(alloc, &part.1)?;
+                list.push((part.0, state))?;
+            }
+        }
+        Ok(())
     }
 
     /// Exchanges the state of each cell of the list with that of the list.
@@ -183,19 +192,6 @@ impl Grid {
         self.blocks[index / BLOCK].swap(index % BLOCK, state);
     }
 
-    /// Makes the blocks of the cells, where they aren't there.
-    #[inline(always)]
-    fn make_places(&mut self, alloc: Global, cells: &[(Cell, CellState)]) -> Result<(), Refusal>
-        ensures same { state_at self.new ≡ state_at self.old }
-        ensures ready { OnOk result (HasRoomFor self.new cells.now) }
-        ensures memory { IfErr result (λ e. e ≡ Refusal.Memory) }
-    {
-        for entry in cells {
-            self.make_place(alloc, entry.0)?;
-        }
-        Ok(())
-    }
-
     /// Makes the block of the cell, where it isn't there.
     fn make_place(&mut self, alloc: Global, cell: Cell) -> Result<(), Refusal>
         ensures same { state_at self.new ≡ state_at self.old }
@@ -205,32 +201,6 @@ impl Grid {
     {
         self.blocks[cell.index() / BLOCK].fill(alloc)
     }
-}
-
-/// The cells that a join of the delta would change in the grid, each with the state that it would have, in the room of
-/// the given list.
-#[inline(always)]
-fn changes_of(
-    alloc: Global,
-    grid: &Grid,
-    delta: &Delta,
-    list: Vec<(Cell, CellState)>,
-) -> Result<Vec<(Cell, CellState)>, Refusal>
-    ensures changes { IfOk result (λ r. AreChangesBy (state_at grid.now) (state_of delta.now) r.items) }
-    ensures memory { IfErr result (λ e. e ≡ Refusal.Memory) }
-{
-    let parts = delta.parts();
-    let mut changes = list;
-    changes.clear();
-    changes.reserve(parts.len())?;
-    for change in parts {
-        let here = grid.at(change.0);
-        if !change.1.below(here) {
-            let state = here.joined(alloc, &change.1)?;
-            changes.push((change.0, state))?;
-        }
-    }
-    Ok(changes)
 }
 
 /// A grid joined with another one: what two replicas hold, cell by cell. A block that was made counts as different from

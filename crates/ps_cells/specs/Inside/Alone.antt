@@ -1,5 +1,8 @@
 -- Cells that no formula reads and that have none.
 use Rattle.std.specs.Prelude.{ℕ, Bool, true, false, not, ◌&&◌, List, [], ◌∷◌}
+use Rattle.ps_delta.specs.declared.cell_state.CellState.{CellState}
+use Rattle.ps_cells.specs.Settled.{content_of}
+use Rattle.ps_cells.specs.Inside.Waiting.{is_formula}
 
 abbrev pub is_empty : List ℕ → Bool
 is_empty [] = true
@@ -8,3 +11,7 @@ is_empty (c ∷ cells) = false
 -- the cell has no formula, and no formula is listed for it
 abbrev pub is_alone : (ℕ → Bool) → (ℕ → List ℕ) → ℕ → Bool
 is_alone formula listed c = not (formula c) && is_empty (listed c)
+
+-- the state isn't that of a formula, and no formula is listed for the cell
+abbrev pub is_alone_entry : (ℕ → List ℕ) → ℕ × CellState → Bool
+is_alone_entry listed e = not (is_formula (content_of e.1)) && is_empty (listed e.0)

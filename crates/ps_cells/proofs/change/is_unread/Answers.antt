@@ -2,7 +2,7 @@ use Rattle.std.proofs.Common.{◌∷◌, [], ◌∙◌, ap, sym}
 use Rattle.ps_region.proofs.ListedLemmas.{listed_is}
 use Rattle.ps_cells.specs.Inside.Alone.{is_empty}
 use Rattle.ps_cells.proofs.AloneCells.{empty_by_first}
-use Rattle.ps_cells.proofs.tables.is_unread.Goals as goal
+use Rattle.ps_cells.proofs.change.is_unread.Goals as goal
 
 pub returns-in-Nobody : goal.returns-in-Nobody
 returns-in-Nobody c =
