@@ -1,13 +1,12 @@
 -- The entries of a rectangle are its entries again, where they are taken into an empty sheet.
-use Rattle.std.proofs.Common.{◌≡◌, ◌+◌, ◌<◌, ◌≤◌, ◌∙◌, [], ℕ, List, length, map, refl, ap, sym, subst, arith, get_or}
-use Rattle.std.specs.List.{range_with_len}
+use Rattle.std.proofs.Common.{◌≡◌, ◌+◌, ◌<◌, ◌∙◌, [], ℕ, List, length, refl, ap, subst, arith, get_or}
 use Rattle.std.proofs.lemmas.List.FromFn.{get_or-map-range_with_len, length-map-range_with_len}
 use Rattle.ps_grid.specs.Rectangle.{Area, cell_within}
-use Rattle.ps_content.specs.Content.{IsContent, canonical_text}
+use Rattle.ps_content.specs.Content.{canonical_text}
 use Rattle.ps_cells.specs.Settled.{content_of}
 use Rattle.ps_delta.specs.State.{empty_cell, empty_state}
 use Rattle.ps_delta.specs.Deltas.{Entries, joined_history}
-use Rattle.ps_csv.specs.Exports.{CellTexts, Holdings, entry_text, row_record, row_records}
+use Rattle.ps_csv.specs.Exports.{CellTexts, entry_text, row_record, row_records}
 use Rattle.ps_csv.specs.Laws.{EntriesComeBack}
 use Rattle.ps_csv.specs.Records.{Record, RecordsSay, place}
 use Rattle.ps_csv.proofs.EntriesHeld.{records_hold}

@@ -1,5 +1,5 @@
 -- What a sheet without a past holds once records were assigned to it.
-use Rattle.std.proofs.Common.{◌≡◌, ◌≢◌, ◌+◌, ◌<◌, ◌≤◌, ◌∷◌, ◌++◌, ◌∙◌, [], ℕ, zero, suc, List, map, length}
+use Rattle.std.proofs.Common.{◌≡◌, ◌+◌, ◌<◌, ◌≤◌, ◌∷◌, ◌++◌, ◌∙◌, [], ℕ, zero, suc, List, map, length}
 use Rattle.std.proofs.Common.{refl, ap, sym, subst, arith, get_or, Ok}
 use Rattle.std.specs.List.{list_any}
 use Rattle.ps_grid.specs.declared.size.TheConstants.{COLUMNS}

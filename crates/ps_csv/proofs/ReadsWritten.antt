@@ -1,15 +1,14 @@
 -- The records of a table that was written are read again.
-use Rattle.std.proofs.Common.{◌≡◌, ◌+◌, ◌<◌, ◌≤◌, ◌^◌, ◌%◌, ◌∷◌, ◌++◌, ◌∙◌, [], ℕ, ℤ, pos, negsuc, zero, suc, List}
-use Rattle.std.proofs.Common.{length, refl, ap, sym, subst, arith, get_or, Some, None, true, false, inl, inr}
-use Rattle.std.specs.Prelude.{FitsSigned, flat_map, ◌==◌, ◌&&◌}
+use Rattle.std.proofs.Common.{◌≡◌, ◌+◌, ◌<◌, ◌^◌, ◌%◌, ◌∷◌, ◌++◌, ◌∙◌, [], ℕ, pos, negsuc, suc, List}
+use Rattle.std.proofs.Common.{length, refl, ap, sym, subst, arith, get_or, Some, None, inl, inr}
+use Rattle.std.specs.Prelude.{flat_map}
 use Rattle.std.specs.List.{list_any}
-use Rattle.std.specs.Fmt.{decimal, signed_decimal}
-use Rattle.std.specs.Int.{w64}
+use Rattle.std.specs.Fmt.{decimal}
 use Rattle.std.proofs.lemmas.Bool.{cases_Bool, ne_eqb}
 use Rattle.std.proofs.lemmas.Fmt.{decimal_by_steps}
 use Rattle.csv.specs.Machine.{next_record}
-use Rattle.csv.specs.Reading.{Reached, default_config, is_bom, strip_bom}
-use Rattle.csv.specs.Writing.{default_writer, field_text, fields_text, is_blank, needs_byte, row_text}
+use Rattle.csv.specs.Reading.{Reached, default_config, strip_bom}
+use Rattle.csv.specs.Writing.{default_writer, fields_text, is_blank, needs_byte, row_text}
 use Rattle.csv.specs.declared.parser.State.{State as ReaderState}
 use Rattle.csv.specs.declared.parser.State.TheVariants as states
 use Rattle.csv.proofs.RoundTrip.{read-write, rows_text}
