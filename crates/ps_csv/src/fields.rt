@@ -29,7 +29,7 @@ pub(crate) fn read_record<W: TableWatcher>(
     ensures fault { IfErr result (λ e.
         (e ≡ Refusal.Memory) ⊎ RecordFault (joined_history sheet.now.history) n (fields_of fields.now) e) }
 {
-    let mut cells = Vec::new(alloc);
+    let mut cells = Vec::with_capacity(alloc, fields.len().min(COLUMNS))?;
     for j in 0..fields.len() {
         let Some(cell) = cell_of(n, j) else {
             watcher.saw_past(n as u64 + 1);

@@ -11,7 +11,7 @@ use Rattle.ps_csv.proofs.fields.read_record.Goals as goal
 pub loop-j-init : goal.loop-j-init
 loop-j-init g c =
     let s = joined_history c.args.sheet.now.history in
-    fields_say-none s c.args.n (fields_of c.args.fields.now) _ c.new-cells.ensures.items
+    fields_say-none s c.args.n (fields_of c.args.fields.now) _ c.in_ok-cells.ensures.items
 
 pub returns-in_default-clause-fault : goal.returns-in_default-clause-fault
 returns-in_default-clause-fault g c =
@@ -29,7 +29,8 @@ unwrap-field-requires g c =
 pub returns-in_err-take_field-clause-fault : goal.returns-in_err-take_field-clause-fault
 returns-in_err-take_field-clause-fault g c =
     let s = joined_history c.args.sheet.now.history in
-    let p = err_from_is_err_and c.from_residual.result c.from_residual.ensures.1 in
+    let from = c.from_residual-in_err-take_field in
+    let p = err_from_is_err_and from.result from.ensures.1 in
     let there : c.loop-j.j < length (fields_of c.args.fields.now) = omega arith in
     let given = field_given (fields_of c.args.fields.now) c.loop-j.j c.get.result _ c.get.ensures.value
     c.unwrap-field.ensures in
