@@ -4,3 +4,4 @@ pub mod Imports
 pub mod Inside
 pub mod Laws
 pub mod Records
+pub mod TakesIn

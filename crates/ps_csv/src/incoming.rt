@@ -7,7 +7,7 @@ ghost use Rattle.ps_sheet.specs.Sheet.{IsSheet};
 ghost use Rattle.ps_csv.specs.Faults.{TableFault, TableReaderFails};
 ghost use Rattle.ps_csv.specs.Records.{IsTable, Record};
 ghost use Rattle.ps_csv.specs.Inside.{HasRead};
-ghost use Rattle.ps_csv.specs.Imports.{ImportsTable, LieInGrid, ReadToEnd, StopsAfter};
+ghost use Rattle.ps_csv.specs.TakesIn.{TakesIn};
 ghost use Rattle.ps_csv.specs.declared.bytes.TheConstants.{LONGEST_TABLE};
 
 use crate::apply::apply;
@@ -56,25 +56,7 @@ pub fn import<R: Threads + Sync, S: Source, L: Ledger>(
     sheet: &mut Sheet,
     meter: &mut Meter<L>,
 ) -> Result<Imported, ImportFault>
-    ensures imported { IfOk result (λ i. ReadToEnd (S.remaining source.old) (S.remaining source.new)
-        (λ bytes. ImportsTable bytes i.records i.fields sheet.old sheet.new)) }
-    ensures extent { IfOk result (λ i. LieInGrid i.records i.fields) }
-    ensures calm { OnOk result (S.failures source.new ≡ S.failures source.old) }
-    ensures refused { IfErr result (λ f. IfNone f.reader_error
-        (TableFault (joined_history sheet.old.history) (S.remaining source.old) (S.remaining source.new) f.refusal)) }
-    ensures reader { IfErr result (λ f. IfSome f.reader_error
-        (TableReaderFails (joined_history sheet.old.history) (S.remaining source.old) (S.remaining source.new)
-        f.refusal)) }
-    ensures device { IfErr result (λ f. f.refusal ≡ Refusal.Device → S.failures source.old < S.failures source.new) }
-    ensures steady { IfErr result (λ f. f.refusal ≢ Refusal.Device
-        → S.failures source.new ≡ S.failures source.old) }
-    ensures none { IfErr result (λ f. f.refusal ≢ Refusal.Memory → f.applied ≡ 0) }
-    ensures kept { IfErr result (λ f. f.applied ≡ 0 → (sheet.new ≡ sheet.old) × (meter.new ≡ meter.old)) }
-    ensures stopped { IfErr result (λ f. 0 < f.applied → ReadToEnd (S.remaining source.old) (S.remaining source.new)
-        (λ bytes. StopsAfter bytes f.applied sheet.old sheet.new)) }
-    ensures replica { sheet.new.replica ≡ sheet.old.replica }
-    ensures workers { sheet.new.workers ≡ sheet.old.workers }
-    ensures sheet { IsSheet sheet.new }
+    ensures { TakesIn S.remaining S.failures source.old source.new sheet.old sheet.new meter.old meter.new result }
 {
     import_watched(rt, alloc, source, sheet, meter, &mut UnwatchedTable)
 }
@@ -91,25 +73,7 @@ pub fn import_watched<R: Threads + Sync, S: Source, L: Ledger, W: TableWatcher>(
     meter: &mut Meter<L>,
     watcher: &mut W,
 ) -> Result<Imported, ImportFault>
-    ensures imported { IfOk result (λ i. ReadToEnd (S.remaining source.old) (S.remaining source.new)
-        (λ bytes. ImportsTable bytes i.records i.fields sheet.old sheet.new)) }
-    ensures extent { IfOk result (λ i. LieInGrid i.records i.fields) }
-    ensures calm { OnOk result (S.failures source.new ≡ S.failures source.old) }
-    ensures refused { IfErr result (λ f. IfNone f.reader_error
-        (TableFault (joined_history sheet.old.history) (S.remaining source.old) (S.remaining source.new) f.refusal)) }
-    ensures reader { IfErr result (λ f. IfSome f.reader_error
-        (TableReaderFails (joined_history sheet.old.history) (S.remaining source.old) (S.remaining source.new)
-        f.refusal)) }
-    ensures device { IfErr result (λ f. f.refusal ≡ Refusal.Device → S.failures source.old < S.failures source.new) }
-    ensures steady { IfErr result (λ f. f.refusal ≢ Refusal.Device
-        → S.failures source.new ≡ S.failures source.old) }
-    ensures none { IfErr result (λ f. f.refusal ≢ Refusal.Memory → f.applied ≡ 0) }
-    ensures kept { IfErr result (λ f. f.applied ≡ 0 → (sheet.new ≡ sheet.old) × (meter.new ≡ meter.old)) }
-    ensures stopped { IfErr result (λ f. 0 < f.applied → ReadToEnd (S.remaining source.old) (S.remaining source.new)
-        (λ bytes. StopsAfter bytes f.applied sheet.old sheet.new)) }
-    ensures replica { sheet.new.replica ≡ sheet.old.replica }
-    ensures workers { sheet.new.workers ≡ sheet.old.workers }
-    ensures sheet { IsSheet sheet.new }
+    ensures { TakesIn S.remaining S.failures source.old source.new sheet.old sheet.new meter.old meter.new result }
 {
     let table = match checked(alloc, source, sheet, watcher) {
         Ok(table) => table,
