@@ -1,8 +1,11 @@
 -- The table that a rectangle makes, as `csv` writes it: of what its cells show, or of what they hold.
-use Rattle.std.specs.Prelude.{ℕ, List, map}
+use Rattle.std.specs.Prelude.{◌≡◌, ◌⊎◌, ℕ, ◌<◌, List, map, length, take, Option, Result, ⊤, IfErr, OnOk}
+use Rattle.std.specs.Io.KnownBytes.{Appends}
 use Rattle.std.specs.List.{flat_map, range_with_len}
 use Rattle.csv.specs.Writing.{default_writer, row_text}
 use Rattle.ps_grid.specs.Rectangle.{Area, cell_within}
+use Rattle.ps_grid.specs.declared.refusal.Refusal.{Refusal}
+use Rattle.ps_grid.specs.declared.refusal.Refusal.TheVariants.{Device, Memory}
 use Rattle.ps_value.specs.Shown.{shown_text}
 use Rattle.ps_eval.specs.Items.{Assignment}
 use Rattle.ps_content.specs.Content.{canonical_text}
@@ -49,3 +52,15 @@ entry_text held c = canonical_text (held c)
 -- THE ENTRIES of a rectangle where the cells hold these contents
 abbrev pub exported_entries : Holdings → Area → List ℕ
 exported_entries held a = tabled (entry_text held) a
+
+-- WRITES OUT: what it comes to when this text is to be written. It was written, all of it; or memory ran out, and
+-- nothing was written; or the sink failed, and a beginning was written. The sink was `old` and is `new`
+pub record WritesOut {K : Type 0} (contents : K → Option (List ℕ)) (failures : K → ℕ) (text : List ℕ) (old new : K)
+    (result : Result ⊤ Refusal) : Type 0 where
+  pub written : OnOk result (Appends (contents old) (contents new) text)
+  pub calm : OnOk result (failures new ≡ failures old)
+  pub device : IfErr result (λ e. e ≡ Device → (count : ℕ) × (count < length text)
+      × Appends (contents old) (contents new) (take count text))
+  pub failed : IfErr result (λ e. e ≡ Device → failures old < failures new)
+  pub memory : IfErr result (λ e. e ≡ Memory → new ≡ old)
+  pub refused : IfErr result (λ e. (e ≡ Memory) ⊎ (e ≡ Device))

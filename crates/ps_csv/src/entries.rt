@@ -1,12 +1,11 @@
 //! A rectangle of entries as a table.
 
-ghost use Rattle.std.specs.Prelude.{◌≡◌, ◌⊎◌, ◌<◌, ◌++◌, ℕ, length, take, IfOk, IfErr, OnOk};
-ghost use Rattle.std.specs.Io.KnownBytes.{Appends};
-ghost use Rattle.ps_csv.specs.Exports.{entry_text, exported_entries};
+ghost use Rattle.std.specs.Prelude.{◌≡◌, ◌++◌, IfOk, IfErr, OnOk};
+ghost use Rattle.ps_csv.specs.Exports.{WritesOut, entry_text, exported_entries};
 
 use crate::holds::Holds;
-use crate::rows::{CellText, rows_text};
-use ps_device::{Failed, MemorySink, Sink, put_all};
+use crate::rows::{CellText, export_rows, rows_text};
+use ps_device::{MemorySink, Sink};
 use ps_grid::{Cell, Rect, Refusal};
 use std::alloc::Global;
 use std::sync::ledger::Ledger;
@@ -24,22 +23,9 @@ pub fn export_entries<H: Holds, K: Sink>(
     rect: Rect,
     sink: &mut K,
 ) -> Result<(), Refusal>
-    ensures written { OnOk result (Appends (K.contents sink.old) (K.contents sink.new)
-        (exported_entries (H.held_at holds.now) rect)) }
-    ensures calm { OnOk result (K.failures sink.new ≡ K.failures sink.old) }
-    ensures device { IfErr result (λ e. e ≡ Refusal.Device → (count : ℕ)
-        × (count < length (exported_entries (H.held_at holds.now) rect))
-        × Appends (K.contents sink.old) (K.contents sink.new)
-        (take count (exported_entries (H.held_at holds.now) rect))) }
-    ensures failed { IfErr result (λ e. e ≡ Refusal.Device → K.failures sink.old < K.failures sink.new) }
-    ensures memory { IfErr result (λ e. e ≡ Refusal.Memory → sink.new ≡ sink.old) }
-    ensures refused { IfErr result (λ e. (e ≡ Refusal.Memory) ⊎ (e ≡ Refusal.Device)) }
+    ensures { WritesOut K.contents K.failures (exported_entries (H.held_at holds.now) rect) sink.old sink.new result }
 {
-    let text = entries_text(alloc, holds, rect)?;
-    match put_all(sink, &text) {
-        Ok(()) => Ok(()),
-        Err(Failed) => Err(Refusal::Device),
-    }
+    export_rows(alloc, &EntryTexts { holds }, rect, sink)
 }
 
 /// The text that `export_entries` writes, for a caller that has to have it before it writes anything.

@@ -4,11 +4,11 @@ ghost use Rattle.std.specs.Prelude.{◌≡◌, ◌<◌, ◌∷◌, ◌++◌, [],
 ghost use Rattle.ps_grid.specs.Blanks.{IsBlankOf};
 ghost use Rattle.csv.specs.Records.{fields_of, partial_of};
 ghost use Rattle.csv.specs.Writing.{default_writer, row_text};
-ghost use Rattle.ps_csv.specs.Exports.{CellTexts, row_record, tabled};
+ghost use Rattle.ps_csv.specs.Exports.{CellTexts, WritesOut, row_record, tabled};
 ghost use Rattle.ps_csv.specs.Inside.{HasWritten};
 
 use csv::{ByteRecord, Error, Writer, WriterBuilder};
-use ps_device::MemorySink;
+use ps_device::{Failed, MemorySink, Sink, put_all};
 use ps_grid::{Cell, Rect, Refusal};
 use std::alloc::Global;
 use std::marker::Brand;
@@ -23,6 +23,22 @@ pub(crate) trait CellText {
     fn put<L: Ledger>(&self, cell: Cell, text: &mut MemorySink<L>) -> Result<(), Refusal>
         ensures put { OnOk result (text.new.bytes.items ≡ text.old.bytes.items ++ text_at self.now cell) }
         ensures memory { IfErr result (λ e. e ≡ Refusal.Memory) };
+}
+
+/// Writes the table of the texts of a rectangle's cells.
+pub(crate) fn export_rows<T: CellText, K: Sink>(
+    alloc: Global,
+    texts: &T,
+    rect: Rect,
+    sink: &mut K,
+) -> Result<(), Refusal>
+    ensures { WritesOut K.contents K.failures (tabled (T.text_at texts.now) rect) sink.old sink.new result }
+{
+    let text = rows_text(alloc, texts, rect)?;
+    match put_all(sink, &text) {
+        Ok(()) => Ok(()),
+        Err(Failed) => Err(Refusal::Device),
+    }
 }
 
 /// The table of the texts of a rectangle's cells. Refused only where memory ran out.

@@ -1,12 +1,11 @@
 //! A rectangle of shown values as a table.
 
-ghost use Rattle.std.specs.Prelude.{◌≡◌, ◌⊎◌, ◌<◌, ℕ, length, take, IfOk, IfErr, OnOk};
-ghost use Rattle.std.specs.Io.KnownBytes.{Appends};
+ghost use Rattle.std.specs.Prelude.{◌≡◌, IfOk, IfErr};
 ghost use Rattle.ps_value.specs.Shown.{shown_text};
-ghost use Rattle.ps_csv.specs.Exports.{exported};
+ghost use Rattle.ps_csv.specs.Exports.{WritesOut, exported};
 
-use crate::rows::{CellText, rows_text};
-use ps_device::{Failed, MemorySink, Sink, put_all};
+use crate::rows::{CellText, export_rows, rows_text};
+use ps_device::{MemorySink, Sink};
 use ps_eval::Look;
 use ps_grid::{Cell, Rect, Refusal};
 use ps_value::write_shown;
@@ -25,21 +24,9 @@ pub fn export<G: Look, K: Sink>(
     rect: Rect,
     sink: &mut K,
 ) -> Result<(), Refusal>
-    ensures written { OnOk result (Appends (K.contents sink.old) (K.contents sink.new)
-        (exported (G.value_at look.now) rect)) }
-    ensures calm { OnOk result (K.failures sink.new ≡ K.failures sink.old) }
-    ensures device { IfErr result (λ e. e ≡ Refusal.Device → (count : ℕ)
-        × (count < length (exported (G.value_at look.now) rect))
-        × Appends (K.contents sink.old) (K.contents sink.new) (take count (exported (G.value_at look.now) rect))) }
-    ensures failed { IfErr result (λ e. e ≡ Refusal.Device → K.failures sink.old < K.failures sink.new) }
-    ensures memory { IfErr result (λ e. e ≡ Refusal.Memory → sink.new ≡ sink.old) }
-    ensures refused { IfErr result (λ e. (e ≡ Refusal.Memory) ⊎ (e ≡ Refusal.Device)) }
+    ensures { WritesOut K.contents K.failures (exported (G.value_at look.now) rect) sink.old sink.new result }
 {
-    let text = exported_text(alloc, look, rect)?;
-    match put_all(sink, &text) {
-        Ok(()) => Ok(()),
-        Err(Failed) => Err(Refusal::Device),
-    }
+    export_rows(alloc, &ShownTexts { look }, rect, sink)
 }
 
 /// The text that `export` writes, for a caller that has to have it before it writes anything.
