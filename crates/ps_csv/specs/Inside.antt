@@ -1,10 +1,11 @@
 -- What the private functions say of what is on its way; no contract of a public one cites this.
-use Rattle.std.specs.Prelude.{◌≡◌, ℕ, List, map, true, false, Some, None}
+use Rattle.std.specs.Prelude.{◌≡◌, ◌==◌, ◌&&◌, ◌||◌, ◌++◌, ℕ, List, map, length, true, false, not, Some, None}
 use Rattle.std.specs.Borrow.{Bor}
 use Rattle.std.specs.Global.{Vec}
 use Rattle.csv.specs.Reading.{default_config, is_flexible, names_headers, reader_config, reader_headers}
 use Rattle.csv.specs.Reading.{reader_state, reader_trim, source_of, strip_bom}
-use Rattle.csv.specs.Writing.{default_writer, fields_written, has_written, text_written, writer_setup}
+use Rattle.csv.specs.Writing.{default_writer, fields_written, has_written, is_blank, row_body, text_written}
+use Rattle.csv.specs.Writing.{writer_setup}
 use Rattle.csv.specs.declared.error.Error.{Error}
 use Rattle.csv.specs.declared.error.ErrorKind.{ErrorKind}
 use Rattle.csv.specs.declared.error.ErrorKind.TheVariants as kinds
@@ -51,3 +52,11 @@ pub record HasWritten (w : Writer (Vec ℕ)) (written : List ℕ) : Type 0 where
   pub fields : fields_written w ≡ 0
   pub whole : has_written w ≡ false
   pub bytes : text_written (λ v. Some v.items) w ≡ Some written
+
+-- the writer has `csv`'s defaults, and has written this text and then these fields of a record that isn't ended
+pub record IsWriting (w : Writer (Vec ℕ)) (written : List ℕ) (fields : Record) : Type 0 where
+  pub setup : writer_setup w ≡ default_writer
+  pub count : fields_written w ≡ length fields
+  pub blank : is_blank default_writer fields
+      ≡ (not (has_written w) && ((length fields == 0) || (length fields == 1)))
+  pub bytes : text_written (λ v. Some v.items) w ≡ Some (written ++ row_body default_writer fields)

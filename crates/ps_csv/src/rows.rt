@@ -1,13 +1,14 @@
 //! A rectangle as a table: a record for each row, a field for each cell.
 
-ghost use Rattle.std.specs.Prelude.{◌≡◌, ◌<◌, ◌∷◌, ◌++◌, [], ℕ, List, IfOk, IfErr, OnOk};
+ghost use Rattle.std.specs.Prelude.{◌≡◌, ◌<◌, ◌∷◌, ◌++◌, [], ℕ, List, length, IfOk, IfErr, OnOk};
 ghost use Rattle.ps_grid.specs.Blanks.{IsBlankOf};
-ghost use Rattle.csv.specs.Records.{fields_of, partial_of};
+ghost use Rattle.ps_grid.specs.declared.size.TheConstants.{COLUMNS};
 ghost use Rattle.csv.specs.Writing.{default_writer, row_text};
 ghost use Rattle.ps_csv.specs.Exports.{CellTexts, WritesOut, row_record, tabled};
-ghost use Rattle.ps_csv.specs.Inside.{HasWritten};
+ghost use Rattle.ps_csv.specs.Inside.{HasWritten, IsWriting};
+ghost use Rattle.ps_csv.specs.Records.{Record};
 
-use csv::{ByteRecord, Error, Writer, WriterBuilder};
+use csv::{Error, Writer, WriterBuilder};
 use ps_device::{Failed, MemorySink, Sink, put_all};
 use ps_grid::{Cell, Rect, Refusal};
 use std::alloc::Global;
@@ -65,11 +66,9 @@ fn text_with<T: CellText, L: Ledger>(
     ensures memory { IfErr result (λ e. e ≡ Refusal.Memory) }
 {
     let mut field = MemorySink::<L>::new(alloc, blank);
-    let mut row = ByteRecord::new(alloc);
     let mut writer = new_writer(alloc);
     for k in 0..rect.height() {
-        fill(texts, rect, k, &mut field, &mut row)?;
-        put_record(&row, &mut writer)?;
+        put_row(texts, rect, k, &mut field, &mut writer)?;
     }
     finish(writer)
 }
@@ -81,13 +80,43 @@ fn new_writer(alloc: Global) -> Writer<Vec<u8>>
     WriterBuilder::new().from_writer(Vec::new(alloc))
 }
 
-/// Writes a record.
-fn put_record(row: &ByteRecord, writer: &mut Writer<Vec<u8>>) -> Result<(), Refusal>
+/// Writes the record of the texts of the k-th row's cells.
+fn put_row<T: CellText, L: Ledger>(
+    texts: &T,
+    rect: Rect,
+    k: usize,
+    field: &mut MemorySink<L>,
+    writer: &mut Writer<Vec<u8>>,
+) -> Result<(), Refusal>
+    requires { k < rect.height }
     ensures written { OnOk result ((text : List ℕ) → HasWritten writer.old text
-        → HasWritten writer.new (text ++ row_text default_writer (fields_of row.now))) }
+        → HasWritten writer.new (text ++ row_text default_writer (row_record (T.text_at texts.now) rect k))) }
     ensures memory { IfErr result (λ e. e ≡ Refusal.Memory) }
 {
-    match writer.write_byte_record(row) {
+    for j in 0..rect.width() {
+        put_field(texts, rect.at(j, k), field, writer)?;
+    }
+    match writer.end_record() {
+        Ok(()) => Ok(()),
+        Err(error) => Err(refusal_of(error)),
+    }
+}
+
+/// Writes the text of a cell as one more field of a record.
+fn put_field<T: CellText, L: Ledger>(
+    texts: &T,
+    cell: Cell,
+    field: &mut MemorySink<L>,
+    writer: &mut Writer<Vec<u8>>,
+) -> Result<(), Refusal>
+    ensures written { OnOk result ((text : List ℕ) (fields : Record) → length fields < COLUMNS
+        → IsWriting writer.old text fields
+        → IsWriting writer.new text (fields ++ T.text_at texts.now cell ∷ [])) }
+    ensures memory { IfErr result (λ e. e ≡ Refusal.Memory) }
+{
+    field.bytes.clear();
+    texts.put(cell, field)?;
+    match writer.write_field(field.bytes.as_slice()) {
         Ok(()) => Ok(()),
         Err(error) => Err(refusal_of(error)),
     }
@@ -113,42 +142,4 @@ fn refusal_of(_error: Error) -> Refusal
     ensures { result ≡ Refusal.Memory }
 {
     Refusal::Memory
-}
-
-/// Makes the record of the texts of the k-th row's cells.
-fn fill<T: CellText, L: Ledger>(
-    texts: &T,
-    rect: Rect,
-    k: usize,
-    field: &mut MemorySink<L>,
-    row: &mut ByteRecord,
-) -> Result<(), Refusal>
-    requires { k < rect.height }
-    ensures fields { OnOk result (fields_of row.new ≡ row_record (T.text_at texts.now) rect k) }
-    ensures memory { IfErr result (λ e. e ≡ Refusal.Memory) }
-{
-    row.clear();
-    for j in 0..rect.width() {
-        let cell = rect.at(j, k);
-        push_text(texts, cell, field, row)?;
-    }
-    Ok(())
-}
-
-/// Appends the text of a cell as a field.
-fn push_text<T: CellText, L: Ledger>(
-    texts: &T,
-    cell: Cell,
-    field: &mut MemorySink<L>,
-    row: &mut ByteRecord,
-) -> Result<(), Refusal>
-    requires { partial_of row.old ≡ [] }
-    ensures field { OnOk result (fields_of row.new ≡ fields_of row.old ++ T.text_at texts.now cell ∷ []) }
-    ensures whole { OnOk result (partial_of row.new ≡ []) }
-    ensures memory { IfErr result (λ e. e ≡ Refusal.Memory) }
-{
-    field.bytes.clear();
-    texts.put(cell, field)?;
-    row.push_field(field.bytes.as_slice())?;
-    Ok(())
 }

@@ -11,8 +11,7 @@ pub loop-k-preserved : goal.loop-k-preserved
 loop-k-preserved g c =
     let v = g.T.CellText.text_at c.args.texts.now in
     let more = first_records-more v c.args.rect c.loop-k.k in
-    let written = c.in_ok-put_record.ensures.written (first_records v c.args.rect c.loop-k.k) c.loop-k.invariant in
-    rw (more, ← c.in_ok-fill.ensures.fields) written
+    rw more (c.in_ok-put_row.ensures.written (first_records v c.args.rect c.loop-k.k) c.loop-k.invariant)
 
 pub returns-clause-text : goal.returns-clause-text
 returns-clause-text g c =
