@@ -239,15 +239,15 @@ fn add_to<R: Wait>(rt: &R, head: &Head, front: &mut BookPrefix, patch: &Patch)
     requires book { head.now ≡ front.old.book }
     ensures { front.new ≡ record front.old { list = front.old.list ++ patch.now ∷ [] } }
 {
-    for _ in rt.forever() {
-        if front.add(head, patch) {
-            return;
-        }
+    let mut tries = rt.forever();
+    'adds: while !front.add(head, patch) {
+        tries.next();
     }
-    unreachable!()
 }
 
-/// Shows readers a copy that has taken in the operation. It is refused only where it may be, when out of memory.
+/// Shows readers a copy that has taken in the operation. Where the queue of the copies has no room and no memory for
+/// it, that is refused, if it may be; else it tries again. The queue has room once it has taken one. It tries again,
+/// too, where a text has as many owners as can be counted.
 fn turn_over<L: Named, R: Wait>(
     rt: &R,
     copies: &mut Copies<L>,
@@ -262,52 +262,19 @@ fn turn_over<L: Named, R: Wait>(
     ensures made { refusable ≡ false → IsOk result }
     ensures memory { IfErr result (λ e. e ≡ Memory) }
 {
-    hand_over(rt, copies, operation, refusable)?;
-    show(rt, copies);
-    Ok(())
-}
-
-/// Hands the operation to the copies. Where their queue has no room and no memory for it, that is refused, if it may
-/// be; else it tries again. The queue has room once it has taken one.
-fn hand_over<L: Named, R: Wait>(
-    rt: &R,
-    copies: &mut Copies<L>,
-    operation: Operation,
-    refusable: bool,
-) -> Result<(), Refusal>
-    requires queue { drop copies.old.behind copies.old.log.items ≡ [] }
-    ensures queue { OnOk result (drop copies.new.behind copies.new.log.items ≡ operation ∷ []) }
-    ensures desk { copies.new.desk ≡ copies.old.desk }
-    ensures made { refusable ≡ false → IsOk result }
-    ensures memory { IfErr result (λ e. e ≡ Memory) }
-{
     let mut operation = operation;
-    for _ in rt.forever() {
-        match copies.append(operation) {
-            Ok(()) => return Ok(()),
-            Err(back) => operation = back,
-        }
+    let mut tries = rt.forever();
+    'fills: while let Err(back) = copies.append(operation) {
         if refusable {
             return Err(Refusal::Memory);
         }
+        operation = back;
+        tries.next();
     }
-    unreachable!()
-}
-
-/// Shows readers a copy that has taken in all. It tries again where a text has as many owners as can be counted.
-fn show<L: Named, R: Wait>(rt: &R, copies: &mut Copies<L>)
-    requires { MayShow L.opening L.book copies.old.desk.shown.value (drop copies.old.behind copies.old.log.items) }
-    ensures shown { copies.new.desk.shown.value
-        ≡ fold turned copies.old.desk.shown.value (drop copies.old.behind copies.old.log.items) }
-    ensures stands { CopyStands L.opening L.book copies.new.desk.shown.value }
-    ensures queue { drop copies.new.behind copies.new.log.items ≡ [] }
-{
-    for _ in rt.forever() {
-        if replace_with(copies, rt, show_once::<L, R>).is_ok() {
-            return;
-        }
+    'shows: while replace_with(copies, rt, show_once::<L, R>).is_err() {
+        tries.next();
     }
-    unreachable!()
+    Ok(())
 }
 
 /// Shows readers a copy that has taken in all, or nothing new where a text has as many owners as can be counted.

@@ -1,7 +1,8 @@
 use Rattle.std.proofs.Common.{◌≡◌}
 use Rattle.ps_face.proofs.writer.add_to.Given as goal
 
-abbrev pub invariant-loop : goal.invariant-loop
-invariant-loop g l =
-    (goal.iterator-loop g).can_next l.iterator' × (goal.iterator-loop g).is_finite l.iterator'
-    × (l.front ≡ l.initial.front)
+abbrev pub invariant-adds : goal.invariant-adds
+invariant-adds g l = l.front ≡ l.initial.front
+
+abbrev pub decreases-adds : goal.decreases-adds
+decreases-adds g l = l.tries.left

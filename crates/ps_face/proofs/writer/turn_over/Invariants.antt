@@ -1,0 +1,18 @@
+use Rattle.std.proofs.Common.{◌≡◌, drop, []}
+use Rattle.ps_face.proofs.writer.turn_over.Given as goal
+
+abbrev pub invariant-fills : goal.invariant-fills
+invariant-fills g l =
+    (l.operation ≡ l.initial.operation) × (l.copies.desk ≡ l.initial.copies.desk)
+    × (drop l.copies.behind l.copies.log.items ≡ [])
+
+abbrev pub decreases-fills : goal.decreases-fills
+decreases-fills g l = l.tries.left
+
+abbrev pub invariant-shows : goal.invariant-shows
+invariant-shows g l =
+    (l.copies.desk.shown.value ≡ l.initial.copies.desk.shown.value)
+    × (drop l.copies.behind l.copies.log.items ≡ drop l.initial.copies.behind l.initial.copies.log.items)
+
+abbrev pub decreases-shows : goal.decreases-shows
+decreases-shows g l = l.tries.left
