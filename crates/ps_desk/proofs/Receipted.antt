@@ -48,26 +48,6 @@ tells_more M N h seen mid now seat r weaker later t =
     })
     t
 
--- what a fresh receipt tells
-tells_fresh : (h : List Entries) (p : PreparedView) (seen now : List Note) (seat : ℕ) (r : Receipt)
-    → IsWorkedOut p → p.fresh ≡ true → p.history ≡ history_of h seen → IsNoted p seat seen now
-    → r.number ≡ p.report.version → arc_value r.delta ≡ p.delta → r.fresh ≡ true
-    → IsReceipt (λ s d. (s ≡ joined_history p.history) × (d ≡ p.delta)) h seen now seat r
-tells_fresh h p seen now seat r is fresh history noted number delta new =
-    let Made : State → Entries → Type 0 = λ s d. (s ≡ joined_history p.history) × (d ≡ p.delta) in
-    subst (λ b. MatchBool b (IsAppended Made h seen now seat r) (IsIncluded Made h now r)) (sym new) (record {
-      before = seen;
-      patch = noted.patch;
-      last = noted.last;
-      later = begins_itself seen;
-      number = number ∙ is.version ∙ ap length (after_fresh p p.delta fresh refl)
-          ∙ length-append p.history (p.delta ∷ []) ∙ ap (λ (ds : List Entries). length ds + 1) history;
-      numbered = noted.number ∙ sym number;
-      delta = noted.delta ∙ sym delta;
-      owner = noted.owner;
-      made = (ap joined_history (sym history), delta);
-    })
-
 -- a change that isn't fresh has a delta below the state, and leaves the history
 below_state : (p : PreparedView) → IsWorkedOut p → p.fresh ≡ false
     → IsBelow (state_of p.delta) (joined_history p.history)
@@ -90,28 +70,6 @@ tells_included h p seen seat r is idle history number delta old =
           (λ i. (sym delta i, history i)) (below_state p is idle);
       made = (ap joined_history (sym history), delta);
     })
-
--- a change that was appended or given up leaves what was seen a beginning
-pub later_either : (A : Type 0) (p : PreparedView) (seat : ℕ) (res : Result Receipt Refusal) (old new : PassView)
-    → OnOk res (IsNoted p seat old.list new.list) → OnErr res (A × (new ≡ old)) → IsPrefix old.list new.list
-later_either A p seat (Ok r) old new noted k = (noted.patch ∷ [], sym noted.last)
-later_either A p seat (Err e) old new noted k =
-    subst (IsPrefix old.list) (sym (ap (λ (q : PassView). q.list) k.1)) (begins_itself old.list)
-
-pub tells_if_fresh : (h : List Entries) (p : PreparedView) (res : Result Receipt Refusal) (seen now : List Note)
-    (seat : ℕ) → IsWorkedOut p → p.fresh ≡ true → p.history ≡ history_of h seen
-    → OnOk res (IsNoted p seat seen now)
-    → IfOk res (λ r. (r.number ≡ p.report.version) × (arc_value r.delta ≡ p.delta) × (r.fresh ≡ true))
-    → IfOk res (IsReceipt (λ s d. (s ≡ joined_history p.history) × (d ≡ p.delta)) h seen now seat)
-tells_if_fresh h p (Ok r) seen now seat is fresh history noted t =
-    tells_fresh h p seen now seat r is fresh history noted t.0 t.1 t.2
-tells_if_fresh h p (Err e) seen now seat is fresh history noted t = tt
-
--- a refusal of a fresh change is of one that isn't below the state
-pub refused_fresh : (res : Result Receipt Refusal) (p : PreparedView) → IsWorkedOut p → p.fresh ≡ true
-    → OnErr res (¬ IsBelow (state_of p.delta) (joined_history p.history))
-refused_fresh (Ok r) p is fresh = tt
-refused_fresh (Err e) p is fresh = is.fresh.0 fresh
 
 -- what a pass that was told of a list has seen begins with what it had seen, and its seat stays
 module _ (list : List Note) (old new : PassView) where

@@ -11,9 +11,8 @@ ghost use Rattle.ps_delta.specs.Deltas.{joined_history, state_of};
 ghost use Rattle.ps_cells.specs.ChangedCells.{IsChanged};
 ghost use Rattle.ps_sheet.specs.Prepared.{shown_before};
 ghost use Rattle.ps_sheet.specs.Staging.{IsWorkedOut};
-ghost use Rattle.ps_face.specs.Legal.{Follows, history_of};
 ghost use Rattle.ps_desk.specs.UnderLock.{IsUnderLock};
-ghost use Rattle.ps_desk.specs.Patches.{IsNoted, KeepsChange, change_in, note_of, staged_in};
+ghost use Rattle.ps_desk.specs.Patches.{IsNoted, KeepsChange, change_in, staged_in};
 ghost use Rattle.ps_desk.specs.Receipts.{IsReceipt};
 
 use crate::name::DeskName;
@@ -21,7 +20,7 @@ use crate::pass::Pass;
 use crate::patch::patch_of;
 use crate::receipt::Receipt;
 use ps_delta::Delta;
-use ps_face::{FaceWriter, Patch};
+use ps_face::FaceWriter;
 use ps_grid::Refusal;
 use ps_sheet::Staging;
 use std::alloc::Global;
@@ -57,7 +56,12 @@ pub(crate) fn finish<L: DeskName, W: Wait + Drop, V: Wait>(
     ensures seat { (pass.new.seat ≡ pass.old.seat) × (pass.new.enters ≡ pass.old.enters) }
 {
     if sheet.fresh() {
-        return append(wait, alloc, sheet, copies, book, pass);
+        let (number, delta) = append(wait, alloc, sheet, copies, book, pass)?;
+        return Ok(Receipt {
+            number,
+            delta,
+            fresh: true,
+        });
     }
     let receipt = Receipt {
         number: sheet.report().version,
@@ -68,7 +72,8 @@ pub(crate) fn finish<L: DeskName, W: Wait + Drop, V: Wait>(
     Ok(receipt)
 }
 
-/// Publishes a fresh change and makes it, or gives it up where it can't be told.
+/// Publishes a fresh change and makes it, or gives it up where it can't be told. It answers the number of its delta in
+/// the history, and the delta.
 fn append<L: DeskName, W: Wait + Drop, V: Wait>(
     wait: &V,
     alloc: Global,
@@ -76,7 +81,7 @@ fn append<L: DeskName, W: Wait + Drop, V: Wait>(
     copies: &mut FaceWriter<L, W>,
     book: &mut Book<L>,
     pass: &mut Pass<L>,
-) -> Result<Receipt, Refusal>
+) -> Result<(u64, Arc<Delta>), Refusal>
     requires staged { is_some sheet.old.staged ≡ true }
     requires worked_out { IsWorkedOut (change_in sheet.old) }
     requires fresh { (change_in sheet.old).fresh ≡ true }
@@ -88,14 +93,15 @@ fn append<L: DeskName, W: Wait + Drop, V: Wait>(
         book.new.total }
     ensures all { pass.new.list ≡ copies.new.list }
     ensures published { OnOk result (IsNoted (change_in sheet.old) pass.old.seat pass.old.list pass.new.list) }
-    ensures receipt { IfOk result (λ r. (r.number ≡ (change_in sheet.old).report.version)
-        × (arc_value r.delta ≡ (change_in sheet.old).delta) × (r.fresh ≡ true)) }
+    ensures told { IfOk result (λ r. (r.0 ≡ (change_in sheet.old).report.version)
+        × (arc_value r.1 ≡ (change_in sheet.old).delta)) }
     ensures memory { IfErr result (λ e. e ≡ Memory) }
     ensures kept { OnErr result ((copies.new ≡ copies.old) × (pass.new ≡ pass.old)) }
     ensures counted { OnOk result (pass.new.appended ≡ pass.old.appended + 1) }
     ensures seat { (pass.new.seat ≡ pass.old.seat) × (pass.new.enters ≡ pass.old.enters) }
 {
-    match next_patch(alloc, sheet, pass.seat()) {
+    list(sheet);
+    match patch_of(alloc, sheet, pass.seat()) {
         Ok(patch) => {
             // for the fact that the pass has seen what it appended
             let _ = pass.appended();
@@ -104,31 +110,13 @@ fn append<L: DeskName, W: Wait + Drop, V: Wait>(
             pass.catch_up(wait, copies.front());
             pass.count(book);
             sheet.commit();
-            Ok(Receipt {
-                number,
-                delta,
-                fresh: true,
-            })
+            Ok((number, delta))
         }
         Err(refusal) => {
             sheet.cancel();
             Err(refusal)
         }
     }
-}
-
-/// The patch of the fresh change that is staged, made by the call of a seat. It may come next after the sheet's
-/// history. Refused only when out of memory.
-fn next_patch(alloc: Global, sheet: &mut Staging, seat: u64) -> Result<Patch, Refusal>
-    requires staged { is_some sheet.old.staged ≡ true }
-    requires fresh { (change_in sheet.old).fresh ≡ true }
-    ensures same { KeepsChange sheet.old sheet.new }
-    ensures patch { IfOk result (λ p. p ≡ note_of sheet.new seat) }
-    ensures follows { IfOk result (Follows sheet.old.history) }
-    ensures memory { IfErr result (λ e. e ≡ Memory) }
-{
-    list(sheet);
-    patch_of(alloc, sheet, seat)
 }
 
 /// Lists the cells that the staged change makes show another value.

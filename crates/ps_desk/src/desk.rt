@@ -10,7 +10,6 @@ ghost use Rattle.ps_delta.specs.State.{IsBelow};
 ghost use Rattle.ps_delta.specs.Deltas.{joined_history, state_of};
 ghost use Rattle.ps_sheet.specs.Edits.{delta_of_edit};
 ghost use Rattle.ps_sheet.specs.Own.{has_own};
-ghost use Rattle.ps_sheet.specs.Prepared.{IsDeltaOf, IsRefusedBy, IsToAppend};
 ghost use Rattle.ps_csv.specs.Exports.{entry_text, exported_entries, held_in};
 ghost use Rattle.ps_face.specs.declared.patch.Note.{Note};
 ghost use Rattle.ps_face.specs.Legal.{IsLegal, history_of};
@@ -123,7 +122,8 @@ impl<L: DeskName, W: Wait + Drop> Desk<L, W> {
         ensures uncounted { OnErr result (pass.new.appended ≡ pass.old.appended) }
         ensures seat { (pass.new.seat ≡ pass.old.seat) × (pass.new.enters ≡ pass.old.enters) }
     {
-        let receipt = self.change(rt, wait, alloc, pass, Change::Edit(edit), meter)?;
+        let mut state = self.state.lock(wait);
+        let receipt = state.make(rt, wait, alloc, pass, Change::Edit(edit), meter)?;
         // for the facts that it is a delta, and that an edit's delta is never below the state
         let _ = receipt.delta.parts();
         edits_are_fresh();
@@ -157,7 +157,8 @@ impl<L: DeskName, W: Wait + Drop> Desk<L, W> {
         ensures uncounted { OnErr result (pass.new.appended ≡ pass.old.appended) }
         ensures seat { (pass.new.seat ≡ pass.old.seat) × (pass.new.enters ≡ pass.old.enters) }
     {
-        self.change(rt, wait, alloc, pass, Change::Delta(delta), meter)
+        let mut state = self.state.lock(wait);
+        state.make(rt, wait, alloc, pass, Change::Delta(delta), meter)
     }
 
     /// The deltas of the history after the number `from`, in order, at most so many. The pass has then seen all that is
@@ -282,33 +283,5 @@ impl<L: DeskName, W: Wait + Drop> Desk<L, W> {
         let front = state.front();
         pass.catch_up(wait, front);
         state.entries(alloc, rect)
-    }
-
-    /// Makes a change under the lock.
-    fn change<R: Threads + Sync, V: Wait, M: Ledger>(
-        &self,
-        rt: &R,
-        wait: &V,
-        alloc: Global,
-        pass: &mut Pass<L>,
-        change: Change,
-        meter: &mut Meter<M>,
-    ) -> Result<Receipt, Refusal>
-        ensures later { IsPrefix pass.old.list pass.new.list }
-        ensures legal { IsLegal L.opening pass.new.list }
-        ensures receipt { IfOk result (IsReceipt (λ s d. IsDeltaOf L.replica s change d) L.opening pass.old.list
-            pass.new.list pass.old.seat) }
-        ensures refused { IfErr result (λ e. (e ≡ Memory)
-            ⊎ IsRefusedBy L.replica (joined_history (history_of L.opening pass.new.list)) change e) }
-        ensures asked { IfErr result (λ e. e ≡ Memory
-            → IsToAppend L.replica (joined_history (history_of L.opening pass.new.list)) change) }
-        ensures counted { IfOk result (λ r. pass.new.appended
-            ≡ pass.old.appended + (if r.fresh then 1 else 0)) }
-        ensures uncounted { OnErr result (pass.new.appended ≡ pass.old.appended) }
-        ensures seat { (pass.new.seat ≡ pass.old.seat) × (pass.new.enters ≡ pass.old.enters) }
-    {
-        self.state
-            .lock(wait)
-            .make(rt, wait, alloc, pass, change, meter)
     }
 }

@@ -31,15 +31,14 @@ pub(crate) fn patch_of(alloc: Global, sheet: &Staging, owner: u64) -> Result<Pat
 {
     let delta = sheet.delta().clone()?;
     let number = sheet.report().version;
-    let patch = patch_over(
+    patch_over(
         alloc,
         number,
         delta,
         sheet.changed(),
         sheet.all_shown(),
         owner,
-    )?;
-    Ok(patch)
+    )
 }
 
 /// The patch of a delta that makes these cells show what a table has. That of one cell takes no memory.

@@ -1,4 +1,4 @@
-use Rattle.std.proofs.Common.{◌≡◌, ◌++◌, ◌∷◌, [], List, ap, refl, sym, subst, ◌≤◌, ◌∙◌}
+use Rattle.std.proofs.Common.{◌≡◌, ◌++◌, ◌∷◌, [], List, ap, sym, subst, ◌≤◌, ◌∙◌}
 use Rattle.ps_shown.specs.Shown.{shown_at}
 use Rattle.ps_delta.specs.Deltas.{Entries}
 use Rattle.ps_sheet.specs.declared.sheet.Report.{Report}
@@ -19,11 +19,12 @@ use Rattle.ps_desk.proofs.change.append.Goals as goal
 -- the published list, with the patch of the change behind what was there
 pub publish_patch-delta-requires-clause-legal : goal.publish_patch-delta-requires-clause-legal
 publish_patch-delta-requires-clause-legal g c =
-    subst (λ (h : List Entries). Follows h c.in-Ok.patch) c.requires.under_lock.history c.in-Ok.ensures.follows
+    subst (λ (h : List Entries). Follows h c.in-Ok.patch) (c.list.ensures.same.history ∙ c.requires.under_lock.history)
+    c.in-Ok.ensures.follows
 
 pub count-requires-clause-room : goal.count-requires-clause-room
 count-requires-clause-room g c =
-    let keeps = c.next_patch.ensures.same in
+    let keeps = c.list.ensures.same in
     room_left g.L.DeskName.replica g.L.Named.opening c.args.sheet.now c.args.copies.now c.args.book.now.total
     c.requires.under_lock c.number-number.result c.requires.worked_out c.requires.fresh
     (c.number-number.ensures.number ∙ ap (λ (p : Note). p.number) c.in-Ok.ensures.patch
@@ -33,7 +34,7 @@ count-requires-clause-room g c =
 pub count-requires-clause-owned : goal.count-requires-clause-owned
 count-requires-clause-owned g c =
     let pass : PassView = c.args.pass.now in
-    let patch : Note = note_of c.next_patch.new.sheet c.seat.result in
+    let patch : Note = note_of c.list.new.sheet c.seat.result in
     let published : c.front.result.now.list ≡ pass.list ++ patch ∷ [] =
     ap (λ (t : Told). t.list) c.front.ensures.front ∙ ap (λ (p : Published). p.list) c.publish_patch-delta.ensures.list
     ∙ (λ i. sym c.requires.seen i ++ c.in-Ok.ensures.patch i ∷ []) in
@@ -42,7 +43,7 @@ count-requires-clause-owned g c =
 
 pub returns-in-Ok-clause-under_lock : goal.returns-in-Ok-clause-under_lock
 returns-in-Ok-clause-under_lock g c =
-    let y : StagingView = c.next_patch.new.sheet in
+    let y : StagingView = c.list.new.sheet in
     let new : StagingView = c.commit.new.self in
     let of = at_staged (λ (p : StagedView). IsOf (sheet_of new) y.replica (history_after (prepared_of y p))
     (shown_at y.shown)) y.staged
@@ -53,12 +54,12 @@ returns-in-Ok-clause-under_lock g c =
     }) in
     appended_locked g.L.DeskName.replica g.L.Named.opening c.args.sheet.now c.args.copies.now c.args.book.now.total
     c.requires.under_lock y (sheet_of new) (shown_at y.shown) c.publish_patch-delta.new.self c.count.new.book.total
-    c.seat.result c.next_patch.ensures.same c.requires.fresh of published c.count.ensures.book
+    c.seat.result c.list.ensures.same c.requires.fresh of published c.count.ensures.book
 
 pub returns-in-Ok-clause-published : goal.returns-in-Ok-clause-published
 returns-in-Ok-clause-published g c =
-    let keeps = c.next_patch.ensures.same in
-    let patch : Note = note_of c.next_patch.new.sheet c.seat.result in
+    let keeps = c.list.ensures.same in
+    let patch : Note = note_of c.list.new.sheet c.seat.result in
     record {
       patch = patch;
       last = ap (λ (q : PassView). q.list) c.count.ensures.pass ∙ ap (λ (q : PassView). q.list) c.catch_up.ensures.pass
@@ -72,19 +73,18 @@ returns-in-Ok-clause-published g c =
 
 pub returns-in-Err-clause-under_lock : goal.returns-in-Err-clause-under_lock
 returns-in-Err-clause-under_lock g c =
-    let y : StagingView = c.next_patch.new.sheet in
+    let y : StagingView = c.list.new.sheet in
     let new : StagingView = c.cancel.new.self in
-    let keeps = c.next_patch.ensures.same in
+    let keeps = c.list.ensures.same in
     let of = at_staged (λ (p : StagedView). IsOf (sheet_of new) y.replica y.history
     (shown_before (prepared_of y p))) y.staged c.cancel.ensures.of in
     same_locked g.L.DeskName.replica g.L.Named.opening c.args.sheet.now c.args.copies.now c.args.book.now.total
     c.requires.under_lock new.replica new.history (of.replica ∙ keeps.replica) (of.history ∙ keeps.history)
 
-pub returns-in-Ok-clause-receipt : goal.returns-in-Ok-clause-receipt
-returns-in-Ok-clause-receipt g c =
-    let keeps = c.next_patch.ensures.same in (
+pub returns-in-Ok-clause-told : goal.returns-in-Ok-clause-told
+returns-in-Ok-clause-told g c =
+    let keeps = c.list.ensures.same in (
       c.number-number.ensures.number ∙ ap (λ (p : Note). p.number) c.in-Ok.ensures.patch
           ∙ ap (λ (r : Report). r.version) keeps.report,
       c.publish_patch-delta.ensures.delta ∙ ap (λ (p : Note). p.delta) c.in-Ok.ensures.patch ∙ keeps.delta,
-      refl,
     )

@@ -8,7 +8,7 @@ use Rattle.ps_face.specs.Legal.{history_of}
 use Rattle.ps_desk.specs.Patches.{change_in}
 use Rattle.ps_desk.proofs.Locked.{same_locked}
 use Rattle.ps_desk.proofs.Noted.{at_staged, worked_out}
-use Rattle.ps_desk.proofs.Receipted.{history_kept, later_either, refused_fresh, tells_if_fresh, tells_included}
+use Rattle.ps_desk.proofs.Receipted.{history_kept, tells_included}
 use Rattle.ps_desk.proofs.change.finish.Goals as goal
 
 pub append-requires-clause-fresh : goal.append-requires-clause-fresh
@@ -17,26 +17,6 @@ append-requires-clause-fresh g c =
 
 pub append-requires-clause-worked_out : goal.append-requires-clause-worked_out
 append-requires-clause-worked_out g c = worked_out c.args.sheet.now c.requires.staged c.fresh.ensures.staging
-
-pub returns-then-fresh-clause-later : goal.returns-then-fresh-clause-later
-returns-then-fresh-clause-later g c =
-    later_either _ (change_in c.args.sheet.now) c.args.pass.now.seat c.append.result c.args.pass.now c.append.new.pass
-    c.append.ensures.published c.append.ensures.kept
-
-pub returns-then-fresh-clause-receipt : goal.returns-then-fresh-clause-receipt
-returns-then-fresh-clause-receipt g c =
-    let x : StagingView = c.args.sheet.now in
-    tells_if_fresh g.L.Named.opening (change_in x) c.append.result c.args.pass.now.list c.append.new.pass.list
-    c.args.pass.now.seat (worked_out x c.requires.staged c.fresh.ensures.staging)
-    (sym (at_staged (λ (p : StagedView). c.fresh.result ≡ p.fresh) x.staged c.fresh.ensures.fresh) ∙ c.if-fresh.true)
-    (c.requires.under_lock.history ∙ ap (history_of g.L.Named.opening) (sym c.requires.seen))
-    c.append.ensures.published c.append.ensures.receipt
-
-pub returns-then-fresh-clause-asked : goal.returns-then-fresh-clause-asked
-returns-then-fresh-clause-asked g c =
-    let x : StagingView = c.args.sheet.now in
-    refused_fresh c.append.result (change_in x) (worked_out x c.requires.staged c.fresh.ensures.staging)
-    (sym (at_staged (λ (p : StagedView). c.fresh.result ≡ p.fresh) x.staged c.fresh.ensures.fresh) ∙ c.if-fresh.true)
 
 pub returns-clause-under_lock : goal.returns-clause-under_lock
 returns-clause-under_lock g c =
