@@ -1,7 +1,7 @@
 -- What a receipt tells stays told of a list that was seen earlier.
-use Rattle.std.proofs.Common.{◌≡◌, ℕ, ◌+◌, Bool, true, false, List, [], ◌∷◌, ◌++◌, length, refl, sym, ap, ◌∙◌}
-use Rattle.std.proofs.Common.{subst, length-append, Result, Ok, Err, ⊎_elim}
-use Rattle.std.specs.Prelude.{MatchBool, IfOk, OnErr, OnOk, if◌then◌else◌}
+use Rattle.std.proofs.Common.{◌≡◌, ℕ, Bool, true, false, List, [], ◌∷◌, ◌++◌, length, sym, ap, ◌∙◌}
+use Rattle.std.proofs.Common.{subst, Result, Ok, Err, ⊎_elim}
+use Rattle.std.specs.Prelude.{MatchBool, IfOk, if◌then◌else◌}
 use Rattle.std.specs.Arc.{arc_value}
 use mathlib.Core.List.{IsPrefix}
 use Rattle.ps_grid.specs.declared.refusal.Refusal.{Refusal}
@@ -12,11 +12,9 @@ use Rattle.ps_sheet.specs.Prepared.{IsDeltaOf, PreparedView, history_after}
 use Rattle.ps_sheet.specs.Staging.{IsWorkedOut}
 use Rattle.ps_face.specs.declared.patch.Note.{Note}
 use Rattle.ps_face.specs.Legal.{history_of}
-use Rattle.ps_face.proofs.Beginnings.{begins_itself, begins_trans}
-use Rattle.ps_face.proofs.Noted.{after_fresh}
+use Rattle.ps_face.proofs.Beginnings.{begins_trans}
 use Rattle.ps_desk.specs.declared.receipt.Receipt.{Receipt}
 use Rattle.ps_desk.specs.Passes.{PassView}
-use Rattle.ps_desk.specs.Patches.{IsNoted}
 use Rattle.ps_desk.specs.Receipts.{IsAppended, IsIncluded, IsReceipt}
 
 on_both : (b : Bool) (P Q R S : Type 0) → (P → R) → (Q → S) → MatchBool b P Q → MatchBool b R S

@@ -5,12 +5,11 @@ use Rattle.ps_sheet.specs.declared.sheet.Report.{Report}
 use Rattle.ps_sheet.specs.Prepared.{IsOf, history_after, shown_before}
 use Rattle.ps_sheet.specs.Staging.{StagedView, StagingView, prepared_of, sheet_of}
 use Rattle.ps_face.specs.declared.patch.Note.{Note}
-use Rattle.ps_face.specs.Legal.{Follows, history_of}
+use Rattle.ps_face.specs.Legal.{Follows}
 use Rattle.ps_face.specs.Published.{Published}
 use Rattle.ps_face.specs.Seen.{Told}
 use Rattle.ps_desk.specs.Patches.{note_of}
 use Rattle.ps_desk.specs.Passes.{PassView, owned_by}
-use Rattle.ps_desk.specs.UnderLock.{IsUnderLock}
 use Rattle.ps_desk.proofs.Locked.{appended_locked, room_left, same_locked}
 use Rattle.ps_desk.proofs.Noted.{at_staged}
 use Rattle.ps_desk.proofs.Owners.{owned_next}
