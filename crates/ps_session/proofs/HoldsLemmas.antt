@@ -6,7 +6,10 @@ use Rattle.ps_device.specs.Device.{Sends}
 use Rattle.ps_session.specs.declared.line_reader.TheConstants.{LINE_LIMIT}
 use Rattle.ps_session.specs.Feeding.{kept, without_return}
 use Rattle.ps_session.specs.Transcript.{Answering, Handles, Replies, has_reply, is_filled}
-use Rattle.ps_session.specs.Inside.Holds.{Replied, as_one}
+use Rattle.ps_session.specs.Boards.{BoardAnswers, Calls, Obeyed}
+use Rattle.ps_session.specs.Commands.{Read, ReadsLine}
+use Rattle.ps_session.specs.Inside.Holds.{Replied, Tells, as_one}
+use Rattle.ps_session.specs.declared.command.Command.{Command}
 
 pub fits_kept : (raw line : List ℕ) → kept raw ≡ Some line → (nat_le (length raw) LINE_LIMIT ≡ true) × (raw ≡ line)
 fits_kept raw line is = go (nat_le (length raw) LINE_LIMIT) refl is
@@ -70,3 +73,11 @@ replied_line Answers old new (b ∷ bs) reply contents after answered counted (O
     (reply, answers, sent, counts)
 replied_line Answers old new (b ∷ bs) reply contents after answered counted (Err e) some answers sent counts =
     (reply, sent.0, answers, sent.1, sent.2)
+
+-- what a line asks for was done, and its reply told
+pub told_by : {State E : Type 0} (calls : Calls State) (old new : State) (line reply : List ℕ) (asked : Read Command)
+    (contents after : Option (List ℕ)) (result : Result (Unit {0}) E) → ReadsLine line asked
+    → Obeyed calls old asked reply new → Sends contents after result reply
+    → Tells (λ o t w. BoardAnswers calls o line t w) old new contents after result
+told_by calls old new line reply asked contents after result reads obeyed sent =
+    (reply, record { asked = asked; reads = reads; obeyed = obeyed }, sent)

@@ -102,6 +102,8 @@ fn read_alone(verb: Verb) -> Result<Command, Refusal>
 }
 
 /// What a verb asks for, by all that stands after its space.
+///
+/// It is inlined, and what is asked for most is read in it; all other verbs take a call.
 #[inline(always)]
 fn read_rest(alloc: Global, verb: Verb, rest: &[u8]) -> Result<Command, Refusal>
     ensures { ReadsVerb (Some verb) (words rest.now) rest.now result }
@@ -109,6 +111,17 @@ fn read_rest(alloc: Global, verb: Verb, rest: &[u8]) -> Result<Command, Refusal>
     match verb {
         Verb::Get => Ok(Command::Get(read_one_cell(rest)?)),
         Verb::Set => read_set(alloc, rest),
+        other => read_other(alloc, other, rest),
+    }
+}
+
+/// What another verb than `get` and `set` asks for, by all that stands after its space.
+fn read_other(alloc: Global, verb: Verb, rest: &[u8]) -> Result<Command, Refusal>
+    requires other { (verb ≢ Verb.Get) × (verb ≢ Verb.Set) }
+    ensures { ReadsVerb (Some verb) (words rest.now) rest.now result }
+{
+    match verb {
+        Verb::Get | Verb::Set => unreachable!(),
         Verb::Add => {
             let (cell, amount) = read_change(rest, Refusal::Amount)?;
             Ok(Command::Edit(Edit::Add(cell, amount)))

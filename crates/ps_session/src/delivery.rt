@@ -55,6 +55,7 @@ impl<K: Sink> Delivery<K> for AtOnce {
 
     ghost holds_back = { ⊥ };
 
+    #[inline(always)]
     fn put_reply(reply: &Reply, sink: &mut K) -> Result<(), Failed> {
         send(reply, sink)
     }

@@ -46,6 +46,7 @@ mod shared;
 mod sheet_board;
 mod sheet_session;
 mod syncing;
+mod telling;
 mod transcript;
 mod verb;
 mod watcher;

@@ -1,67 +1,108 @@
 //! Obeys a line, whatever the board.
-ghost use Rattle.std.specs.Prelude.{List, Ok, map, max};
+ghost use Rattle.std.specs.Prelude.{◌≡◌, ◌<◌, ◌+◌, ◌-◌, ◌^◌, List, Ok, OnErr, OnOk, map, max, min};
 ghost use Rattle.std.specs.Arc.{arc_value};
+ghost use Rattle.ps_device.specs.Device.{HoldsBack};
 ghost use Rattle.ps_delta.specs.Deltas.{Entries};
 ghost use Rattle.ps_session.specs.Boards.{BoardAnswers, HandsOn, Obeyed, TellsAnswer};
 ghost use Rattle.ps_session.specs.Commands.{Read};
-ghost use Rattle.ps_session.specs.Replies.{done_text, entries_reply, reply_text, rows_text};
+ghost use Rattle.ps_session.specs.Inside.Holds.{Tells};
+ghost use Rattle.ps_session.specs.Replies.{done_text, entries_reply, entry_reply, reply_text, rows_text};
 
 use crate::board::Board;
 use crate::command::Command;
+use crate::delivery::Delivery;
 use crate::group::greatest_group;
 use crate::reply::Reply;
+use crate::resources::Resources;
+use crate::telling::{refuse, tell, tell_other};
+use crate::watcher::Watcher;
 use ps_delta::Delta;
-use ps_grid::Rect;
+use ps_device::Failed;
+use ps_grid::{Cell, Rect};
 use std::alloc::Global;
 use std::sync::Arc;
 use std::thread::Threads;
 
-/// Reads a line that isn't empty as a command, and obeys it; another line is refused, and nothing is changed.
+/// Reads a line that isn't empty as a command, obeys it, and tells and counts the reply; another line is refused, and
+/// nothing is changed.
 #[inline(always)]
-pub(crate) fn answer<R: Threads + Sync, B: Board<M>, M>(
-    rt: &R,
-    alloc: Global,
+pub(crate) fn answer<R: Threads + Sync, B: Board<M>, M, W: Watcher, K, D: Delivery<K>>(
+    resources: Resources<'_, R>,
     line: &[u8],
+    answered: &mut u64,
     board: &mut B,
     meter: &mut M,
-) -> Reply
-    ensures answered { BoardAnswers B.calls board.old line.now (reply_text result) board.new }
+    watcher: &mut W,
+    sink: &mut K,
+) -> Result<(), Failed>
+    ensures told { Tells (λ old reply new. BoardAnswers B.calls old line.now reply new) board.old board.new
+        (D.contents sink.old) (D.contents sink.new) result }
+    ensures counted { OnOk result (answered.new ≡ min (answered.old + 1) (2 ^ 64 - 1)) }
+    ensures calm { OnOk result (D.failures sink.new ≡ D.failures sink.old) }
+    ensures failed { OnErr result (D.failures sink.old < D.failures sink.new) }
+    ensures held { D.holds_back → HoldsBack (D.contents sink.old) (D.contents sink.new)
+        (D.waiting sink.old) (D.waiting sink.new) }
 {
-    match Command::read(alloc, line) {
-        Ok(command) => obey(rt, alloc, command, board, meter),
-        Err(refusal) => Reply::Refused(refusal),
+    match Command::read(resources.alloc, line) {
+        Ok(command) => obey::<R, B, M, W, K, D>(
+            resources, line, command, answered, board, meter, watcher, sink,
+        ),
+        Err(refusal) => refuse::<W, K, D>(line, refusal, answered, watcher, sink),
     }
 }
 
-/// Does what a command asks for, by the board's calls.
+/// Does what a line's command asks for by the board's calls, and tells and counts the reply.
 #[inline(always)]
-fn obey<R: Threads + Sync, B: Board<M>, M>(
-    rt: &R,
-    alloc: Global,
+fn obey<R: Threads + Sync, B: Board<M>, M, W: Watcher, K, D: Delivery<K>>(
+    resources: Resources<'_, R>,
+    line: &[u8],
     command: Command,
+    answered: &mut u64,
     board: &mut B,
     meter: &mut M,
-) -> Reply
-    ensures obeyed { Obeyed B.calls board.old (Ok command) (reply_text result) board.new }
+    watcher: &mut W,
+    sink: &mut K,
+) -> Result<(), Failed>
+    ensures told { Tells (λ old reply new. Obeyed B.calls old (Ok command) reply new) board.old board.new
+        (D.contents sink.old) (D.contents sink.new) result }
+    ensures counted { OnOk result (answered.new ≡ min (answered.old + 1) (2 ^ 64 - 1)) }
+    ensures calm { OnOk result (D.failures sink.new ≡ D.failures sink.old) }
+    ensures failed { OnErr result (D.failures sink.old < D.failures sink.new) }
+    ensures held { D.holds_back → HoldsBack (D.contents sink.old) (D.contents sink.new)
+        (D.waiting sink.old) (D.waiting sink.new) }
 {
-    match command {
-        Command::Edit(edit) => match board.apply_edit(rt, alloc, edit, meter) {
-            Ok(number) => Reply::Done(number),
-            Err(refusal) => Reply::Refused(refusal),
-        },
-        Command::Get(cell) => match board.value(cell) {
-            Ok(value) => Reply::Shown(value),
-            Err(refusal) => Reply::Refused(refusal),
-        },
+    let Resources { threads, alloc } = resources;
+    // an edit and a look at a cell are told at once; for any other reply there is a place in memory
+    let other = match command {
+        Command::Edit(edit) => {
+            return match board.apply_edit(threads, alloc, edit, meter) {
+                Ok(number) => tell::<W, K, D>(line, Reply::Done(number), answered, watcher, sink),
+                Err(refusal) => refuse::<W, K, D>(line, refusal, answered, watcher, sink),
+            };
+        }
+        Command::Get(cell) => {
+            return match board.value(cell) {
+                Ok(value) => tell::<W, K, D>(line, Reply::Shown(value), answered, watcher, sink),
+                Err(refusal) => refuse::<W, K, D>(line, refusal, answered, watcher, sink),
+            };
+        }
         Command::Rows(first, last) => show_table(alloc, Rect::new(first, last), board),
-        Command::Entry(cell) => match board.entry(alloc, cell) {
-            Ok(entry) => Reply::Entry(entry),
-            Err(refusal) => Reply::Refused(refusal),
-        },
+        Command::Entry(cell) => tell_entry(alloc, cell, board),
         Command::Entries(first, last) => list_entries(alloc, Rect::new(first, last), board),
         Command::Pull { from, most } => hand_out(alloc, from, most.unwrap_or(1) as usize, board),
-        Command::Push(delta) => take_in(rt, alloc, delta.owner(), board, meter),
+        Command::Push(delta) => take_in(threads, alloc, delta.owner(), board, meter),
         Command::Replica(_) => Reply::Replica(board.replica()),
+    };
+    tell_other::<W, K, D>(line, other, answered, watcher, sink)
+}
+
+/// What a cell holds.
+fn tell_entry<B: Board<M>, M>(alloc: Global, cell: Cell, board: &mut B) -> Reply
+    ensures { TellsAnswer (λ answer. B.calls.holds board.old cell answer board.new) entry_reply (reply_text result) }
+{
+    match board.entry(alloc, cell) {
+        Ok(entry) => Reply::Entry(entry),
+        Err(refusal) => Reply::Refused(refusal),
     }
 }
 

@@ -9,7 +9,7 @@ ghost use Rattle.ps_device.specs.Device.{HoldsBack, Sends};
 ghost use Rattle.ps_session.specs.Transcript.{Answered, Cut, Replies, Run, Stopped, Transcribed};
 ghost use Rattle.ps_session.specs.Transcript.{has_reply, is_filled, with_last};
 ghost use Rattle.ps_session.specs.Boards.{BoardAnswers, BoardLines};
-ghost use Rattle.ps_session.specs.Replies.{refusal_text, reply_text};
+ghost use Rattle.ps_session.specs.Replies.{refusal_text};
 ghost use Rattle.ps_session.specs.Inside.Stands.{CutsShort, GoesOn, Stands};
 ghost use Rattle.ps_session.specs.Feeding.{kept, without_return};
 ghost use Rattle.ps_session.specs.HeldOutputs.{held_contents, held_failures, held_waiting};
@@ -24,8 +24,8 @@ use crate::keeper::{Keeper, Unkept};
 use crate::line_reader::{Line, Session, trimmed};
 use crate::obey::answer;
 use crate::reading::converse;
-use crate::reply::Reply;
 use crate::resources::Resources;
+use crate::telling::refuse;
 use crate::watcher::{Outcome, Unwatched, Watcher};
 use ps_device::{Failed, PIECE_BYTES, Sink, Source};
 use ps_grid::Refusal;
@@ -65,16 +65,11 @@ fn answer_line<R: Threads + Sync, B: Board<M>, M, W: Watcher, K, D: Delivery<K>>
     let count = *answered;
     if line.is_empty() {
         watcher.saw(line, Outcome::Answered);
+        // it has no reply that counts
+        *answered = count;
         return Ok(());
     }
-    let reply = answer(resources.threads, resources.alloc, line, board, meter);
-    watcher.saw(line, reply.outcome());
-    match D::put_reply(&reply, sink) {
-        Ok(()) => {}
-        Err(failed) => return Err(failed),
-    }
-    *answered = count.saturating_add(1);
-    Ok(())
+    answer::<R, B, M, W, K, D>(resources, line, answered, board, meter, watcher, sink)
 }
 
 impl<R: Threads + Sync> Conversation<'_, R> {
@@ -121,11 +116,7 @@ impl<R: Threads + Sync> Conversation<'_, R> {
             (D.waiting sink.old) (D.waiting sink.new) }
         ensures session { self.new.session ≡ self.old.session }
     {
-        let count = self.answered;
-        watcher.saw(b"", Outcome::Refused(Refusal::Line));
-        D::put_reply(&Reply::Refused(Refusal::Line), sink)?;
-        self.answered = count.saturating_add(1);
-        Ok(())
+        refuse::<W, K, D>(b"", Refusal::Line, &mut self.answered, watcher, sink)
     }
 
     /// Answers a line that has ended.

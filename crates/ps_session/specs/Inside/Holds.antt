@@ -2,6 +2,7 @@
 use Rattle.std.specs.Prelude.{◌≡◌, ◌+◌, ◌-◌, ◌<◌, ◌^◌, ℕ, Bool, List, [], Option, Some, None, Result, MatchResult}
 use Rattle.std.specs.Prelude.{length, take, min, if◌then◌else◌}
 use Rattle.std.specs.Io.KnownBytes.{Appends}
+use Rattle.ps_device.specs.Device.{Sends}
 use Rattle.ps_session.specs.Feeding.{Reading, kept}
 use Rattle.ps_session.specs.declared.line_reader.Line.{Line}
 use Rattle.ps_session.specs.declared.line_reader.Line.TheVariants as lines
@@ -14,6 +15,12 @@ abbrev pub Holds : Line → Reading → List ℕ → Type 0
 Holds lines.None session raw = ⊥
 Holds lines.Full session raw = kept raw ≡ Some session.line
 Holds lines.TooLong session raw = kept raw ≡ None
+
+-- something was answered, and the reply was sent, or cut
+abbrev pub Tells : {State E : Type 0} → (State → List ℕ → State → Type 0) → State → State → Option (List ℕ)
+    → Option (List ℕ) → Result (Unit {0}) E → Type 0
+Tells Answers old new contents after result =
+    (reply : List ℕ) × Answers old reply new × Sends contents after result reply
 
 -- something was answered, or its reply was cut: the reply counts as `replies`
 abbrev pub Replied : {State E : Type 0} → (State → List ℕ → State → Type 0) → State → State → ℕ → Option (List ℕ)
