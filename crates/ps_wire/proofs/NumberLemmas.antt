@@ -12,10 +12,12 @@ no_unsigned : (b : Bool) (x : Num) (k : ℕ) → (x ≡ unsigned k → ⊥) → 
 no_unsigned true x k other e = other cc
 no_unsigned false x k other e = cc
 
-no_float : (p : Parts) (sign : Bool) (k : ℕ) → float_of sign p ≡ Some (unsigned k) → ⊥
+-- what is kept as a float isn't a number without a sign
+pub no_float : (p : Parts) (sign : Bool) (k : ℕ) → float_of sign p ≡ Some (unsigned k) → ⊥
 no_float p sign k e = no_unsigned _ _ k (λ (f : _). cc) e
 
-negative_refused : (p : Parts) (k : ℕ) (b : Bool) (z : ℤ) → cond b (Some (negative z)) (float_of true p)
+-- .. nor is what has a minus
+pub negative_refused : (p : Parts) (k : ℕ) (b : Bool) (z : ℤ) → cond b (Some (negative z)) (float_of true p)
     ≡ Some (unsigned k)
     → ⊥
 negative_refused p k true z e = cc
@@ -26,7 +28,7 @@ pub minus_refused : (s : List ℕ) → (slice_index s 0 == 45) ≡ true → (k :
 unfolding number_of
 minus_refused s minus k e = negative_refused (scan (drop 1 s)) k _ _ (rw minus at e)
 
-not_true : (b : Bool) → not b ≡ true → b ≡ false
+pub not_true : (b : Bool) → not b ≡ true → b ≡ false
 not_true true h = absurd cc
 not_true false h = refl
 

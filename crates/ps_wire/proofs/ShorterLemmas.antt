@@ -1,5 +1,5 @@
 -- The compact text of what was read is no longer than what was read.
-use Rattle.std.proofs.Common.{◌≡◌, ℕ, ℤ, suc, ◌+◌, ◌-◌, ◌^◌, ◌<◌, ◌≤◌, Bool, true, false, cond, ◌&&◌, ◌==◌}
+use Rattle.std.proofs.Common.{◌≡◌, ℕ, suc, ◌+◌, ◌-◌, ◌^◌, ◌<◌, ◌≤◌, Bool, true, false, cond, ◌&&◌, ◌==◌}
 use Rattle.std.proofs.Common.{not, nat_lt}
 use Rattle.std.proofs.Common.{List, [], ◌∷◌, ◌++◌, length, take, drop, map, decimal, Option, Some, None, refl}
 use Rattle.std.proofs.Common.{sym, ap, subst}
@@ -34,6 +34,7 @@ use Rattle.ps_wire.specs.Value.{register_value, count_value, pair_value, cell_va
 use Rattle.ps_wire.proofs.CostLemmas.{span_of, spans_of, HasNoObject, HaveNoObject, ValuePays, value_pays}
 use Rattle.ps_wire.proofs.CostLemmas.{punctuated}
 use Rattle.ps_wire.proofs.LexLemmas.{lexed}
+use Rattle.ps_wire.proofs.NumberLemmas.{negative_refused, no_float, not_true}
 
 -- ---- numbers
 
@@ -65,17 +66,6 @@ no_fraction : (s : List ℕ) → (scan_numeral s).point ≡ false → (scan_nume
 unfolding scan_numeral
 no_fraction s e = rw e refl
 
-not_true : (b : Bool) → not b ≡ true → b ≡ false
-not_true true h = absurd cc
-not_true false h = refl
-
-no_unsigned : (b : Bool) (x : Num) (k : ℕ) → (x ≡ unsigned k → ⊥) → cond b (Some x) None ≡ Some (unsigned k) → ⊥
-no_unsigned true x k other e = other cc
-no_unsigned false x k other e = cc
-
-no_float : (x : _) (k : ℕ) → float x ≡ unsigned k → ⊥
-no_float x k e = cc
-
 -- the decimal of a number is no longer than the digits that were read for it
 unsigned_short : (p : Parts) (k : ℕ) → AllDigits 10 p.whole → (p.point ≡ false → p.fraction ≡ [])
     → (b : Bool) → (is_integer p && nat_lt (digits_value 10 (p.whole ++ p.fraction)) (2 ^ 64)) ≡ b
@@ -92,12 +82,7 @@ unsigned_short p k digits alone true h e =
     length-decimal-le (length p.whole) k (ltb-true 0 (length p.whole) start.0)
     (subst (λ n. n < 10 ^ length p.whole) value (digits_value-lt 10 p.whole digits))
     (subst (λ n. n < 2 ^ 64) (ap (λ t. digits_value 10 t) text ∙ value) small)
-unsigned_short p k digits alone false h e = absurd (no_unsigned _ _ k (no_float _ k) e)
-
-signed_no_unsigned : (p : Parts) (k : ℕ) (b : Bool) (z : ℤ)
-    → cond b (Some (negative z)) (float_of true p) ≡ Some (unsigned k) → ⊥
-signed_no_unsigned p k true z e = cc
-signed_no_unsigned p k false z e = no_unsigned _ _ k (no_float _ k) e
+unsigned_short p k digits alone false h e = absurd (no_float p false k e)
 
 decimal_short : (s : List ℕ) (k : ℕ) → number_of s ≡ Some (unsigned k) → length (decimal k) ≤ length s
 unfolding number_of
@@ -105,7 +90,7 @@ decimal_short s k e = by_sign (slice_index s 0 == 45) e
   where
     by_sign : (b : Bool) → cond b (number_from true (scan_numeral (drop 1 s))) (number_from false (scan_numeral s))
         ≡ Some (unsigned k) → length (decimal k) ≤ length s
-    by_sign true f = absurd (signed_no_unsigned (scan_numeral (drop 1 s)) k _ _ f)
+    by_sign true f = absurd (negative_refused (scan_numeral (drop 1 s)) k _ _ f)
     by_sign false f =
         let whole = whole_digits s in
         omega (arith, whole.1, unsigned_short (scan_numeral s) k whole.0 (no_fraction s) _ refl f)
