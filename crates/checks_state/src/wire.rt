@@ -2,7 +2,7 @@
 
 use ps_delta::Delta;
 use ps_grid::Refusal;
-use ps_wire::{DELTA_LINE_LIMIT, decode, encode, fits_line, outgrows_line};
+use ps_wire::{DELTA_LINE_LIMIT, Decoder, decode, encode, fits_line, outgrows_line};
 use serde_json::Value;
 use std::alloc::Global;
 use std::process::Abort;
@@ -111,6 +111,67 @@ fn other_spellings_are_written_compactly(rt: HostRuntime) -> Result<(), Refusal>
     let spaced = br#"[ ["A1", [1,2,"\u0035"], [], []] ]"#;
     let compact = br#"[["A1",[1,2,"5"],[],[]]]"#;
     assert!(rt; is_rewritten(rt.alloc(), spaced, compact)?);
+    Ok(())
+}
+
+/// Texts that are lines, and texts that aren't, though some of them are JSON.
+const IN_TURN: [(&str, bool); 18] = [
+    (r#"[["A1",[1,2,"'a\u0062\"c"],[],[]]]"#, true),
+    (r#"[["A1",[1,2,"5"],[],[]]"#, false),
+    (r#" [ ["\u00411" , [1,2,"5"],[ ],[]] ] "#, true),
+    (r#"[["A1",[1.0,2,"5"],[],[]]]"#, false),
+    (r#"[["A1",[1,2,"'\ud800"],[],[]]]"#, false),
+    (r#"[["A1",[1,2,"@tally"],[[1,5,0],[2,0,7]],[]]]"#, true),
+    (r#"[["A1",[-0,2,"5"],[],[]]]"#, false),
+    (r#"[["A1",[1e3,2,"5"],[],[]]]"#, false),
+    (
+        r#"[["A1",null,[],[[7,1,1,1],[7,2,1,0]]],["B1",[2,2,"=-[.A1]"],[],[]]]"#,
+        true,
+    ),
+    (r#"[[[[["A1"]]]]]"#, false),
+    (r#"[{"A1":[1,2,"5"]},[],[]]"#, false),
+    (r#"[["A1",[1,2,"5"],[],[]],["A1",[1,2,"5"],[],[]]]"#, false),
+    (r#"[["A1",[1,2,"5"],[],[]]]"#, true),
+    (r#"[["A1",[1,2,"5"],[],[]]] 1"#, false),
+    (r#"[["A1",[1,2,"5"],[],[],[]]]"#, false),
+    (r#"[["A1",[1,2,"5",6],[],[]]]"#, false),
+    ("", false),
+    (
+        r#"[["CZ1024",[9007199254740991,2,"'\ud83d\ude00"],[],[]]]"#,
+        true,
+    ),
+];
+
+/// Whether the decoder reads the text as a line, if it is one, and then as the delta whose text serde_json writes for
+/// the value that it reads there.
+fn is_read(
+    alloc: Global,
+    decoder: &mut Decoder,
+    text: &[u8],
+    is_line: bool,
+) -> Result<bool, Refusal> {
+    match decoder.decode(alloc, text) {
+        Ok(delta) => {
+            let mut line = Vec::new(alloc);
+            encode(alloc, &delta, &mut line)?;
+            let other = written_by_serde_json(alloc, text)?;
+            Ok(is_line && line.as_slice() == other.as_slice())
+        }
+        Err(Refusal::Delta) => Ok(!is_line),
+        Err(refusal) => Err(refusal),
+    }
+}
+
+/// One decoder reads each text as if there had been none before.
+#[test]
+fn one_decoder_reads_texts_in_turn(rt: HostRuntime) -> Result<(), Refusal> {
+    let mut decoder = Decoder::new(rt.alloc());
+    for (text, is_line) in IN_TURN {
+        assert!(rt;
+            is_read(rt.alloc(), &mut decoder, text.as_bytes(), is_line)?,
+            "{text}"
+        );
+    }
     Ok(())
 }
 
