@@ -16,7 +16,7 @@ use ps_delta::Grid;
 use ps_device::{PIECE_BYTES, Source};
 use ps_grid::Refusal;
 use ps_session::{Line, Session, pushed, told_replica};
-use ps_wire::decode;
+use ps_wire::Decoder;
 use std::alloc::Global;
 
 /// Lines that are being taken in: the one that is being read, and what all before it say together.
@@ -24,6 +24,8 @@ use std::alloc::Global;
 struct Intake {
     /// What memory is taken from.
     alloc: Global,
+    /// What reads the deltas of the lines.
+    decoder: Decoder,
     /// The line that is being read.
     session: Session,
     /// Whose the lines are, where the first one told it.
@@ -45,7 +47,12 @@ fn delta_part(line: &[u8]) -> &[u8]
 }
 
 /// Joins what a line says into the state. Refused as `Delta` where it isn't empty and no delta's line, and as `Memory`.
-fn join_line(alloc: Global, line: &[u8], state: &mut Grid) -> Result<(), Refusal>
+fn join_line(
+    alloc: Global,
+    decoder: &mut Decoder,
+    line: &[u8],
+    state: &mut Grid,
+) -> Result<(), Refusal>
     ensures joined { OnOk result ((deltas : List Entries) × Says line.now deltas
         × (state_at state.new ≡ joined_state (state_at state.old) (joined_history deltas))) }
     ensures faulty { result ≡ Err refusals.Delta → (deltas : List Entries) → ¬ Says line.now deltas }
@@ -54,13 +61,18 @@ fn join_line(alloc: Global, line: &[u8], state: &mut Grid) -> Result<(), Refusal
     if line.is_empty() {
         return Ok(());
     }
-    let delta = decode(alloc, delta_part(line))?;
+    let delta = decoder.decode(alloc, delta_part(line))?;
     state.join(alloc, &delta)?;
     Ok(())
 }
 
 /// Joins what the first line says into the state, or answers with the replica that it tells. Refused as any other line.
-fn join_first(alloc: Global, line: &[u8], state: &mut Grid) -> Result<Option<u8>, Refusal>
+fn join_first(
+    alloc: Global,
+    decoder: &mut Decoder,
+    line: &[u8],
+    state: &mut Grid,
+) -> Result<Option<u8>, Refusal>
     ensures joined { IfOk result (λ told. (deltas : List Entries) × FirstSays line.now told deltas
         × (state_at state.new ≡ joined_state (state_at state.old) (joined_history deltas))) }
     ensures faulty { result ≡ Err refusals.Delta → (deltas : List Entries) → ¬ Says line.now deltas }
@@ -70,7 +82,7 @@ fn join_first(alloc: Global, line: &[u8], state: &mut Grid) -> Result<Option<u8>
     match told_replica(alloc, line)? {
         Some(replica) => Ok(Some(replica)),
         None => {
-            join_line(alloc, line, state)?;
+            join_line(alloc, decoder, line, state)?;
             Ok(None)
         }
     }
@@ -91,9 +103,19 @@ impl Intake {
         ensures ended { self.new.ended ≡ self.old.ended }
     {
         if self.ended != 0 {
-            return join_line(self.alloc, self.session.line(), &mut self.state);
+            return join_line(
+                self.alloc,
+                &mut self.decoder,
+                self.session.line(),
+                &mut self.state,
+            );
         }
-        self.told = join_first(self.alloc, self.session.line(), &mut self.state)?;
+        self.told = join_first(
+            self.alloc,
+            &mut self.decoder,
+            self.session.line(),
+            &mut self.state,
+        )?;
         Ok(())
     }
 
@@ -264,6 +286,7 @@ fn begin(alloc: Global) -> Result<Intake, SquashFault>
     };
     Ok(Intake {
         alloc,
+        decoder: Decoder::new(alloc),
         session,
         told: None,
         state,
