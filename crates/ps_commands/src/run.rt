@@ -137,6 +137,6 @@ pub fn answer_kept<
 
 /// Leaves a sheet as it is: the program ends next, and the system takes back at once what would be freed piece by
 /// piece.
-fn leave_unfreed(sheet: Sheet) {
+pub(crate) fn leave_unfreed(sheet: Sheet) {
     mem::forget(sheet);
 }

@@ -7,6 +7,7 @@ ghost use Rattle.ps_commands.specs.Commands.{IsCauseOf, IsTableOf, cells_text, f
 ghost use Rattle.ps_commands.specs.declared.fault.ProgramFault.TheVariants.{Refused};
 
 use crate::fault::{ProgramFault, fault_of_import};
+use crate::run::leave_unfreed;
 use ps_csv::{Imported, TableWatcher, export, export_entries, import_watched};
 use ps_device::{Failed, Sink, Source, hand_on};
 use ps_eval::Meter;
@@ -28,7 +29,8 @@ use std::thread::Threads;
 ///
 /// A watcher sees the fields as they are read; it changes nothing.
 ///
-/// Cost: that of an import and an export, and the watcher's own.
+/// Cost: that of an import and an export, and the watcher's own. The memory of the sheet isn't given back, for the
+/// program ends next.
 pub fn table_on<R: Threads + Sync, S: Source, K: Sink, L: Ledger, W: TableWatcher>(
     rt: &R,
     alloc: Global,
@@ -54,7 +56,9 @@ pub fn table_on<R: Threads + Sync, S: Source, K: Sink, L: Ledger, W: TableWatche
     ensures unwritten { IfErr result (λ f. f ≢ Refused Refusal.Device → sink.new ≡ sink.old) }
 {
     let (sheet, imported) = taken_in(rt, alloc, source, meter, options, watcher)?;
-    match put_table(alloc, &sheet, options.entries, imported, sink) {
+    let done = put_table(alloc, &sheet, options.entries, imported, sink);
+    leave_unfreed(sheet);
+    match done {
         Ok(()) => Ok(()),
         Err(refusal) => Err(ProgramFault::Refused(refusal)),
     }
