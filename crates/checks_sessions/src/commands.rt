@@ -1,11 +1,17 @@
 use ps_grid::Refusal;
 use ps_session::Command;
 use ps_sheet::Edit;
+use ps_wire::Decoder;
 use std::alloc::Global;
 use std::test::Fail;
 
+/// What a line asks for, by a decoder of its own.
+fn read(alloc: Global, line: &[u8]) -> Result<Command, Refusal> {
+    Command::read(alloc, &mut Decoder::new(alloc), line)
+}
+
 fn refusal_of(alloc: Global, line: &[u8]) -> Option<Refusal> {
-    Command::read(alloc, line).err()
+    read(alloc, line).err()
 }
 
 /// Lines that ask for nothing, and why. The words are counted before the cell is looked at, the cell before the number.
@@ -64,7 +70,7 @@ fn parts_of(edit: Edit) -> Option<(usize, u64)> {
 }
 
 fn change_of(alloc: Global, line: &[u8]) -> Option<(usize, u64)> {
-    match Command::read(alloc, line) {
+    match read(alloc, line) {
         Ok(Command::Edit(edit)) => parts_of(edit),
         _ => None,
     }
@@ -85,7 +91,7 @@ fn changes(rt: HostRuntime) {
 /// The text of what a line puts into A1.
 fn text_of(alloc: Global, line: &[u8]) -> Result<Vec<u8>, Refusal> {
     let mut text = Vec::new(alloc);
-    match Command::read(alloc, line)? {
+    match read(alloc, line)? {
         Command::Edit(Edit::Set(_, content)) => content.canonical(&mut text)?,
         _ => return Err(Refusal::Command),
     }
@@ -110,7 +116,7 @@ fn entries(rt: HostRuntime) -> Result<(), Fail> {
 
 /// What a line that only looks asks for: two cells' indices, or a version and the size of a group.
 fn asked(alloc: Global, line: &[u8]) -> Option<(usize, u64)> {
-    match Command::read(alloc, line).ok()? {
+    match read(alloc, line).ok()? {
         Command::Rows(first, last) => Some((first.index(), last.index() as u64)),
         Command::Pull { from, most } => Some((most.map_or(0, usize::from), from)),
         _ => None,
@@ -129,7 +135,7 @@ fn looks(rt: HostRuntime) {
 
 /// The number beside `replica`, 0 where none stands there.
 fn named(alloc: Global, line: &[u8]) -> Option<u8> {
-    match Command::read(alloc, line).ok()? {
+    match read(alloc, line).ok()? {
         Command::Replica(number) => Some(number.unwrap_or(0)),
         _ => None,
     }

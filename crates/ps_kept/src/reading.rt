@@ -16,6 +16,7 @@ use ps_grid::Refusal;
 use ps_keep::first_line;
 use ps_session::{Command, line_of_replica, told_replica};
 use ps_sheet::Sheet;
+use ps_wire::Decoder;
 use std::alloc::Global;
 use std::sync::ledger::Ledger;
 use std::thread::Threads;
@@ -48,6 +49,7 @@ fn after_first(alloc: Global, bytes: &[u8], replica: u8) -> Result<&[u8], KeepFa
 fn take_in<R: Threads + Sync, L: Ledger>(
     rt: &R,
     alloc: Global,
+    decoder: &mut Decoder,
     line: &[u8],
     sheet: &mut Sheet,
     meter: &mut Meter<L>,
@@ -60,7 +62,7 @@ fn take_in<R: Threads + Sync, L: Ledger>(
     ensures workers { sheet.new.workers ≡ sheet.old.workers }
     ensures sheet { IsSheet sheet.old → IsSheet sheet.new }
 {
-    let delta = match Command::read(alloc, line) {
+    let delta = match Command::read(alloc, decoder, line) {
         Ok(Command::Push(delta)) => delta.owner(),
         Err(Refusal::Memory) => return Err(Refusal::Memory),
         _ => return Ok(false),
@@ -86,10 +88,11 @@ fn read_pushes<R: Threads + Sync, L: Ledger>(
     ensures workers { sheet.new.workers ≡ sheet.old.workers }
     ensures sheet { IsSheet sheet.new }
 {
+    let mut decoder = Decoder::new(alloc);
     let mut left = bytes;
     let mut number = 1u64;
     'lines: while let Some((line, rest)) = first_line(left) {
-        match take_in(rt, alloc, line, sheet, meter) {
+        match take_in(rt, alloc, &mut decoder, line, sheet, meter) {
             Ok(true) => {}
             Ok(false) => return Err(KeepFault::Line(number + 1)),
             Err(Refusal::Memory) => return Err(KeepFault::Memory),

@@ -12,7 +12,7 @@ use crate::words::{read_whole, split_part, split_word};
 use ps_content::read_entry;
 use ps_grid::{Cell, REPLICAS, Refusal};
 use ps_sheet::Edit;
-use ps_wire::decode;
+use ps_wire::Decoder;
 use std::alloc::Global;
 
 /// What a line asks for.
@@ -61,11 +61,12 @@ impl Command {
     /// another first word, a word too few or too many (`Command`), no cell (`Cell`), no digits or a number of more
     /// than 64 bits (`Amount` or `OptionRange`), and then those of the entry. Whether the number is in range, and the
     /// cell has a counter or a set, isn't asked here. A replica that isn't 1 to [`REPLICAS`] is refused (`Replica`).
-    /// Only an entry that is a formula or a text, and the line of a delta, take memory to be read.
+    /// Only an entry that is a formula or a text, and the line of a delta, take memory to be read. The decoder is lent
+    /// for the line of a delta: it keeps its room from one to the next.
     ///
     /// Cost: O(n) in the n bytes of the line.
     #[inline(always)]
-    pub fn read(alloc: Global, line: &[u8]) -> Result<Command, Refusal>
+    pub fn read(alloc: Global, decoder: &mut Decoder, line: &[u8]) -> Result<Command, Refusal>
         ensures read { ReadsLine line.now result }
         ensures memory { result ≡ Err Refusal.Memory → TakesMemoryToRead line.now }
     {
@@ -74,7 +75,7 @@ impl Command {
             return Err(Refusal::Command);
         };
         match rest {
-            Some(rest) => read_rest(alloc, verb, rest),
+            Some(rest) => read_rest(alloc, decoder, verb, rest),
             None => read_alone(verb),
         }
     }
@@ -105,18 +106,28 @@ fn read_alone(verb: Verb) -> Result<Command, Refusal>
 ///
 /// It is inlined, and what is asked for most is read in it; all other verbs take a call.
 #[inline(always)]
-fn read_rest(alloc: Global, verb: Verb, rest: &[u8]) -> Result<Command, Refusal>
+fn read_rest(
+    alloc: Global,
+    decoder: &mut Decoder,
+    verb: Verb,
+    rest: &[u8],
+) -> Result<Command, Refusal>
     ensures { ReadsVerb (Some verb) (words rest.now) rest.now result }
 {
     match verb {
         Verb::Get => Ok(Command::Get(read_one_cell(rest)?)),
         Verb::Set => read_set(alloc, rest),
-        other => read_other(alloc, other, rest),
+        other => read_other(alloc, decoder, other, rest),
     }
 }
 
 /// What another verb than `get` and `set` asks for, by all that stands after its space.
-fn read_other(alloc: Global, verb: Verb, rest: &[u8]) -> Result<Command, Refusal>
+fn read_other(
+    alloc: Global,
+    decoder: &mut Decoder,
+    verb: Verb,
+    rest: &[u8],
+) -> Result<Command, Refusal>
     requires other { (verb ≢ Verb.Get) × (verb ≢ Verb.Set) }
     ensures { ReadsVerb (Some verb) (words rest.now) rest.now result }
 {
@@ -147,7 +158,7 @@ fn read_other(alloc: Global, verb: Verb, rest: &[u8]) -> Result<Command, Refusal
             let (first, last) = read_rectangle(rest)?;
             Ok(Command::Entries(first, last))
         }
-        Verb::Push => read_push(alloc, rest),
+        Verb::Push => read_push(alloc, decoder, rest),
         Verb::Pull => read_pull(rest),
         Verb::Replica => read_replica(rest),
     }
@@ -239,10 +250,10 @@ fn read_corners(corners: &[u8]) -> Result<(Cell, Cell), Refusal>
 }
 
 /// `push`: the line of a delta.
-fn read_push(alloc: Global, line: &[u8]) -> Result<Command, Refusal>
+fn read_push(alloc: Global, decoder: &mut Decoder, line: &[u8]) -> Result<Command, Refusal>
     ensures { Pushes line.now result }
 {
-    let delta = SharedDelta::new(alloc, decode(alloc, line)?)?;
+    let delta = SharedDelta::new(alloc, decoder.decode(alloc, line)?)?;
     Ok(Command::Push(delta))
 }
 

@@ -47,6 +47,7 @@ mod sheet_board;
 mod sheet_session;
 mod syncing;
 mod telling;
+mod tools;
 mod transcript;
 mod verb;
 mod watcher;

@@ -1,5 +1,5 @@
 //! Obeys a line, whatever the board.
-ghost use Rattle.std.specs.Prelude.{◌≡◌, ◌<◌, ◌+◌, ◌-◌, ◌^◌, List, Ok, OnErr, OnOk, map, max, min};
+ghost use Rattle.std.specs.Prelude.{◌≡◌, ◌<◌, List, Ok, OnErr, OnOk, map, max};
 ghost use Rattle.std.specs.Arc.{arc_value};
 ghost use Rattle.ps_device.specs.Device.{HoldsBack};
 ghost use Rattle.ps_delta.specs.Deltas.{Entries};
@@ -15,6 +15,7 @@ use crate::group::greatest_group;
 use crate::reply::Reply;
 use crate::resources::Resources;
 use crate::telling::{refuse, tell, tell_other};
+use crate::tools::Tools;
 use crate::watcher::Watcher;
 use ps_delta::Delta;
 use ps_device::Failed;
@@ -23,13 +24,12 @@ use std::alloc::Global;
 use std::sync::Arc;
 use std::thread::Threads;
 
-/// Reads a line that isn't empty as a command, obeys it, and tells and counts the reply; another line is refused, and
-/// nothing is changed.
+/// Reads a line that isn't empty as a command, obeys it, and tells the reply; another line is refused, and nothing is
+/// changed.
 #[inline(always)]
 pub(crate) fn answer<R: Threads + Sync, B: Board<M>, M, W: Watcher, K, D: Delivery<K>>(
-    resources: Resources<'_, R>,
+    tools: &mut Tools<'_, R>,
     line: &[u8],
-    answered: &mut u64,
     board: &mut B,
     meter: &mut M,
     watcher: &mut W,
@@ -37,27 +37,26 @@ pub(crate) fn answer<R: Threads + Sync, B: Board<M>, M, W: Watcher, K, D: Delive
 ) -> Result<(), Failed>
     ensures told { Tells (λ old reply new. BoardAnswers B.calls old line.now reply new) board.old board.new
         (D.contents sink.old) (D.contents sink.new) result }
-    ensures counted { OnOk result (answered.new ≡ min (answered.old + 1) (2 ^ 64 - 1)) }
     ensures calm { OnOk result (D.failures sink.new ≡ D.failures sink.old) }
     ensures failed { OnErr result (D.failures sink.old < D.failures sink.new) }
     ensures held { D.holds_back → HoldsBack (D.contents sink.old) (D.contents sink.new)
         (D.waiting sink.old) (D.waiting sink.new) }
 {
-    match Command::read(resources.alloc, line) {
-        Ok(command) => obey::<R, B, M, W, K, D>(
-            resources, line, command, answered, board, meter, watcher, sink,
-        ),
-        Err(refusal) => refuse::<W, K, D>(line, refusal, answered, watcher, sink),
+    let resources = tools.resources;
+    match Command::read(resources.alloc, &mut tools.decoder, line) {
+        Ok(command) => {
+            obey::<R, B, M, W, K, D>(resources, line, command, board, meter, watcher, sink)
+        }
+        Err(refusal) => refuse::<W, K, D>(line, refusal, watcher, sink),
     }
 }
 
-/// Does what a line's command asks for by the board's calls, and tells and counts the reply.
+/// Does what a line's command asks for by the board's calls, and tells the reply.
 #[inline(always)]
 fn obey<R: Threads + Sync, B: Board<M>, M, W: Watcher, K, D: Delivery<K>>(
     resources: Resources<'_, R>,
     line: &[u8],
     command: Command,
-    answered: &mut u64,
     board: &mut B,
     meter: &mut M,
     watcher: &mut W,
@@ -65,7 +64,6 @@ fn obey<R: Threads + Sync, B: Board<M>, M, W: Watcher, K, D: Delivery<K>>(
 ) -> Result<(), Failed>
     ensures told { Tells (λ old reply new. Obeyed B.calls old (Ok command) reply new) board.old board.new
         (D.contents sink.old) (D.contents sink.new) result }
-    ensures counted { OnOk result (answered.new ≡ min (answered.old + 1) (2 ^ 64 - 1)) }
     ensures calm { OnOk result (D.failures sink.new ≡ D.failures sink.old) }
     ensures failed { OnErr result (D.failures sink.old < D.failures sink.new) }
     ensures held { D.holds_back → HoldsBack (D.contents sink.old) (D.contents sink.new)
@@ -76,14 +74,14 @@ fn obey<R: Threads + Sync, B: Board<M>, M, W: Watcher, K, D: Delivery<K>>(
     let other = match command {
         Command::Edit(edit) => {
             return match board.apply_edit(threads, alloc, edit, meter) {
-                Ok(number) => tell::<W, K, D>(line, Reply::Done(number), answered, watcher, sink),
-                Err(refusal) => refuse::<W, K, D>(line, refusal, answered, watcher, sink),
+                Ok(number) => tell::<W, K, D>(line, Reply::Done(number), watcher, sink),
+                Err(refusal) => refuse::<W, K, D>(line, refusal, watcher, sink),
             };
         }
         Command::Get(cell) => {
             return match board.value(cell) {
-                Ok(value) => tell::<W, K, D>(line, Reply::Shown(value), answered, watcher, sink),
-                Err(refusal) => refuse::<W, K, D>(line, refusal, answered, watcher, sink),
+                Ok(value) => tell::<W, K, D>(line, Reply::Shown(value), watcher, sink),
+                Err(refusal) => refuse::<W, K, D>(line, refusal, watcher, sink),
             };
         }
         Command::Rows(first, last) => show_table(alloc, Rect::new(first, last), board),
@@ -93,7 +91,7 @@ fn obey<R: Threads + Sync, B: Board<M>, M, W: Watcher, K, D: Delivery<K>>(
         Command::Push(delta) => take_in(threads, alloc, delta.owner(), board, meter),
         Command::Replica(_) => Reply::Replica(board.replica()),
     };
-    tell_other::<W, K, D>(line, other, answered, watcher, sink)
+    tell_other::<W, K, D>(line, other, watcher, sink)
 }
 
 /// What a cell holds.

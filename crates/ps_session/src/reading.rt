@@ -12,9 +12,11 @@ use crate::delivery::Delivery;
 use crate::keeper::Keeper;
 use crate::line_reader::Session;
 use crate::resources::Resources;
+use crate::tools::Tools;
 use crate::transcript::{Conversation, RunFault};
 use crate::watcher::Watcher;
 use ps_device::{PIECE_BYTES, Source};
+use ps_wire::Decoder;
 use std::alloc::{AllocError, Global};
 use std::thread::Threads;
 
@@ -92,7 +94,7 @@ fn read_piece<R: Threads + Sync, B: Board<M>, M, W: Watcher, K, D: Delivery<K>, 
             Ok(taken) => start += taken,
             Err(_) => return Err(RunFault::Sink),
         }
-        release::<B, K, D, Q>(conversation.resources.alloc, keeper, board, sink)?;
+        release::<B, K, D, Q>(conversation.tools.resources.alloc, keeper, board, sink)?;
     }
     Ok(())
 }
@@ -147,7 +149,7 @@ fn read_on<
     ensures sink_failed { result ≡ Err RunFault.Sink → D.failures sink.old < D.failures sink.new }
     ensures source_failed { result ≡ Err RunFault.Source → S.failures source.old < S.failures source.new }
 {
-    release::<B, K, D, Q>(conversation.resources.alloc, keeper, board, sink)?;
+    release::<B, K, D, Q>(conversation.tools.resources.alloc, keeper, board, sink)?;
     let mut piece = [0u8; PIECE_BYTES];
     'pieces: loop {
         let count = match source.take(&mut piece) {
@@ -228,7 +230,10 @@ pub(crate) fn converse<
         Err(AllocError) => return Err(RunFault::Memory),
     };
     let mut conversation = Conversation {
-        resources,
+        tools: Tools {
+            resources,
+            decoder: Decoder::new(resources.alloc),
+        },
         session,
         answered: 0,
     };

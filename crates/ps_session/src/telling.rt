@@ -1,5 +1,5 @@
-//! Tells the reply to a line, to who looks on and on the sink, and counts it.
-ghost use Rattle.std.specs.Prelude.{◌≡◌, ◌<◌, ◌+◌, ◌-◌, ◌^◌, OnErr, OnOk, min};
+//! Tells the reply to a line, to who looks on and on the sink.
+ghost use Rattle.std.specs.Prelude.{◌≡◌, ◌<◌, OnErr, OnOk};
 ghost use Rattle.ps_device.specs.Device.{HoldsBack, Sends};
 ghost use Rattle.ps_session.specs.Replies.{refusal_text, reply_text};
 
@@ -9,7 +9,7 @@ use crate::watcher::Watcher;
 use ps_device::Failed;
 use ps_grid::Refusal;
 
-/// Has a watcher see what became of a line, puts its reply, and counts it.
+/// Has a watcher see what became of a line, and puts its reply.
 ///
 /// It is inlined, so that a reply that is made at the call is put by its own form, without a place in memory for all
 /// forms.
@@ -17,40 +17,33 @@ use ps_grid::Refusal;
 pub(crate) fn tell<W: Watcher, K, D: Delivery<K>>(
     line: &[u8],
     reply: Reply,
-    answered: &mut u64,
     watcher: &mut W,
     sink: &mut K,
 ) -> Result<(), Failed>
     ensures sent { Sends (D.contents sink.old) (D.contents sink.new) result (reply_text reply) }
-    ensures counted { OnOk result (answered.new ≡ min (answered.old + 1) (2 ^ 64 - 1)) }
     ensures calm { OnOk result (D.failures sink.new ≡ D.failures sink.old) }
     ensures failed { OnErr result (D.failures sink.old < D.failures sink.new) }
     ensures held { D.holds_back → HoldsBack (D.contents sink.old) (D.contents sink.new)
         (D.waiting sink.old) (D.waiting sink.new) }
 {
-    let count = *answered;
     watcher.saw(line, reply.outcome());
-    D::put_reply(&reply, sink)?;
-    *answered = count.saturating_add(1);
-    Ok(())
+    D::put_reply(&reply, sink)
 }
 
 /// Tells a reply as [`tell`] does, by a call: one that takes longer to make than a call does.
 pub(crate) fn tell_other<W: Watcher, K, D: Delivery<K>>(
     line: &[u8],
     reply: Reply,
-    answered: &mut u64,
     watcher: &mut W,
     sink: &mut K,
 ) -> Result<(), Failed>
     ensures sent { Sends (D.contents sink.old) (D.contents sink.new) result (reply_text reply) }
-    ensures counted { OnOk result (answered.new ≡ min (answered.old + 1) (2 ^ 64 - 1)) }
     ensures calm { OnOk result (D.failures sink.new ≡ D.failures sink.old) }
     ensures failed { OnErr result (D.failures sink.old < D.failures sink.new) }
     ensures held { D.holds_back → HoldsBack (D.contents sink.old) (D.contents sink.new)
         (D.waiting sink.old) (D.waiting sink.new) }
 {
-    tell::<W, K, D>(line, reply, answered, watcher, sink)
+    tell::<W, K, D>(line, reply, watcher, sink)
 }
 
 /// Refuses a line.
@@ -58,16 +51,14 @@ pub(crate) fn tell_other<W: Watcher, K, D: Delivery<K>>(
 pub(crate) fn refuse<W: Watcher, K, D: Delivery<K>>(
     line: &[u8],
     refusal: Refusal,
-    answered: &mut u64,
     watcher: &mut W,
     sink: &mut K,
 ) -> Result<(), Failed>
     ensures sent { Sends (D.contents sink.old) (D.contents sink.new) result (refusal_text refusal) }
-    ensures counted { OnOk result (answered.new ≡ min (answered.old + 1) (2 ^ 64 - 1)) }
     ensures calm { OnOk result (D.failures sink.new ≡ D.failures sink.old) }
     ensures failed { OnErr result (D.failures sink.old < D.failures sink.new) }
     ensures held { D.holds_back → HoldsBack (D.contents sink.old) (D.contents sink.new)
         (D.waiting sink.old) (D.waiting sink.new) }
 {
-    tell::<W, K, D>(line, Reply::Refused(refusal), answered, watcher, sink)
+    tell::<W, K, D>(line, Reply::Refused(refusal), watcher, sink)
 }

@@ -26,6 +26,7 @@ use crate::obey::answer;
 use crate::reading::converse;
 use crate::resources::Resources;
 use crate::telling::refuse;
+use crate::tools::Tools;
 use crate::watcher::{Outcome, Unwatched, Watcher};
 use ps_device::{Failed, PIECE_BYTES, Sink, Source};
 use ps_grid::Refusal;
@@ -37,7 +38,7 @@ use std::thread::Threads;
 #[derive(Drop)]
 pub(crate) struct Conversation<'a, R> {
     /// What it works by.
-    pub(crate) resources: Resources<'a, R>,
+    pub(crate) tools: Tools<'a, R>,
     /// The line that is being read.
     pub(crate) session: Session,
     /// How many lines had a reply; 2^64 - 1 stands for more.
@@ -46,7 +47,7 @@ pub(crate) struct Conversation<'a, R> {
 
 /// Answers a line that isn't too long, and counts its reply; an empty one has none.
 fn answer_line<R: Threads + Sync, B: Board<M>, M, W: Watcher, K, D: Delivery<K>>(
-    resources: Resources<'_, R>,
+    tools: &mut Tools<'_, R>,
     line: &[u8],
     answered: &mut u64,
     board: &mut B,
@@ -65,11 +66,14 @@ fn answer_line<R: Threads + Sync, B: Board<M>, M, W: Watcher, K, D: Delivery<K>>
     let count = *answered;
     if line.is_empty() {
         watcher.saw(line, Outcome::Answered);
-        // it has no reply that counts
-        *answered = count;
         return Ok(());
     }
-    answer::<R, B, M, W, K, D>(resources, line, answered, board, meter, watcher, sink)
+    match answer::<R, B, M, W, K, D>(tools, line, board, meter, watcher, sink) {
+        Ok(()) => {}
+        Err(failed) => return Err(failed),
+    }
+    *answered = count.saturating_add(1);
+    Ok(())
 }
 
 impl<R: Threads + Sync> Conversation<'_, R> {
@@ -92,7 +96,7 @@ impl<R: Threads + Sync> Conversation<'_, R> {
         ensures session { self.new.session ≡ self.old.session }
     {
         answer_line::<R, B, M, W, K, D>(
-            self.resources,
+            &mut self.tools,
             self.session.line(),
             &mut self.answered,
             board,
@@ -116,7 +120,10 @@ impl<R: Threads + Sync> Conversation<'_, R> {
             (D.waiting sink.old) (D.waiting sink.new) }
         ensures session { self.new.session ≡ self.old.session }
     {
-        refuse::<W, K, D>(b"", Refusal::Line, &mut self.answered, watcher, sink)
+        let count = self.answered;
+        refuse::<W, K, D>(b"", Refusal::Line, watcher, sink)?;
+        self.answered = count.saturating_add(1);
+        Ok(())
     }
 
     /// Answers a line that has ended.
@@ -203,7 +210,7 @@ impl<R: Threads + Sync> Conversation<'_, R> {
             return self.turn_in_parts::<B, M, W, K, D>(piece, board, meter, watcher, sink);
         };
         answer_line::<R, B, M, W, K, D>(
-            self.resources,
+            &mut self.tools,
             trimmed(&piece[..place]),
             &mut self.answered,
             board,
