@@ -51,8 +51,8 @@ pub struct Closed<J = ()> {
 /// Refused as `Device` where a connection can't be accepted, once the sessions that were begun have ended, and where
 /// `out` fails; as `Memory` and `Seat` before the first is accepted.
 ///
-/// Cost: that of the lines; 0.4 MB of memory for each seat, and a thread for each session under way. Memory doesn't
-/// grow with the sessions that have ended.
+/// Cost: that of the lines; 0.4 MB of memory for each seat, and a thread for each session under way, with up to 0.3 MB
+/// more where it was pushed a long line. Memory doesn't grow with the sessions that have ended.
 pub fn serve_on<R: Threads + Wait + Clock + Sync, K: Sink>(
     rt: &R,
     alloc: Global,

@@ -19,7 +19,8 @@
 //! The line `set A1 5` is answered `ok 1`, `get A1` then `val 5`, and `pull 0` the line of the delta that another sheet
 //! may be pushed, `delta 1 [["A1",[1,1,"5"],[],[]]]`.
 //!
-//! Cost: reading takes no memory beyond the room of one line; a line costs its bytes and what its board takes.
+//! Cost: reading takes no memory beyond the room of one line and, where deltas are pushed, of the longest of these once
+//! more; a line costs its bytes and what its board takes.
 #![tactic(auto)]
 
 mod board;

@@ -85,7 +85,7 @@ fn obey<R: Threads + Sync, B: Board<M>, M, W: Watcher, K, D: Delivery<K>>(
             };
         }
         Command::Rows(first, last) => show_table(alloc, Rect::new(first, last), board),
-        Command::Entry(cell) => tell_entry(alloc, cell, board),
+        Command::Entry(cell) => show_entry(alloc, cell, board),
         Command::Entries(first, last) => list_entries(alloc, Rect::new(first, last), board),
         Command::Pull { from, most } => hand_out(alloc, from, most.unwrap_or(1) as usize, board),
         Command::Push(delta) => take_in(threads, alloc, delta.owner(), board, meter),
@@ -95,7 +95,7 @@ fn obey<R: Threads + Sync, B: Board<M>, M, W: Watcher, K, D: Delivery<K>>(
 }
 
 /// What a cell holds.
-fn tell_entry<B: Board<M>, M>(alloc: Global, cell: Cell, board: &mut B) -> Reply
+fn show_entry<B: Board<M>, M>(alloc: Global, cell: Cell, board: &mut B) -> Reply
     ensures { TellsAnswer (λ answer. B.calls.holds board.old cell answer board.new) entry_reply (reply_text result) }
 {
     match board.entry(alloc, cell) {

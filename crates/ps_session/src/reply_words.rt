@@ -1,4 +1,5 @@
-//! The first word of each reply, with its space: what writes a reply and what reads one take it from here.
+//! The first word of each reply, with its space: what writes a reply and what reads one take it from here. (The page,
+//! which stands on no session, has `rows ` and `entries ` of its own, and hints have `delta `.)
 
 /// Of [`Reply::Done`](crate::Reply::Done).
 pub(crate) const OK: &[u8] = b"ok ";

@@ -77,7 +77,7 @@ pub fn run_watched<R: Threads + Sync, S: Source, K: Sink, L: Ledger, W: Watcher>
 /// Nothing in the program calls it, whose sessions have somebody look on ([`run_watched`]) or keep what they see
 /// ([`run_kept`]). It is part of the public interface: a session where nobody does either.
 ///
-/// Cost: that of the lines, and the room of one line.
+/// Cost: that of the lines, the room of one line, and that of a decoder.
 pub fn run<R: Threads + Sync, S: Source, K: Sink, L: Ledger>(
     rt: &R,
     alloc: Global,

@@ -30,7 +30,7 @@ pub(crate) fn tell<W: Watcher, K, D: Delivery<K>>(
     D::put_reply(&reply, sink)
 }
 
-/// Tells a reply as [`tell`] does, by a call: one that takes longer to make than a call does.
+/// Tells a reply as [`tell`] does, in one place for all replies that aren't told where they are made.
 pub(crate) fn tell_other<W: Watcher, K, D: Delivery<K>>(
     line: &[u8],
     reply: Reply,

@@ -1,7 +1,7 @@
 //! A session from bytes to bytes.
 //!
-//! The clauses of [`talk`] are those of [`talk_watched`], each spelled out in both, so that either promise is read in one
-//! place; a relation over both would have a dozen parameters whose places a reader would have to look up.
+//! The clauses of [`talk`] are those of [`talk_watched`], each spelled out in both, so that either promise is read in
+//! one place; a relation over both would have a dozen parameters whose places a reader would have to look up.
 ghost use Rattle.std.specs.Prelude.{◌≡◌, ◌≢◌, ◌⊎◌, [], ◌<◌, ◌≤◌, ◌++◌, ◌+◌, ◌-◌, ◌^◌, ℕ, min, List, Option, Result, Ok};
 ghost use Rattle.std.specs.Prelude.{Err, IfOk, OnOk, OnErr, ⊤, length, take, MatchResult};
 ghost use Rattle.std.specs.Io.KnownBytes.{Consumes, IsAtEnd};
@@ -37,7 +37,7 @@ use std::thread::Threads;
 /// A session under way, without its board and its devices: the line that is being read, and how many lines had a reply.
 #[derive(Drop)]
 pub(crate) struct Conversation<'a, R> {
-    /// What it works by.
+    /// What its lines are read and obeyed by.
     pub(crate) tools: Tools<'a, R>,
     /// The line that is being read.
     pub(crate) session: Session,

@@ -246,7 +246,7 @@ fn read_on<S: Source>(intake: &mut Intake, source: &mut S) -> Result<(), SquashF
 /// Refused as `Line` at the first line that isn't empty and no delta's, nor tells a replica as the first one, as
 /// `Source` where the source fails, and as `Memory`.
 ///
-/// Cost: that of the lines, of joining their deltas, and the room of one line.
+/// Cost: that of the lines, of joining their deltas, the room of one line, and that of a decoder.
 pub(crate) fn taken_in<S: Source>(
     alloc: Global,
     source: &mut S,

@@ -108,7 +108,8 @@ size-brief_register a stamp few =
     let ranges = stamp_ranges a.time a.replica stamp in
     let time = size-whole 16 a.time (omega arith) (omega (arith, ranges.0)) (omega (arith, ranges.0)) in
     let replica = size-whole 2 a.replica (omega arith) (omega (arith, ranges.1)) (omega (arith, ranges.1)) in
-    omega (arith, time, replica, few, size_of_three (whole a.time) (whole a.replica) (string (canonical_text a.content)))
+    let three = size_of_three (whole a.time) (whole a.replica) (string (canonical_text a.content)) in
+    omega (arith, time, replica, few, three)
 
 pub size-brief_cell : (e : ℕ × CellState) → e.0 < CELLS → length (maps.entries e.1.tally) ≡ 0
     → length (maps.entries e.1.choice) ≡ 0 → size (register_value e.1.register) ≤ 44 → size (cell_value e) < 62

@@ -1,6 +1,7 @@
 -- Tokens that were written one by one are what serde_json writes for a value.
 use Rattle.std.proofs.Common.{◌≡◌, ℕ, ◌^◌, ◌<◌, ◌≤◌, false, List, [], ◌∷◌, ◌++◌, Option, Some, option_map}
-use Rattle.std.proofs.Common.{option_and_then, decimal, length, take, slice_set, refl, sym, ap, ap₂, ◌∙◌, arith, append_assoc, append-nil}
+use Rattle.std.proofs.Common.{option_and_then, decimal, length, take, slice_set, refl, sym, ap, ap₂, ◌∙◌, arith}
+use Rattle.std.proofs.Common.{append_assoc, append-nil}
 use Rattle.json.specs.Token.{Token, begin_array, end_array}
 use Rattle.json.specs.Token as token
 use Rattle.json.specs.Lex.{tokens}
@@ -73,7 +74,8 @@ abbrev last_value : Option (json.Json × List Token) → Option Data
 last_value parsed = option_and_then of_json (option_and_then (λ p. json.if_last p.0 p.1) parsed)
 
 -- what is printed of the tokens that were written for a value, where it has no float
-module _ (value : Data) (new : List Token) (written : WritesValue value [] new) (stable : tokens (print new) ≡ new) where
+module _ (value : Data) (new : List Token) (written : WritesValue value [] new)
+    (stable : tokens (print new) ≡ new) where
   pub is_compact : has_float value ≡ false → print new ≡ compact_text value
   is_compact no_float =
       ap print (sym stable ∙ tokens_from_order (print new) value (written.0, stable ∙ written.1, written.4) no_float)

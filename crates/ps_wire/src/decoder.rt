@@ -60,6 +60,8 @@ impl Decoder {
 
 /// The delta that a line stands for, as a decoder of its own reads it.
 ///
+/// It is part of the public interface, for whoever has a single line; the program's sessions keep a [`Decoder`].
+///
 /// Cost: that of `Decoder::new` and of one line.
 pub fn decode(alloc: Global, bytes: &[u8]) -> Result<Delta, Refusal>
     ensures line { IfOk result (λ d. IsLine bytes.now d) }

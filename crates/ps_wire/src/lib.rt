@@ -4,12 +4,12 @@
 //! four: the cell's name, its register, its counters and its pairs.
 //!
 //! It is not the session: it knows no commands and no replies, and it carries nothing out. It is no store: a delta that
-//! was read is handed on, and nothing is kept.
+//! was read is handed on, and nothing of it is kept.
 //!
-//! The contract to use: [`decode`] returns the one delta that the bytes are a line of (`IsLine`), and refuses bytes as
-//! no delta only where they are a line of none; a [`Decoder`] does so for many lines, one after another, by room that
-//! it keeps; [`encode`] appends the delta's compact text, which is a line of it and
-//! has no line feed ([`delta_texts_are_one_line`]), and refuses it only where it is too long. Which deltas never are,
+//! The contract to use: a [`Decoder`] returns the one delta that the bytes are a line of (`IsLine`), and refuses bytes
+//! as no delta only where they are a line of none; it reads many lines, one after another, by room that it keeps, and
+//! [`decode`] reads a single one. [`encode`] appends the delta's compact text, which is a line of it and has no line
+//! feed ([`delta_texts_are_one_line`]), and refuses it only where it is too long. Which deltas never are,
 //! [`decoded_lines_fit`] and [`edited_lines_fit`] say. [`fits_line`] returns whether a delta's text fits a line,
 //! without writing it; [`outgrows_line`] returns whether a delta holds so much that no join with it has a line;
 //! [`may_share_line`] how many deltas may have a line together, as far as it can tell without joining them.
@@ -18,8 +18,8 @@
 //! `[["A1",[1,2,"5"],[],[]]]`, and so has every other spelling of that value, as one with blanks between the tokens.
 //! `[["A1",null,[],[]]]` says nothing of A1 and is no delta.
 //!
-//! Cost: time linear in the line either way; memory for the line where it is written, and for the delta's cells,
-//! counts and pairs where it is read.
+//! Cost: time linear in the line either way; memory for the line where it is written; where it is read, for the delta's
+//! cells, counts and pairs, and for as many bytes as the longest line so far, which a decoder keeps.
 #![tactic(auto)]
 
 mod cells;

@@ -17,8 +17,8 @@ use std::mem;
 /// Appends the compact text of the delta: JSON of its value without blanks. Refused as `TooLong` only where that text
 /// has more than `DELTA_LINE_LIMIT` bytes, and as `Memory` where memory ran out; then the line is as before.
 ///
-/// Cost: t, for t bytes of the text; memory for them, asked for once. A text that is too long costs what a line may
-/// hold, and no memory.
+/// Cost: t, for t bytes of the text; memory for them, or for 62 bytes a cell where each has a register alone that holds
+/// no text and no formula, asked for once. A text that is too long costs what a line may hold, and no memory.
 pub fn encode(alloc: Global, delta: &Delta, line: &mut Vec<u8>) -> Result<(), Refusal>
     ensures appended { OnOk result (line.new.items ≡ line.old.items ++ delta_text delta.now) }
     ensures is_line { OnOk result (IsLine (delta_text delta.now) delta.now) }

@@ -111,6 +111,7 @@ fn number_of(numeral: &str) -> Option<u64>
     Numeral::scan(bytes).to_u64()
 }
 
+/// Whether a numeral begins with a minus.
 #[inline(always)]
 fn has_minus(numeral: &[u8]) -> bool
     ensures { result ≡ (slice_index numeral.now 0 == 45) }

@@ -13,7 +13,8 @@ returns-in-Ok-clause-appended c =
     let value = delta_value c.args.delta.now in
     let new = c.write_delta-written.new.out.tokens in
     let written = subst (λ old. WritesValue value old new) c.new-out.ensures.tokens c.in-Ok.ensures.written in
-    let before = c.write_delta-written.ensures.before ∙ c.new-out.ensures.before ∙ ap (λ v. v.items) c.replace.ensures.value in
+    let old = ap (λ v. v.items) c.replace.ensures.value in
+    let before = c.write_delta-written.ensures.before ∙ c.new-out.ensures.before ∙ old in
     c.into_inner.ensures.items
     ∙ ap₂ (λ a b. a ++ b) before
     (is_compact value new written c.into_inner.ensures.reads_back (delta_plain c.args.delta.now).whole)

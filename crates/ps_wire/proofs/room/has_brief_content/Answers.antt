@@ -12,8 +12,8 @@ use Rattle.ps_wire.proofs.room.has_brief_content.Goals as goal
 pub returns-in-Some : goal.returns-in-Some
 returns-in-Some c =
     let held = c.in-Some.ensures.value in
-    let stamp = subst (λ (r : Option (Assignment Content)). IfSome r (λ a. IsTrue (is_stamp a.time a.replica))) (sym held)
-    c.in-Some.ensures.in_range in
+    let InRange = λ (r : Option (Assignment Content)). IfSome r (λ a. IsTrue (is_stamp a.time a.replica)) in
+    let stamp = subst InRange (sym held) c.in-Some.ensures.in_range in
     OnTrue_from _ _ (λ brief.
     subst (λ (r : Option (Assignment Content)). size (register_value r) ≤ 44) held
     (size-brief_register c.in-Some.assignment.now stamp (OnTrue_at brief c.is_brief_content.ensures)))
