@@ -127,19 +127,23 @@ fn every_type_joins_in_any_order(rt: HostRuntime) {
     assert!(rt; is_later_below() == Ok(false));
 }
 
+fn has_counts(tally: &Tally, counts: &[(u8, Count)]) -> bool {
+    tally.parts().as_slice() == counts
+}
+
 fn five_less_seven(alloc: Global) -> Result<bool, Refusal> {
     let mut tally = Tally::empty(alloc);
     let was_empty = tally.is_empty();
     take_in(tally.add(alloc, 1, 5), &mut tally, alloc)?;
     take_in(tally.sub(alloc, 1, 7), &mut tally, alloc)?;
-    Ok(was_empty && tally.value() == -2 && tally.parts() == [(1, count(5, 7))].as_slice())
+    Ok(was_empty && tally.value() == -2 && has_counts(&tally, &[(1, count(5, 7))]))
 }
 
 fn five_less_two(alloc: Global) -> Result<bool, Refusal> {
     let five = Tally::empty(alloc).add(alloc, 1, 5)?;
     let delta = five.sub(alloc, 2, 2)?;
     let other = with(alloc, &five, &[&delta, &five])?;
-    let is_alone = delta.parts() == [(2, count(0, 2))].as_slice();
+    let is_alone = has_counts(&delta, &[(2, count(0, 2))]);
     Ok(is_alone && five.below(&other) && other.value() == 3)
 }
 
@@ -194,6 +198,73 @@ fn a_counter_refuses(rt: HostRuntime) {
         let parts = [(first, count(1, 0)), (1, count(1, 0))];
         assert!(rt; is_counter(alloc, &parts) == Ok(false));
     }
+}
+
+// Whether a counter of the first counts, with one of the other counts joined in, has the counts of the join, and each
+// is below it; where it doesn't have the others already, it isn't.
+fn joins_to(
+    alloc: Global,
+    counts: &[(u8, Count)],
+    others: &[(u8, Count)],
+    both: &[(u8, Count)],
+) -> Result<bool, Refusal> {
+    let (Some(tally), Some(other)) = (counter(alloc, counts)?, counter(alloc, others)?) else {
+        return Ok(false);
+    };
+    let joined = with(alloc, &tally, &[&other])?;
+    let is_above = tally.below(&joined) && other.below(&joined);
+    Ok(is_above && has_counts(&joined, both) && joined.below(&tally) == (counts == both))
+}
+
+/// Counters of one replica, with counts to the last one of 32 bits and past it, and of several replicas join to the
+/// greater counts of each.
+#[test]
+fn great_counts_join_small_ones(rt: HostRuntime) {
+    let alloc = rt.alloc();
+    let last = 4_294_967_295;
+    for (mine, theirs, both) in [
+        (count(5, 7), count(6, 2), count(6, 7)),
+        (count(last, 1), count(3, last), count(last, last)),
+        (count(last, 1), count(last + 1, 0), count(last + 1, 1)),
+        (count(0, last + 1), count(2, last), count(2, last + 1)),
+        (
+            count(COUNT_LIMIT, 0),
+            count(0, COUNT_LIMIT),
+            count(COUNT_LIMIT, COUNT_LIMIT),
+        ),
+        (count(9, 9), count(9, 0), count(9, 9)),
+    ] {
+        assert!(rt; joins_to(alloc, &[(3, mine)], &[(3, theirs)], &[(3, both)]) == Ok(true));
+        let apart = [(3, mine), (4, theirs)];
+        assert!(rt; joins_to(alloc, &[(3, mine)], &[(4, theirs)], &apart) == Ok(true));
+        let more = [(3, both), (4, theirs)];
+        assert!(rt; joins_to(alloc, &[(3, mine)], &apart, &apart) == Ok(true));
+        assert!(rt; joins_to(alloc, &apart, &[(3, theirs)], &more) == Ok(true));
+    }
+}
+
+// What a counter of replica 1's count shows after an amount is added and another one is subtracted.
+fn value_after(
+    alloc: Global,
+    counts: Count,
+    added: u64,
+    subtracted: u64,
+) -> Result<Option<i64>, Refusal> {
+    let Some(mut tally) = counter(alloc, &[(1, counts)])? else {
+        return Ok(None);
+    };
+    take_in(tally.add(alloc, 1, added), &mut tally, alloc)?;
+    take_in(tally.sub(alloc, 1, subtracted), &mut tally, alloc)?;
+    Ok(Some(tally.value()))
+}
+
+/// A counter counts on past the last number of 32 bits.
+#[test]
+fn a_counter_counts_past_32_bits(rt: HostRuntime) {
+    let alloc = rt.alloc();
+    let last = 4_294_967_295;
+    assert!(rt; value_after(alloc, count(last, 0), 1, 2) == Ok(Some(4_294_967_294)));
+    assert!(rt; value_after(alloc, count(1, last), 2, 1_000_000) == Ok(Some(-4_295_967_292)));
 }
 
 // The options that are in once the edit is joined.
@@ -329,9 +400,19 @@ fn held(register: &Register<Letter>) -> Option<(u64, u8, u8)> {
     Some((held.time, held.replica, held.content.byte))
 }
 
+// Whether the register's content and time are those that it shows with its replica.
+fn is_shown(register: &Register<Letter>) -> bool {
+    match held(register) {
+        Some((time, _, byte)) => {
+            register.content() == Some(&Letter { byte }) && register.time() == time
+        }
+        None => register.content().is_none() && register.time() == 0,
+    }
+}
+
 fn the_later_stays(alloc: Global) -> Result<bool, Refusal> {
     let mut register = Register::empty();
-    let was_empty = register.is_empty();
+    let was_empty = register.is_empty() && is_shown(&register);
     take_in(
         register.assign(1, Letter { byte: b'b' }),
         &mut register,
@@ -342,7 +423,7 @@ fn the_later_stays(alloc: Global) -> Result<bool, Refusal> {
         &mut register,
         alloc,
     )?;
-    Ok(was_empty && held(&register) == Some((2, 2, b'a')))
+    Ok(was_empty && held(&register) == Some((2, 2, b'a')) && is_shown(&register))
 }
 
 fn the_greater_stays(alloc: Global) -> Result<bool, Refusal> {

@@ -138,12 +138,9 @@ fn grid_of(rt: &impl Abort, alloc: Global, list: &[&[(usize, Part)]]) -> Result<
 
 // The number that a state holds.
 fn number_of(state: &CellState) -> Option<i64> {
-    match state.register.parts() {
-        Some(assignment) => match assignment.content {
-            Content::Number(number) => Some(number),
-            _ => None,
-        },
-        None => None,
+    match state.register.content() {
+        Some(Content::Number(number)) => Some(*number),
+        _ => None,
     }
 }
 

@@ -22,7 +22,7 @@ use std::alloc::Global;
 pub fn content(state: &CellState) -> Option<&Content>
     ensures { option_copied result ≡ option_map (λ a. a.content) state.now.register }
 {
-    Some(&state.register.parts()?.content)
+    state.register.content()
 }
 
 /// The formula of a cell, if its content is one.

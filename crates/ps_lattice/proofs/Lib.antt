@@ -3,6 +3,7 @@ pub mod Merging
 pub mod Covering
 pub mod Views
 pub mod Joining
+pub mod CountLemmas
 pub mod TallyLemmas
 pub mod ChoiceLemmas
 pub mod Bits

@@ -41,12 +41,6 @@ module _ {K X : Type 0} (R : K → K → Ordering) (o : IsTotalOrder R) (same : 
       get-from_sorted R ((k, x) ∷ []) q tt
       ∙ sym (get-insert o map.empty k x q ∙ ap (cond (eq_by_cmp R q k) (Some x)) (get-empty R q)))
 
-  -- what a key holds, by the list
-  pub get_by_list : (es : List (K × X)) (m : map.FinMap R X) → map.is_sorted R es ≡ true → map.from_sorted es ≡ m
-      → (q : K)
-      → map.get m q ≡ map.find R q es
-  get_by_list es m h is q = ap (λ n. map.get n q) (sym is) ∙ get-from_sorted R es q (to_T _ h)
-
   -- a map without entries is empty
   pub empty_by_len : (m : map.FinMap R X) → length (map.entries m) ≡ 0 → m ≡ map.empty
   empty_by_len m e = empty_of_len m (len-entries m ∙ e)

@@ -4,11 +4,16 @@ use Rattle.std.specs.Prelude.{ℕ, Bool, ◌&&◌, true, nat_le, Option}
 use Rattle.std.specs.Option.{option_map_or}
 use Rattle.std.specs.declared.cmp.Ordering.{Ordering}
 use Rattle.std.specs.Ordering.{nat_cmp, on, then_cmp}
+use Rattle.std.specs.Borrow.{Bor}
 use Rattle.ps_lattice.specs.declared.register.Assignment.{Assignment}
 use Rattle.ps_lattice.specs.declared.limits.TheConstants.{LAST_TIME}
 use Rattle.ps_lattice.specs.Limits.{is_replica}
 use Rattle.ps_lattice.specs.Maps.{both_of}
 use Rattle.ps_lattice.specs.Orders.{larger}
+
+-- the assignment whose content is looked at through a reference
+abbrev pub looked_at : {V : Type 0} → Assignment (Bor V) → Assignment V
+looked_at a = record { time = a.time; replica = a.replica; content = a.content.now }
 
 -- by time, then by replica, then by the order of contents
 abbrev pub assignment_cmp : {V : Type 0} → (V → V → Ordering) → Assignment V → Assignment V → Ordering

@@ -10,7 +10,7 @@ use ps_grid::{Refusal, Twin};
 use std::alloc::Global;
 use std::cmp::Ordering;
 
-/// A value of lists that are merged: by key, as by `merge_entries`, or place by place.
+/// A value of lists that are merged: by key, as those of counters and sets, or place by place.
 pub trait Merge: Join + Twin + Drop {
     /// The join of this value and another one, made at once.
     ///
@@ -67,9 +67,7 @@ pub(crate) fn value_at<K: Ord + Copy, X: Copy>(entries: &[(K, X)], key: K) -> Op
 }
 
 /// Both lists merged in the order of their keys; values at one key are joined.
-///
-/// Cost: linear in both lists, with their values.
-pub fn merge_entries<K: Linear + Copy, X: Merge>(
+pub(crate) fn merge_entries<K: Linear + Copy, X: Merge>(
     alloc: Global,
     mine: &[(K, X)],
     theirs: &[(K, X)],

@@ -8,18 +8,19 @@
 //!
 //! The contract to use: `Join` joins two states, and says whether one is below the other; its three laws have no
 //! premise. Each edit's clause `ok` names the delta that it makes, the next clause the state that this makes, and
-//! `fresh` says that it changes something. `parts` and `from_parts` take a state apart and put it together. A layer
-//! above that keeps states by key in a sorted list joins two such lists by `merge_entries`.
+//! `fresh` says that it changes something. `parts` and `from_parts` take a state apart and put it together.
 //!
 //! Replica 1 adds 5 to an empty counter: the delta holds `(1, P = 5, N = 0)`. Replica 2 subtracts 2 from the same
 //! empty counter: `(2, P = 0, N = 2)`. Joined in either order, and again, the counter shows 3.
 //!
 //! Cost: a join is linear in both states, but where the one is below the other it copies nothing: both then have the
-//! same list. So has a twin, which takes no memory, and neither does an empty state. A counter and a choice are two
-//! words each.
+//! same list. So has a twin, which takes no memory, and neither does an empty state, nor a counter that one replica
+//! alone has changed while both of its counts are below 2^32. A counter and a choice are two words each, and a register
+//! takes two words more than its content.
 #![tactic(auto)]
 
 mod choice;
+mod counts;
 mod entries;
 mod join;
 mod laws;
@@ -29,9 +30,9 @@ mod shared;
 mod tally;
 
 pub use choice::{Choice, Pair};
-pub use entries::{Merge, is_ascending, merge_entries};
+pub use entries::{Merge, is_ascending};
 pub use join::{Join, Linear};
 pub use laws::{choices_join_by_union, empty_is_least, tallies_join_by_maximum};
 pub use limits::{AMOUNT_LIMIT, COUNT_LIMIT, LAST_TIME, OPTIONS, SEQUENCES};
 pub use register::{Assignment, Register};
-pub use tally::{Count, Tally};
+pub use tally::{Count, Tally, TallyParts};

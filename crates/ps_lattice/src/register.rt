@@ -1,8 +1,8 @@
 //! A register in which the last writer wins: a last-writer register.
 
 ghost use Rattle.std.specs.Prelude.{◌≡◌, ◌+◌, ◌≤◌, ◌↔◌, IsTrue, IfOk, IfErr, IsErrOf, IfSome};
-ghost use Rattle.std.specs.Option.{SomeIff, option_copied};
-ghost use Rattle.ps_lattice.specs.Register.{assignment_cmp, joined_registers, time_of, is_stamp};
+ghost use Rattle.std.specs.Option.{SomeIff, option_copied, option_map};
+ghost use Rattle.ps_lattice.specs.Register.{assignment_cmp, joined_registers, time_of, is_stamp, looked_at};
 
 use crate::join::{Join, Linear};
 use crate::limits::{LAST_TIME, is_replica};
@@ -25,19 +25,28 @@ pub struct Assignment<V> {
 /// A register: nothing yet, or the greatest assignment that it has seen.
 #[derive(Debug, Drop)]
 pub struct Register<V> {
-    held: Option<Assignment<V>>,
+    held: Held<V>,
+}
+
+/// Nothing, or the parts of an assignment. The replica's number lies beside the mark of the variant, so that a register
+/// takes two words more than its content.
+#[derive(Debug, Drop)]
+enum Held<V> {
+    Nothing,
+    Assigned { replica: u8, time: u64, content: V },
 }
 
 impl<V> Model for Register<V> {
     ghost use Rattle.std.specs.Prelude.{Option, IsTrue};
     ghost use Rattle.ps_lattice.specs.declared.register.Assignment.{Assignment};
     ghost use Rattle.ps_lattice.specs.Register.{is_register};
+    ghost use Rattle.ps_lattice.specs.Inside.Held.{assignment_in};
 
     ghost Value = { Option (Assignment V) };
 
-    ghost view = { λ r. r.held };
+    ghost view = { λ r. assignment_in r.held };
 
-    ghost invariant = { λ r. IsTrue (is_register r.held) };
+    ghost invariant = { λ r. IsTrue (is_register (assignment_in r.held)) };
 }
 
 impl<V> Register<V> {
@@ -47,7 +56,9 @@ impl<V> Register<V> {
     pub fn empty() -> Self
         ensures { result ≡ None }
     {
-        Register { held: None }
+        Register {
+            held: Held::Nothing,
+        }
     }
 
     /// Whether nothing was assigned yet.
@@ -56,17 +67,59 @@ impl<V> Register<V> {
     pub fn is_empty(&self) -> bool
         ensures { IsTrue result ↔ (self.now ≡ None) }
     {
-        self.held.is_none()
+        match self.held {
+            Held::Nothing => true,
+            Held::Assigned { .. } => false,
+        }
     }
 
-    /// The assignment that the register holds.
+    /// The assignment that the register holds, with a reference to its content.
     ///
     /// Cost: constant.
-    pub fn parts(&self) -> Option<&Assignment<V>>
-        ensures value { option_copied result ≡ self.now }
+    #[inline(always)]
+    pub fn parts(&self) -> Option<Assignment<&V>>
+        ensures value { option_map looked_at result ≡ self.now }
         ensures in_range { IfSome self.now (λ a. IsTrue (is_stamp a.time a.replica)) }
     {
-        self.held.as_ref()
+        match &self.held {
+            Held::Nothing => None,
+            Held::Assigned {
+                replica,
+                time,
+                content,
+            } => Some(Assignment {
+                time: *time,
+                replica: *replica,
+                content,
+            }),
+        }
+    }
+
+    /// The content that the register holds.
+    ///
+    /// Cost: constant.
+    #[inline(always)]
+    pub fn content(&self) -> Option<&V>
+        ensures { option_copied result ≡ option_map (λ a. a.content) self.now }
+    {
+        match &self.held {
+            Held::Nothing => None,
+            Held::Assigned { content, .. } => Some(content),
+        }
+    }
+
+    /// The time of the assignment, 0 where nothing was assigned.
+    ///
+    /// Cost: constant.
+    #[inline(always)]
+    pub fn time(&self) -> u64
+        ensures value { result ≡ time_of self.now }
+        ensures in_range { result ≤ LAST_TIME }
+    {
+        match self.held {
+            Held::Nothing => 0,
+            Held::Assigned { time, .. } => time,
+        }
     }
 
     /// The register that holds this assignment, where its stamp is in range.
@@ -80,7 +133,11 @@ impl<V> Register<V> {
         let time_fits = assignment.time >= 1 && assignment.time <= LAST_TIME;
         if time_fits && is_replica(assignment.replica) {
             Some(Register {
-                held: Some(assignment),
+                held: Held::Assigned {
+                    replica: assignment.replica,
+                    time: assignment.time,
+                    content: assignment.content,
+                },
             })
         } else {
             None
@@ -103,19 +160,16 @@ impl<V: Linear + Drop> Register<V> {
         ensures assigns { IfOk result (λ d. joined_registers V.cmp self.now d ≡ d) }
         ensures fresh { IfOk result (λ d. ¬ (joined_registers V.cmp self.now d ≡ self.now)) }
     {
-        let time = match &self.held {
-            Some(assignment) => assignment.time,
-            None => 0,
-        };
+        let time = self.time();
         if time == LAST_TIME {
             return Err(Refusal::ClockFull);
         }
         Ok(Register {
-            held: Some(Assignment {
-                time: time + 1,
+            held: Held::Assigned {
                 replica,
+                time: time + 1,
                 content,
-            }),
+            },
         })
     }
 }
@@ -140,12 +194,16 @@ impl<V: Twin> Twin for Register<V> {
     #[inline(always)]
     fn twin(&self, alloc: Global) -> Result<Self, Refusal> {
         let held = match &self.held {
-            None => None,
-            Some(assignment) => Some(Assignment {
-                time: assignment.time,
-                replica: assignment.replica,
-                content: assignment.content.twin(alloc)?,
-            }),
+            Held::Nothing => Held::Nothing,
+            Held::Assigned {
+                replica,
+                time,
+                content,
+            } => Held::Assigned {
+                replica: *replica,
+                time: *time,
+                content: content.twin(alloc)?,
+            },
         };
         Ok(Register { held })
     }
@@ -173,26 +231,25 @@ impl<V: Linear + Twin + Drop> Join for Register<V> {
 
     #[inline(always)]
     fn below(&self, other: &Self) -> bool {
-        match (&self.held, &other.held) {
+        match (self.parts(), other.parts()) {
             (None, _) => true,
             (Some(_), None) => false,
-            (Some(mine), Some(theirs)) => mine.compare(theirs) != Ordering::Greater,
+            (Some(mine), Some(theirs)) => compare(&mine, &theirs) != Ordering::Greater,
         }
     }
 }
 
-impl<V: Ord> Assignment<V> {
-    /// By time, then by replica, then by content.
-    fn compare(&self, other: &Assignment<V>) -> Ordering
-        ensures { result ≡ assignment_cmp V.cmp self.now other.now }
-    {
-        match self.time.cmp(&other.time) {
-            Ordering::Equal => {}
-            order => return order,
-        }
-        match self.replica.cmp(&other.replica) {
-            Ordering::Equal => self.content.cmp(&other.content),
-            order => order,
-        }
+/// By time, then by replica, then by content.
+#[inline]
+fn compare<V: Ord>(mine: &Assignment<&V>, theirs: &Assignment<&V>) -> Ordering
+    ensures { result ≡ assignment_cmp V.cmp (looked_at mine.now) (looked_at theirs.now) }
+{
+    match mine.time.cmp(&theirs.time) {
+        Ordering::Equal => {}
+        order => return order,
+    }
+    match mine.replica.cmp(&theirs.replica) {
+        Ordering::Equal => mine.content.cmp(theirs.content),
+        order => order,
     }
 }

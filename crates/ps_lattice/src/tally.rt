@@ -8,10 +8,10 @@ ghost use Rattle.std.specs.FinMap as map;
 ghost use Rattle.ps_lattice.specs.Tally.{added, subtracted, value_of, joined_tallies, with_counts, counts_of};
 ghost use Rattle.ps_lattice.specs.Tally.{is_tally, is_count, is_amount};
 
+use crate::counts::{self, CountList, Entries};
 use crate::entries::{self, Merge};
 use crate::join::Join;
 use crate::limits::{AMOUNT_LIMIT, COUNT_LIMIT, is_replica};
-use crate::shared::{self, SharedList};
 use ps_grid::{REPLICAS, Refusal, Twin};
 use std::alloc::Global;
 use std::marker::Model;
@@ -75,7 +75,7 @@ impl Merge for Count {
 #[derive(Debug, Drop)]
 pub struct Tally {
     // by replica, and only replicas that changed the counter
-    counts: SharedList<(u8, Count)>,
+    counts: CountList,
 }
 
 impl Model for Tally {
@@ -83,15 +83,51 @@ impl Model for Tally {
     ghost use Rattle.std.specs.FinMap as map;
     ghost use Rattle.ps_lattice.specs.Tally.{Counts, is_tally};
     ghost use Rattle.ps_lattice.specs.Codes.{counts_code};
-    ghost use Rattle.ps_lattice.specs.Inside.Shared.{items_of};
+    ghost use Rattle.ps_lattice.specs.Inside.Counts.{counts_in};
 
     ghost Value = { Counts };
 
     ghost coded = { counts_code };
 
-    ghost view = { λ t. map.from_sorted (items_of t.counts) };
+    ghost view = { λ t. map.from_sorted (counts_in t.counts) };
 
-    ghost invariant = { λ t. IsTrue (is_tally (items_of t.counts)) };
+    ghost invariant = { λ t. IsTrue (is_tally (counts_in t.counts)) };
+}
+
+/// The replicas that changed a counter, each with its counts, as `Tally::parts` shows them.
+#[derive(Debug, Drop)]
+pub struct TallyParts<'a> {
+    entries: Entries<'a>,
+}
+
+impl<'a> Model for TallyParts<'a> {
+    ghost use Rattle.std.specs.Prelude.{IsTrue};
+    ghost use Rattle.std.specs.FinMap as map;
+    ghost use Rattle.ps_lattice.specs.Tally.{Counts, is_tally};
+    ghost use Rattle.ps_lattice.specs.Codes.{counts_code};
+    ghost use Rattle.ps_lattice.specs.Inside.Counts.{entries_in};
+
+    ghost Value = { Counts };
+
+    ghost coded = { counts_code };
+
+    ghost view = { λ p. map.from_sorted (entries_in p.entries) };
+
+    ghost invariant = { λ p. IsTrue (is_tally (entries_in p.entries)) };
+}
+
+impl TallyParts<'_> {
+    /// The replicas, ascending, each with its counts.
+    ///
+    /// Cost: constant.
+    #[tactic(auto, using(crate::proofs::Views::items_are))]
+    #[inline(always)]
+    pub fn as_slice(&self) -> &[(u8, Count)]
+        ensures value { result.now ≡ map.entries self.now }
+        ensures in_range { IsTrue (is_tally result.now) }
+    {
+        self.entries.as_slice()
+    }
 }
 
 impl Tally {
@@ -104,7 +140,7 @@ impl Tally {
         // an empty list takes none
         let _ = alloc;
         Tally {
-            counts: SharedList::Empty,
+            counts: CountList::Empty,
         }
     }
 
@@ -114,18 +150,20 @@ impl Tally {
     pub fn is_empty(&self) -> bool
         ensures { IsTrue result ↔ (self.now ≡ map.empty) }
     {
-        self.parts().is_empty()
+        self.parts().as_slice().is_empty()
     }
 
-    /// The replicas that changed the counter, ascending, each with its counts.
+    /// The replicas that changed the counter, each with its counts: those of the map that the counter is.
     ///
     /// Cost: constant.
-    #[tactic(auto, using(crate::proofs::Views::items_are))]
-    pub fn parts(&self) -> &[(u8, Count)]
-        ensures value { result.now ≡ map.entries self.now }
-        ensures in_range { IsTrue (is_tally result.now) }
+    #[inline(always)]
+    pub fn parts(&self) -> TallyParts<'_>
+        ensures value { result ≡ self.now }
+        ensures in_range { IsTrue (is_tally (map.entries result)) }
     {
-        self.counts.items()
+        TallyParts {
+            entries: self.counts.entries(),
+        }
     }
 
     /// The counter with these counts: replicas ascending and distinct, counts in range and not both 0.
@@ -140,7 +178,7 @@ impl Tally {
         if !is_tally(&parts) {
             return Ok(None);
         }
-        let counts = SharedList::new(alloc, parts)?;
+        let counts = CountList::new(alloc, parts)?;
         Ok(Some(Tally { counts }))
     }
 
@@ -150,7 +188,7 @@ impl Tally {
     pub fn value(&self) -> i64
         ensures { result ≡ value_of self.now }
     {
-        let (added, subtracted) = totals(self.parts());
+        let (added, subtracted) = totals(self.parts().as_slice());
         added as i64 - subtracted as i64
     }
 
@@ -215,7 +253,7 @@ impl Tally {
             added: 0,
             subtracted: 0,
         };
-        entries::value_at(self.counts.items(), replica).unwrap_or(none)
+        entries::value_at(self.parts().as_slice(), replica).unwrap_or(none)
     }
 
     /// The counter of one replica's counts and nothing else.
@@ -224,7 +262,7 @@ impl Tally {
         ensures ok { IfOk result (λ d. d ≡ counts_of replica count.added count.subtracted) }
         ensures memory { IfErr result (λ e. e ≡ Refusal.Memory) }
     {
-        let counts = SharedList::of_one(alloc, (replica, count))?;
+        let counts = CountList::of_one(alloc, replica, count)?;
         Ok(Tally { counts })
     }
 }
@@ -308,7 +346,7 @@ impl Tally {
         ensures memory { IfErr result (λ e. e ≡ Refusal.Memory) }
     {
         Ok(Tally {
-            counts: shared::joined(alloc, &self.counts, &other.counts)?,
+            counts: counts::joined(alloc, &self.counts, &other.counts)?,
         })
     }
 }
@@ -342,6 +380,6 @@ impl Join for Tally {
 
     #[inline(always)]
     fn below(&self, other: &Self) -> bool {
-        shared::is_below(&self.counts, &other.counts)
+        counts::is_below(&self.counts, &other.counts)
     }
 }

@@ -106,7 +106,7 @@ fn left_after_one(cell: &(Cell, CellState), most: usize) -> Option<usize>
 {
     let (_, tally, choice) = cell.1.parts();
     let left = most.checked_sub(1)?;
-    let left = left.checked_sub(tally.parts().len())?;
+    let left = left.checked_sub(tally.parts().as_slice().len())?;
     left.checked_sub(choice.parts().len())
 }
 

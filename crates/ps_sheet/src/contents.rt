@@ -10,8 +10,5 @@ use ps_lattice::LAST_TIME;
 pub(crate) fn is_clock_full(state: &CellState) -> bool
     ensures { result ≡ is_clock_full state.now }
 {
-    match state.register.parts() {
-        None => false,
-        Some(assigned) => assigned.time == LAST_TIME,
-    }
+    state.register.time() == LAST_TIME
 }

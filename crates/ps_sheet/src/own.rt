@@ -5,6 +5,7 @@ ghost use Rattle.std.specs.Option.{option_map_or};
 ghost use Rattle.std.specs.FinMap as map;
 ghost use Rattle.std.specs.List.{list_all, list_any};
 ghost use Rattle.ps_lattice.specs.Choice.{pair_cmp};
+ghost use Rattle.ps_lattice.specs.Register.{looked_at};
 ghost use Rattle.ps_delta.specs.State.{state_at};
 ghost use Rattle.ps_sheet.specs.Own.{
   has_assignment,
@@ -38,8 +39,10 @@ fn has_own_of_cell(state: &CellState, part: &CellState, replica: u8) -> bool
     ensures { result ≡ has_own_of_cell replica state.now part.now }
 {
     let (register, tally, choice) = part.parts();
+    let held = state.tally.parts();
+    let made = tally.parts();
     has_assignment(&state.register, register, replica)
-        && has_counts(state.tally.parts(), tally.parts(), replica)
+        && has_counts(held.as_slice(), made.as_slice(), replica)
         && has_pairs(state.choice.parts(), choice.parts(), replica)
 }
 
@@ -49,7 +52,7 @@ fn has_assignment(register: &Register<Content>, part: &Register<Content>, replic
 {
     match part.parts() {
         Some(made) if made.replica == replica => match register.parts() {
-            Some(held) => is_at_most(made, held),
+            Some(held) => is_at_most(&made, &held),
             None => false,
         },
         _ => true,
@@ -57,13 +60,13 @@ fn has_assignment(register: &Register<Content>, part: &Register<Content>, replic
 }
 
 /// Whether an assignment isn't greater than another one.
-fn is_at_most(made: &Assignment<Content>, held: &Assignment<Content>) -> bool
-    ensures { result ≡ is_at_most made.now held.now }
+fn is_at_most(made: &Assignment<&Content>, held: &Assignment<&Content>) -> bool
+    ensures { result ≡ is_at_most (looked_at made.now) (looked_at held.now) }
 {
     made.time
         .cmp(&held.time)
         .then(made.replica.cmp(&held.replica))
-        .then(made.content.cmp(&held.content))
+        .then(made.content.cmp(held.content))
         .is_le()
 }
 

@@ -56,7 +56,7 @@ fn bare_left(cell: &(Cell, CellState), left: usize) -> Option<usize>
 {
     let (_, tally, choice) = cell.1.parts();
     let left = left.checked_sub(9 + name_size(cell.0))?;
-    let left = array_left(tally.parts(), left)?;
+    let left = array_left(tally.parts().as_slice(), left)?;
     array_left(choice.parts(), left)
 }
 
@@ -118,7 +118,7 @@ impl Part for (Cell, CellState) {
     fn left_after(&self, left: usize) -> Option<usize> {
         let (register, tally, choice) = self.1.parts();
         let left = left.checked_sub(5 + name_size(self.0) + register_size(register))?;
-        let left = array_left(tally.parts(), left)?;
+        let left = array_left(tally.parts().as_slice(), left)?;
         array_left(choice.parts(), left)
     }
 }
@@ -158,7 +158,7 @@ fn register_size(register: &Register<Content>) -> usize
         None => 4,
         Some(assignment) => {
             let stamp = digits(assignment.time) + digits(u64::from(assignment.replica));
-            4 + stamp + content_size(&assignment.content)
+            4 + stamp + content_size(assignment.content)
         }
     }
 }
@@ -172,7 +172,7 @@ pub(crate) fn unescaped_size(register: &Register<Content>) -> usize
         None => 4,
         Some(assignment) => {
             let stamp = digits(assignment.time) + digits(u64::from(assignment.replica));
-            6 + stamp + content_length(&assignment.content)
+            6 + stamp + content_length(assignment.content)
         }
     }
 }

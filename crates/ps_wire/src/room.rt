@@ -60,7 +60,7 @@ fn is_brief(cell: &(Cell, CellState)) -> bool
     // for the fact that the cell is in the grid
     let _ = cell.0.index();
     let (register, tally, choice) = cell.1.parts();
-    if !tally.parts().is_empty() || !choice.parts().is_empty() {
+    if !tally.parts().as_slice().is_empty() || !choice.parts().is_empty() {
         return false;
     }
     has_brief_content(register)
@@ -72,7 +72,7 @@ fn has_brief_content(register: &Register<Content>) -> bool
 {
     match register.parts() {
         None => true,
-        Some(assignment) => is_brief_content(&assignment.content),
+        Some(assignment) => is_brief_content(assignment.content),
     }
 }
 

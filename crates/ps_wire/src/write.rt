@@ -80,7 +80,7 @@ impl Item for (Cell, CellState) {
         out.begin_array()?;
         write_name(self.0, out)?;
         write_register(register, out)?;
-        write_array(tally.parts(), out)?;
+        write_array(tally.parts().as_slice(), out)?;
         write_array(choice.parts(), out)?;
         out.end_array()
     }
@@ -141,7 +141,7 @@ fn write_register(register: &Register<Content>, out: &mut Writer) -> Result<(), 
             out.begin_array()?;
             write_whole(assignment.time, out)?;
             write_whole(u64::from(assignment.replica), out)?;
-            write_content(&assignment.content, out)?;
+            write_content(assignment.content, out)?;
             out.end_array()
         }
     }

@@ -121,7 +121,7 @@ fn sessions<L: DeskName + Send + Sync, W: Wait + Drop + Send, T: Abort + Threads
 /// The one number that a delta gives a cell.
 fn given(delta: &Delta) -> Option<(Cell, i64)> {
     let (cell, state) = delta.parts().first()?;
-    match &state.register.parts()?.content {
+    match state.register.content()? {
         Content::Number(number) => Some((*cell, *number)),
         _ => None,
     }

@@ -1,8 +1,9 @@
 use denote.Builtin.{bool}
+use denote.Exit.{yes}
 use denote.RattleType.{RattleType}
 use denote.Hole.{as_row}
-use denote.Param.Send.{IsSend, sendable, view_send}
-use denote.Param.SendFields.{declared_send, as_row_send}
+use denote.Param.Send.{IsSend, IsSync, arg_send, param_send, sendable, view_send, view_sync}
+use denote.Param.SendFields.{declared_send, declared_sync, as_row_send, as_row_sync}
 use denote.Struct.Declared as S
 use denote.Struct.Tuple.{Tuple}
 use mathlib.Core.List.{[], ◌∷◌}
@@ -12,7 +13,9 @@ use Rattle.std.specs.contracts.vec.Vec as Vec
 use Rattle.std.specs.contracts.option.Option as Option
 use Rattle.std.specs.contracts.alloc.Global as Global
 use Rattle.std.specs.contracts.impls.GlobalAllocator.TheImpl.{ghosts}
+use Rattle.ps_delta.specs.contracts.block.Block as block
 use Rattle.ps_delta.specs.contracts.grid.Grid as grid
+use Rattle.ps_delta.specs.contracts.grid.Grid.TheInside as grid_inside
 use Rattle.ps_grid.specs.contracts.cell.Cell as cell
 use Rattle.ps_index.specs.contracts.index.Index as index
 use Rattle.ps_region.specs.contracts.region.Region as region
@@ -94,6 +97,49 @@ lists_send a = declared_send lists.the_type (
 
 cells_send : IsSend tables.the_row → IsSend lists.the_row → IsSend (S.row cells_inside.the_type)
 cells_send t o = declared_send cells_inside.the_type (t, (o, (search sendable, tt)))
+
+block_send : IsSend cell_state.the_row → IsSend block.the_row
+block_send a = search (crosses, sendable) depth 20
+
+block_sync : IsSync cell_state.the_row → IsSync block.the_row
+block_sync a = search (crosses, sendable) depth 20
+
+blocks_send : IsSend block.the_row → IsSend (Vec.the_row block.the_row Global.the_row ghosts)
+blocks_send b = crossing.Vec-send block.the_row b
+
+blocks_sync : IsSync block.the_row → IsSync (Vec.the_row block.the_row Global.the_row ghosts)
+blocks_sync b = crossing.Vec-sync block.the_row b
+
+inside_send : IsSend cell_state.the_row → IsSend block.the_row → IsSend (S.row grid_inside.the_type)
+inside_send a b = declared_send grid_inside.the_type (
+  as_row_send (Vec.the_field block.the_row Global.the_row ghosts) (blocks_send b),
+  (a, tt),
+)
+
+inside_sync : IsSync cell_state.the_row → IsSync block.the_row → IsSync (S.row grid_inside.the_type)
+inside_sync a b = declared_sync grid_inside.the_type (
+  as_row_sync (Vec.the_field block.the_row Global.the_row ghosts) (blocks_sync b),
+  (a, tt),
+)
+
+grid_send : IsSend cell_state.the_row → IsSend block.the_row → IsSend grid.the_row
+grid_send a b = view_send _ _ _ _ _ (inside_send a b)
+
+grid_sync : IsSync cell_state.the_row → IsSync block.the_row → IsSync grid.the_row
+grid_sync a b = view_sync _ _ _ _ _ (inside_sync a b)
+
+pub is_send_and_sync-requires-2-send-T : goal.is_send_and_sync-requires-2-send-T
+is_send_and_sync-requires-2-send-T c κs =
+    let a : IsSend cell_state.the_row =
+    record { owned = c.is_send_and_sync.ensures.send.owned; leaving = λ k x w. (tt, (tt, (tt, tt))) } in
+    let g : IsSend grid.the_row = grid_send a (block_send a) in
+    param_send _ _ (arg_send _ yes _ g)
+
+pub is_send_and_sync-requires-2-sync-T : goal.is_send_and_sync-requires-2-sync-T
+is_send_and_sync-requires-2-sync-T c κs =
+    let a : IsSync cell_state.the_row = record { shared = c.is_send_and_sync.ensures.sync.shared } in
+    let g : IsSync grid.the_row = grid_sync a (block_sync a) in
+    record { shared = g.shared }
 
 pub returns : goal.returns
 returns c =

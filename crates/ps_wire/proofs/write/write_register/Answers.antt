@@ -2,6 +2,7 @@ use Rattle.std.proofs.Common.{◌≡◌, rules, sym, subst}
 use Rattle.std.proofs.lemmas.Result.{on_ok_weaker}
 use Rattle.serde_json.specs.Data.{string}
 use Rattle.serde_json.specs.Written.{WritesValue}
+use Rattle.ps_lattice.specs.Register.{looked_at}
 use Rattle.ps_content.specs.Content.{canonical_text}
 use Rattle.ps_wire.specs.Value.{whole}
 use Rattle.ps_wire.proofs.WrittenLemmas.{null_written, three_written}
@@ -13,7 +14,7 @@ returns-in-None-clause-written c =
 
 pub returns-in_ok-write_content-in-Some-clause-written : goal.returns-in_ok-write_content-in-Some-clause-written
 returns-in_ok-write_content-in-Some-clause-written c =
-    let a = c.in-Some.assignment.now in
+    let a = looked_at c.in-Some.assignment in
     let t = c.args.out.now.tokens in
     let u = c.begin_array.new.self.tokens in
     let v = c.write_whole.new.out.tokens in

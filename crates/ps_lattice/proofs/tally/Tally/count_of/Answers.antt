@@ -1,32 +1,28 @@
 use Rattle.std.proofs.Common.{◌≡◌, ◌≤◌, refl, sym, ap, ◌∙◌, subst, unwrap_or}
 use Rattle.std.specs.Option.{option_map_or}
 use Rattle.std.specs.Ordering.{nat_cmp}
-use Rattle.std.specs.Cmp.{nat_cmp_total}
 use Rattle.std.specs.FinMap as map
-use Rattle.std.specs.FinMap.{nat_cmp-IsAntisymmetric}
+use Rattle.std.specs.FinMap.{get-entries}
 use Rattle.std.specs.List.{list_all}
 use Rattle.ps_lattice.specs.declared.tally.Count.{Count}
 use Rattle.ps_lattice.specs.declared.limits.TheConstants.{COUNT_LIMIT}
 use Rattle.ps_lattice.specs.Tally.{is_count}
-use Rattle.ps_lattice.specs.Inside.Shared.{items_of}
-use Rattle.ps_lattice.proofs.Rising.{and_left, and_right}
-use Rattle.ps_lattice.proofs.Views.{get_by_list}
+use Rattle.ps_lattice.proofs.Rising.{and_right}
 use Rattle.ps_lattice.proofs.TallyLemmas.{part-unwrap_or, found_fits}
 use Rattle.ps_lattice.proofs.tally.Tally.count_of.Goals as goal
 
 -- what the search found, or nothing
 pub returns : goal.returns
 returns c =
-    let es = items_of c.self.inside.counts in
+    let es = c.as_slice.result.now in
     let r = c.args.replica in
     let none : Count = record { added = 0; subtracted = 0 } in
-    let sorted = and_left (map.is_sorted nat_cmp es) (list_all is_count es) c.self.invariant in
-    let all = and_right (map.is_sorted nat_cmp es) (list_all is_count es) c.self.invariant in
+    let all = and_right (map.is_sorted nat_cmp es) (list_all is_count es) c.as_slice.ensures.in_range in
     let got =
-    sym (get_by_list nat_cmp nat_cmp_total nat_cmp-IsAntisymmetric es c.args.self.now sorted c.self.view_is r) in
+    ap (map.find nat_cmp r) (c.as_slice.ensures.value ∙ ap map.entries c.parts.ensures.value)
+    ∙ sym (get-entries c.args.self.now r) in
     let is : c.unwrap_or.result ≡ unwrap_or (map.find nat_cmp r es) none =
-    c.unwrap_or.ensures ∙ ap (λ o. unwrap_or o none) (c.value_at.ensures
-    ∙ ap (λ l. map.find nat_cmp r l) c.items.ensures) in
+    c.unwrap_or.ensures ∙ ap (λ o. unwrap_or o none) c.value_at.ensures in
     let fits = found_fits r es all in
     record {
       added = ap (λ (k : Count). k.added) is ∙ part-unwrap_or (λ k. k.added) refl (map.find nat_cmp r es)

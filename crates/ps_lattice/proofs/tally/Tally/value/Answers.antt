@@ -1,11 +1,12 @@
 use Rattle.std.proofs.Common.{ℕ, pos, ◌-ℤ◌, ap, ◌∙◌, arith, sum_by, w64, to_z}
+use Rattle.std.specs.FinMap as map
 use Rattle.std.proofs.lemmas.Int.{to_z_pos, to_z-of_z, ints}
 use Rattle.ps_lattice.specs.declared.tally.Count.{Count}
 use Rattle.ps_lattice.proofs.tally.Tally.value.Goals as goal
 
 pub returns : goal.returns
 returns c =
-    let is = c.parts.ensures.value in
+    let is = c.as_slice.ensures.value ∙ ap map.entries c.parts.ensures.value in
     let p = c.totals-added.result.0 in
     let n = c.totals-added.result.1 in
     let added = to_z_pos w64 p (omega arith) in

@@ -1,0 +1,215 @@
+//! The counts of a counter. Where one replica has changed it, and neither of its counts is great, they take no memory.
+
+ghost use Rattle.std.specs.Prelude.{◌≡◌, ◌↔◌, [], ◌∷◌, IsTrue, IfOk, IfErr};
+ghost use Rattle.std.specs.FinMap as map;
+ghost use Rattle.std.specs.Ordering.{nat_cmp};
+ghost use Rattle.ps_grid.specs.declared.refusal.Refusal.{Refusal};
+ghost use Rattle.ps_lattice.specs.Tally.{joined_tallies, greater_counts};
+ghost use Rattle.ps_lattice.specs.Inside.Shared.{joined_entries};
+ghost use Rattle.ps_lattice.specs.Inside.Counts.{counts_in, entries_in};
+
+use crate::entries;
+use crate::tally::Count;
+use ps_grid::Refusal;
+use std::alloc::Global;
+use std::slice;
+use std::sync::Arc;
+
+/// Replicas with their counts, in two words, that aren't changed any more.
+#[derive(Debug, Drop)]
+pub(crate) enum CountList {
+    Empty,
+    // one replica's counts, where each is below 2^32
+    Small {
+        replica: u8,
+        added: u32,
+        subtracted: u32,
+    },
+    // any others, with one or more owners
+    Shared(Arc<Vec<(u8, Count)>>),
+}
+
+/// The entries of such a list: one that is made of the list's small counts, or those of a list in memory.
+#[derive(Debug, Drop)]
+pub(crate) enum Entries<'a> {
+    One((u8, Count)),
+    Listed(&'a [(u8, Count)]),
+}
+
+impl Entries<'_> {
+    /// The replicas with their counts.
+    #[inline(always)]
+    pub(crate) fn as_slice(&self) -> &[(u8, Count)]
+        ensures { result.now ≡ entries_in self.now }
+    {
+        match self {
+            Entries::One(entry) => slice::from_ref(entry),
+            Entries::Listed(entries) => entries,
+        }
+    }
+}
+
+impl CountList {
+    /// The list of these entries, without spare room.
+    pub(crate) fn new(alloc: Global, entries: Vec<(u8, Count)>) -> Result<CountList, Refusal>
+        ensures ok { IfOk result (λ l. counts_in l ≡ entries.items) }
+        ensures memory { IfErr result (λ e. e ≡ Refusal.Memory) }
+    {
+        if entries.is_empty() {
+            return Ok(CountList::Empty);
+        }
+        if entries.len() == 1 {
+            return CountList::of_one(alloc, entries[0].0, entries[0].1);
+        }
+        let mut entries = entries;
+        entries.shrink_to_fit();
+        Ok(CountList::Shared(Arc::new(alloc, entries)?))
+    }
+
+    /// The list of one replica's counts.
+    #[inline]
+    pub(crate) fn of_one(alloc: Global, replica: u8, count: Count) -> Result<CountList, Refusal>
+        ensures ok { IfOk result (λ l. counts_in l ≡ (replica, count) ∷ []) }
+        ensures memory { IfErr result (λ e. e ≡ Refusal.Memory) }
+    {
+        if count.added <= u64::from(u32::MAX) && count.subtracted <= u64::from(u32::MAX) {
+            return Ok(CountList::Small {
+                replica,
+                added: count.added as u32,
+                subtracted: count.subtracted as u32,
+            });
+        }
+        let mut entries = Vec::with_capacity(alloc, 1)?;
+        entries.push((replica, count))?;
+        Ok(CountList::Shared(Arc::new(alloc, entries)?))
+    }
+
+    /// The list, with one owner more where it is in memory.
+    #[inline]
+    pub(crate) fn share(&self) -> Result<CountList, Refusal>
+        ensures ok { IfOk result (λ l. counts_in l ≡ counts_in self.now) }
+        ensures memory { IfErr result (λ e. e ≡ Refusal.Memory) }
+    {
+        match self {
+            CountList::Empty => Ok(CountList::Empty),
+            CountList::Small {
+                replica,
+                added,
+                subtracted,
+            } => Ok(CountList::Small {
+                replica: *replica,
+                added: *added,
+                subtracted: *subtracted,
+            }),
+            CountList::Shared(entries) => Ok(CountList::Shared(entries.clone()?)),
+        }
+    }
+
+    /// The entries.
+    #[inline(always)]
+    pub(crate) fn entries(&self) -> Entries<'_>
+        ensures { entries_in result ≡ counts_in self.now }
+    {
+        match self {
+            CountList::Empty => Entries::Listed(&[]),
+            CountList::Small {
+                replica,
+                added,
+                subtracted,
+            } => Entries::One((
+                *replica,
+                Count {
+                    added: u64::from(*added),
+                    subtracted: u64::from(*subtracted),
+                },
+            )),
+            CountList::Shared(entries) => Entries::Listed(entries),
+        }
+    }
+}
+
+/// Both lists merged in the order of their replicas; counts of one replica are joined. Small counts of one replica
+/// joined are small; of others, where the one list changes nothing in the other, that other one is shared.
+#[inline(always)]
+pub(crate) fn joined(
+    alloc: Global,
+    mine: &CountList,
+    theirs: &CountList,
+) -> Result<CountList, Refusal>
+    requires mine { IsTrue (map.is_sorted nat_cmp (counts_in mine.now)) }
+    requires theirs { IsTrue (map.is_sorted nat_cmp (counts_in theirs.now)) }
+    ensures ok { IfOk result (λ l. counts_in l
+        ≡ joined_entries nat_cmp greater_counts (counts_in mine.now) (counts_in theirs.now)) }
+    ensures memory { IfErr result (λ e. e ≡ Refusal.Memory) }
+{
+    match (mine, theirs) {
+        (_, CountList::Empty) => mine.share(),
+        (CountList::Empty, _) => theirs.share(),
+        _ => joined_filled(alloc, mine, theirs),
+    }
+}
+
+/// Both lists joined, as by `joined`, at once where both have small counts of one replica.
+#[inline(never)]
+fn joined_filled(alloc: Global, mine: &CountList, theirs: &CountList) -> Result<CountList, Refusal>
+    requires mine { IsTrue (map.is_sorted nat_cmp (counts_in mine.now)) }
+    requires theirs { IsTrue (map.is_sorted nat_cmp (counts_in theirs.now)) }
+    ensures ok { IfOk result (λ l. counts_in l
+        ≡ joined_entries nat_cmp greater_counts (counts_in mine.now) (counts_in theirs.now)) }
+    ensures memory { IfErr result (λ e. e ≡ Refusal.Memory) }
+{
+    match (mine, theirs) {
+        (
+            CountList::Small {
+                replica,
+                added,
+                subtracted,
+            },
+            CountList::Small {
+                replica: other,
+                added: their_added,
+                subtracted: their_subtracted,
+            },
+        ) if *replica == *other => Ok(CountList::Small {
+            replica: *replica,
+            added: (*added).max(*their_added),
+            subtracted: (*subtracted).max(*their_subtracted),
+        }),
+        _ => merged(alloc, mine, theirs),
+    }
+}
+
+/// Both lists merged, as by `joined`.
+#[inline(never)]
+fn merged(alloc: Global, mine: &CountList, theirs: &CountList) -> Result<CountList, Refusal>
+    requires mine { IsTrue (map.is_sorted nat_cmp (counts_in mine.now)) }
+    requires theirs { IsTrue (map.is_sorted nat_cmp (counts_in theirs.now)) }
+    ensures ok { IfOk result (λ l. counts_in l
+        ≡ joined_entries nat_cmp greater_counts (counts_in mine.now) (counts_in theirs.now)) }
+    ensures memory { IfErr result (λ e. e ≡ Refusal.Memory) }
+{
+    let (my, their) = (mine.entries(), theirs.entries());
+    if entries::is_below(their.as_slice(), my.as_slice()) {
+        return mine.share();
+    }
+    if entries::is_below(my.as_slice(), their.as_slice()) {
+        return theirs.share();
+    }
+    let all = entries::merge_entries(alloc, my.as_slice(), their.as_slice())?;
+    CountList::new(alloc, all)
+}
+
+/// Whether joining the first list into the second one changes nothing, as it is at once where the first is empty.
+#[inline(always)]
+pub(crate) fn is_below(mine: &CountList, theirs: &CountList) -> bool
+    requires mine { IsTrue (map.is_sorted nat_cmp (counts_in mine.now)) }
+    requires theirs { IsTrue (map.is_sorted nat_cmp (counts_in theirs.now)) }
+    ensures { IsTrue result
+        ↔ (joined_tallies (map.from_sorted (counts_in theirs.now)) (map.from_sorted (counts_in mine.now))
+        ≡ map.from_sorted (counts_in theirs.now)) }
+{
+    match mine {
+        CountList::Empty => true,
+        _ => entries::is_below(mine.entries().as_slice(), theirs.entries().as_slice()),
+    }
+}
