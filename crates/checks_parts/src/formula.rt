@@ -133,18 +133,18 @@ fn lengths_are_limited(rt: HostRuntime) {
 
 /// Whether the tree is (2-3) less the product of -4 and 5, as far as its operators, 4 and 5 say.
 fn is_grouped(tree: &Expr) -> bool {
-    let Expr::Infix(left, Operator::Minus, right) = tree else {
+    let Expr::Infix(Operator::Minus, difference) = tree else {
         return false;
     };
-    let Expr::Infix(four, Operator::Times, five) = &**right else {
+    let Expr::Infix(Operator::Times, product) = &difference.right else {
         return false;
     };
-    let Expr::Prefix(Sign::Minus, four) = &**four else {
+    let Expr::Prefix(Sign::Minus, four) = &product.left else {
         return false;
     };
-    matches!(&**left, Expr::Infix(_, Operator::Minus, _))
+    matches!(&difference.left, Expr::Infix(Operator::Minus, _))
         && matches!(&**four, Expr::Numeral(4))
-        && matches!(&**five, Expr::Numeral(5))
+        && matches!(&product.right, Expr::Numeral(5))
 }
 
 fn read_is_grouped(alloc: Global) -> Result<bool, Refusal> {

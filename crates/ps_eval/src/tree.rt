@@ -63,9 +63,9 @@ fn number<K: Look>(tree: &Expr, look: &K) -> Result<i64, Fault>
         Expr::Numeral(n) => Ok(*n),
         Expr::Reference(cell) => single(look.operand(*cell)),
         Expr::Prefix(sign, operand) => prefixed(*sign, number(operand, look)?),
-        Expr::Infix(left, operator, right) => {
-            let a = side(left, look)?;
-            let b = side(right, look)?;
+        Expr::Infix(operator, operands) => {
+            let a = side(&operands.left, look)?;
+            let b = side(&operands.right, look)?;
             operation(*operator, a, b)
         }
         Expr::Group(inner) => number(inner, look),
@@ -270,7 +270,7 @@ fn cell_alone(tree: &Expr) -> Option<Cell>
         Expr::Reference(cell) => Some(*cell),
         Expr::Numeral(_) => None,
         Expr::Prefix(_, _) => None,
-        Expr::Infix(_, _, _) => None,
+        Expr::Infix(_, _) => None,
         Expr::Group(_) => None,
         Expr::Call(_, _) => None,
     }

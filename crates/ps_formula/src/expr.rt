@@ -22,12 +22,22 @@ pub enum Expr {
     Reference(Cell),
     /// A sign and its operand.
     Prefix(Sign, Box<Expr>),
-    /// Two operands with an operator between them.
-    Infix(Box<Expr>, Operator, Box<Expr>),
+    /// An operator between its operands, which share one box.
+    Infix(Operator, Box<Operands>),
     /// An expression in parentheses.
     Group(Box<Expr>),
     /// A function of its arguments, of which there may be none.
     Call(Function, Vec<Argument>),
+}
+
+/// The operands on both sides of an operator.
+#[cycle(tree)]
+#[derive(Drop)]
+pub struct Operands {
+    /// The operand before the operator.
+    pub left: Expr,
+    /// The operand after it.
+    pub right: Expr,
 }
 
 /// An argument of a function.

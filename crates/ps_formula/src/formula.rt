@@ -57,8 +57,8 @@ impl Formula {
     /// `LONGEST_ENTRY` bytes, or where the canonical text would have more than `LONGEST_TEXT`; as no formula where
     /// the bytes have no tree; and when out of memory.
     ///
-    /// Cost: linear in the bytes; allocations are two for each operator, one for each sign and group, the growing
-    /// list of each call's arguments, and one list each for the tokens, the text and the references.
+    /// Cost: linear in the bytes; allocations are one for each operator, sign and group, the growing list of each
+    /// call's arguments, and one list each for the tokens, the text and the references.
     pub fn read(alloc: Global, bytes: &[u8]) -> Result<Formula, Refusal>
         ensures short { IfOk result (λ _. length bytes.now ≤ LONGEST_ENTRY) }
         ensures found { IfOk result (λ t. HasTree bytes.now t) }

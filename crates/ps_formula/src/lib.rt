@@ -21,6 +21,6 @@ mod laws;
 mod order;
 mod parser;
 
-pub use expr::{Argument, Expr, Sign};
+pub use expr::{Argument, Expr, Operands, Sign};
 pub use formula::{Formula, Formulas, LONGEST_ENTRY, LONGEST_TEXT};
 pub use laws::{canonical_text_has_tree, one_tree, ordered_by_text};

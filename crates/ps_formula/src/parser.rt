@@ -13,7 +13,7 @@ ghost use Rattle.ps_formula.specs.Inside.Reading.{sign_of};
 ghost use Rattle.ps_formula.specs.Tree.{Tree};
 ghost use Rattle.ps_formula.specs.TreeOf.{item_of, tree_of};
 
-use crate::expr::{Argument, Expr, Sign};
+use crate::expr::{Argument, Expr, Operands, Sign};
 use ps_grid::{Rect, Refusal};
 use ps_tokens::{Function, Operator, Token};
 use std::alloc::Global;
@@ -138,13 +138,12 @@ fn more(
         return Ok((left, tokens));
     };
     let (right, rest) = level(alloc, depth - 1, level_of(operator), rest)?;
-    let left = Box::new(alloc, left)?;
-    let right = Box::new(alloc, right)?;
+    let operands = Box::new(alloc, Operands { left, right })?;
     more(
         alloc,
         depth - 1,
         loosest,
-        Expr::Infix(left, operator, right),
+        Expr::Infix(operator, operands),
         rest,
     )
 }
