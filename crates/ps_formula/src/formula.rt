@@ -7,6 +7,7 @@ ghost use Rattle.ps_formula.specs.Formula.{Opens};
 ghost use Rattle.ps_grid.specs.declared.refusal.Refusal.TheVariants.{Memory, TooLong, Formula as NoFormula};
 
 use crate::expr::Expr;
+use crate::rects::Rects;
 use crate::{kept, parser};
 use ps_grid::{Cell, Rect, Refusal};
 use ps_tokens::{Token, tokens};
@@ -27,7 +28,7 @@ pub struct Formula {
     /// the canonical text
     text: Vec<u8>,
     /// each reference and range, from left to right
-    rects: Vec<Rect>,
+    rects: Rects,
 }
 
 impl Model for Formula {
@@ -39,11 +40,11 @@ impl Model for Formula {
     ghost coded = { tree_code };
 
     ghost use Rattle.ps_formula.specs.TreeOf.{tree_of};
-    ghost use Rattle.ps_formula.specs.Inside.Parts.{FitTogether};
+    ghost use Rattle.ps_formula.specs.Inside.Parts.{FitTogether, in_line};
 
     ghost view = { λ f. tree_of f.tree };
 
-    ghost invariant = { λ f. FitTogether (tree_of f.tree) f.text.items f.rects.items };
+    ghost invariant = { λ f. FitTogether (tree_of f.tree) f.text.items (in_line f.rects) };
 }
 
 impl Formula {
@@ -58,7 +59,7 @@ impl Formula {
     /// the bytes have no tree; and when out of memory.
     ///
     /// Cost: linear in the bytes; allocations are one for each operator, sign and group, the growing list of each
-    /// call's arguments, and one list each for the tokens, the text and the references.
+    /// call's arguments, one list each for the tokens and the text, and one for more than three rectangles.
     pub fn read(alloc: Global, bytes: &[u8]) -> Result<Formula, Refusal>
         ensures short { IfOk result (λ _. length bytes.now ≤ LONGEST_ENTRY) }
         ensures found { IfOk result (λ t. HasTree bytes.now t) }
@@ -121,7 +122,7 @@ impl Formula {
         ensures each { result.now ≡ rects_of self.now }
         ensures covered { (c : ℕ) → list_any (λ r. is_inside r c) result.now ≡ mentions self.now c }
     {
-        &self.rects
+        self.rects.as_slice()
     }
 }
 

@@ -1,11 +1,13 @@
 //! What a formula keeps beside its tree, found from its tokens.
 
-ghost use Rattle.std.specs.Prelude.{◌≡◌, ◌≤◌, ◌∷◌, length, IfOk, IfErr};
+ghost use Rattle.std.specs.Prelude.{◌≡◌, ◌≤◌, ◌∷◌, [], length, IfOk, IfErr, MatchOption};
 ghost use Rattle.std.specs.List.{flat_map};
 ghost use Rattle.ps_grid.specs.declared.refusal.Refusal.TheVariants.{Memory};
 ghost use Rattle.ps_tokens.specs.Text.{tokens_text};
+ghost use Rattle.ps_formula.specs.Inside.Parts.{in_line};
 ghost use Rattle.ps_formula.specs.References.{rects_at};
 
+use crate::rects::Rects;
 use ps_grid::{Rect, Refusal};
 use ps_tokens::{Token, put_token};
 use std::alloc::Global;
@@ -35,8 +37,8 @@ fn rect_count(tokens: &[Token]) -> usize
         .count()
 }
 
-/// Each reference and range among the tokens as a rectangle.
-pub(crate) fn rects(alloc: Global, tokens: &[Token]) -> Result<Vec<Rect>, Refusal>
+/// Each reference and range among the tokens as a rectangle, in a list of its own.
+fn many_rects(alloc: Global, tokens: &[Token]) -> Result<Vec<Rect>, Refusal>
     ensures rects { IfOk result (λ rects. rects.items ≡ flat_map rects_at tokens.now) }
     ensures memory { IfErr result (λ e. e ≡ Memory) }
 {
@@ -49,4 +51,41 @@ pub(crate) fn rects(alloc: Global, tokens: &[Token]) -> Result<Vec<Rect>, Refusa
         }
     }
     Ok(rects)
+}
+
+/// The first reference or range among the tokens as a rectangle, and the tokens after it.
+fn first_rect(tokens: &[Token]) -> Option<(Rect, &[Token])>
+    ensures { MatchOption result
+        (flat_map rects_at tokens.now ≡ [])
+        (λ x. flat_map rects_at tokens.now ≡ x.0 ∷ flat_map rects_at x.1.now) }
+{
+    let mut left = tokens;
+    'tokens: while let [first, rest @ ..] = left {
+        match *first {
+            Token::Reference(cell) => return Some((Rect::new(cell, cell), rest)),
+            Token::Range(rect) => return Some((rect, rest)),
+            _ => left = rest,
+        }
+    }
+    None
+}
+
+/// Each reference and range among the tokens as a rectangle. As many as three are found in one walk.
+pub(crate) fn rects(alloc: Global, tokens: &[Token]) -> Result<Rects, Refusal>
+    ensures rects { IfOk result (λ rects. in_line rects ≡ flat_map rects_at tokens.now) }
+    ensures memory { IfErr result (λ e. e ≡ Memory) }
+{
+    let Some((first, rest)) = first_rect(tokens) else {
+        return Ok(Rects::Empty);
+    };
+    let Some((second, rest)) = first_rect(rest) else {
+        return Ok(Rects::One([first]));
+    };
+    let Some((third, rest)) = first_rect(rest) else {
+        return Ok(Rects::Two([first, second]));
+    };
+    if first_rect(rest).is_some() {
+        return Ok(Rects::Many(many_rects(alloc, tokens)?));
+    }
+    Ok(Rects::Three([first, second, third]))
 }

@@ -20,6 +20,7 @@ mod kept;
 mod laws;
 mod order;
 mod parser;
+mod rects;
 
 pub use expr::{Argument, Expr, Operands, Sign};
 pub use formula::{Formula, Formulas, LONGEST_ENTRY, LONGEST_TEXT};

@@ -4,6 +4,7 @@ use Rattle.ps_grid.specs.declared.refusal.Refusal.TheVariants.{Formula}
 use Rattle.ps_tokens.specs.Text.{Spells}
 use Rattle.ps_formula.specs.TreeOf.{tree_of}
 use Rattle.ps_formula.specs.Canonical.{canon}
+use Rattle.ps_formula.specs.Inside.Parts.{in_line}
 use Rattle.ps_formula.specs.declared.formula.TheConstants.{LONGEST_TEXT}
 use Rattle.ps_formula.proofs.Texts.{no_opening, no_tokens, no_tree, one_tree, found_tree, kept, length-canon}
 use Rattle.ps_formula.proofs.Texts.{memory_alone}
@@ -86,7 +87,7 @@ invariant_of-result c =
     let spelled = subst (λ v. Spells c.in-Some.rest.now v)
     (sym c.deref-tokens.ensures.value) c.in_ok-found.ensures.spelled in
     kept c.in-Some.rest.now c.deref-tokens.result.now
-    (tree_of c.in_ok-tree.tree) c.in_ok-text.text.items c.in_ok-rects.rects.items
+    (tree_of c.in_ok-tree.tree) c.in_ok-text.text.items (in_line c.in_ok-rects.rects)
     spelled c.in_ok-tree.ensures.found c.in_ok-text.ensures.text
     (omega (arith, c.len.ensures, c.if-len-gt-LONGEST_TEXT.false)) c.in_ok-rects.ensures.rects
 

@@ -1,0 +1,33 @@
+//! The rectangles that a formula keeps.
+
+ghost use Rattle.std.specs.Prelude.{◌≡◌};
+ghost use Rattle.ps_formula.specs.Inside.Parts.{in_line};
+
+use ps_grid::Rect;
+
+/// Rectangles, from left to right. As many as three, as most formulas have, take no memory of their own.
+#[derive(Drop)]
+pub(crate) enum Rects {
+    Empty,
+    One([Rect; 1]),
+    Two([Rect; 2]),
+    Three([Rect; 3]),
+    Many(Vec<Rect>),
+}
+
+impl Rects {
+    /// The rectangles.
+    ///
+    /// Cost: constant.
+    pub(crate) fn as_slice(&self) -> &[Rect]
+        ensures { result.now ≡ in_line self.now }
+    {
+        match self {
+            Rects::Empty => &[],
+            Rects::One(rects) => rects,
+            Rects::Two(rects) => rects,
+            Rects::Three(rects) => rects,
+            Rects::Many(rects) => rects,
+        }
+    }
+}
