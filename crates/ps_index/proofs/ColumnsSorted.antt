@@ -97,13 +97,13 @@ pub zeros_length : (xs : List ℕ) (n : ℕ) → xs ≡ replicate n 0 → length
 zeros_length xs n e = rw e (length-replicate n 0)
 
 pub empty_column : (spans : List Span) (ends : List ℕ) → spans ≡ [] → length ends ≡ ROWS + 1
-    → ((j : ℕ) → get_or ends j 0 ≡ 0)
+    → ((j : ℕ) → j ≤ ROWS → get_or ends j 0 ≡ 0)
     → IsColumn spans ends LEVELS
 empty_column spans ends none size zeros =
     let n : length spans ≡ 0 = ap length none in
     record {
       size = size;
-      within = λ (j : ℕ) (in_rows : j ≤ ROWS). omega (arith, zeros j);
+      within = λ (j : ℕ) (in_rows : j ≤ ROWS). omega (arith, zeros j in_rows);
       placed = λ (i j : ℕ) (d : Span) (lt : i < length spans). absurd (omega arith);
       by_cell = λ (i j : ℕ) (d : Span) (le : i ≤ j) (lt : j < length spans). absurd (omega arith);
       each = λ (i : ℕ) (d : Span) (lt : i < length spans). absurd (omega arith);

@@ -1,5 +1,6 @@
 -- What the types of this crate hold and how its code works, in words that no public contract cites.
 pub mod Columns
+pub mod Counts
 pub mod Dues
 pub mod Nodes
 pub mod Places

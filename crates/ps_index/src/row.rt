@@ -7,6 +7,7 @@ ghost use Rattle.ps_index.specs.Inside.Columns.{IsColumn};
 ghost use Rattle.ps_index.specs.Spans.{cell_of, cells_from, refers_at};
 ghost use Rattle.ps_index.specs.declared.span.Span.{Span as TheSpan};
 
+use crate::counts::RowCounts;
 use crate::nodes::LEVELS;
 use crate::span::Span;
 use ps_grid::{Cell, ROWS};
@@ -46,17 +47,18 @@ impl<'a> Model for RowReaders<'a> {
 impl<'a> RowReaders<'a> {
     /// The walk of the cells that refer to a row, at its beginning.
     #[inline]
-    pub(crate) fn new(spans: &'a [Span], column: &[u32], row: usize) -> RowReaders<'a>
+    pub(crate) fn new(spans: &'a [Span], column: &RowCounts, row: usize) -> RowReaders<'a>
         requires column { IsColumn spans.now column.now LEVELS }
         requires some { 1 ≤ row }
         requires in_grid { row ≤ ROWS }
         ensures { result ≡ cells_from (refers_at spans.now row) 0 ALL }
     {
+        let kept = column.kept_at(row);
         RowReaders {
             spans,
             row,
-            place: column[row - 1] as usize,
-            end: column[row] as usize,
+            place: kept.from as usize,
+            end: kept.to as usize,
             least: 0,
         }
     }

@@ -9,6 +9,7 @@ ghost use Rattle.ps_index.specs.Inside.Walks.{IsAt, IsOn};
 ghost use Rattle.ps_index.specs.Spans.{cell_of, cells_from, refers_at};
 ghost use Rattle.ps_index.specs.declared.span.Span.{Span as TheSpan};
 
+use crate::counts::RowCounts;
 use crate::span::Span;
 use crate::walk::passed;
 use ps_grid::{CELLS, Cell, ROWS};
@@ -63,7 +64,7 @@ impl<'a> TwoRowReaders<'a> {
     #[inline(always)]
     pub(crate) fn new(
         spans: &'a [Span],
-        column: &[u32],
+        column: &RowCounts,
         row: usize,
         key: usize,
     ) -> TwoRowReaders<'a>
@@ -75,10 +76,12 @@ impl<'a> TwoRowReaders<'a> {
         requires key_in_grid { key ≤ ROWS }
         ensures { result ≡ cells_from (refers_at spans.now row) 0 ALL }
     {
-        let own_end = column[row] as usize;
-        let upper_end = column[key] as usize;
-        let own = head_from(spans, row, 0, column[row - 1] as usize, own_end);
-        let upper = head_from(spans, row, 0, column[key - 1] as usize, upper_end);
+        let at_row = column.kept_at(row);
+        let above = column.kept_at(key);
+        let own_end = at_row.to as usize;
+        let upper_end = above.to as usize;
+        let own = head_from(spans, row, 0, at_row.from as usize, own_end);
+        let upper = head_from(spans, row, 0, above.from as usize, upper_end);
         TwoRowReaders {
             spans,
             row,

@@ -1,4 +1,4 @@
-use Rattle.std.proofs.Common.{◌-◌, ◌∙◌, ap, arith, get_or, refl, sym}
+use Rattle.std.proofs.Common.{◌∙◌, ap, arith, refl, sym}
 use Rattle.std.proofs.lemmas.List.{get_or_read}
 use Rattle.ps_index.specs.Inside.Columns.{IsColumn}
 use Rattle.ps_index.specs.declared.nodes.TheConstants.{LEVELS}
@@ -7,13 +7,16 @@ use Rattle.ps_index.proofs.SoleCells.{sole_none, sole_one}
 use Rattle.ps_index.proofs.column.sole_at.Goals as goal
 
 pub returns-then-to-from : goal.returns-then-to-from
-returns-then-to-from c = λ (col : IsColumn c.args.spans.now c.args.ends.now LEVELS).
-    sole_none _ _ col c.args.row (omega arith) (omega arith) _ refl (omega arith)
+returns-then-to-from c = λ (col : IsColumn c.args.spans.now c.args.counts.now LEVELS).
+    sole_none _ _ col c.args.row (omega arith) (omega arith) _ refl
+    (omega (arith, c.kept_at-kept.ensures.from, c.kept_at-kept.ensures.to))
 
 pub returns-then-to-from-eq1 : goal.returns-then-to-from-eq1
-returns-then-to-from-eq1 c = λ (col : IsColumn c.args.spans.now c.args.ends.now LEVELS).
-    sole_one _ _ col c.args.row (omega arith) (omega arith) c.index.result (omega arith) (omega arith)
-    (λ (d : Span). ap (λ (s : Span). s.cell)
-    (sym (get_or_read c.args.spans.now (get_or c.args.ends.now (c.args.row - 1) 0) c.index-spans-from.result
-    (omega (arith, col.within c.args.row (omega arith))) c.index-spans-from.is d))
-    ∙ ap (λ (s : Span). s.cell) c.index-spans-from.is ∙ sym c.index.ensures.index)
+returns-then-to-from-eq1 c = λ (col : IsColumn c.args.spans.now c.args.counts.now LEVELS).
+    let from = c.kept_at-kept.ensures.from in
+    let to = c.kept_at-kept.ensures.to in
+    sole_one _ _ col c.args.row (omega arith) (omega arith) c.index.result (omega arith) (omega (arith, from, to))
+    (rw (sym from) (λ (d : Span). ap (λ (s : Span). s.cell)
+    (sym (get_or_read c.args.spans.now c.kept_at-kept.result.from c.index-spans-from.result
+    (omega (arith, to, col.within c.args.row (omega arith))) c.index-spans-from.is d))
+    ∙ ap (λ (s : Span). s.cell) c.index-spans-from.is ∙ sym c.index.ensures.index))
