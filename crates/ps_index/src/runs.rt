@@ -5,7 +5,7 @@
 
 ghost use Rattle.std.specs.Prelude.{◌≡◌, ℕ, ◌+◌, ◌*◌, ◌/◌, ◌%◌, ◌<◌, ◌≤◌, true, false};
 ghost use Rattle.ps_grid.specs.Rectangle.{LiesInGrid};
-ghost use Rattle.ps_index.specs.Inside.Places.{covers_place, covered};
+ghost use Rattle.ps_index.specs.Inside.Places.{IsFirstRun, covers_place, covered};
 
 use ps_grid::{COLUMNS, ROWS, Rect};
 
@@ -15,7 +15,7 @@ pub(crate) const STRIDE: usize = ROWS + 1;
 /// The places of all columns.
 pub(crate) const PLACES: usize = COLUMNS * STRIDE;
 
-/// The sides of a rectangle: its first and last column, from 0, and its first and last row, from 1.
+/// Where a rectangle lies: its first and last column, from 0, its first and last row, from 1, and their places.
 #[derive(Clone, Copy)]
 struct Sides {
     /// the first column
@@ -26,63 +26,118 @@ struct Sides {
     top: usize,
     /// the last row
     bottom: usize,
+    /// the first place: that of the first row in the first column
+    first: usize,
+    /// the last place: that of the last row in the last column
+    last: usize,
 }
 
 /// Where the sides of a rectangle lie.
+#[inline]
 fn sides_of(rect: Rect) -> Sides
     ensures left { result.left ≡ rect.left }
     ensures right { result.right + 1 ≡ rect.left + rect.width }
     ensures top { result.top ≡ rect.top + 1 }
     ensures bottom { result.bottom ≡ rect.top + rect.height }
+    ensures first { result.first ≡ result.left * STRIDE + result.top }
+    ensures last { result.last ≡ result.right * STRIDE + result.bottom }
     ensures in_grid { LiesInGrid rect }
 {
     // known by its contract: the rectangle is in the grid
     let _area = rect.area();
-    let first = rect.top_left();
-    let last = rect.bottom_right();
+    let corner = rect.top_left();
+    let left = corner.column() as usize;
+    let top = corner.row() as usize;
+    let right = left + rect.width() - 1;
+    let bottom = top + rect.height() - 1;
     Sides {
-        left: first.column() as usize,
-        right: last.column() as usize,
-        top: first.row() as usize,
-        bottom: last.row() as usize,
+        left,
+        right,
+        top,
+        bottom,
+        first: left * STRIDE + top,
+        last: right * STRIDE + bottom,
     }
 }
 
-/// The first place of the rectangle from a place on; `PLACES` if there is none.
-fn first_in(rect: Rect, place: usize) -> usize
+/// A run of places.
+#[derive(Clone, Copy)]
+pub(crate) struct Run {
+    /// the first place; `PLACES` where there is no run
+    pub(crate) from: usize,
+    /// the place after the last one
+    pub(crate) end: usize,
+}
+
+/// The first places of the rectangle from a place on, in one column.
+fn first_run(rect: Rect, place: usize) -> Run
     requires place { place ≤ PLACES }
-    ensures from { place ≤ result }
-    ensures to { result ≤ PLACES }
-    ensures none_before { (q : ℕ) → place ≤ q → q < result → covers_place rect q ≡ false }
-    ensures covers { result < PLACES → covers_place rect result ≡ true }
+    ensures { IsFirstRun (covers_place rect) place result.from result.end }
 {
     let sides = sides_of(rect);
+    if place <= sides.first {
+        return Run {
+            from: sides.first,
+            end: sides.first + rect.height(),
+        };
+    }
+    if sides.last < place {
+        return Run {
+            from: PLACES,
+            end: PLACES,
+        };
+    }
+    if sides.left == sides.right {
+        return Run {
+            from: place,
+            end: sides.last + 1,
+        };
+    }
     let column = place / STRIDE;
     let row = place % STRIDE;
-    if column < sides.left {
-        sides.left * STRIDE + sides.top
-    } else if column <= sides.right && row <= sides.bottom {
-        column * STRIDE + row.max(sides.top)
-    } else if column < sides.right {
-        (column + 1) * STRIDE + sides.top
+    if row <= sides.bottom {
+        Run {
+            from: column * STRIDE + row.max(sides.top),
+            end: column * STRIDE + sides.bottom + 1,
+        }
     } else {
-        PLACES
+        Run {
+            from: (column + 1) * STRIDE + sides.top,
+            end: (column + 1) * STRIDE + sides.bottom + 1,
+        }
     }
 }
 
-/// The first place from this one on that a rectangle covers; `PLACES` if there is none.
-pub(crate) fn next_place(rects: &[Rect], place: usize) -> usize
+/// The first run of places from this one on that rectangles cover.
+pub(crate) fn next_run(rects: &[Rect], place: usize) -> Run
     requires place { place ≤ PLACES }
-    ensures from { place ≤ result }
-    ensures to { result ≤ PLACES }
-    ensures none_before { (q : ℕ) → place ≤ q → q < result → covered rects.now q ≡ false }
-    ensures covers { result < PLACES → covered rects.now result ≡ true }
+    ensures { IsFirstRun (covered rects.now) place result.from result.end }
 {
-    let mut first = PLACES;
+    let mut from = PLACES;
+    let mut end = PLACES;
+    // where the first run begins of the others
+    let mut other = PLACES;
     for rect in rects {
-        first = first.min(first_in(*rect, place));
+        let run = first_run(*rect, place);
+        if run.from < from {
+            other = from;
+            from = run.from;
+            end = run.end;
+        } else {
+            other = other.min(run.from);
+        }
     }
-    first
+    if from == PLACES {
+        return Run { from, end };
+    }
+    // mostly no other run meets this one
+    if end < other {
+        return Run { from, end };
+    }
+    Run {
+        from,
+        end: run_end(rects, end),
+    }
 }
 
 /// The place after the rectangle's rows, where it covers the place; else the place.
@@ -95,9 +150,15 @@ fn passed(rect: Rect, place: usize) -> usize
     ensures column { place < result → result ≤ place / STRIDE * STRIDE + STRIDE }
 {
     let sides = sides_of(rect);
+    if place < sides.first || sides.last < place {
+        return place;
+    }
+    if sides.left == sides.right {
+        return sides.last + 1;
+    }
     let column = place / STRIDE;
     let row = place % STRIDE;
-    if sides.left <= column && column <= sides.right && sides.top <= row && row <= sides.bottom {
+    if sides.top <= row && row <= sides.bottom {
         column * STRIDE + sides.bottom + 1
     } else {
         place
@@ -122,7 +183,7 @@ fn passed_all(rects: &[Rect], place: usize) -> usize
 }
 
 /// The first place from this one on that no rectangle covers.
-pub(crate) fn run_end(rects: &[Rect], place: usize) -> usize
+fn run_end(rects: &[Rect], place: usize) -> usize
     requires place { place ≤ PLACES }
     ensures from { place ≤ result }
     ensures to { result ≤ PLACES }
