@@ -175,6 +175,67 @@ fn one_decoder_reads_texts_in_turn(rt: HostRuntime) -> Result<(), Refusal> {
     Ok(())
 }
 
+/// Texts that are compact lines of a cell with a register alone, or nearly so, and whether they are lines.
+const NEARLY_COMPACT: [(&str, bool); 44] = [
+    (r#"[["A1",[1,2,"5"],[],[]]]"#, true),
+    (r#" [["A1",[1,2,"5"],[],[]]]"#, true),
+    (r#"[["A1",[1,2,"5"],[],[]]] "#, true),
+    (r#"[["A1",[1 ,2,"5"],[],[]]]"#, true),
+    (r#"[["A1",[1,2,"5"],[],[ ]]]"#, true),
+    (r#"[["A1",[1,2,"\u0035"],[],[]]]"#, true),
+    (r#"[["\u00411",[1,2,"5"],[],[]]]"#, true),
+    (r#"[["A1",[1,2,"5"],[],[]]]5"#, false),
+    (r#"[["A1",[1,2,"5"],[],[]]]]"#, false),
+    (r#"[["A1",[1,2,"5"],[],[],]]"#, false),
+    (r#"[["A1",[1,2,"5"],[],[]]"#, false),
+    (r#"[["a1",[1,2,"5"],[],[]]]"#, false),
+    (r#"[["A01",[1,2,"5"],[],[]]]"#, false),
+    (r#"[["A1025",[1,2,"5"],[],[]]]"#, false),
+    (r#"[["A 1",[1,2,"5"],[],[]]]"#, false),
+    (r#"[["",[1,2,"5"],[],[]]]"#, false),
+    (r#"[["A1",[01,2,"5"],[],[]]]"#, false),
+    (r#"[["A1",[0,2,"5"],[],[]]]"#, false),
+    (r#"[["A1",[,2,"5"],[],[]]]"#, false),
+    (r#"[["A1",[9007199254740991,32,"5"],[],[]]]"#, true),
+    (r#"[["A1",[9007199254740992,2,"5"],[],[]]]"#, false),
+    (r#"[["A1",[18446744073709551617,2,"5"],[],[]]]"#, false),
+    (r#"[["A1",[1,02,"5"],[],[]]]"#, false),
+    (r#"[["A1",[1,2e0,"5"],[],[]]]"#, false),
+    (r#"[["A1",[1,-2,"5"],[],[]]]"#, false),
+    (r#"[["A1",[1,0,"5"],[],[]]]"#, false),
+    (r#"[["A1",[1,33,"5"],[],[]]]"#, false),
+    (r#"[["A1",[1,258,"5"],[],[]]]"#, false),
+    (r#"[["A1",[1,2,"-5"],[],[]]]"#, true),
+    (r#"[["A1",[1,2,"0"],[],[]]]"#, true),
+    (r#"[["A1",[1,2,"-0"],[],[]]]"#, false),
+    (r#"[["A1",[1,2,"05"],[],[]]]"#, false),
+    (r#"[["A1",[1,2,"-05"],[],[]]]"#, false),
+    (r#"[["A1",[1,2,"+5"],[],[]]]"#, false),
+    (r#"[["A1",[1,2,"-"],[],[]]]"#, false),
+    (r#"[["A1",[1,2,"5e0"],[],[]]]"#, false),
+    (r#"[["A1",[1,2,"9223372036854775808"],[],[]]]"#, false),
+    (r#"[["A1",[1,2,"-9223372036854775808"],[],[]]]"#, true),
+    (r#"[["A1",[1,2,"-9223372036854775809"],[],[]]]"#, false),
+    (r#"[["A1",[1,2,"'a\/b"],[],[]]]"#, true),
+    (r#"[["A1",[1,2,"'a\b"],[],[]]]"#, false),
+    ("[[\"A1\",[1,2,\"'a\tb\"],[],[]]]", false),
+    (r#"[["A1",[1,2,"'é 5"],[],[]]]"#, true),
+    (r#"[["A1",[1,2,5],[],[]]]"#, false),
+];
+
+/// Whatever is nearly a compact line is read as JSON is, or refused.
+#[test]
+fn nearly_compact_lines_are_read_as_json(rt: HostRuntime) -> Result<(), Refusal> {
+    let mut decoder = Decoder::new(rt.alloc());
+    for (text, is_line) in NEARLY_COMPACT {
+        assert!(rt;
+            is_read(rt.alloc(), &mut decoder, text.as_bytes(), is_line)?,
+            "{text}"
+        );
+    }
+    Ok(())
+}
+
 /// What isn't a delta: nothing, cells out of order or twice, names, numbers, contents, counts and pairs out of their
 /// ranges, numbers with a sign, a fraction or an exponent, and what goes on after its end.
 #[test]

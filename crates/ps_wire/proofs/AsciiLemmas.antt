@@ -127,6 +127,17 @@ label_utf8 text label = IsUtf8-from_is_utf8 text (and_parts _ _ label).1
 pub name_utf8 : (c : ℕ) → IsUtf8 (cell_name c)
 name_utf8 c = IsUtf8-from_ascii (cell_name c) (name_ascii c)
 
+-- so is a text whose bytes are tested
+pub tested_utf8 : (bytes : List ℕ) → list_all (λ b. nat_lt b 128) bytes ≡ true → IsUtf8 bytes
+tested_utf8 bytes h = IsUtf8-from_ascii bytes (ascii bytes h)
+
+-- and what is written of a number
+pub decimal_utf8 : (n : ℕ) → IsUtf8 (decimal n)
+decimal_utf8 n = IsUtf8-from_ascii (decimal n) (decimal_ascii n)
+
+pub signed_utf8 : (z : ℤ) → IsUtf8 (signed_decimal z)
+signed_utf8 z = IsUtf8-from_ascii (signed_decimal z) (signed_ascii z)
+
 -- a label with the quote that marks it as a text is UTF-8, and so is the canonical text of a formula
 pub quoted_utf8 : (label : List ℕ) → IsLabel label → IsUtf8 (39 ∷ label)
 quoted_utf8 label h =

@@ -1,7 +1,8 @@
 -- Texts in which no byte is escaped, and how long a brief cell is at most.
 use Rattle.std.proofs.Common.{◌≡◌, ◌≢◌, ℕ, ℤ, pos, negsuc, zero, suc, ◌+◌, ◌-◌, ◌/◌, ◌%◌, ◌<◌, ◌≤◌, ◌==◌}
 use Rattle.std.proofs.Common.{Bool, true, false, cond, List, [], ◌∷◌, ◌++◌, map as each, length, Some}
-use Rattle.std.proofs.Common.{refl, ap, arith, nat_lt, length-append}
+use Rattle.std.proofs.Common.{refl, ap, ap₂, ◌∙◌, arith, nat_lt}
+use Rattle.std.proofs.lemmas.Grind.{flat_map-append}
 use Rattle.std.proofs.lemmas.Bool.{ltb-true}
 use Rattle.std.proofs.lemmas.Fmt.{length_signed_le}
 use Rattle.std.specs.Fmt.{decimal, digit_glyph, digits, digits_onto, signed_decimal}
@@ -20,30 +21,22 @@ use Rattle.ps_content.specs.declared.content.Content.{Content}
 use Rattle.ps_delta.specs.declared.cell_state.CellState.{CellState}
 use Rattle.ps_wire.specs.Length.{size}
 use Rattle.ps_wire.specs.Value.{array_of, whole, register_value, count_value, pair_value, cell_value}
-use Rattle.ps_wire.proofs.EscapeLemmas.{length-escape-append}
 use Rattle.ps_wire.proofs.LengthLemmas.{name-short, size-whole, stamp_ranges}
 use Rattle.ps_wire.proofs.SizeLemmas.{size_of_string, size_of_three, size_of_four, size_of_none}
 
 -- its bytes stand for themselves in a string
-record Plain (text : List ℕ) : Type 0 where
-  same : length (escape text) ≡ length text
+pub record Plain (text : List ℕ) : Type 0 where
+  pub same : escape text ≡ text
 
 none : Plain []
 none = record { same = refl }
 
 one : (b : ℕ) (bs : List ℕ) → 32 ≤ b → b ≢ 34 → b ≢ 92 → Plain bs → Plain (b ∷ bs)
-one b bs printed no_quote no_backslash rest = record {
-  same = omega (
-    arith,
-    length-escape-append (b ∷ []) bs,
-    ap length (escape_byte_plain b no_quote no_backslash printed),
-    length-append (escape_byte b) [],
-    rest.same,
-  );
-}
+one b bs printed no_quote no_backslash rest =
+    record { same = ap₂ (λ x y. x ++ y) (escape_byte_plain b no_quote no_backslash printed) rest.same }
 
 both : (a b : List ℕ) → Plain a → Plain b → Plain (a ++ b)
-both a b h k = record { same = omega (arith, length-escape-append a b, length-append a b, h.same, k.same) }
+both a b h k = record { same = flat_map-append escape_byte a b ∙ ap₂ (λ x y. x ++ y) h.same k.same }
 
 either : (t : Bool) (a b : List ℕ) → (t ≡ true → Plain a) → (t ≡ false → Plain b) → Plain (cond t a b)
 either true a b f g = f refl
@@ -67,7 +60,7 @@ decimal_plain : (n : ℕ) → Plain (decimal n)
 unfolding digits
 decimal_plain n = digits_plain 64 n [] none
 
-signed_plain : (z : ℤ) → Plain (signed_decimal z)
+pub signed_plain : (z : ℤ) → Plain (signed_decimal z)
 signed_plain (pos n) = decimal_plain n
 signed_plain (negsuc n) = one 45 _ (omega arith) (λ e. omega (arith, e)) (λ e. omega (arith, e)) (decimal_plain (suc n))
 
@@ -82,13 +75,13 @@ column_plain column below false e =
     letter_plain (column / LETTERS - 1) (letter_of (column % LETTERS) ∷ []) (omega arith)
     (letter_plain (column % LETTERS) [] (omega arith) none)
 
-name_plain : (c : ℕ) → Plain (cell_name c)
+pub name_plain : (c : ℕ) → Plain (cell_name c)
 name_plain c =
     both (column_name (column_of c)) (decimal (row_of c))
     (column_plain (column_of c) (omega arith) (nat_lt (column_of c) LETTERS) refl) (decimal_plain (row_of c))
 
 size-plain : (text : List ℕ) → Plain text → size (string text) ≡ 2 + length text
-size-plain text h = omega (arith, size_of_string text, h.same)
+size-plain text h = omega (arith, size_of_string text, ap length h.same)
 
 pub size-name : (c : ℕ) → c < CELLS → size (string (cell_name c)) ≤ 8
 size-name c below = omega (arith, size-plain (cell_name c) (name_plain c), name-short c below)

@@ -12,8 +12,10 @@ pub mod LineLemmas
 pub mod NoFeedLemmas
 pub mod NoFloatLemmas
 pub mod NumberLemmas
+pub mod NumeralLemmas
 pub mod OneDeltaLemmas
 pub mod PartLemmas
+pub mod PlainLemmas
 pub mod RegisterLemmas
 pub mod SharingLemmas
 pub mod ShorterLemmas

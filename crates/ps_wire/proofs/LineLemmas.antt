@@ -15,7 +15,7 @@ use Rattle.ps_grid.specs.declared.refusal.Refusal.TheVariants.{Delta, Memory}
 use Rattle.ps_delta.specs.Deltas.{Entries, IsDelta}
 use Rattle.ps_wire.specs.declared.TheConstants.{DELTA_LINE_LIMIT}
 use Rattle.ps_wire.specs.Line.{IsLine}
-use Rattle.ps_wire.specs.Inside.{RefusedAs, Spells}
+use Rattle.ps_wire.specs.Inside.{ReadsAs, RefusedAs, Spells}
 use Rattle.ps_wire.specs.Value.{cell_value, delta_value, IsLawful}
 use Rattle.ps_wire.proofs.ArrayLemmas.{array_of-injective}
 use Rattle.ps_wire.proofs.OneDeltaLemmas.{Good, all_good, cells-injective, delta_value-injective}
@@ -145,6 +145,11 @@ is_line bytes d fits utf8 spelled lawful =
       read = spelled_whole (json.value 127 (tokens bytes)) (delta_value d) spelled.read;
       lawful = lawful;
     }
+
+-- .. so are bytes that are read as one
+pub read_line : (bytes : List ℕ) (d : Entries) → length bytes ≤ DELTA_LINE_LIMIT → ReadsAs bytes d → IsLine bytes d
+read_line bytes d fits reads =
+    record { fits = fits; utf8 = reads.utf8; read = reads.read; lawful = reads.lawful }
 
 -- .. and the tokens of a line spell its delta
 pub line_spells : (bytes : List ℕ) (d : Entries) → IsLine bytes d → Spells 127 (tokens bytes) (delta_value d) []

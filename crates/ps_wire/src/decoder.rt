@@ -1,12 +1,13 @@
 //! Deltas from lines.
 
-ghost use Rattle.std.specs.Prelude.{◌≡◌, ◌⊎◌, ◌<◌, length, IfOk, IfErr, MatchResult};
+ghost use Rattle.std.specs.Prelude.{◌≡◌, ◌⊎◌, ◌<◌, ◌≤◌, length, IfOk, IfErr, MatchResult};
 ghost use Rattle.ps_grid.specs.declared.refusal.Refusal.TheVariants.{Memory};
 ghost use Rattle.ps_delta.specs.Deltas.{Entries};
 ghost use Rattle.ps_wire.specs.Line.{IsLine};
 
 use crate::DELTA_LINE_LIMIT;
 use crate::cells::read_delta;
+use crate::plain::read_plain;
 use json::{Reader, Scratch};
 use ps_delta::Delta;
 use ps_grid::Refusal;
@@ -46,6 +47,20 @@ impl Decoder {
         if bytes.len() > DELTA_LINE_LIMIT {
             return Err(Refusal::Delta);
         }
+        match read_plain(alloc, bytes)? {
+            Some(delta) => Ok(delta),
+            None => self.decode_tokens(alloc, bytes),
+        }
+    }
+
+    /// The delta of a line that isn't too long, read by the tokens of JSON.
+    fn decode_tokens(&mut self, alloc: Global, bytes: &[u8]) -> Result<Delta, Refusal>
+        requires { length bytes.now ≤ DELTA_LINE_LIMIT }
+        ensures line { IfOk result (λ d. IsLine bytes.now d) }
+        ensures read { (d : Entries) → IsLine bytes.now d
+            → MatchResult result (λ found. found ≡ d) (λ e. e ≡ Memory) }
+        ensures refused { IfErr result (λ e. (e ≡ Refusal.Delta) ⊎ (e ≡ Memory)) }
+    {
         let Ok(text) = std::str::from_utf8(bytes) else {
             return Err(Refusal::Delta);
         };

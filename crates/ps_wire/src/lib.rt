@@ -29,6 +29,7 @@ mod laws;
 mod length;
 mod line;
 mod parts;
+mod plain;
 mod room;
 mod sharing;
 mod states;
