@@ -1,4 +1,5 @@
 pub mod AloneCells
+pub mod AloneChanges
 pub mod AloneEntries
 pub mod Begins
 pub mod Bounded

@@ -61,6 +61,12 @@ with_puts-more cells i e forms within is =
     ∙ fold-append (λ (f : Puts) (d : ℕ × CellState). with_put d.0 (formula_in (content_of d.1)) f) forms (take i cells)
     (e ∷ [])
 
+-- the formula of the last cell is put in last
+pub with_puts-last : (rest : Entries) (e : ℕ × CellState) (forms : Puts)
+    → with_puts (rest ++ e ∷ []) forms ≡ with_put e.0 (formula_in (content_of e.1)) (with_puts rest forms)
+with_puts-last rest e forms =
+    fold-append (λ (f : Puts) (d : ℕ × CellState). with_put d.0 (formula_in (content_of d.1)) f) forms rest (e ∷ [])
+
 -- one more formula, at its cell and elsewhere
 with_put-same : (c : ℕ) (o : Option Tree) (forms : Puts) → with_put c o forms c ≡ as_list o ++ forms c
 with_put-same c None forms = refl

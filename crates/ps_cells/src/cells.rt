@@ -121,8 +121,7 @@ impl Cells {
         ensures kept { (self.new.grid ≡ self.old.grid) × (self.new.shown ≡ self.old.shown) }
         ensures workers { self.new.workers ≡ self.old.workers }
     {
-        self.tables.leave(&self.lists.states);
-        self.lists.states.clear();
+        self.tables.leave(&mut self.lists.states);
         self.is_staged = false;
     }
 

@@ -2,12 +2,14 @@
 
 ghost use Rattle.std.specs.Prelude.{◌≡◌, [], true, false, OnOk, OnErr, IfOk, IfErr};
 ghost use Rattle.std.specs.List.{list_all};
-ghost use Rattle.ps_index.specs.Stands.{Puts, Stands};
+ghost use Rattle.ps_index.specs.Stands.{Puts, Stands, with_put};
 ghost use Rattle.ps_region.specs.Listed.{listed};
+ghost use Rattle.ps_content.specs.Order.{formula_in};
 ghost use Rattle.ps_delta.specs.State.{state_at};
 ghost use Rattle.ps_delta.specs.Deltas.{cells_of, state_of};
 ghost use Rattle.ps_delta.specs.Changes.{AreChangesBy, HasRoomFor};
-ghost use Rattle.ps_cells.specs.Inside.Alone.{is_alone_entry, is_empty};
+ghost use Rattle.ps_cells.specs.Settled.{content_of};
+ghost use Rattle.ps_cells.specs.Inside.Alone.{are_alone, firsts_by, is_alone_entry, is_empty};
 ghost use Rattle.ps_cells.specs.Inside.Formulas.{firsts, shown_firsts, with_puts};
 
 use crate::contents::{first_of, formula_of, holds_formula};
@@ -23,11 +25,23 @@ use std::alloc::Global;
 pub(crate) struct Lists {
     /// the touched cells, where they aren't alone
     pub(crate) touched: Vec<Cell>,
-    /// the touched cells, each with what it shows at first; between two changes nothing is kept there
+    /// the touched cells, each with what it shows at first, but for a sole one that is alone; between two changes
+    /// nothing is kept of them, but where the last one was refused
     pub(crate) first: Vec<(Cell, Kept)>,
     /// the touched cells, ascending, each with its state: the new one until the cells have got these, and from then on
     /// the one that it had; between two changes none, but where the last one was refused
     pub(crate) states: Vec<(Cell, CellState)>,
+}
+
+/// How the cells of a change that has begun are settled again, with what a sole one that is alone shows at first.
+#[derive(Drop)]
+pub(crate) enum Beginning {
+    /// The touched cell is one, and alone.
+    Sole(Cell, Kept),
+    /// The touched cells are alone.
+    Alone,
+    /// They are the beginning of a region.
+    Region,
 }
 
 impl Lists {
@@ -41,9 +55,9 @@ impl Lists {
     }
 }
 
-/// Begins the change that a delta makes: the touched cells are listed, with their new states and first values. Whether
-/// they are alone, and no cell is among the cyclic ones; else the new formulas are put into the index beside the old
-/// ones.
+/// Begins the change that a delta makes: the touched cells are listed with their new states, and what they show at
+/// first is worked out. It tells whether they are alone while no cell is cyclic; where they aren't, the new formulas
+/// are put into the index beside the old ones.
 ///
 /// Refused only when out of memory, and then the index stands for what it stood for.
 pub(crate) fn begin(
@@ -53,14 +67,15 @@ pub(crate) fn begin(
     cyclic: &[Cell],
     lists: &mut Lists,
     delta: &Delta,
-) -> Result<bool, Refusal>
+) -> Result<Beginning, Refusal>
     requires stands { (forms : Puts) × Stands index.old forms }
     ensures changes { OnOk result (AreChangesBy (state_at grid.old) (state_of delta.now) lists.new.states.items) }
     ensures ready { OnOk result (HasRoomFor grid.new lists.new.states.items) }
-    ensures touched { IfOk result (λ alone. alone ≡ false
+    ensures touched { IfOk result (λ how. are_alone how ≡ false
         → lists.new.touched.items ≡ cells_of lists.new.states.items) }
-    ensures first { OnOk result (shown_firsts lists.new.first.items ≡ firsts lists.new.states.items) }
-    ensures alone { IfOk result (λ alone. alone ≡ true → (cyclic.now ≡ [])
+    ensures first { IfOk result (λ how. shown_firsts (firsts_by how lists.new.first.items)
+        ≡ firsts lists.new.states.items) }
+    ensures alone { IfOk result (λ how. are_alone how ≡ true → (cyclic.now ≡ [])
         × (list_all (is_alone_entry (listed index.new)) lists.new.states.items ≡ true)) }
     ensures put { OnOk result ((forms : Puts) → Stands index.old forms
         → Stands index.new (with_puts lists.new.states.items forms)) }
@@ -69,13 +84,32 @@ pub(crate) fn begin(
     ensures memory { IfErr result (λ e. e ≡ Refusal.Memory) }
 {
     grid.changes_by(alloc, delta, &mut lists.states)?;
-    list_first(alloc, &lists.states, &mut lists.first)?;
     if cyclic.is_empty() && are_alone(index, &lists.states) {
-        return Ok(true);
+        return begin_alone(alloc, &lists.states, &mut lists.first);
     }
+    list_first(alloc, &lists.states, &mut lists.first)?;
     list_cells(&lists.states, &mut lists.touched)?;
     put_formulas(index, &lists.states)?;
-    Ok(false)
+    Ok(Beginning::Region)
+}
+
+/// Begins a change of cells that are alone: what a sole one shows at first isn't listed.
+#[inline(always)]
+fn begin_alone(
+    alloc: Global,
+    cells: &[(Cell, CellState)],
+    first: &mut Vec<(Cell, Kept)>,
+) -> Result<Beginning, Refusal>
+    ensures first { IfOk result (λ how. shown_firsts (firsts_by how first.new.items) ≡ firsts cells.now) }
+    ensures alone { IfOk result (λ how. are_alone how ≡ true) }
+    ensures memory { IfErr result (λ e. e ≡ Refusal.Memory) }
+{
+    if let [entry] = cells {
+        let kept = first_of(alloc, &entry.1)?;
+        return Ok(Beginning::Sole(entry.0, kept));
+    }
+    list_first(alloc, cells, first)?;
+    Ok(Beginning::Alone)
 }
 
 /// Whether no state of these has a formula, and no formula refers to one of the cells.
@@ -149,6 +183,31 @@ fn put_formulas(index: &mut Index, cells: &[(Cell, CellState)]) -> Result<(), Re
         }
     }
     Ok(())
+}
+
+/// Takes the formulas of the cells out of the index, and leaves no cell in the list.
+#[inline(always)]
+pub(crate) fn drop_formulas(index: &mut Index, cells: &mut Vec<(Cell, CellState)>)
+    requires stands { (forms : Puts) × Stands index.old (with_puts cells.old.items forms) }
+    ensures taken { (forms : Puts) → Stands index.old (with_puts cells.old.items forms) → Stands index.new forms }
+    ensures none { cells.new.items ≡ [] }
+{
+    'cells: while let Some(last) = cells.pop() {
+        take_formula(index, &last);
+    }
+}
+
+/// Takes the formula of a cell out of the index, if it has one.
+#[inline(always)]
+fn take_formula(index: &mut Index, entry: &(Cell, CellState))
+    requires stands { (forms : Puts) × Stands index.old
+        (with_put entry.now.0 (formula_in (content_of entry.now.1)) forms) }
+    ensures taken { (forms : Puts) → Stands index.old
+        (with_put entry.now.0 (formula_in (content_of entry.now.1)) forms) → Stands index.new forms }
+{
+    if let Some(formula) = formula_of(&entry.1) {
+        index.remove(entry.0, formula);
+    }
 }
 
 /// Takes the formulas of the cells out of the index.

@@ -42,6 +42,7 @@ pub(crate) fn holds_formula(state: &CellState) -> bool
 /// What is kept of a cell at first: a formula waits, and any other content shows its value.
 ///
 /// Refused only when out of memory.
+#[inline(always)]
 pub(crate) fn first_of(alloc: Global, state: &CellState) -> Result<Kept, Refusal>
     ensures first { IfOk result (λ k. value_kept k ≡ first_value state.now) }
     ensures memory { IfErr result (λ e. e ≡ Refusal.Memory) }
@@ -53,6 +54,7 @@ pub(crate) fn first_of(alloc: Global, state: &CellState) -> Result<Kept, Refusal
 }
 
 /// What is kept at first of a cell with this content.
+#[inline(always)]
 fn first_by(alloc: Global, content: &Content, state: &CellState) -> Result<Kept, Refusal>
     ensures first { IfOk result (λ k. value_kept k ≡ first_by content.now state.now) }
     ensures memory { IfErr result (λ e. e ≡ Refusal.Memory) }

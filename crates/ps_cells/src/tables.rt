@@ -1,7 +1,7 @@
 //! What the cells of a sheet hold and show, and what is kept beside it so that a change costs what its region costs.
 
-ghost use Rattle.std.specs.Prelude.{◌≡◌, ◌+◌, ◌<◌, ◌≤◌, ◌++◌, [], ℕ, true, false, filter, length, nat_eq, not};
-ghost use Rattle.std.specs.Prelude.{vec_capacity, IfOk, IfErr, OnOk, OnErr};
+ghost use Rattle.std.specs.Prelude.{◌≡◌, ◌+◌, ◌<◌, ◌≤◌, ◌++◌, ◌∷◌, [], ℕ, true, false, filter, length, nat_eq};
+ghost use Rattle.std.specs.Prelude.{not, vec_capacity, IfOk, IfErr, OnOk, OnErr};
 ghost use Rattle.std.specs.List.{list_all, list_any};
 ghost use Rattle.ps_grid.specs.declared.parties.TheConstants.{WORKERS};
 ghost use Rattle.ps_shown.specs.Shown.{shown_at};
@@ -12,12 +12,12 @@ ghost use Rattle.ps_cells.specs.Inside.Steps.{flag_at};
 ghost use Rattle.ps_cells.specs.Inside.Screens.{before_of, cells_in, ShowCycle};
 ghost use Rattle.ps_cells.specs.Inside.Kept.{IsWhole, MayRecalculate, Recalculates};
 ghost use Rattle.ps_cells.specs.Inside.Pending.{IsPending};
-ghost use Rattle.ps_cells.specs.Inside.Alone.{is_alone};
+ghost use Rattle.ps_cells.specs.Inside.Alone.{are_alone, firsts_by, is_alone};
 ghost use Rattle.ps_cells.specs.Inside.Waiting.{is_waiting};
 ghost use Rattle.ps_cells.specs.Inside.Walk.{formula_at};
 ghost use Rattle.ps_region.specs.Listed.{listed};
 
-use crate::change::{Lists, begin, take_formulas};
+use crate::change::{Beginning, Lists, begin, drop_formulas, take_formulas};
 use crate::level::{Inputs, Level, Workers};
 use crate::region::find_region;
 use crate::screen::Screen;
@@ -65,6 +65,24 @@ pub struct Work {
     pub cyclic: u64,
     /// how many levels the other ones have
     pub levels: u64,
+}
+
+impl Work {
+    /// No work.
+    ///
+    /// Cost: none.
+    #[inline(always)]
+    pub fn none() -> Work
+        ensures evaluated { result.evaluated ≡ 0 }
+        ensures cyclic { result.cyclic ≡ 0 }
+        ensures levels { result.levels ≡ 0 }
+    {
+        Work {
+            evaluated: 0,
+            cyclic: 0,
+            levels: 0,
+        }
+    }
 }
 
 impl Tables {
@@ -122,7 +140,7 @@ impl Tables {
             × (self.new.shown ≡ self.old.shown)) }
         ensures unmetered { OnErr result (meter.new ≡ meter.old) }
     {
-        let are_alone = begin(
+        let how = begin(
             alloc,
             &mut self.grid,
             &mut self.index,
@@ -131,18 +149,20 @@ impl Tables {
             delta,
         )?;
         self.grid.exchange(&mut lists.states);
-        Ok(self.recalculate(rt, gate, are_alone, &lists.touched, &mut lists.first, meter))
+        Ok(self.recalculate(rt, gate, how, &lists.touched, &mut lists.first, meter))
     }
 
-    /// Leaves a change as it was made, where these were the states of the touched cells. It takes no memory.
-    pub(crate) fn leave(&mut self, olds: &[(Cell, CellState)])
-        requires pending { (s : State) × IsPending s self.old olds.now }
+    /// Leaves a change as it was made, where these were the states of the touched cells, which leave the list. It takes
+    /// no memory.
+    #[inline(always)]
+    pub(crate) fn leave(&mut self, olds: &mut Vec<(Cell, CellState)>)
+        requires pending { (s : State) × IsPending s self.old olds.old.items }
         ensures whole { IsWhole self.new }
         ensures grid { self.new.grid ≡ self.old.grid }
         ensures shown { self.new.shown.kept ≡ self.old.shown.kept }
         ensures workers { self.new.workers ≡ self.old.workers }
     {
-        take_formulas(&mut self.index, olds);
+        drop_formulas(&mut self.index, olds);
         self.shown.keep();
     }
 
@@ -163,36 +183,53 @@ impl Tables {
         self.source = None;
     }
 
-    /// Settles what the cells show, once the touched cells have what they hold. They are listed unless alone.
+    /// Settles what the cells show, once the touched cells have what they hold, in the way in which the change began.
     #[inline(always)]
     fn recalculate<R: Threads + Sync, G: Gate, L: Ledger>(
         &mut self,
         rt: &R,
         gate: &G,
-        are_alone: bool,
+        how: Beginning,
         touched: &[Cell],
         first: &mut Vec<(Cell, Kept)>,
         meter: &mut Meter<L>,
     ) -> Work
-        requires may { MayRecalculate self.old (cells_in first.old.items) first.old.items }
-        requires touched { are_alone ≡ false → touched.now ≡ cells_in first.old.items }
-        requires alone { are_alone ≡ true → (self.old.cyclic.items ≡ [])
+        requires may { MayRecalculate self.old (cells_in (firsts_by how first.old.items))
+            (firsts_by how first.old.items) }
+        requires touched { are_alone how ≡ false → touched.now ≡ cells_in (firsts_by how first.old.items) }
+        requires alone { are_alone how ≡ true → (self.old.cyclic.items ≡ [])
             × (list_all (is_alone (formula_at (state_at self.old.grid)) (listed self.old.index))
-            (cells_in first.old.items) ≡ true) }
-        ensures done { Recalculates self.old self.new (cells_in first.old.items) result.evaluated result.cyclic
-            result.levels }
+            (cells_in (firsts_by how first.old.items)) ≡ true) }
+        ensures done { Recalculates self.old self.new (cells_in (firsts_by how first.old.items)) result.evaluated
+            result.cyclic result.levels }
         ensures before { before_of self.new.shown ≡ before_of self.old.shown }
         ensures metered { meter.new ≡ meter.old + result.evaluated }
     {
-        if are_alone {
-            self.show_alone(first)
-        } else {
-            self.recalculate_region(rt, gate, touched, first, meter)
+        match how {
+            Beginning::Sole(cell, kept) => self.show_sole(cell, kept),
+            Beginning::Alone => self.show_alone(first),
+            Beginning::Region => self.recalculate_region(rt, gate, touched, first, meter),
         }
     }
 
-    /// Settles what the cells show where no touched cell has a formula, no formula refers to one, and no cell was
-    /// cyclic: the touched cells are the region, and show their first values.
+    /// Settles what the cells show where one cell is touched, it has no formula, no formula refers to it, and no cell
+    /// was cyclic: it is the region, and shows its first value.
+    #[inline(always)]
+    fn show_sole(&mut self, cell: Cell, kept: Kept) -> Work
+        requires may { MayRecalculate self.old (cell ∷ []) ((cell, kept) ∷ []) }
+        requires alone { list_all (is_alone (formula_at (state_at self.old.grid)) (listed self.old.index)) (cell ∷ [])
+            ≡ true }
+        requires none { self.old.cyclic.items ≡ [] }
+        ensures done { Recalculates self.old self.new (cell ∷ []) result.evaluated result.cyclic result.levels }
+        ensures before { before_of self.new.shown ≡ before_of self.old.shown }
+        ensures idle { result.evaluated ≡ 0 }
+    {
+        self.shown.put(cell, kept);
+        self.source = None;
+        Work::none()
+    }
+
+    /// The same for any number of touched cells, which are listed with their first values.
     fn show_alone(&mut self, first: &mut Vec<(Cell, Kept)>) -> Work
         requires may { MayRecalculate self.old (cells_in first.old.items) first.old.items }
         requires alone { list_all (is_alone (formula_at (state_at self.old.grid)) (listed self.old.index))
@@ -205,11 +242,7 @@ impl Tables {
     {
         put_all_first(first, &mut self.shown);
         self.source = None;
-        Work {
-            evaluated: 0,
-            cyclic: 0,
-            levels: 0,
-        }
+        Work::none()
     }
 
     /// Settles what the cells show, by the region of the change. It isn't inlined, so that a change of cells that are

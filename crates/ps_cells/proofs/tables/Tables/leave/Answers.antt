@@ -7,8 +7,8 @@ use Rattle.ps_cells.specs.Inside.Formulas.{forms_of}
 use Rattle.ps_cells.proofs.PendingChanges.{tidy_with}
 use Rattle.ps_cells.proofs.tables.Tables.leave.Goals as goal
 
-pub take_formulas-requires : goal.take_formulas-requires
-take_formulas-requires c =
+pub drop_formulas-requires : goal.drop_formulas-requires
+drop_formulas-requires c =
     let t = state_at c.args.self.now.grid in
     record {
       stands = (
@@ -24,7 +24,7 @@ returns-clause-whole c =
     record {
       in_grid = p.in_grid;
       settled = subst (λ (xs : List Kept). IsSettled t (shown_at xs)) (sym c.keep.ensures.kept) p.settled;
-      stands = c.take_formulas.ensures.taken (forms_of t) p.stands;
-      tidy = tidy_with t c.args.self.now c.args.self.now.grid c.take_formulas.new.index c.keep.new.self p.tidy;
+      stands = c.drop_formulas.ensures.taken (forms_of t) p.stands;
+      tidy = tidy_with t c.args.self.now c.args.self.now.grid c.drop_formulas.new.index c.keep.new.self p.tidy;
       still = c.keep.ensures.still;
     }
