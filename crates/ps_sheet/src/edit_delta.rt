@@ -92,7 +92,7 @@ fn all_assigned(
     if is_any_full(grid, &cells) {
         return Err(Refusal::ClockFull);
     }
-    let mut entries = Vec::new(alloc);
+    let mut entries = Vec::with_capacity(alloc, cells.len())?;
     for (cell, content) in cells {
         let register = grid.at(cell).register.assign(replica, content)?;
         entries.push((cell, with_register(alloc, register)))?;

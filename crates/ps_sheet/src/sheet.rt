@@ -9,7 +9,7 @@ ghost use Rattle.ps_delta.specs.State.{IsBelow, joined_state};
 ghost use Rattle.ps_delta.specs.Deltas.{joined_history, state_of};
 ghost use Rattle.ps_shown.specs.Shown.{shown_at};
 ghost use Rattle.ps_cells.specs.Settled.{Cyclic};
-ghost use Rattle.ps_sheet.specs.Reports.{IsReport};
+ghost use Rattle.ps_sheet.specs.Reports.{IsReport, report_of};
 ghost use Rattle.ps_sheet.specs.Edits.{is_clock_full};
 ghost use Rattle.ps_sheet.specs.Own.{has_own};
 ghost use Rattle.ps_sheet.specs.Prepared.{IsRefusedBy, IsToAppend};
@@ -17,6 +17,7 @@ ghost use Rattle.ps_sheet.specs.Inside.Kept.{Makes};
 
 use crate::edit::{Change, Edit};
 use crate::staging::Staging;
+use ps_cells::Work;
 use ps_content::Content;
 use ps_delta::Delta;
 use ps_eval::{Look, Meter};
@@ -41,6 +42,21 @@ pub struct Report {
     pub cyclic: u64,
     /// How many levels the other formula cells of the region have.
     pub levels: u64,
+}
+
+impl Report {
+    /// The report of this work, after which the history has this length.
+    #[inline(always)]
+    pub(crate) fn of(version: u64, work: Work) -> Report
+        ensures { result ≡ report_of version work }
+    {
+        Report {
+            version,
+            evaluated: work.evaluated,
+            cyclic: work.cyclic,
+            levels: work.levels,
+        }
+    }
 }
 
 /// The sheet of one replica: the deltas that it accepted, and what each cell shows.
@@ -206,8 +222,9 @@ impl Sheet {
     {
         // for the fact that it is a sheet (`IsSheet`)
         let _ = self.staging.version();
-        self.staging.stage(rt, &Open, alloc, change, meter)?;
-        Ok(self.staging.commit())
+        let report = self.staging.stage(rt, &Open, alloc, change, meter)?;
+        self.staging.make();
+        Ok(report)
     }
 
     /// What a cell shows.

@@ -20,7 +20,7 @@ use crate::edit::{Change, Edit};
 use crate::edit_delta::delta_of;
 use crate::sheet::{Report, Sheet};
 use crate::{contents, own};
-use ps_cells::{Cells, content};
+use ps_cells::{Cells, Work, content};
 use ps_content::Content;
 use ps_delta::Delta;
 use ps_eval::Meter;
@@ -30,7 +30,6 @@ use ps_value::Value;
 use ps_workers::Gate;
 use std::alloc::Global;
 use std::marker::Model;
-use std::mem;
 use std::sync::Arc;
 use std::sync::ledger::Ledger;
 use std::thread::Threads;
@@ -210,12 +209,7 @@ impl Staging {
     {
         self.history.reserve(1)?;
         let work = self.cells.stage(rt, gate, alloc, &delta, meter)?;
-        let report = Report {
-            version: self.history.len() as u64 + 1,
-            evaluated: work.evaluated,
-            cyclic: work.cyclic,
-            levels: work.levels,
-        };
+        let report = Report::of(self.history.len() as u64 + 1, work);
         self.staged = Some(Staged { delta, report });
         Ok(report)
     }
@@ -228,17 +222,13 @@ impl Staging {
         ensures delta { IsSomeAnd self.new.staged (λ p. p.delta ≡ arc_value delta) }
         ensures idle { IsIdle (sheet_of self.old) (sheet_of self.new) result }
     {
-        let report = Report {
-            version: self.history.len() as u64,
-            evaluated: 0,
-            cyclic: 0,
-            levels: 0,
-        };
+        let report = Report::of(self.history.len() as u64, Work::none());
         self.staged = Some(Staged { delta, report });
         report
     }
 
     /// The delta of an edit over the sheet.
+    #[inline(always)]
     fn edit_delta(&self, alloc: Global, edit: Edit) -> Result<Arc<Delta>, Refusal>
         requires none { self.now.staged ≡ None }
         ensures made { IfOk result (λ d. delta_of_edit self.now.replica (joined_history self.now.history) edit
@@ -308,15 +298,30 @@ impl Staging {
         ensures workers { self.new.workers ≡ self.old.workers }
         ensures sheet { IsSheet (sheet_of self.new) }
     {
-        let Some(staged) = mem::replace(&mut self.staged, None) else {
+        let report = self.report();
+        self.make();
+        report
+    }
+
+    /// Makes the staged change, whose report is known. It takes no memory.
+    #[inline(always)]
+    pub(crate) fn make(&mut self)
+        requires staged { is_some self.old.staged ≡ true }
+        ensures of { IsSomeAnd self.old.staged (λ p. IsOf (sheet_of self.new) self.old.replica
+            (history_after (prepared_of self.old p)) (shown_at self.old.shown)) }
+        ensures idle { IsSomeAnd self.old.staged (λ p. p.fresh ≡ false → sheet_of self.new ≡ sheet_of self.old) }
+        ensures none { self.new.staged ≡ None }
+        ensures workers { self.new.workers ≡ self.old.workers }
+        ensures sheet { IsSheet (sheet_of self.new) }
+    {
+        let Some(staged) = self.staged.take() else {
             unreachable!()
         };
-        let Staged { delta, report } = staged;
+        let Staged { delta, report: _ } = staged;
         if self.cells.is_staged() {
             self.cells.commit();
             self.history.push_reserved(delta);
         }
-        report
     }
 
     /// Gives up the staged change: the sheet has its replica, its history and what it showed. It takes no memory.

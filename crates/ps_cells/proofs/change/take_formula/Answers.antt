@@ -1,4 +1,4 @@
-use Rattle.std.proofs.Common.{Option, Some, sym, subst}
+use Rattle.std.proofs.Common.{Option, sym, subst}
 use Rattle.ps_formula.specs.Tree.{Tree}
 use Rattle.ps_index.specs.Stands.{Stands, with_put}
 use Rattle.ps_cells.proofs.change.take_formula.Goals as goal
@@ -14,6 +14,7 @@ remove-requires c =
 pub returns-in-Some : goal.returns-in-Some
 returns-in-Some c = record {
   taken = λ forms stands. c.remove.ensures forms
-      (subst (λ (p : Option Tree). Stands c.args.index.now (with_put c.args.entry.now.0 p forms)) (sym c.in-Some.ensures)
+      (subst (λ (p : Option Tree). Stands c.args.index.now (with_put c.args.entry.now.0 p forms))
+      (sym c.in-Some.ensures)
       stands);
 }

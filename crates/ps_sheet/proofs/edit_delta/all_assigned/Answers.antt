@@ -17,7 +17,8 @@ use Rattle.ps_sheet.proofs.edit_delta.all_assigned.Goals as goal
 
 pub returns-in_err-register-clause-refused : goal.returns-in_err-register-clause-refused
 returns-in_err-register-clause-refused c =
-    let p = err_from_is_err_and c.from_residual.result c.from_residual.ensures.1 in
+    let p = err_from_is_err_and c.from_residual-in_err-register.result
+    c.from_residual-in_err-register.ensures.1 in
     let i = c.into_iter-cell-iterator.ensures.into_iter_gives in
     let t = YieldsList-turn
     (YieldsList-from_vec c.args.cells.items i.0

@@ -40,7 +40,8 @@ recalculate-requires-clause-may g c κs within =
     let w = c.requires.whole in
     may_recalculate (state_at c.args.self.now.grid) (state_of c.args.delta.now) c.begin.new.lists.states.items
     (record c.args.self.now { grid = c.exchange.new.self; index = c.begin.new.index })
-    (cells_in (firsts_by c.in_ok-how.how c.begin.new.lists.first.items)) (firsts_by c.in_ok-how.how c.begin.new.lists.first.items) w.in_grid w.settled
+    (cells_in (firsts_by c.in_ok-how.how c.begin.new.lists.first.items))
+    (firsts_by c.in_ok-how.how c.begin.new.lists.first.items) w.in_grid w.settled
     (tidy_with (state_at c.args.self.now.grid) c.args.self.now c.exchange.new.self c.begin.new.index
     c.args.self.now.shown w.tidy)
     (c.in_ok-how.ensures.put (forms_of (state_at c.args.self.now.grid)) w.stands)
@@ -48,20 +49,23 @@ recalculate-requires-clause-may g c κs within =
     (given_of (state_at c.args.self.now.grid) (state_at c.begin.new.grid) (state_at c.exchange.new.self)
     c.begin.new.lists.states.items c.deref_mut.result.now c.exchange.ensures.given c.begin.ensures.same
     c.deref_mut.ensures.value)
-    (first_cells (firsts_by c.in_ok-how.how c.begin.new.lists.first.items) c.begin.new.lists.states.items c.in_ok-how.ensures.first)
+    (first_cells
+    (firsts_by c.in_ok-how.how c.begin.new.lists.first.items) c.begin.new.lists.states.items c.in_ok-how.ensures.first)
     c.in_ok-how.ensures.first
 
 pub recalculate-requires-clause-touched : goal.recalculate-requires-clause-touched
 recalculate-requires-clause-touched g c κs within = λ apart.
     c.deref-2.ensures.value
     ∙ (c.in_ok-how.ensures.touched apart
-    ∙ sym (first_cells (firsts_by c.in_ok-how.how c.begin.new.lists.first.items) c.begin.new.lists.states.items c.in_ok-how.ensures.first))
+    ∙ sym (first_cells
+    (firsts_by c.in_ok-how.how c.begin.new.lists.first.items) c.begin.new.lists.states.items c.in_ok-how.ensures.first))
 
 pub recalculate-requires-clause-alone : goal.recalculate-requires-clause-alone
 recalculate-requires-clause-alone g c κs within = λ are. (
   sym c.deref.ensures.value ∙ (c.in_ok-how.ensures.alone are).0,
   first_alone (state_at c.args.self.now.grid) (state_at c.exchange.new.self) (listed c.begin.new.index)
-      c.begin.new.lists.states.items (firsts_by c.in_ok-how.how c.begin.new.lists.first.items) c.in_ok-how.ensures.changes.ascending
+      c.begin.new.lists.states.items (firsts_by c.in_ok-how.how c.begin.new.lists.first.items)
+      c.in_ok-how.ensures.changes.ascending
       (given_of (state_at c.args.self.now.grid) (state_at c.begin.new.grid) (state_at c.exchange.new.self)
       c.begin.new.lists.states.items c.deref_mut.result.now c.exchange.ensures.given c.begin.ensures.same
       c.deref_mut.ensures.value)
@@ -84,7 +88,8 @@ returns-clause-pending g c =
     pending_of s (state_of c.args.delta.now) (shown_at c.args.self.now.shown.kept) es
     (with_items c.begin.new.lists.states c.exchange.new.cells).items
     (record c.args.self.now { grid = c.exchange.new.self; index = c.begin.new.index })
-    c.recalculate.new.self (cells_in (firsts_by c.in_ok-how.how c.begin.new.lists.first.items)) c.recalculate.result.evaluated
+    c.recalculate.new.self (cells_in (firsts_by c.in_ok-how.how c.begin.new.lists.first.items))
+    c.recalculate.result.evaluated
     c.recalculate.result.cyclic c.recalculate.result.levels w.in_grid w.settled
     (c.recalculate.ensures.before ∙ still_before c.args.self.now.shown w.still)
     c.in_ok-how.ensures.changes
@@ -103,11 +108,13 @@ pub returns-clause-work : goal.returns-clause-work
 returns-clause-work g c =
     recalculated (state_at c.args.self.now.grid) (state_of c.args.delta.now) c.begin.new.lists.states.items
     (record c.args.self.now { grid = c.exchange.new.self; index = c.begin.new.index })
-    c.recalculate.new.self (cells_in (firsts_by c.in_ok-how.how c.begin.new.lists.first.items)) c.recalculate.result.evaluated
+    c.recalculate.new.self (cells_in (firsts_by c.in_ok-how.how c.begin.new.lists.first.items))
+    c.recalculate.result.evaluated
     c.recalculate.result.cyclic
     c.recalculate.result.levels c.in_ok-how.ensures.changes
     (given_of (state_at c.args.self.now.grid) (state_at c.begin.new.grid) (state_at c.exchange.new.self)
     c.begin.new.lists.states.items c.deref_mut.result.now c.exchange.ensures.given c.begin.ensures.same
     c.deref_mut.ensures.value)
-    (first_cells (firsts_by c.in_ok-how.how c.begin.new.lists.first.items) c.begin.new.lists.states.items c.in_ok-how.ensures.first)
+    (first_cells
+    (firsts_by c.in_ok-how.how c.begin.new.lists.first.items) c.begin.new.lists.states.items c.in_ok-how.ensures.first)
     c.recalculate.ensures.done

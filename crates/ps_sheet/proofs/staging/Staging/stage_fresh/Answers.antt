@@ -5,7 +5,6 @@ use Rattle.std.proofs.lemmas.List.{length-map}
 use Rattle.ps_delta.specs.State.{joined_state}
 use Rattle.ps_delta.specs.Deltas.{Entries}
 use Rattle.ps_cells.specs.Cells.{state_now}
-use Rattle.ps_sheet.specs.declared.sheet.Report.{Report}
 use Rattle.ps_sheet.specs.declared.staging.Staged.{Staged}
 use Rattle.ps_sheet.proofs.StagedChanges.{kept_staged_fresh, stages_fresh}
 use Rattle.ps_sheet.proofs.staging.Staging.stage_fresh.Goals as goal
@@ -15,17 +14,11 @@ invariant_of-self-2 g c =
     let x = c.self.inside in
     let work = c.in_ok-work.work in
     let said = c.in_ok-work.ensures in
-    let report : Report = record {
-      version = c.len.result + 1;
-      evaluated = work.evaluated;
-      cyclic = work.cyclic;
-      levels = work.levels;
-    } in
-    let staged : Staged = record { delta = c.args.delta; report = report } in
+    let staged : Staged = record { delta = c.args.delta; report = c.of-report.result } in
     kept_staged_fresh x
     (record { replica = x.replica; history = c.reserve.new.self; cells = c.stage.new.self; staged = Some staged })
     c.args.self.now c.self.view_is c.requires.none c.self.invariant staged c.len.result work.evaluated work.cyclic
-    work.levels refl refl refl (ap (map arc_value) c.reserve.ensures.items)
+    work.levels c.of-report.ensures refl refl (ap (map arc_value) c.reserve.ensures.items)
     (let n = c.len.ensures in let m = length-map c.reserve.new.self.items arc_value in omega (arith, n, m))
     c.requires.fresh
     (said.joined ∙ ap (λ (d : Entries). joined_state (state_now x.cells) (state_of d)) c.deref.ensures)
@@ -37,17 +30,11 @@ returns-clause-staged g c =
     let x = c.self.inside in
     let work = c.in_ok-work.work in
     let said = c.in_ok-work.ensures in
-    let report : Report = record {
-      version = c.len.result + 1;
-      evaluated = work.evaluated;
-      cyclic = work.cyclic;
-      levels = work.levels;
-    } in
-    let staged : Staged = record { delta = c.args.delta; report = report } in
+    let staged : Staged = record { delta = c.args.delta; report = c.of-report.result } in
     stages_fresh x
     (record { replica = x.replica; history = c.reserve.new.self; cells = c.stage.new.self; staged = Some staged })
     c.args.self.now c.self.view_is c.requires.none c.self.invariant staged c.len.result work.evaluated work.cyclic
-    work.levels refl refl refl (ap (map arc_value) c.reserve.ensures.items)
+    work.levels c.of-report.ensures refl refl (ap (map arc_value) c.reserve.ensures.items)
     (let n = c.len.ensures in let m = length-map c.reserve.new.self.items arc_value in omega (arith, n, m))
     c.requires.fresh
     (said.joined ∙ ap (λ (d : Entries). joined_state (state_now x.cells) (state_of d)) c.deref.ensures)
