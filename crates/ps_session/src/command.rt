@@ -117,22 +117,6 @@ fn read_rest(
     match verb {
         Verb::Get => Ok(Command::Get(read_one_cell(rest)?)),
         Verb::Set => read_set(alloc, rest),
-        other => read_other(alloc, decoder, other, rest),
-    }
-}
-
-/// What another verb than `get` and `set` asks for, by all that stands after its space.
-fn read_other(
-    alloc: Global,
-    decoder: &mut Decoder,
-    verb: Verb,
-    rest: &[u8],
-) -> Result<Command, Refusal>
-    requires other { (verb ≢ Verb.Get) × (verb ≢ Verb.Set) }
-    ensures { ReadsVerb (Some verb) (words rest.now) rest.now result }
-{
-    match verb {
-        Verb::Get | Verb::Set => unreachable!(),
         Verb::Add => {
             let (cell, amount) = read_change(rest, Refusal::Amount)?;
             Ok(Command::Edit(Edit::Add(cell, amount)))
@@ -141,6 +125,22 @@ fn read_other(
             let (cell, amount) = read_change(rest, Refusal::Amount)?;
             Ok(Command::Edit(Edit::Sub(cell, amount)))
         }
+        other => read_other(alloc, decoder, other, rest),
+    }
+}
+
+/// What another verb than these four asks for, by all that stands after its space.
+fn read_other(
+    alloc: Global,
+    decoder: &mut Decoder,
+    verb: Verb,
+    rest: &[u8],
+) -> Result<Command, Refusal>
+    requires other { (verb ≢ Verb.Get) × (verb ≢ Verb.Set) × (verb ≢ Verb.Add) × (verb ≢ Verb.Sub) }
+    ensures { ReadsVerb (Some verb) (words rest.now) rest.now result }
+{
+    match verb {
+        Verb::Get | Verb::Set | Verb::Add | Verb::Sub => unreachable!(),
         Verb::Choose => {
             let (cell, option) = read_change(rest, Refusal::OptionRange)?;
             Ok(Command::Edit(Edit::Choose(cell, option)))
