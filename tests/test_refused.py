@@ -22,7 +22,7 @@ TESTS = {
     ),
     "checks_sessions": (
         "desk::memory::refused_edit", "desk::memory::refused_open", "desk::memory::refused_pull",
-        "desk::memory::refused_receive",
+        "desk::memory::refused_receive", "kept_line::refused_read_kept_line",
     ),
 }
 # It stops where the last of its requests is refused, which may be one of its own looks at the grid: not tried so yet.

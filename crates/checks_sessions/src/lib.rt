@@ -2,7 +2,7 @@
 //!
 //! `commands` asks what lines ask for, `session` how bytes are put together to lines, `runs` what a sheet's session
 //! replies, `keeping` what one hands on whose keeper or sink fails, `syncing` and `following` what peers may reply,
-//! `replica_line` which line tells a replica, all of `ps_session`. `desk` has a sheet shared by several sessions, of
+//! `kept_line` what a line of a kept file says, all of `ps_session`. `desk` has a sheet shared by several sessions, of
 //! `ps_desk`.
 //!
 //! A crate with tests is proved a second time with them, so these stand apart from what they test.
@@ -17,7 +17,7 @@ mod following;
 #[cfg(test)]
 mod keeping;
 #[cfg(test)]
-mod replica_line;
+mod kept_line;
 #[cfg(test)]
 mod runs;
 #[cfg(test)]

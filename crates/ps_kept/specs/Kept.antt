@@ -2,14 +2,9 @@
 use Rattle.std.specs.Prelude.{◌≡◌, ℕ, List, [], ◌∷◌, ◌++◌, map, ⊤}
 use mathlib.Core.List.{IsPrefix}
 use Rattle.ps_delta.specs.Deltas.{Entries}
-use Rattle.ps_wire.specs.Line.{IsLine}
-use Rattle.ps_session.specs.PushLine.{push_line, push_word}
+use Rattle.ps_session.specs.PushLine.{Pushes, push_line}
 use Rattle.ps_session.specs.ReplicaLine.{replica_line}
 use Rattle.ps_keep.specs.Journals.{IsJournal, JournalView}
-
--- the line pushes the delta, in whatever spelling
-abbrev pub Pushes : List ℕ → Entries → Type 0
-Pushes line delta = (text : List ℕ) × (line ≡ push_word ++ text) × IsLine text delta
 
 -- the lines push the deltas, one each, in order
 abbrev pub PushAll : List (List ℕ) → List Entries → Type 0

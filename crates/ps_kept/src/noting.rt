@@ -2,8 +2,8 @@
 ghost use Rattle.std.specs.Prelude.{◌≡◌, ◌+◌, ◌<◌, ◌≤◌, ◌^◌, ◌++◌, ◌∷◌, ℕ, [], OnOk, OnErr, length, map, take};
 ghost use Rattle.std.specs.Arc.{arc_value};
 ghost use Rattle.ps_keep.specs.Journals.{IsJournal};
-ghost use Rattle.ps_session.specs.PushLine.{push_line};
-ghost use Rattle.ps_kept.specs.Kept.{Notes, Pushes};
+ghost use Rattle.ps_session.specs.PushLine.{Pushes, push_line};
+ghost use Rattle.ps_kept.specs.Kept.{Notes};
 
 use ps_delta::Delta;
 use ps_device::Failed;

@@ -14,15 +14,21 @@ use crate::fault::KeepFault;
 use ps_eval::Meter;
 use ps_grid::Refusal;
 use ps_keep::first_line;
-use ps_session::{Command, line_of_replica, told_replica};
+use ps_session::{KeptLine, line_of_replica, read_kept_line};
 use ps_sheet::Sheet;
 use ps_wire::Decoder;
 use std::alloc::Global;
+use std::sync::Arc;
 use std::sync::ledger::Ledger;
 use std::thread::Threads;
 
 /// The bytes after the first line, which has to tell this replica.
-fn after_first(alloc: Global, bytes: &[u8], replica: u8) -> Result<&[u8], KeepFault>
+fn after_first<'a>(
+    alloc: Global,
+    decoder: &mut Decoder,
+    bytes: &'a [u8],
+    replica: u8,
+) -> Result<&'a [u8], KeepFault>
     requires replica { (1 ≤ replica) × (replica ≤ REPLICAS) }
     ensures read { IfOk result (λ rest. ((rest.now ≡ []) × IsUnbegun replica bytes.now)
         ⊎ (whole_lines bytes.now ≡ replica_line replica ∷ whole_lines rest.now)) }
@@ -30,15 +36,13 @@ fn after_first(alloc: Global, bytes: &[u8], replica: u8) -> Result<&[u8], KeepFa
 {
     let own = line_of_replica(alloc, replica)?;
     match first_line(bytes) {
-        Some((line, rest)) => {
-            if line == own.as_slice() {
-                return Ok(rest);
-            }
-            match told_replica(alloc, line)? {
-                Some(other) => Err(KeepFault::Replica(other)),
-                None => Err(KeepFault::Line(1)),
-            }
-        }
+        Some((line, rest)) => match read_kept_line(alloc, decoder, line) {
+            Ok(Some(KeptLine::Replica(told))) if told == replica => Ok(rest),
+            Ok(Some(KeptLine::Replica(other))) => Err(KeepFault::Replica(other)),
+            Ok(Some(KeptLine::Push(_)) | None) | Err(Refusal::Delta) => Err(KeepFault::Line(1)),
+            Err(Refusal::Memory) => Err(KeepFault::Memory),
+            Err(_) => unreachable!(),
+        },
         None if own.starts_with(bytes) => Ok(b""),
         None => Err(KeepFault::Line(1)),
     }
@@ -62,10 +66,13 @@ fn take_in<R: Threads + Sync, L: Ledger>(
     ensures workers { sheet.new.workers ≡ sheet.old.workers }
     ensures sheet { IsSheet sheet.old → IsSheet sheet.new }
 {
-    let delta = match Command::read(alloc, decoder, line) {
-        Ok(Command::Push(delta)) => delta.owner(),
+    let delta = match read_kept_line(alloc, decoder, line) {
+        Ok(Some(KeptLine::Push(delta))) => Arc::new(alloc, delta)?,
+        Ok(Some(KeptLine::Replica(_))) => return Ok(false),
+        Ok(None) => return Ok(false),
+        Err(Refusal::Delta) => return Ok(false),
         Err(Refusal::Memory) => return Err(Refusal::Memory),
-        _ => return Ok(false),
+        Err(_) => unreachable!(),
     };
     let before = sheet.version();
     let report = sheet.receive(rt, alloc, delta, meter)?;
@@ -76,6 +83,7 @@ fn take_in<R: Threads + Sync, L: Ledger>(
 fn read_pushes<R: Threads + Sync, L: Ledger>(
     rt: &R,
     alloc: Global,
+    decoder: &mut Decoder,
     bytes: &[u8],
     sheet: &mut Sheet,
     meter: &mut Meter<L>,
@@ -88,11 +96,10 @@ fn read_pushes<R: Threads + Sync, L: Ledger>(
     ensures workers { sheet.new.workers ≡ sheet.old.workers }
     ensures sheet { IsSheet sheet.new }
 {
-    let mut decoder = Decoder::new(alloc);
     let mut left = bytes;
     let mut number = 1u64;
     'lines: while let Some((line, rest)) = first_line(left) {
-        match take_in(rt, alloc, &mut decoder, line, sheet, meter) {
+        match take_in(rt, alloc, decoder, line, sheet, meter) {
             Ok(true) => {}
             Ok(false) => return Err(KeepFault::Line(number + 1)),
             Err(Refusal::Memory) => return Err(KeepFault::Memory),
@@ -102,6 +109,36 @@ fn read_pushes<R: Threads + Sync, L: Ledger>(
         number += 1;
     }
     Ok(())
+}
+
+/// The sheet that the lines of a kept file tell, which this decoder reads.
+fn read_lines<R: Threads + Sync, L: Ledger>(
+    rt: &R,
+    alloc: Global,
+    decoder: &mut Decoder,
+    bytes: &[u8],
+    replica: u8,
+    workers: usize,
+    meter: &mut Meter<L>,
+) -> Result<Sheet, KeepFault>
+    requires replica { (1 ≤ replica) × (replica ≤ REPLICAS) }
+    requires workers { (1 ≤ workers) × (workers ≤ WORKERS) }
+    ensures read { IfOk result (λ sheet. Reads replica bytes.now sheet.history) }
+    ensures replica { IfOk result (λ sheet. sheet.replica ≡ replica) }
+    ensures workers { IfOk result (λ sheet. sheet.workers ≡ workers) }
+    ensures sheet { IfOk result IsSheet }
+    ensures fault { IfErr result (IsFaultOf replica bytes.now) }
+{
+    let others = after_first(alloc, decoder, bytes, replica)?;
+    let mut sheet = match Sheet::open(alloc, replica, workers) {
+        Ok(sheet) => sheet,
+        Err(Refusal::Memory) => return Err(KeepFault::Memory),
+        Err(_) => unreachable!(),
+    };
+    match read_pushes(rt, alloc, decoder, others, &mut sheet, meter) {
+        Ok(()) => Ok(sheet),
+        Err(fault) => Err(fault),
+    }
 }
 
 /// The sheet that the lines of a kept file tell.
@@ -121,14 +158,6 @@ pub(crate) fn read_sheet<R: Threads + Sync, L: Ledger>(
     ensures sheet { IfOk result IsSheet }
     ensures fault { IfErr result (IsFaultOf replica bytes.now) }
 {
-    let others = after_first(alloc, bytes, replica)?;
-    let mut sheet = match Sheet::open(alloc, replica, workers) {
-        Ok(sheet) => sheet,
-        Err(Refusal::Memory) => return Err(KeepFault::Memory),
-        Err(_) => unreachable!(),
-    };
-    match read_pushes(rt, alloc, others, &mut sheet, meter) {
-        Ok(()) => Ok(sheet),
-        Err(fault) => Err(fault),
-    }
+    let mut decoder = Decoder::new(alloc);
+    read_lines(rt, alloc, &mut decoder, bytes, replica, workers, meter)
 }

@@ -16,8 +16,7 @@ mod ReplicaAndLinesStay
 mod WordLemmas
 mod WordCounts
 mod NamesAreWords
-mod PushedLines
-pub mod PushReadings
+pub mod KeptLineLemmas
 mod VerbLemmas
 pub mod ReadingLaws
 mod SplitLemmas

@@ -6,6 +6,7 @@ pub mod Peers
 pub mod PushLine
 pub mod Exchange
 pub mod ReplicaLine
+pub mod KeptLines
 pub mod Words
 pub mod Commands
 pub mod PullReplies

@@ -1,14 +1,11 @@
-//! The line that pushes a delta: how it is written, and what of it is the delta's.
-ghost use Rattle.std.specs.Prelude.{◌≡◌, ◌⊎◌, ◌<◌, ◌++◌, Err, IfErr, MatchOption, OnOk, false, flat_map, length};
-ghost use Rattle.std.specs.Prelude.{nat_eq};
-ghost use Rattle.std.specs.List.{starts_with};
+//! How the line that pushes a delta is written.
+ghost use Rattle.std.specs.Prelude.{◌≡◌, ◌⊎◌, ◌<◌, ◌++◌, Err, IfErr, OnOk, flat_map, length};
 ghost use Rattle.ps_grid.specs.declared.refusal.Refusal.TheVariants as refusals;
 ghost use Rattle.ps_wire.specs.Line.{IsLine, delta_text};
 ghost use Rattle.ps_wire.specs.declared.TheConstants.{DELTA_LINE_LIMIT};
-ghost use Rattle.ps_session.specs.PushLine.{push_line, push_text, push_word};
+ghost use Rattle.ps_session.specs.PushLine.{push_line, push_text};
 
 use crate::verb::PUSH;
-use crate::words::rest_after;
 use ps_delta::Delta;
 use ps_grid::Refusal;
 use ps_wire::encode;
@@ -29,16 +26,6 @@ pub fn put_push_line(alloc: Global, delta: &Delta, text: &mut Vec<u8>) -> Result
     text.extend_from_slice(PUSH.as_bytes())?;
     text.push(b' ')?;
     encode(alloc, delta, text)
-}
-
-/// What a line pushes: all after its first word, where that is `push`.
-///
-/// Cost: constant.
-pub fn pushed(line: &[u8]) -> Option<&[u8]>
-    ensures { MatchOption result (starts_with nat_eq line.now push_word ≡ false)
-        (λ delta. line.now ≡ push_word ++ delta.now) }
-{
-    rest_after(line, PUSH)
 }
 
 /// The pieces of the line that pushes a delta's line, with its line feed.

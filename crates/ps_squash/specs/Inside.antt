@@ -11,6 +11,8 @@ use Rattle.ps_wire.specs.Length.{size}
 use Rattle.ps_wire.specs.Value.{cell_value}
 use Rattle.ps_session.specs.Feeding.{Reading, kept}
 use Rattle.ps_session.specs.Transcript.{Splits}
+use Rattle.ps_session.specs.declared.kept_line.KeptLine.{KeptLine}
+use Rattle.ps_session.specs.declared.kept_line.KeptLine.TheVariants as kept_lines
 use Rattle.ps_session.specs.declared.line_reader.Line.{Line}
 use Rattle.ps_session.specs.declared.line_reader.Line.TheVariants as lines
 use Rattle.ps_wire.specs.Line.{IsLine, delta_text}
@@ -24,6 +26,12 @@ abbrev pub Holds : Line → Reading → List ℕ → Type 0
 Holds lines.None session raw = ⊥
 Holds lines.Full session raw = kept raw ≡ Some session.line
 Holds lines.TooLong session raw = kept raw ≡ None
+
+-- what a first line is read as: nothing where it is empty; else the replica that it tells, or the delta that it says
+abbrev pub IsRead : List ℕ → Option KeptLine → Type 0
+IsRead line None = FirstSays line None []
+IsRead line (Some (kept_lines.Replica n)) = FirstSays line (Some n) []
+IsRead line (Some (kept_lines.Push d)) = FirstSays line None (d ∷ [])
 
 -- what a line says that comes after so many: only the first may tell whose the lines are
 abbrev pub NextSays : ℕ → Option ℕ → List ℕ → Option ℕ → List Entries → Type 0

@@ -7,15 +7,15 @@ ghost use Rattle.ps_delta.specs.Deltas.{Entries, joined_history};
 ghost use Rattle.ps_delta.specs.State.{joined_state, state_at};
 ghost use Rattle.ps_session.specs.Feeding.{without_return};
 ghost use Rattle.ps_session.specs.ReplicaLine.{TellsNone};
-ghost use Rattle.ps_squash.specs.Squashed.{FirstFault, FirstSays, SayTogether, Says, after_push};
-ghost use Rattle.ps_squash.specs.Inside.{Fails, GoesOn, Holds, IsOfIntake, IsOfLines, NextSays, StandsAfter};
+ghost use Rattle.ps_squash.specs.Squashed.{FirstFault, FirstSays, SayTogether, Says};
+ghost use Rattle.ps_squash.specs.Inside.{Fails, GoesOn, Holds, IsOfIntake, IsOfLines, IsRead, NextSays, StandsAfter};
 ghost use Rattle.ps_squash.specs.declared.fault.SquashFault.TheVariants.{Line as FaultyLine};
 
 use crate::fault::SquashFault;
 use ps_delta::Grid;
 use ps_device::{PIECE_BYTES, Source};
 use ps_grid::Refusal;
-use ps_session::{Line, Session, pushed, told_replica};
+use ps_session::{KeptLine, Line, Session, read_kept_line};
 use ps_wire::Decoder;
 use std::alloc::Global;
 
@@ -36,38 +36,26 @@ struct Intake {
     ended: u64,
 }
 
-/// The delta's line in a line, which may push it.
-fn delta_part(line: &[u8]) -> &[u8]
-    ensures { result.now ≡ after_push line.now }
-{
-    match pushed(line) {
-        Some(delta) => delta,
-        None => line,
-    }
-}
-
-/// Joins what a line says into the state. Refused as `Delta` where it isn't empty and no delta's line, and as `Memory`.
-fn join_line(
-    alloc: Global,
-    decoder: &mut Decoder,
-    line: &[u8],
-    state: &mut Grid,
-) -> Result<(), Refusal>
-    ensures joined { OnOk result ((deltas : List Entries) × Says line.now deltas
-        × (state_at state.new ≡ joined_state (state_at state.old) (joined_history deltas))) }
+/// What a line says: that of a kept file, or a delta that it is a line of without `push `; none where it is empty.
+/// Refused as `Delta` where it is neither, and as `Memory`.
+fn read_line(alloc: Global, decoder: &mut Decoder, line: &[u8]) -> Result<Option<KeptLine>, Refusal>
+    ensures read { IfOk result (IsRead line.now) }
     ensures faulty { result ≡ Err refusals.Delta → (deltas : List Entries) → ¬ Says line.now deltas }
+    ensures untold { result ≡ Err refusals.Delta → TellsNone line.now }
     ensures refused { IfErr result (λ e. (e ≡ refusals.Delta) ⊎ (e ≡ refusals.Memory)) }
 {
     if line.is_empty() {
-        return Ok(());
+        return Ok(None);
     }
-    let delta = decoder.decode(alloc, delta_part(line))?;
-    state.join(alloc, &delta)?;
-    Ok(())
+    match read_kept_line(alloc, decoder, line)? {
+        None => Ok(Some(KeptLine::Push(decoder.decode(alloc, line)?))),
+        said => Ok(said),
+    }
 }
 
-/// Joins what the first line says into the state, or answers with the replica that it tells. Refused as any other line.
-fn join_first(
+/// Joins what a line says into the state, or answers with the replica that it tells. Refused as `Delta` where it isn't
+/// empty and neither tells a replica nor is a delta's, and as `Memory`.
+fn join_line(
     alloc: Global,
     decoder: &mut Decoder,
     line: &[u8],
@@ -79,10 +67,11 @@ fn join_first(
     ensures untold { result ≡ Err refusals.Delta → TellsNone line.now }
     ensures refused { IfErr result (λ e. (e ≡ refusals.Delta) ⊎ (e ≡ refusals.Memory)) }
 {
-    match told_replica(alloc, line)? {
-        Some(replica) => Ok(Some(replica)),
-        None => {
-            join_line(alloc, decoder, line, state)?;
+    match read_line(alloc, decoder, line)? {
+        None => Ok(None),
+        Some(KeptLine::Replica(replica)) => Ok(Some(replica)),
+        Some(KeptLine::Push(delta)) => {
+            state.join(alloc, &delta)?;
             Ok(None)
         }
     }
@@ -102,20 +91,17 @@ impl Intake {
         ensures session { self.new.session ≡ self.old.session }
         ensures ended { self.new.ended ≡ self.old.ended }
     {
-        if self.ended != 0 {
-            return join_line(
-                self.alloc,
-                &mut self.decoder,
-                self.session.line(),
-                &mut self.state,
-            );
-        }
-        self.told = join_first(
+        let told = join_line(
             self.alloc,
             &mut self.decoder,
             self.session.line(),
             &mut self.state,
         )?;
+        if self.ended == 0 {
+            self.told = told;
+        } else if told.is_some() {
+            return Err(Refusal::Delta);
+        }
         Ok(())
     }
 

@@ -1,32 +1,43 @@
-use Rattle.std.proofs.Common.{Ok, arith, rules, subst}
-use Rattle.std.proofs.lemmas.Bool.{ltb-true}
+use Rattle.std.proofs.Common.{Err, Some, ap, arith, subst, ◌∙◌}
+use Rattle.std.specs.Prelude.{MatchOption}
+use Rattle.std.proofs.lemmas.Bool.{ltb-false, ltb-true}
 use Rattle.ps_sheet.specs.Sheet.{Takes}
-use Rattle.ps_kept.proofs.TakenLemmas.{pushes_none, taken_new}
+use Rattle.ps_session.specs.KeptLines.{LineSays, LineSaysNothing}
+use Rattle.ps_kept.proofs.TakenLemmas.{not_new, taken_new}
 use Rattle.ps_kept.proofs.reading.take_in.Goals as goal
-use Rattle.ps_kept.proofs.reading.take_in.Goals.{in_default-via-in-Ok+in_default, in_default-via-in-Err+in_default}
 
-pub returns-in_default-clause-refused : goal.returns-in_default-clause-refused
-returns-in_default-clause-refused g c = λ is.
-    pushes_none c.args.line.now c.read.result c.read.ensures.read c.args.sheet.now.history
-    (λ e. elim c.in_default.branch [
-      | in_default-via-in-Ok+in_default w ↦ search rules
-      | in_default-via-in-Err+in_default w ↦ search rules
-    ])
-    (λ d e. elim c.in_default.branch [
-      | in_default-via-in-Ok+in_default w ↦ search rules
-      | in_default-via-in-Err+in_default w ↦ search rules
-    ])
+pub returns-in-Err-Delta-clause-refused : goal.returns-in-Err-Delta-clause-refused
+returns-in-Err-Delta-clause-refused g c = λ is d pushes.
+    (c.read_kept_line.ensures.no_delta (c.in-Err-Delta.is ∙ ap Err c.in-Err-Delta.field-0-is)).1 d pushes.0
 
 pub returns-clause-taken : goal.returns-clause-taken
 returns-clause-taken g c = λ less.
-    taken_new c.args.line.now (Ok c.in-Ok-Push.field-0) c.in-Ok-Push.ensures.read c.in-Ok-Push.delta
-    (let e = c.in-Ok-Push.field-0-is in cc)
+    let line = c.args.line.now in
+    let found = c.in-Ok-Some-Push in
+    taken_new line found.delta
+    (subst (λ f. MatchOption f (LineSaysNothing line) (LineSays line)) (found.field-0-is ∙ ap Some found.field-0-0-is)
+    found.ensures.says)
     c.args.sheet.now.history c.receive.new.self.history
-    (subst (λ x. Takes x c.args.sheet.now.history c.receive.new.self.history) c.owner-delta.ensures
-    c.in_ok-report.ensures.taken)
+    (subst (λ x. Takes x c.args.sheet.now.history c.receive.new.self.history) c.in_ok-delta-in-Ok-Some-Push.ensures.ok c.in_ok-report.ensures.taken)
     (omega (
       arith,
       ltb-true c.version-before.result c.in_ok-report.report.version less,
+      c.version-before.ensures.version,
+      c.in_ok-report.ensures.version,
+    ))
+
+pub returns-clause-refused : goal.returns-clause-refused
+returns-clause-refused g c = λ less.
+    let line = c.args.line.now in
+    let found = c.in-Ok-Some-Push in
+    not_new line found.delta
+    (subst (λ f. MatchOption f (LineSaysNothing line) (LineSays line)) (found.field-0-is ∙ ap Some found.field-0-0-is)
+    found.ensures.says)
+    c.args.sheet.now.history c.receive.new.self.history
+    (subst (λ x. Takes x c.args.sheet.now.history c.receive.new.self.history) c.in_ok-delta-in-Ok-Some-Push.ensures.ok c.in_ok-report.ensures.taken)
+    (omega (
+      arith,
+      ltb-false c.version-before.result c.in_ok-report.report.version less,
       c.version-before.ensures.version,
       c.in_ok-report.ensures.version,
     ))

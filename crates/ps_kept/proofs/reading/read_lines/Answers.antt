@@ -1,5 +1,5 @@
 use Rattle.ps_kept.proofs.PushLemmas.{fault_after_first}
-use Rattle.ps_kept.proofs.reading.read_sheet.Goals as goal
+use Rattle.ps_kept.proofs.reading.read_lines.Goals as goal
 
 pub returns-in-Err-read_pushes-clause-fault : goal.returns-in-Err-read_pushes-clause-fault
 returns-in-Err-read_pushes-clause-fault g c =
