@@ -104,6 +104,10 @@ impl<L: Named, R: Wait + Drop> FaceWriter<L, R> {
 
     /// Takes a patch that may come next. Refused only when out of memory, and then nothing has changed.
     ///
+    /// Nothing in the program calls it: [`FaceWriter::publish_patch`] does this and [`FaceWriter::publish`] in one. It
+    /// is part of the public interface, for who has something to do between the two, as a test that looks at the copies
+    /// there.
+    ///
     /// Cost: constant; the first call takes memory for one patch.
     pub fn append(&mut self, patch: Patch) -> Result<(), Refusal>
         requires none { self.old.pending ≡ [] }
@@ -131,7 +135,8 @@ impl<L: Named, R: Wait + Drop> FaceWriter<L, R> {
     }
 
     /// Shows readers a patch that may come next, as [`FaceWriter::append`] and then [`FaceWriter::publish`] do, and
-    /// gives its delta back. It waits for those that still read what was published before the last patch.
+    /// gives its delta back. The program publishes so. It waits for those that still read what was published before the
+    /// last patch.
     ///
     /// Cost: twice the changes of the patch; no memory.
     pub fn publish_patch(&mut self, patch: Patch) -> Arc<Delta>
