@@ -271,6 +271,7 @@ fn turn_over<L: Named, R: Wait>(
     let mut tries = rt.forever();
     'fills: while let Err(back) = copies.append(operation) {
         if refusable {
+            let_go(back);
             return Err(Refusal::Memory);
         }
         operation = back;
@@ -281,6 +282,12 @@ fn turn_over<L: Named, R: Wait>(
     }
     Ok(())
 }
+
+/// Lets go of an operation that found no room. It isn't inlined: so no part of an operation is looked at on its way into
+/// the queue, and it goes there whole.
+#[cold]
+#[inline(never)]
+fn let_go(_operation: Operation) {}
 
 /// Shows readers a copy that has taken in all, or nothing new where a text has as many owners as can be counted.
 fn show_once<L: Named, R: Wait>(copies: Copies<L>, rt: &R) -> (Copies<L>, Result<(), AllocError>)
