@@ -27,6 +27,14 @@ use std::alloc::Global;
 use std::sync::ledger::Book;
 use std::sync::{Arc, Wait};
 
+/// A fresh change that was published and made.
+#[derive(Drop)]
+struct Appended {
+    /// the number of its delta in the history
+    number: u64,
+    delta: Arc<Delta>,
+}
+
 /// Makes the change that is staged, and shows it to all who read, or gives it up where there is no memory to tell of
 /// it. Then nothing is staged any more.
 pub(crate) fn finish<L: DeskName, W: Wait + Drop, V: Wait>(
@@ -56,7 +64,7 @@ pub(crate) fn finish<L: DeskName, W: Wait + Drop, V: Wait>(
     ensures seat { (pass.new.seat ≡ pass.old.seat) × (pass.new.enters ≡ pass.old.enters) }
 {
     if sheet.fresh() {
-        let (number, delta) = append(wait, alloc, sheet, copies, book, pass)?;
+        let Appended { number, delta } = append(wait, alloc, sheet, copies, book, pass)?;
         return Ok(Receipt {
             number,
             delta,
@@ -72,8 +80,7 @@ pub(crate) fn finish<L: DeskName, W: Wait + Drop, V: Wait>(
     Ok(receipt)
 }
 
-/// Publishes a fresh change and makes it, or gives it up where it can't be told. It answers the number of its delta in
-/// the history, and the delta.
+/// Publishes a fresh change and makes it, or gives it up where it can't be told.
 fn append<L: DeskName, W: Wait + Drop, V: Wait>(
     wait: &V,
     alloc: Global,
@@ -81,7 +88,7 @@ fn append<L: DeskName, W: Wait + Drop, V: Wait>(
     copies: &mut FaceWriter<L, W>,
     book: &mut Book<L>,
     pass: &mut Pass<L>,
-) -> Result<(u64, Arc<Delta>), Refusal>
+) -> Result<Appended, Refusal>
     requires staged { is_some sheet.old.staged ≡ true }
     requires worked_out { IsWorkedOut (change_in sheet.old) }
     requires fresh { (change_in sheet.old).fresh ≡ true }
@@ -93,8 +100,8 @@ fn append<L: DeskName, W: Wait + Drop, V: Wait>(
         book.new.total }
     ensures all { pass.new.list ≡ copies.new.list }
     ensures published { OnOk result (IsNoted (change_in sheet.old) pass.old.seat pass.old.list pass.new.list) }
-    ensures told { IfOk result (λ r. (r.0 ≡ (change_in sheet.old).report.version)
-        × (arc_value r.1 ≡ (change_in sheet.old).delta)) }
+    ensures told { IfOk result (λ r. (r.number ≡ (change_in sheet.old).report.version)
+        × (arc_value r.delta ≡ (change_in sheet.old).delta)) }
     ensures memory { IfErr result (λ e. e ≡ Memory) }
     ensures kept { OnErr result ((copies.new ≡ copies.old) × (pass.new ≡ pass.old)) }
     ensures counted { OnOk result (pass.new.appended ≡ pass.old.appended + 1) }
@@ -110,7 +117,7 @@ fn append<L: DeskName, W: Wait + Drop, V: Wait>(
             pass.catch_up(wait, copies.front());
             pass.count(book);
             sheet.commit();
-            Ok((number, delta))
+            Ok(Appended { number, delta })
         }
         Err(refusal) => {
             sheet.cancel();
