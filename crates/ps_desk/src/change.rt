@@ -37,6 +37,7 @@ struct Appended {
 
 /// Makes the change that is staged, and shows it to all who read, or gives it up where there is no memory to tell of
 /// it. Then nothing is staged any more.
+#[inline(always)]
 pub(crate) fn finish<L: DeskName, W: Wait + Drop, V: Wait>(
     wait: &V,
     alloc: Global,
@@ -81,6 +82,7 @@ pub(crate) fn finish<L: DeskName, W: Wait + Drop, V: Wait>(
 }
 
 /// Publishes a fresh change and makes it, or gives it up where it can't be told.
+#[inline(always)]
 fn append<L: DeskName, W: Wait + Drop, V: Wait>(
     wait: &V,
     alloc: Global,
@@ -127,6 +129,7 @@ fn append<L: DeskName, W: Wait + Drop, V: Wait>(
 }
 
 /// Lists the cells that the staged change makes show another value.
+#[inline(always)]
 fn list(sheet: &mut Staging)
     requires staged { is_some sheet.old.staged ≡ true }
     ensures same { KeepsChange sheet.old sheet.new }

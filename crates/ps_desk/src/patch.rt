@@ -20,6 +20,7 @@ use std::sync::Arc;
 
 /// The patch of the fresh change that is staged, whose cells are listed, made by the call of a seat. It may come next
 /// after the sheet's history. Refused only when out of memory.
+#[inline(always)]
 pub(crate) fn patch_of(alloc: Global, sheet: &Staging, owner: u64) -> Result<Patch, Refusal>
     requires staged { is_some sheet.now.staged ≡ true }
     requires fresh { (change_in sheet.now).fresh ≡ true }
@@ -29,8 +30,8 @@ pub(crate) fn patch_of(alloc: Global, sheet: &Staging, owner: u64) -> Result<Pat
     ensures follows { IfOk result (Follows sheet.now.history) }
     ensures memory { IfErr result (λ e. e ≡ Memory) }
 {
-    let delta = sheet.delta().clone()?;
     let number = sheet.report().version;
+    let delta = sheet.delta().clone()?;
     patch_over(
         alloc,
         number,
@@ -42,6 +43,7 @@ pub(crate) fn patch_of(alloc: Global, sheet: &Staging, owner: u64) -> Result<Pat
 }
 
 /// The patch of a delta that makes these cells show what a table has. That of one cell takes no memory.
+#[inline(always)]
 fn patch_over(
     alloc: Global,
     number: u64,

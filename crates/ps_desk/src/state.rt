@@ -103,6 +103,7 @@ impl<L: DeskName, W: Wait + Drop> DeskState<L, W> {
     ///
     /// Refused as the sheet refuses the change, and when out of memory, where the change was to be appended; then
     /// nothing is published.
+    #[inline(always)]
     pub(crate) fn make<R: Threads + Sync, V: Wait, M: Ledger>(
         &mut self,
         rt: &R,
