@@ -69,7 +69,7 @@ shows_next h p values in_grid s f =
           ∙ sym (listed-overlaid f.before CELLS p.changes) ∙ ap in_order f.changes.gives,
     )
 
--- a copy that takes in the patch behind its list stands too
+-- a copy that takes in the patch after its list stands too
 pub stands_next : (h : List Entries) (b : Book) (x : Copy) (t : Turn) (p : Note) → CopyStands h b x → t.book ≡ b
     → t.list ≡ x.list ++ p ∷ [] → t.version ≡ p.number → t.changes ≡ p.changes → AreInGrid p.delta
     → Follows (history_of h x.list) p → CopyStands h b (turned x t)

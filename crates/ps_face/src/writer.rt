@@ -283,8 +283,8 @@ fn turn_over<L: Named, R: Wait>(
     Ok(())
 }
 
-/// Lets go of an operation that found no room. It isn't inlined: so no part of an operation is looked at on its way into
-/// the queue, and it goes there whole.
+/// Lets go of an operation that found no room. It isn't inlined: so no part of an operation is looked at on its way
+/// into the queue, and it goes there whole.
 #[cold]
 #[inline(never)]
 fn let_go(_operation: Operation) {}

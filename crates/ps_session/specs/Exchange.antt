@@ -97,7 +97,7 @@ pub record IsAll (first last : PeerView) (written contents : Option (List ℕ)) 
   pub followed : IsFollowed first last written contents version
   pub ended : TellsEnd (without_return last.line) version
 
--- .. until the peer closed: it ended its replies behind one of them
+-- .. until the peer closed: it ended its replies after one of them
 pub record IsUntilClosed (first last : PeerView) (written contents : Option (List ℕ)) : Type 0 where
   pub middle : PeerView
   pub version : ℕ

@@ -86,7 +86,8 @@ no_value rest = refl
 -- the line of a replica is no delta's
 replica_says_none : (line : List ℕ) (n : ℕ) → Tells line n → (ds : List Entries) → ¬ Says line ds
 replica_says_none line n tells =
-    other_says_none line (omega (arith, ap length tells.2)) (λ push. push_tells_none line push n tells.0 tells.1 tells.2)
+    other_says_none line (omega (arith, ap length tells.2))
+    (λ push. push_tells_none line push n tells.0 tells.1 tells.2)
     (λ d is. none (delta_value d) (sym (no_value (decimal n)) ∙ ap read (sym tells.2) ∙ is.read))
   where
     none : {A : Type 0} (a : A) → None ≡ Some a → ⊥

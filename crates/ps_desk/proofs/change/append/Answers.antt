@@ -15,7 +15,7 @@ use Rattle.ps_desk.proofs.Noted.{at_staged}
 use Rattle.ps_desk.proofs.Owners.{owned_next}
 use Rattle.ps_desk.proofs.change.append.Goals as goal
 
--- the published list, with the patch of the change behind what was there
+-- the published list, with the patch of the change after what was there
 pub publish_patch-delta-requires-clause-legal : goal.publish_patch-delta-requires-clause-legal
 publish_patch-delta-requires-clause-legal g c =
     subst (λ (h : List Entries). Follows h c.in-Ok.patch) (c.list.ensures.same.history ∙ c.requires.under_lock.history)

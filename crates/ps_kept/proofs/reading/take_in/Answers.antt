@@ -18,7 +18,8 @@ returns-clause-taken g c = λ less.
     (subst (λ f. MatchOption f (LineSaysNothing line) (LineSays line)) (found.field-0-is ∙ ap Some found.field-0-0-is)
     found.ensures.says)
     c.args.sheet.now.history c.receive.new.self.history
-    (subst (λ x. Takes x c.args.sheet.now.history c.receive.new.self.history) c.in_ok-delta-in-Ok-Some-Push.ensures.ok c.in_ok-report.ensures.taken)
+    (subst (λ x. Takes x c.args.sheet.now.history c.receive.new.self.history)
+    c.in_ok-delta-in-Ok-Some-Push.ensures.ok c.in_ok-report.ensures.taken)
     (omega (
       arith,
       ltb-true c.version-before.result c.in_ok-report.report.version less,
@@ -34,7 +35,8 @@ returns-clause-refused g c = λ less.
     (subst (λ f. MatchOption f (LineSaysNothing line) (LineSays line)) (found.field-0-is ∙ ap Some found.field-0-0-is)
     found.ensures.says)
     c.args.sheet.now.history c.receive.new.self.history
-    (subst (λ x. Takes x c.args.sheet.now.history c.receive.new.self.history) c.in_ok-delta-in-Ok-Some-Push.ensures.ok c.in_ok-report.ensures.taken)
+    (subst (λ x. Takes x c.args.sheet.now.history c.receive.new.self.history)
+    c.in_ok-delta-in-Ok-Some-Push.ensures.ok c.in_ok-report.ensures.taken)
     (omega (
       arith,
       ltb-false c.version-before.result c.in_ok-report.report.version less,
