@@ -1,7 +1,7 @@
 //! How many spans of a column are kept up to each row.
 
 ghost use Rattle.std.specs.Prelude.{◌≡◌, ℕ, ◌+◌, ◌-◌, ◌^◌, ◌<◌, ◌≤◌, cond, nat_le, length, get_or, max, min};
-ghost use Rattle.std.specs.Prelude.{IfOk, IfErr};
+ghost use Rattle.std.specs.Prelude.{IfOk, IfErr, vec_capacity};
 ghost use Rattle.ps_grid.specs.declared.refusal.Refusal.TheVariants.{Memory};
 ghost use Rattle.ps_grid.specs.declared.size.TheConstants.{ROWS};
 
@@ -23,22 +23,21 @@ pub(crate) struct Places {
 /// They are written down up to the last row at which a span was ever kept. Each row after that has its count.
 #[derive(Drop)]
 pub(crate) struct RowCounts {
-    /// the counts of the rows up to the last one; what stands after that means nothing
+    /// the counts of the rows from 0 up to the last one; there is room for all
     ends: Vec<u32>,
-    /// the last row at which a span was ever kept; 0 if there never was one
-    last: usize,
 }
 
 impl Model for RowCounts {
-    ghost use Rattle.std.specs.Prelude.{◌≡◌, ◌+◌, ◌≤◌, List, ℕ, length};
+    ghost use Rattle.std.specs.Prelude.{◌+◌, ◌-◌, ◌<◌, ◌≤◌, List, ℕ, length, vec_capacity};
     ghost use Rattle.ps_grid.specs.declared.size.TheConstants.{ROWS};
     ghost use Rattle.ps_index.specs.Inside.Counts.{all_counts};
 
     ghost Value = { List ℕ };
 
-    ghost view = { λ c. all_counts c.ends.items c.last };
+    ghost view = { λ c. all_counts c.ends.items (length c.ends.items - 1) };
 
-    ghost invariant = { λ c. (length c.ends.items ≡ ROWS + 1) × (c.last ≤ ROWS) };
+    ghost invariant = { λ c. (0 < length c.ends.items) × (length c.ends.items ≤ ROWS + 1)
+        × (ROWS + 1 ≤ vec_capacity c.ends) };
 }
 
 impl RowCounts {
@@ -48,8 +47,9 @@ impl RowCounts {
         ensures none { IfOk result (λ c. (j : ℕ) → j ≤ ROWS → get_or c j 0 ≡ 0) }
         ensures memory { IfErr result (λ e. e ≡ Memory) }
     {
-        let ends = vec![in alloc; 0; ROWS + 1]?;
-        Ok(RowCounts { ends, last: 0 })
+        let mut ends = Vec::with_capacity(alloc, ROWS + 1)?;
+        ends.push_reserved(0);
+        Ok(RowCounts { ends })
     }
 
     /// Where the spans stand that are kept at a row.
@@ -60,13 +60,13 @@ impl RowCounts {
         ensures from { result.from ≡ get_or self.now (row - 1) 0 }
         ensures to { result.to ≡ get_or self.now row 0 }
     {
-        if row <= self.last {
+        if row < self.ends.len() {
             Places {
                 from: self.ends[row - 1],
                 to: self.ends[row],
             }
         } else {
-            let all = self.ends[self.last];
+            let all = self.ends[self.ends.len() - 1];
             Places { from: all, to: all }
         }
     }
@@ -79,9 +79,8 @@ impl RowCounts {
         ensures raised { (j : ℕ) → j < length self.old
             → get_or self.new j 0 ≡ get_or self.old j 0 + cond (nat_le row j) 1 0 }
     {
-        extend(&mut self.ends, self.last, row);
-        self.last = self.last.max(row);
-        raise_between(&mut self.ends, row, self.last);
+        extend(&mut self.ends, row);
+        raise_from(&mut self.ends, row);
     }
 
     /// Counts one less at the row, at which a span is kept, and at each row after it.
@@ -93,43 +92,45 @@ impl RowCounts {
         ensures lowered { (j : ℕ) → j < length self.old
             → get_or self.new j 0 + cond (nat_le row j) 1 0 ≡ get_or self.old j 0 }
     {
-        lower_between(&mut self.ends, row, self.last);
+        lower_from(&mut self.ends, row);
     }
 }
 
-/// Gives the rows after the last one that is written the count of that, up to this row.
-fn extend(ends: &mut [u32], last: usize, row: usize)
-    requires last { last < length ends.old }
-    requires within { row < length ends.old }
-    ensures length { length ends.new ≡ length ends.old }
-    ensures extended { (j : ℕ) → j ≤ max last row → get_or ends.new j 0 ≡ get_or ends.old (min j last) 0 }
+/// Writes down the counts of the rows up to this one: those after the last one have the count of that.
+fn extend(ends: &mut Vec<u32>, row: usize)
+    requires some { 0 < length ends.old.items }
+    requires room { row < vec_capacity ends.old }
+    ensures longer { length ends.new.items ≡ max (length ends.old.items) (row + 1) }
+    ensures extended { (j : ℕ) → j < length ends.new.items
+        → get_or ends.new.items j 0 ≡ get_or ends.old.items (min j (length ends.old.items - 1)) 0 }
+    ensures room { vec_capacity ends.old ≤ vec_capacity ends.new }
 {
-    let count = ends[last];
-    for j in last + 1..row + 1 {
-        ends[j] = count;
+    let count = ends[ends.len() - 1];
+    while ends.len() <= row {
+        ends.push_reserved(count);
     }
 }
 
-/// Counts one more at the rows from this one to the last one.
-fn raise_between(ends: &mut [u32], row: usize, last: usize)
-    requires within { last < length ends.old }
-    requires room { (j : ℕ) → row ≤ j → j ≤ last → get_or ends.old j 0 + 1 < 2 ^ 32 }
+/// Counts one more at this row and at each row after it.
+fn raise_from(ends: &mut [u32], row: usize)
+    requires room { (j : ℕ) → row ≤ j → j < length ends.old → get_or ends.old j 0 + 1 < 2 ^ 32 }
     ensures length { length ends.new ≡ length ends.old }
-    ensures raised { (j : ℕ) → j ≤ last → get_or ends.new j 0 ≡ get_or ends.old j 0 + cond (nat_le row j) 1 0 }
+    ensures raised { (j : ℕ) → j < length ends.old
+        → get_or ends.new j 0 ≡ get_or ends.old j 0 + cond (nat_le row j) 1 0 }
 {
-    for j in row..last + 1 {
+    for j in row..ends.len() {
         ends[j] += 1;
     }
 }
 
-/// Counts one less at the rows from this one to the last one.
-fn lower_between(ends: &mut [u32], row: usize, last: usize)
-    requires within { last < length ends.old }
-    requires some { (j : ℕ) → row ≤ j → j ≤ last → 0 < get_or ends.old j 0 }
+/// Counts one less at this row and at each row after it.
+fn lower_from(ends: &mut [u32], row: usize)
+    requires some { (j : ℕ) → row ≤ j → j < length ends.old → 0 < get_or ends.old j 0 }
     ensures length { length ends.new ≡ length ends.old }
-    ensures lowered { (j : ℕ) → j ≤ last → get_or ends.new j 0 + cond (nat_le row j) 1 0 ≡ get_or ends.old j 0 }
+    ensures lowered { (j : ℕ) → j < length ends.old
+        → get_or ends.new j 0 + cond (nat_le row j) 1 0 ≡ get_or ends.old j 0 }
 {
-    for j in row..last + 1 {
+    for j in row..ends.len() {
         ends[j] -= 1;
     }
 }

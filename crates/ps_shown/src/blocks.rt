@@ -207,6 +207,10 @@ pub(crate) fn forget(sums: &mut Vec<Option<Summary>>, runs: &mut Runs, place: us
         → slice_index_or sums.old.items b None ≡ Some s }
     ensures capacity { vec_capacity sums.old ≤ vec_capacity sums.new }
 {
+    // mostly no block was ever remembered
+    if sums.is_empty() {
+        return;
+    }
     let block = place / BLOCK;
     if block < sums.len() && sums[block].is_some() {
         sums[block] = None;
