@@ -59,10 +59,10 @@ starting refers formula was marks members left level order n size below has clos
     rw (t, h) refl)
     first
 
--- a table of no marks
-pub Marked-none : (marks : List Bool) → ((c : ℕ) → get_or marks c false ≡ false) → Marked marks []
+-- no marks
+pub Marked-none : Marked [] []
 unfolding IsDistinct
-Marked-none marks none = record { same = none; once = tt }
+Marked-none = record { same = λ c. refl; once = tt }
 
 -- no levels
 pub Levels-none : (order level : List ℕ) → Levels [] order level

@@ -15,11 +15,12 @@
 //! one level don't refer to each other; the cyclic cells are the region's formula cells that reach a cycle. The index
 //! may still list what touched cells referred to before the change.
 //!
-//! Cost: `Region::new` makes the tables, 34 bytes for each cell of the grid, and no other call takes memory. A mark
-//! costs the cells of the region and two walks of the references to each, or one where few cells refer there.
-//! It doesn't pass over the grid. It goes once through the list of cyclic cells that it is lent, and walks the
-//! references to those outside the region. So with many cyclic cells about, a small change costs more than its region:
-//! that is the worst case, and where no cell is cyclic nothing is paid for it.
+//! Cost: `Region::new` takes the room for the tables, 31 bytes for each cell of the grid, and writes none of it; no
+//! other call takes memory. The first mark writes the tables that are read by cell, 15 bytes for each cell of the grid.
+//! A mark costs the cells of the region and two walks of the references to each, or one where few cells refer there.
+//! But for the first, it doesn't pass over the grid. It goes once through the list of cyclic cells that it is lent, and
+//! walks the references to those outside the region. So with many cyclic cells about, a small change costs more than
+//! its region: that is the worst case, and where no cell is cyclic nothing is paid for it.
 #![tactic(auto)]
 
 mod after;

@@ -23,7 +23,7 @@ use std::marker::Model;
 /// The region of the last change that was marked, with the scratch to find it. A contract sees it as what it found.
 #[derive(Drop)]
 pub struct Region {
-    // for each cell whether it is a member
+    // for each cell whether it is a member; this table and the next five are empty up to the first mark
     marks: Vec<bool>,
     // for each cell whether it was touched
     fresh: Vec<bool>,
@@ -62,19 +62,19 @@ impl Region {
     ///
     /// Refused only when out of memory.
     ///
-    /// Cost: the cells of the grid.
+    /// Cost: ten allocations of 3.3 MB together, of which nothing is written yet.
     pub fn new(alloc: Global) -> Result<Region, Refusal>
         ensures empty { IfOk result (λ r. r.members ≡ []) }
         ensures no_level { IfOk result (λ r. level_count r ≡ 0) }
         ensures no_cyclic { IfOk result (λ r. r.cyclic ≡ []) }
         ensures memory { IfErr result (λ e. e ≡ Memory) }
     {
-        let marks = no_marks(alloc, CELLS)?;
-        let fresh = no_marks(alloc, CELLS)?;
-        let plain = no_marks(alloc, CELLS)?;
-        let left = numbers(alloc, CELLS)?;
-        let level = numbers(alloc, CELLS)?;
-        let sole = numbers(alloc, CELLS)?;
+        let marks = Vec::with_capacity(alloc, CELLS)?;
+        let fresh = Vec::with_capacity(alloc, CELLS)?;
+        let plain = Vec::with_capacity(alloc, CELLS)?;
+        let left = Vec::with_capacity(alloc, CELLS)?;
+        let level = Vec::with_capacity(alloc, CELLS)?;
+        let sole = Vec::with_capacity(alloc, CELLS)?;
         let members = Vec::with_capacity(alloc, CELLS)?;
         let order = Vec::with_capacity(alloc, CELLS)?;
         let starts = Vec::with_capacity(alloc, CELLS + 1)?;
@@ -99,7 +99,8 @@ impl Region {
     /// cells that are cyclic after the change, but for the region's: there it doesn't matter which it has.
     ///
     /// Cost: the cells of the region and the references to them, and where one of them has a formula, for each cell of
-    /// `cyclic` outside the region the references to it; it takes no memory.
+    /// `cyclic` outside the region the references to it; the first mark also writes six tables of the grid's size. It
+    /// takes no memory.
     pub fn mark<A: After>(&mut self, index: &Index, after: &A, touched: &[Cell], cyclic: &[Cell])
         requires lists_all { (c d : ℕ) → A.refers after.now c d ≡ true → In (listed index.now d) c }
         requires extra { (c d : ℕ) → d < ALL → In (listed index.now d) c
@@ -111,6 +112,12 @@ impl Region {
             → IsCyclic (A.refers after.now) c → In cyclic.now c }
         ensures found { IsFound (A.refers after.now) (A.formula after.now) touched.now self.new }
     {
+        fill(&mut self.marks, false);
+        fill(&mut self.fresh, false);
+        fill(&mut self.plain, false);
+        fill(&mut self.left, 0);
+        fill(&mut self.level, 0);
+        fill(&mut self.sole, 0);
         let marks: &mut [bool] = &mut self.marks;
         let fresh: &mut [bool] = &mut self.fresh;
         let plain: &mut [bool] = &mut self.plain;
@@ -146,7 +153,8 @@ impl Region {
     pub fn contains(&self, c: Cell) -> bool
         ensures { result ≡ list_any (nat_eq c) self.now.members }
     {
-        self.marks[c.index()]
+        let place = c.index();
+        place < self.marks.len() && self.marks[place]
     }
 
     /// The cells of the region, each once, in no order that is promised.
@@ -199,8 +207,7 @@ impl Region {
     pub fn is_formula(&self, c: Cell) -> bool
         ensures { result ≡ has_left self.now c }
     {
-        let place = c.index();
-        self.marks[place] && !self.plain[place]
+        self.contains(c) && !self.plain[c.index()]
     }
 
     /// How many of the cells that a formula cell of the region refers to are cyclic; none for any other cell.
@@ -220,21 +227,17 @@ impl Region {
     }
 }
 
-/// A table of `n` marks, none of which is set.
-fn no_marks(alloc: Global, n: usize) -> Result<Vec<bool>, Refusal>
-    ensures length { IfOk result (λ v. length v.items ≡ n) }
-    ensures none { IfOk result (λ v. (c : ℕ) → slice_index_or v.items c false ≡ false) }
-    ensures memory { IfErr result (λ e. e ≡ Memory) }
+/// Writes a table whole, where no mark did so yet: each cell that it doesn't reach gets this value.
+#[inline]
+fn fill<T: Copy>(table: &mut Vec<T>, value: T)
+    requires short { length table.old.items ≤ ALL }
+    requires room { ALL ≤ vec_capacity table.old }
+    ensures length { length table.new.items ≡ ALL }
+    ensures same { (c : ℕ) → slice_index_or table.new.items c value ≡ slice_index_or table.old.items c value }
+    ensures room { ALL ≤ vec_capacity table.new }
 {
-    let marks = vec![in alloc; false; n]?;
-    Ok(marks)
-}
-
-/// A table of `n` numbers.
-fn numbers(alloc: Global, n: usize) -> Result<Vec<u32>, Refusal>
-    ensures length { IfOk result (λ v. length v.items ≡ n) }
-    ensures memory { IfErr result (λ e. e ≡ Memory) }
-{
-    let numbers = vec![in alloc; 0; n]?;
-    Ok(numbers)
+    if table.len() < CELLS {
+        // there is room, so it isn't refused
+        let _ = table.resize(CELLS, value);
+    }
 }

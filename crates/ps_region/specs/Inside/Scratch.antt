@@ -1,4 +1,4 @@
--- The scratch of a region, between calls.
+-- The scratch of a region, between calls. The first mark writes the tables whole; up to then they are empty.
 use Rattle.std.specs.Prelude.{◌≡◌, ◌<◌, ◌≤◌, ℕ, true, false, length, slice_index_or, vec_capacity}
 use Rattle.ps_grid.specs.Chains.{In}
 use Rattle.ps_grid.specs.declared.size.TheConstants.{CELLS}
@@ -18,12 +18,18 @@ found_of r = record {
 }
 
 pub record IsScratch (r : Inside) : Type 0 where
-  pub marks_length : length r.marks.items ≡ CELLS
-  pub fresh_length : length r.fresh.items ≡ CELLS
-  pub plain_length : length r.plain.items ≡ CELLS
-  pub left_length : length r.left.items ≡ CELLS
-  pub level_length : length r.level.items ≡ CELLS
-  pub sole_length : length r.sole.items ≡ CELLS
+  pub marks_length : length r.marks.items ≤ CELLS
+  pub fresh_length : length r.fresh.items ≤ CELLS
+  pub plain_length : length r.plain.items ≡ length r.marks.items
+  pub left_length : length r.left.items ≡ length r.marks.items
+  pub level_length : length r.level.items ≤ CELLS
+  pub sole_length : length r.sole.items ≤ CELLS
+  pub marks_room : CELLS ≤ vec_capacity r.marks
+  pub fresh_room : CELLS ≤ vec_capacity r.fresh
+  pub plain_room : CELLS ≤ vec_capacity r.plain
+  pub left_room : CELLS ≤ vec_capacity r.left
+  pub level_room : CELLS ≤ vec_capacity r.level
+  pub sole_room : CELLS ≤ vec_capacity r.sole
   pub marked : Marked r.marks.items r.members.items
   pub fresh_members : (c : ℕ) → slice_index_or r.fresh.items c false ≡ true → In r.members.items c
   pub plain_members : (c : ℕ) → slice_index_or r.plain.items c false ≡ true → In r.members.items c

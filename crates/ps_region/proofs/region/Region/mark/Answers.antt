@@ -44,7 +44,7 @@ pub first_level-requires-clause-room : goal.first_level-requires-clause-room
 first_level-requires-clause-room g c =
     let few = few_members c.grow.new.marks c.grow.new.members.items c.grow.ensures.marked
     (c.grow.auto.marks ∙ (c.clear.auto.marks ∙ (ap length c.deref_mut-marks.ensures.value
-    ∙ c.self.invariant.marks_length))) in
+    ∙ c.fill.ensures.length))) in
     rw c.deref-2.ensures.value (omega (arith, few, c.clear-2.ensures.capacity, c.self.invariant.order_room))
 
 pub assign_levels-requires-clause-closed : goal.assign_levels-requires-clause-closed
@@ -61,10 +61,10 @@ assign_levels-requires-clause-starting g c =
     let left = c.count_outside.new.left in
     let long : length c.grow.new.marks ≡ CELLS =
     c.grow.auto.marks ∙ (c.clear.auto.marks ∙ (ap length c.deref_mut-marks.ensures.value
-    ∙ c.self.invariant.marks_length)) in
+    ∙ c.fill.ensures.length)) in
     let size : length left ≡ CELLS =
     c.count_outside.auto.left ∙ (c.grow.auto.left ∙ (ap length c.deref_mut-left.ensures.value
-    ∙ c.self.invariant.left_length)) in
+    ∙ c.fill-4.ensures.length)) in
     let same = formula_cells refers formula c.note_touched.new.plain c.args.touched.now members
     (g.met.A.After.refers_formula c.args.after.now) c.note_touched.ensures.plain c.grow.ensures.sound
     (λ q. get_or left q 0 == 0) in
@@ -82,23 +82,23 @@ pub list_held-requires-clause-room : goal.list_held-requires-clause-room
 list_held-requires-clause-room g c =
     let few = few_members c.grow.new.marks c.grow.new.members.items c.grow.ensures.marked
     (c.grow.auto.marks ∙ (c.clear.auto.marks ∙ (ap length c.deref_mut-marks.ensures.value
-    ∙ c.self.invariant.marks_length))) in
+    ∙ c.fill.ensures.length))) in
     rw c.deref-3.ensures.value (omega (arith, few, c.clear-4.ensures.capacity, c.self.invariant.cyclic_room))
 
 pub invariant_of-self : goal.invariant_of-self
 invariant_of-self g c =
-    let marks = table c.self.inside.marks _ _ (c.grow.auto.marks ∙ c.clear.auto.marks)
-    c.deref_mut-marks.ensures.len c.deref_mut-marks.ensures.value c.self.invariant.marks_length in
-    let fresh = table c.self.inside.fresh _ _ (c.note_touched.auto.fresh ∙ c.clear.auto.fresh)
-    c.deref_mut-fresh.ensures.len c.deref_mut-fresh.ensures.value c.self.invariant.fresh_length in
-    let plain = table c.self.inside.plain _ _ (c.note_touched.auto.plain ∙ c.clear.auto.plain)
-    c.deref_mut-plain.ensures.len c.deref_mut-plain.ensures.value c.self.invariant.plain_length in
-    let left = table c.self.inside.left _ _ (c.assign_levels.auto.left ∙ (c.count_outside.auto.left ∙ c.grow.auto.left))
-    c.deref_mut-left.ensures.len c.deref_mut-left.ensures.value c.self.invariant.left_length in
-    let level = table c.self.inside.level _ _ (c.assign_levels.auto.level ∙ c.first_level.auto.level)
-    c.deref_mut-level.ensures.len c.deref_mut-level.ensures.value c.self.invariant.level_length in
-    let sole = table c.self.inside.sole _ _ c.grow.auto.sole
-    c.deref_mut-sole.ensures.len c.deref_mut-sole.ensures.value c.self.invariant.sole_length in
+    let marks = table c.fill.new.table _ _ (c.grow.auto.marks ∙ c.clear.auto.marks)
+    c.deref_mut-marks.ensures.len c.deref_mut-marks.ensures.value c.fill.ensures.length in
+    let fresh = table c.fill-2.new.table _ _ (c.note_touched.auto.fresh ∙ c.clear.auto.fresh)
+    c.deref_mut-fresh.ensures.len c.deref_mut-fresh.ensures.value c.fill-2.ensures.length in
+    let plain = table c.fill-3.new.table _ _ (c.note_touched.auto.plain ∙ c.clear.auto.plain)
+    c.deref_mut-plain.ensures.len c.deref_mut-plain.ensures.value c.fill-3.ensures.length in
+    let left = table c.fill-4.new.table _ _ (c.assign_levels.auto.left ∙ (c.count_outside.auto.left ∙ c.grow.auto.left))
+    c.deref_mut-left.ensures.len c.deref_mut-left.ensures.value c.fill-4.ensures.length in
+    let level = table c.fill-5.new.table _ _ (c.assign_levels.auto.level ∙ c.first_level.auto.level)
+    c.deref_mut-level.ensures.len c.deref_mut-level.ensures.value c.fill-5.ensures.length in
+    let sole = table c.fill-6.new.table _ _ c.grow.auto.sole
+    c.deref_mut-sole.ensures.len c.deref_mut-sole.ensures.value c.fill-6.ensures.length in
     let cyclic = c.list_held.ensures.room in
     let empty = c.clear-4.ensures.capacity in
     let room = c.self.invariant.cyclic_room in
@@ -106,12 +106,18 @@ invariant_of-self g c =
     λ x t. c.grow.ensures.complete x
     (InRegion-touched (g.A.After.refers c.args.after.now) c.args.touched.now x t) in
     record {
-      marks_length = rw marks.0 marks.1;
-      fresh_length = rw fresh.0 fresh.1;
-      plain_length = rw plain.0 plain.1;
-      left_length = rw left.0 left.1;
-      level_length = rw level.0 level.1;
-      sole_length = rw sole.0 sole.1;
+      marks_length = rw marks.0 (omega (arith, marks.1));
+      fresh_length = rw fresh.0 (omega (arith, fresh.1));
+      plain_length = rw (plain.0, marks.0) (plain.1 ∙ sym marks.1);
+      left_length = rw (left.0, marks.0) (left.1 ∙ sym marks.1);
+      level_length = rw level.0 (omega (arith, level.1));
+      sole_length = rw sole.0 (omega (arith, sole.1));
+      marks_room = c.fill.ensures.room;
+      fresh_room = c.fill-2.ensures.room;
+      plain_room = c.fill-3.ensures.room;
+      left_room = c.fill-4.ensures.room;
+      level_room = c.fill-5.ensures.room;
+      sole_room = c.fill-6.ensures.room;
       marked = rw marks.0 c.grow.ensures.marked;
       fresh_members = rw fresh.0 (λ x t. sound x (sym (c.note_touched.ensures.fresh x) ∙ t));
       plain_members = rw plain.0 (λ x t. sound x (and_true_left (list_any (eqb x) c.args.touched.now)
@@ -125,12 +131,12 @@ invariant_of-self g c =
 
 pub returns : goal.returns
 returns g c =
-    let marks = table c.self.inside.marks _ _ (c.grow.auto.marks ∙ c.clear.auto.marks)
-    c.deref_mut-marks.ensures.len c.deref_mut-marks.ensures.value c.self.invariant.marks_length in
-    let plain = table c.self.inside.plain _ _ (c.note_touched.auto.plain ∙ c.clear.auto.plain)
-    c.deref_mut-plain.ensures.len c.deref_mut-plain.ensures.value c.self.invariant.plain_length in
-    let left = table c.self.inside.left _ _ (c.assign_levels.auto.left ∙ (c.count_outside.auto.left ∙ c.grow.auto.left))
-    c.deref_mut-left.ensures.len c.deref_mut-left.ensures.value c.self.invariant.left_length in
+    let marks = table c.fill.new.table _ _ (c.grow.auto.marks ∙ c.clear.auto.marks)
+    c.deref_mut-marks.ensures.len c.deref_mut-marks.ensures.value c.fill.ensures.length in
+    let plain = table c.fill-3.new.table _ _ (c.note_touched.auto.plain ∙ c.clear.auto.plain)
+    c.deref_mut-plain.ensures.len c.deref_mut-plain.ensures.value c.fill-3.ensures.length in
+    let left = table c.fill-4.new.table _ _ (c.assign_levels.auto.left ∙ (c.count_outside.auto.left ∙ c.grow.auto.left))
+    c.deref_mut-left.ensures.len c.deref_mut-left.ensures.value c.fill-4.ensures.length in
     record {
       found = rw (left.0, plain.0)
           (is_found (g.A.After.refers c.args.after.now) (g.A.After.formula c.args.after.now) (is_in c.args.cyclic.now)
