@@ -124,6 +124,8 @@ impl<L: Named, R: Wait + Drop> FaceWriter<L, R> {
     /// Shows readers the patch that is pending, all of it at one step, and gives its delta back. It waits for those
     /// that still read what was published before the last patch.
     ///
+    /// Nothing in the program calls it. It is part of the public interface, as [`FaceWriter::append`] is.
+    ///
     /// Cost: twice the changes of the patch; no memory.
     pub fn publish(&mut self) -> Arc<Delta>
         requires one { length self.old.pending ≡ 1 }

@@ -62,6 +62,9 @@ fn bare_left(cell: &(Cell, CellState), left: usize) -> Option<usize>
 
 /// Whether the compact text of the delta is short enough for a line.
 ///
+/// Nothing in the program calls it: `encode` finds out by itself. It is part of the public interface, for who wants to
+/// know before.
+///
 /// Cost: that of the cells, counts and pairs for which a line has room, however many there are; it takes no memory.
 pub fn fits_line(delta: &Delta) -> bool
     ensures { IsTrue result ↔ FitsLine delta.now }
