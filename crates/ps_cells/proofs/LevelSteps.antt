@@ -26,6 +26,17 @@ use Rattle.ps_cells.proofs.CyclicLists.{In-filter, In-filtered}
 use Rattle.ps_cells.proofs.ListedCells.{In-pushed, In-end, In-pushed_cases, In-place, fresh_place}
 use Rattle.ps_cells.proofs.Walks.{weaker, evaluate, evaluate_unread, quiet}
 
+-- a list of one cell has just that one
+In-only : (x c : ℕ) → In (x ∷ []) c → c ≡ x
+In-only x c i =
+    ⊎_elim (λ before. absurd (let f : false ≡ true = before in cc)) (λ same. same) (In-pushed_cases [] x c i)
+
+-- a list with one place has just the cell of that place
+pub sole : (xs : List ℕ) (x : ℕ) → 1 ≤ length xs → length xs < 2 → x ≡ get_or xs 0 x → x ∷ [] ≡ xs
+sole [] x some few at = absurd (omega (arith, some))
+sole (y ∷ []) x some few at = ap (λ (q : ℕ). q ∷ []) at
+sole (y ∷ z ∷ xs) x some few at = absurd (omega (arith, few))
+
 -- the first i of the cells are shown
 abbrev pub ShowsPart : Bool → (ℕ → List ℕ) → List ℕ → List Value → ℕ → Assignment → Assignment → (ℕ → Bool)
     → (ℕ → Bool) → Type 0
@@ -68,6 +79,12 @@ formula_values t u (c ∷ cells) formulas =
     let here = value_of_formula (content_of (t c)) (t c) u (formulas c (In-self c cells)) in
     let others = formula_values t u cells (λ q i. formulas q (In-more q c cells i)) in
     rw (here, others) refl
+
+-- the value of the formula is that of the cell
+pub formula_values_one : (t : State) (u : Assignment) (c : ℕ) → formula_at t c ≡ true
+    → values_of (λ q. formula_in (content_of (t q))) u (c ∷ []) ≡ values_at t u (c ∷ [])
+formula_values_one t u c formula =
+    formula_values t u (c ∷ []) (λ q i. subst (λ x. formula_at t x ≡ true) (sym (In-only c q i)) formula)
 
 -- what is kept at a place has the value at that place
 pub kept_at : (xs : List Kept) (i : ℕ) (d : Kept) → get_or (kept_values xs) i (value_kept d) ≡ value_kept
@@ -334,3 +351,39 @@ few_due flags (c ∷ cells) =
     ⊎_elim (λ (on : flags c ≡ true). rw on (omega (arith, few)))
     (λ (off : flags c ≡ false). rw off (omega (arith, few)))
     (bool_cases (flags c))
+
+-- THE ONLY CELL of a level, which is due
+pub shows_one : (is_last : Bool) (listed : ℕ → List ℕ) (x : ℕ) (y : Value) (u u2 : Assignment) (flags flags2 : ℕ → Bool)
+    → ShowsOne is_last x y (listed x) u u2 flags flags2 → ShowsAll is_last listed (x ∷ []) (y ∷ []) u u2 flags flags2
+shows_one is_last listed x y u u2 flags flags2 one =
+    shows_end is_last listed (x ∷ []) (y ∷ []) 1 u u2 flags flags2
+    (shows_more is_last listed (x ∷ []) (y ∷ []) 0 x y y u u u2 flags flags flags2
+    (shows_none is_last listed (x ∷ []) (y ∷ []) u flags) (omega arith) refl one)
+    refl
+
+filter_on : (flags : ℕ → Bool) (x : ℕ) → flags x ≡ true → filter flags (x ∷ []) ≡ x ∷ []
+filter_on flags x on = rw on refl
+
+filter_off : (flags : ℕ → Bool) (x : ℕ) → flags x ≡ false → filter flags (x ∷ []) ≡ []
+filter_off flags x off = rw off refl
+
+-- the only cell of a level is due, and shows its value
+pub one_stepped : (t : State) (listed : ℕ → List ℕ) (x : ℕ) (is_last : Bool) (u u2 : Assignment)
+    (flags flags2 : ℕ → Bool) → flags x ≡ true
+    → ShowsAll is_last listed (x ∷ []) (values_at t u (x ∷ [])) u u2 flags flags2
+    → StepsLevel t listed (x ∷ []) is_last u u2 flags flags2 1
+one_stepped t listed x is_last u u2 flags flags2 on shown =
+    let due : filter flags (x ∷ []) ≡ x ∷ [] = filter_on flags x on in
+    subst (λ (xs : List ℕ). StepsLevel t listed (x ∷ []) is_last u u2 flags flags2 (length xs)) due
+    (level_stepped t listed (x ∷ []) is_last (values_at t u (filter flags (x ∷ []))) u u2 flags flags2 refl
+    (subst (λ (xs : List ℕ). ShowsAll is_last listed xs (values_at t u xs) u u2 flags flags2) (sym due) shown))
+
+-- the only cell of a level isn't due
+pub none_stepped : (t : State) (listed : ℕ → List ℕ) (x : ℕ) (is_last : Bool) (u : Assignment) (flags : ℕ → Bool)
+    → flags x ≡ false → StepsLevel t listed (x ∷ []) is_last u u flags flags 0
+none_stepped t listed x is_last u flags off =
+    let due : filter flags (x ∷ []) ≡ [] = filter_off flags x off in
+    subst (λ (xs : List ℕ). StepsLevel t listed (x ∷ []) is_last u u flags flags (length xs)) due
+    (level_stepped t listed (x ∷ []) is_last (values_at t u (filter flags (x ∷ []))) u u flags flags refl
+    (subst (λ (xs : List ℕ). ShowsAll is_last listed xs (values_at t u xs) u u flags flags) (sym due)
+    (shows_end is_last listed [] [] 0 u u flags flags (shows_none is_last listed [] [] u flags) refl)))

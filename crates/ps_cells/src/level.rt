@@ -1,10 +1,12 @@
 //! One level of a recalculation: its due cells are evaluated together, by workers, and then shown one after the other.
+//! The cell of a level of one is evaluated and shown at once.
 
 ghost use Rattle.std.specs.Prelude.{◌≡◌, ◌+◌, ◌<◌, ◌≤◌, ◌∷◌, ◌++◌, [], List, ℕ, Bool, false, true};
 ghost use Rattle.std.specs.Prelude.{filter, length, vec_capacity, IfOk, IfErr};
 ghost use Rattle.std.specs.List.{IsDistinct};
 ghost use Rattle.ps_grid.specs.Chains.{In};
 ghost use Rattle.ps_grid.specs.declared.parties.TheConstants.{WORKERS};
+ghost use Rattle.ps_shown.specs.Kept.{value_of as value_kept};
 ghost use Rattle.ps_shown.specs.Shown.{shown_at};
 ghost use Rattle.ps_delta.specs.State.{state_at};
 ghost use Rattle.ps_region.specs.Listed.{listed};
@@ -15,7 +17,7 @@ ghost use Rattle.ps_cells.specs.Inside.Steps.{flag_at, HasRoom, ShowsAll, StepsL
 
 use crate::contents::formula_of;
 use crate::screen::Screen;
-use crate::sums::remember_sums;
+use crate::sums::{remember_sums, remember_sums_of};
 use crate::walk::show;
 use ps_delta::{Grid, grids_are_shared};
 use ps_eval::{Look, Meter, Summary};
@@ -24,7 +26,7 @@ use ps_grid::{CELLS, Cell, Rect, Refusal};
 use ps_index::Index;
 use ps_shown::Kept;
 use ps_value::{Operand, Value};
-use ps_workers::{Gate, eval_level, workers_worth};
+use ps_workers::{Gate, eval_cell, eval_level, workers_worth};
 use std::alloc::Global;
 use std::mem;
 use std::sync::ledger::Ledger;
@@ -126,7 +128,8 @@ impl Level {
 
     /// Settles the cells of a level, by workers. How many were evaluated.
     ///
-    /// No flag is set for the last level, since no cell that is still to be evaluated refers to one of it.
+    /// No flag is set for the last level, since no cell that is still to be evaluated refers to one of it. Chains and
+    /// circles have levels of one cell, which is settled by itself, without lists, places and threads.
     pub(crate) fn settle<R: Threads + Sync, G: Gate, L: Ledger>(
         &mut self,
         workers: &Workers<'_, R, G>,
@@ -148,6 +151,9 @@ impl Level {
         ensures metered { meter.new ≡ meter.old + result }
         ensures room { HasRoom CELLS self.new }
     {
+        if let [cell] = step.cells {
+            return settle_one(workers, inputs, *cell, step.is_last, shown, flags, meter);
+        }
         list_due(step.cells, flags, &mut self.due);
         make_places(self.due.len(), &mut self.values);
         let due = &Step {
@@ -156,6 +162,99 @@ impl Level {
         };
         settle_due(workers, inputs, due, &mut self.values, shown, flags, meter);
         self.due.len()
+    }
+}
+
+/// Settles the only cell of a level, as worker 0. How many were evaluated.
+#[inline(always)]
+fn settle_one<R: Threads + Sync, G: Gate, L: Ledger>(
+    workers: &Workers<'_, R, G>,
+    inputs: &Inputs<'_>,
+    cell: Cell,
+    is_last: bool,
+    shown: &mut Screen,
+    flags: &mut [bool],
+    meter: &mut Meter<L>,
+) -> usize
+    requires whole { length flags.old ≡ CELLS }
+    requires formula { formula_at (state_at inputs.now.grid.now) cell ≡ true }
+    ensures settled { StepsLevel (state_at inputs.now.grid.now) (listed inputs.now.index.now) (cell ∷ []) is_last
+        (shown_at shown.old.kept) (shown_at shown.new.kept) (flag_at flags.old) (flag_at flags.new) result }
+    ensures before { before_of shown.new ≡ before_of shown.old }
+    ensures metered { meter.new ≡ meter.old + result }
+{
+    if !flags[cell.index()] {
+        return 0;
+    }
+    settle_due_one(workers.gate, inputs, cell, is_last, shown, flags, meter);
+    1
+}
+
+/// Evaluates the only cell of a level, which is due, and lets it show its value.
+#[inline(always)]
+fn settle_due_one<G: Gate, L: Ledger>(
+    gate: &G,
+    inputs: &Inputs<'_>,
+    cell: Cell,
+    is_last: bool,
+    shown: &mut Screen,
+    flags: &mut [bool],
+    meter: &mut Meter<L>,
+)
+    requires whole { length flags.old ≡ CELLS }
+    requires formula { formula_at (state_at inputs.now.grid.now) cell ≡ true }
+    ensures shows { ShowsAll is_last (listed inputs.now.index.now) (cell ∷ [])
+        (values_at (state_at inputs.now.grid.now) (shown_at shown.old.kept) (cell ∷ []))
+        (shown_at shown.old.kept) (shown_at shown.new.kept) (flag_at flags.old) (flag_at flags.new) }
+    ensures before { before_of shown.new ≡ before_of shown.old }
+    ensures metered { meter.new ≡ meter.old + 1 }
+{
+    remember_sums_of(inputs.grid, cell, shown);
+    let kept = evaluate_one(gate, inputs.grid, cell, shown, meter);
+    show_one(inputs.index, cell, kept, is_last, shown, flags);
+}
+
+/// The value of a cell's formula.
+#[inline(always)]
+fn evaluate_one<G: Gate, L: Ledger>(
+    gate: &G,
+    grid: &Grid,
+    cell: Cell,
+    shown: &Screen,
+    meter: &mut Meter<L>,
+) -> Kept
+    requires formula { formula_at (state_at grid.now) cell ≡ true }
+    ensures value { value_kept result ∷ [] ≡ values_at (state_at grid.now) (shown_at shown.now.kept) (cell ∷ []) }
+    ensures metered { meter.new ≡ meter.old + 1 }
+{
+    eval_cell(
+        cell,
+        &GridFormulas { grid },
+        &ScreenLook { shown },
+        gate,
+        meter,
+    )
+}
+
+/// Lets the only due cell of a level show its value, and flags the cells of further levels that are due then.
+#[inline(always)]
+fn show_one(
+    index: &Index,
+    cell: Cell,
+    kept: Kept,
+    is_last: bool,
+    shown: &mut Screen,
+    flags: &mut [bool],
+)
+    requires whole { length flags.old ≡ CELLS }
+    ensures shows { ShowsAll is_last (listed index.now) (cell ∷ []) (value_kept kept ∷ []) (shown_at shown.old.kept)
+        (shown_at shown.new.kept) (flag_at flags.old) (flag_at flags.new) }
+    ensures before { before_of shown.new ≡ before_of shown.old }
+{
+    if is_last {
+        shown.put(cell, kept);
+    } else {
+        show(index, cell, kept, shown, flags);
     }
 }
 

@@ -32,6 +32,16 @@ pub(crate) fn remember_sums(grid: &Grid, cells: &[Cell], shown: &mut Screen)
     }
 }
 
+/// The same for one cell.
+#[inline(always)]
+pub(crate) fn remember_sums_of(grid: &Grid, cell: Cell, shown: &mut Screen)
+    ensures { shown.new ≡ shown.old }
+{
+    if shown.expects_long() {
+        remember_of(grid.at(cell), shown);
+    }
+}
+
 /// Remembers what the formula of a cell sums.
 fn remember_of(state: &CellState, shown: &mut Screen)
     ensures { shown.new ≡ shown.old }

@@ -46,6 +46,7 @@ fn flag_each<W: Iterator<Item = Cell> + Drop>(walk: W, flags: &mut [bool])
 }
 
 /// Flags the cells that refer to a cell. They are walked only where there may be several.
+#[inline(always)]
 fn flag_dependents(index: &Index, cell: Cell, flags: &mut [bool])
     requires whole { length flags.old ≡ CELLS }
     ensures flagged { (c : ℕ) → flag_at flags.new c

@@ -1,6 +1,6 @@
 //! A level, divided among workers.
 
-ghost use Rattle.std.specs.Prelude.{◌≡◌, ◌+◌, ◌-◌, ◌*◌, ◌/◌, ◌%◌, ◌<◌, ◌≤◌, min, length};
+ghost use Rattle.std.specs.Prelude.{◌≡◌, ◌+◌, ◌-◌, ◌*◌, ◌/◌, ◌%◌, ◌<◌, ◌≤◌, ◌∷◌, [], min, length};
 ghost use Rattle.std.specs.Thread.{IsSync};
 ghost use Rattle.ps_grid.specs.Blanks.{IsBlankOf};
 ghost use Rattle.ps_grid.specs.declared.parties.TheConstants.{WORKERS};
@@ -115,6 +115,30 @@ impl<R: Threads + Sync, F: Formulas + Sync, K: Look + Sync, G: Gate> Task<'_, R,
         { self.by_several(next, high, theirs, there) };
         let (b, a) = join_mut(self.rt, &mut away, &mut at_home);
         a.with(b)
+    }
+}
+
+/// Evaluates the formula of a cell. It is the same as a level of that one cell by one worker: what is kept has the
+/// value of the cell's formula where each cell shows what `look` says, the meter has one tick more, and the gate is
+/// passed once, as worker 0. It needs no place for the value, starts no thread, and takes no memory.
+///
+/// Cost: the evaluation.
+#[inline(always)]
+pub fn eval_cell<F: Formulas, K: Look, G: Gate, L: Ledger>(
+    cell: Cell,
+    formulas: &F,
+    look: &K,
+    gate: &G,
+    meter: &mut Meter<L>,
+) -> Kept
+    requires { HaveFormulas (F.formula_at formulas.now) (cell ∷ []) }
+    ensures value { value_kept result ∷ [] ≡ values_of (F.formula_at formulas.now) (K.value_at look.now) (cell ∷ []) }
+    ensures ticks { meter.new ≡ meter.old + 1 }
+{
+    gate.pass(0);
+    match formulas.formula(cell) {
+        Some(formula) => kept_of(eval_number(formula, look, meter)),
+        None => unreachable!(),
     }
 }
 

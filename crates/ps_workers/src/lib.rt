@@ -4,7 +4,8 @@
 //! what the cells show; each has places of its own for the new values.
 //!
 //! The contract to use is that of `eval_level`: whatever the number of workers and whatever the gate does, each place
-//! has the value of its cell's formula, and the meter has counted one evaluation a cell.
+//! has the value of its cell's formula, and the meter has counted one evaluation a cell. `eval_cell` does the same for
+//! a level of one cell, without places and threads.
 //!
 //! The five formulas `=1+1` to `=1+5` as one level give 2, 3, 4, 5, 6 with one worker and with sixteen; with two
 //! workers the first has three of the cells, and the second two.
@@ -19,5 +20,5 @@ mod level;
 mod worth;
 
 pub use gate::{Gate, Open};
-pub use level::eval_level;
+pub use level::{eval_cell, eval_level};
 pub use worth::{CELLS_OF_A_WORKER, workers_worth};

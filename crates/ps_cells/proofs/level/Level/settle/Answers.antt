@@ -5,8 +5,17 @@ use Rattle.ps_region.specs.Listed.{listed}
 use Rattle.ps_shown.specs.Shown.{shown_at}
 use Rattle.ps_cells.specs.Inside.Steps.{flag_at, ShowsAll, StepsLevel, values_at}
 use Rattle.ps_cells.proofs.CyclicLists.{In-filtered}
-use Rattle.ps_cells.proofs.LevelSteps.{level_stepped, few_due}
+use Rattle.ps_cells.proofs.LevelSteps.{level_stepped, few_due, sole}
 use Rattle.ps_cells.proofs.level.Level.settle.Goals as goal
+
+pub returns-in-len1-clause-settled : goal.returns-in-len1-clause-settled
+returns-in-len1-clause-settled g c =
+    subst
+    (λ xs. StepsLevel (state_at c.args.inputs.now.grid.now) (listed c.args.inputs.now.index.now) xs
+    c.args.step.now.is_last (shown_at c.args.shown.now.kept) (shown_at c.settle_one.new.shown.kept)
+    (flag_at c.args.flags.now) (flag_at c.settle_one.new.flags) c.settle_one.result)
+    (sole c.args.step.now.cells.now c.cell-item.result c.in-len1.len_at_least c.in-len1.len_below c.cell-item.is)
+    c.settle_one.ensures.settled
 
 pub make_places-requires : goal.make_places-requires
 make_places-requires g c =
