@@ -11,7 +11,7 @@ use ps_formula::{Formula, Formulas};
 use ps_grid::{CELLS, Cell, Refusal};
 use ps_shown::Kept;
 use ps_value::{Operand, Value};
-use ps_workers::{CELLS_OF_A_WORKER, Gate, Open, eval_level, workers_worth};
+use ps_workers::{CELLS_OF_A_WORKER, Gate, Open, eval_cell, eval_level, workers_worth};
 use std::alloc::{AllocError, Global};
 use std::marker::Brand;
 use std::process::Abort;
@@ -109,6 +109,28 @@ fn evaluate<R: Threads + Sync, B: Formulas + Look + Sync, G: Gate>(
     counted::<Brand, R, B, G>(rt, Blank::new(1), board, cells, out, workers, gate);
 }
 
+fn alone_counted<L: Ledger, B: Formulas + Look, G: Gate>(
+    blank: Blank,
+    board: &B,
+    cell: Cell,
+    gate: &G,
+) -> Option<Kept>
+    requires { IsBlankOf blank L.name L.parts }
+{
+    let mut meter = Meter::<L>::new(blank);
+    if !have_formulas(board, &[cell]) {
+        return None;
+    }
+    let kept = eval_cell(cell, board, board, gate, &mut meter);
+    let _ = meter.finish(1);
+    Some(kept)
+}
+
+/// What a cell gives by itself, where it has a formula.
+fn alone<B: Formulas + Look, G: Gate>(board: &B, cell: Cell, gate: &G) -> Option<Kept> {
+    alone_counted::<Brand, B, G>(Blank::new(1), board, cell, gate)
+}
+
 /// So many places that are empty.
 fn empties(alloc: Global, count: usize) -> Result<Vec<Kept>, AllocError> {
     let mut out = Vec::with_capacity(alloc, count)?;
@@ -157,6 +179,16 @@ fn each_place_has_its_value(rt: HostRuntime) -> Result<(), Fail> {
             );
         }
     }
+    Ok(())
+}
+
+/// The third of five cells gives 4 by itself, as in a level of them.
+#[test]
+fn a_cell_alone_has_its_value(rt: HostRuntime) -> Result<(), Fail> {
+    let (board, cells) = sums(rt.alloc(), 5)?;
+    let cell = *cells.get(2).ok_or("no cell")?;
+    let kept = alone(&board, cell, &Open);
+    assert!(rt; kept.ok_or("no formula")?.value() == Value::Num(4));
     Ok(())
 }
 
@@ -305,6 +337,23 @@ fn references(alloc: Global, count: usize) -> Result<(Vec<Formula>, Vec<Cell>), 
     Ok((formulas, cells))
 }
 
+/// A level of these formulas for so many workers, of which nothing was seen yet.
+fn level_of(formulas: Vec<Formula>, workers: usize) -> Watched
+    requires { 0 < workers }
+{
+    let count = formulas.len();
+    Watched {
+        formulas,
+        starts: starts_of(count, workers),
+        workers: workers.min(count),
+        came: none(),
+        met: none(),
+        passes: [0; 16].map(|_| none()),
+        evaluated: none(),
+        out_of_turn: none(),
+    }
+}
+
 /// Whether as many workers as asked for, or as there are cells, are there at once and share a level of so many cells
 /// evenly.
 fn is_shared<R: Threads + Sync>(
@@ -316,16 +365,7 @@ fn is_shared<R: Threads + Sync>(
     requires { (0 < workers) × (workers ≤ WORKERS) }
 {
     let (formulas, cells) = references(alloc, count)?;
-    let level = Watched {
-        formulas,
-        starts: starts_of(count, workers),
-        workers: workers.min(count),
-        came: none(),
-        met: none(),
-        passes: [0; 16].map(|_| none()),
-        evaluated: none(),
-        out_of_turn: none(),
-    };
+    let level = level_of(formulas, workers);
     let mut out = empties(alloc, count)?;
     evaluate(rt, &level, &cells, &mut out, workers, &level);
     Ok(level.is_shared_evenly())
@@ -343,6 +383,18 @@ fn each_worker_has_its_part(rt: HostRuntime) -> Result<(), Fail> {
             );
         }
     }
+    Ok(())
+}
+
+/// A cell by itself is evaluated once, just after the first worker has passed the gate for it.
+#[test]
+fn a_cell_alone_is_the_part_of_one_worker(rt: HostRuntime) -> Result<(), Fail> {
+    let (formulas, cells) = references(rt.alloc(), 1)?;
+    let level = level_of(formulas, 1);
+    let cell = *cells.get(0).ok_or("no cell")?;
+    let kept = alone(&level, cell, &level);
+    assert!(rt; kept.ok_or("no formula")?.value() == Value::Num(7));
+    assert!(rt; level.is_shared_evenly());
     Ok(())
 }
 
