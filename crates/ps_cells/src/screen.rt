@@ -3,6 +3,8 @@
 ghost use Rattle.std.specs.Prelude.{◌≡◌, ◌<◌, ◌≤◌, [], ℕ, true, false, length, slice_set};
 ghost use Rattle.std.specs.Prelude.{vec_capacity, IfOk, IfErr, map, nat_eq};
 ghost use Rattle.std.specs.List.{IsDistinct};
+ghost use Rattle.std.specs.List.Sorted.{IsPermutation, IsSorted};
+ghost use Rattle.std.specs.Ordering.{nat_cmp};
 ghost use Rattle.ps_grid.specs.Chains.{In};
 ghost use Rattle.ps_value.specs.Operand.{operand_of};
 ghost use Rattle.ps_value.specs.declared.value.Value.TheVariants.{Empty as Nothing};
@@ -192,13 +194,14 @@ impl Screen {
     }
 
     /// Lists the cells that show another value than before, ascending.
+    #[inline]
     pub(crate) fn list_changed(&mut self)
         ensures kept { self.new.kept ≡ self.old.kept }
         ensures olds { self.new.olds ≡ self.old.olds }
         ensures changed { IsChanged (before_of self.old) (shown_at self.old.kept) self.new.changed }
     {
         list_differing(&self.olds, &self.shown, &mut self.cells);
-        self.cells.sort_unstable();
+        sort(&mut self.cells);
     }
 
     /// Lists the cells that were listed, with what they show.
@@ -269,6 +272,7 @@ fn was_cyclic(old: &(Cell, Kept), shown: &Shown) -> bool
 }
 
 /// Lists the cells of old values that show another one now.
+#[inline]
 fn list_differing(olds: &[(Cell, Kept)], shown: &Shown, cells: &mut Vec<Cell>)
     requires once { IsDistinct nat_eq (cells_in olds.now) }
     requires room { length olds.now ≤ vec_capacity cells.old }
@@ -283,6 +287,7 @@ fn list_differing(olds: &[(Cell, Kept)], shown: &Shown, cells: &mut Vec<Cell>)
 }
 
 /// Lists the cell of an old value where it shows another one now.
+#[inline]
 fn list_one(old: &(Cell, Kept), shown: &Shown, cells: &mut Vec<Cell>)
     requires room { length cells.old.items < vec_capacity cells.old }
     ensures listed { ListsDiffering old.now (shown_at shown.now) cells.old.items cells.new.items }
@@ -290,6 +295,19 @@ fn list_one(old: &(Cell, Kept), shown: &Shown, cells: &mut Vec<Cell>)
 {
     if !old.1.is_same(shown.kept(old.0)) {
         cells.push_reserved(old.0);
+    }
+}
+
+/// Sorts cells, ascending. Fewer than two are sorted as they stand.
+#[inline]
+fn sort(cells: &mut Vec<Cell>)
+    ensures permutation { IsPermutation cells.old.items cells.new.items }
+    ensures len { length cells.new.items ≡ length cells.old.items }
+    ensures capacity { vec_capacity cells.new ≡ vec_capacity cells.old }
+    ensures sorted { IsSorted nat_cmp cells.new.items }
+{
+    if cells.len() > 1 {
+        cells.sort_unstable();
     }
 }
 
