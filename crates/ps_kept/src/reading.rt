@@ -18,7 +18,6 @@ use ps_session::{KeptLine, line_of_replica, read_kept_line};
 use ps_sheet::Sheet;
 use ps_wire::Decoder;
 use std::alloc::Global;
-use std::sync::Arc;
 use std::sync::ledger::Ledger;
 use std::thread::Threads;
 
@@ -67,7 +66,7 @@ fn take_in<R: Threads + Sync, L: Ledger>(
     ensures sheet { IsSheet sheet.old → IsSheet sheet.new }
 {
     let delta = match read_kept_line(alloc, decoder, line) {
-        Ok(Some(KeptLine::Push(delta))) => Arc::new(alloc, delta)?,
+        Ok(Some(KeptLine::Push(delta))) => delta.owner(),
         Ok(Some(KeptLine::Replica(_))) => return Ok(false),
         Ok(None) => return Ok(false),
         Err(Refusal::Delta) => return Ok(false),

@@ -1,5 +1,5 @@
--- The name of a cell is one word.
-use Rattle.std.proofs.Common.{◌≡◌, ◌<◌, ◌≤◌, ◌==◌, ◌-◌, ◌/◌, ◌%◌, ℕ, false, List, [], ◌∷◌, ⊎_elim, sym, subst, arith}
+-- The name of a cell is one word, and so are the digits of a number.
+use Rattle.std.proofs.Common.{◌≡◌, ◌<◌, ◌≤◌, ◌==◌, ◌-◌, ◌/◌, ◌%◌, ◌^◌, ℕ, false, List, [], ◌∷◌, ⊎_elim, sym, subst, arith}
 use Rattle.std.proofs.lemmas.Bool.{cases_lt, ne_eqb}
 use Rattle.std.proofs.lemmas.Fmt.{decimal_is_IsNumeral}
 use Rattle.std.proofs.lemmas.List.Elements.{All-append, All-cons, All-nil}
@@ -44,3 +44,7 @@ name c below =
 pub name_is_word : (text : List ℕ) (c : ℕ) → c < CELLS → text ≡ cell_name c → words text ≡ text ∷ []
 name_is_word text c below is =
     slice_split_none (λ b. b == 32) text (subst (All IsNoSpace) (sym is) (name c below))
+
+pub number_is_word : (n : ℕ) → n < 2 ^ 64 → words (decimal n) ≡ decimal n ∷ []
+number_is_word n fits =
+    slice_split_none (λ b. b == 32) (decimal n) (digits (decimal n) (decimal_is_IsNumeral n fits).0.1)

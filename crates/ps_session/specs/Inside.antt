@@ -3,3 +3,4 @@ pub mod Holds
 pub mod Joints
 pub mod Stands
 pub mod Incomings
+pub mod Kept

@@ -311,7 +311,7 @@ fn read_replica(rest: &[u8]) -> Result<Command, Refusal>
 }
 
 /// The number of a replica, 1 to [`REPLICAS`].
-pub(crate) fn read_number(word: &[u8]) -> Result<u8, Refusal>
+fn read_number(word: &[u8]) -> Result<u8, Refusal>
     ensures { result ≡ ok_or (replica_number (whole_number word.now)) Refusal.Replica }
 {
     match read_whole(word) {

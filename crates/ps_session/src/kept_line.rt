@@ -4,12 +4,15 @@ ghost use Rattle.ps_delta.specs.Deltas.{Entries};
 ghost use Rattle.ps_session.specs.PushLine.{IsPush, Pushes};
 ghost use Rattle.ps_session.specs.ReplicaLine.{Tells, TellsNone};
 ghost use Rattle.ps_session.specs.KeptLines.{LineSays, LineSaysNothing};
+ghost use Rattle.ps_session.specs.Words.{first_word};
+ghost use Rattle.ps_session.specs.Commands.{verb_of};
+ghost use Rattle.ps_session.specs.Inside.Kept.{is_kept_verb};
 
-use crate::command::read_number;
-use crate::verb::{PUSH, REPLICA};
-use crate::words::rest_after;
-use itoa::Buffer;
-use ps_delta::Delta;
+use crate::command::Command;
+use crate::replica_line::is_replica_line;
+use crate::shared::SharedDelta;
+use crate::verb::Verb;
+use crate::words::split_word;
 use ps_grid::Refusal;
 use ps_wire::Decoder;
 use std::alloc::Global;
@@ -20,16 +23,18 @@ pub enum KeptLine {
     /// Whose the lines after it are: the replica of this number.
     Replica(u8),
     /// One change: this delta is pushed.
-    Push(Delta),
+    Push(SharedDelta),
 }
 
 /// What a line of a kept file says: the replica that it tells, in just the spelling of a kept file, or the delta that
-/// it pushes, in whatever spelling; none where it does neither.
+/// it pushes, in whatever spelling; none where it does neither. It is read as a session's command, by
+/// [`Command::read`].
 ///
 /// A line that begins with `push ` is refused as `Delta` where the rest is no line of a delta, and may be refused out
 /// of memory; any other line takes none. The decoder is lent for the line of a delta.
 ///
-/// Cost: that of [`Decoder::decode`] where the line begins with `push `, else constant.
+/// Cost: O(n) in the n bytes of the line, and where it begins with `push ` that of [`Decoder::decode`] and one
+/// allocation.
 pub fn read_kept_line(
     alloc: Global,
     decoder: &mut Decoder,
@@ -40,28 +45,36 @@ pub fn read_kept_line(
     ensures memory { result ≡ Err Refusal.Memory → IsPush line.now }
     ensures refused { IfErr result (λ e. (e ≡ Refusal.Delta) ⊎ (e ≡ Refusal.Memory)) }
 {
-    if let Some(delta) = rest_after(line, PUSH) {
-        return Ok(Some(KeptLine::Push(decoder.decode(alloc, delta)?)));
+    // no command of another verb is read, so that no other line takes memory
+    if !may_be_kept(line) {
+        return Ok(None);
     }
-    match told_replica(line) {
-        Some(replica) => Ok(Some(KeptLine::Replica(replica))),
-        None => Ok(None),
+    match Command::read(alloc, decoder, line) {
+        Ok(Command::Push(delta)) => Ok(Some(KeptLine::Push(delta))),
+        Ok(Command::Replica(Some(replica))) => {
+            if is_replica_line(line, replica) {
+                Ok(Some(KeptLine::Replica(replica)))
+            } else {
+                Ok(None)
+            }
+        }
+        Ok(Command::Replica(None)) => Ok(None),
+        Ok(_) => unreachable!(),
+        // a word too few or too many, or no replica's number
+        Err(Refusal::Command) => Ok(None),
+        Err(Refusal::Replica) => Ok(None),
+        Err(Refusal::Delta) => Err(Refusal::Delta),
+        Err(Refusal::Memory) => Err(Refusal::Memory),
+        Err(_) => unreachable!(),
     }
 }
 
-/// The replica that a line tells, where it tells one.
-fn told_replica(line: &[u8]) -> Option<u8>
-    ensures { MatchOption result (TellsNone line.now) (Tells line.now) }
+/// Whether a line has one of the verbs that a kept file has.
+fn may_be_kept(line: &[u8]) -> bool
+    ensures { result ≡ is_kept_verb (verb_of (first_word line.now)) }
 {
-    let digits = rest_after(line, REPLICA)?;
-    let Ok(replica) = read_number(digits) else {
-        return None;
-    };
-    // a number has more than one spelling, as 7 and 07
-    let mut buffer = Buffer::new();
-    if buffer.format(replica).as_bytes() == digits {
-        Some(replica)
-    } else {
-        None
-    }
+    matches!(
+        Verb::read(split_word(line).0),
+        Some(Verb::Push | Verb::Replica)
+    )
 }

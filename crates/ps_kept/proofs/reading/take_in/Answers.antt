@@ -19,7 +19,7 @@ returns-clause-taken g c = λ less.
     found.ensures.says)
     c.args.sheet.now.history c.receive.new.self.history
     (subst (λ x. Takes x c.args.sheet.now.history c.receive.new.self.history)
-    c.in_ok-delta-in-Ok-Some-Push.ensures.ok c.in_ok-report.ensures.taken)
+    c.owner-delta.ensures c.in_ok-report.ensures.taken)
     (omega (
       arith,
       ltb-true c.version-before.result c.in_ok-report.report.version less,
@@ -36,7 +36,7 @@ returns-clause-refused g c = λ less.
     found.ensures.says)
     c.args.sheet.now.history c.receive.new.self.history
     (subst (λ x. Takes x c.args.sheet.now.history c.receive.new.self.history)
-    c.in_ok-delta-in-Ok-Some-Push.ensures.ok c.in_ok-report.ensures.taken)
+    c.owner-delta.ensures c.in_ok-report.ensures.taken)
     (omega (
       arith,
       ltb-false c.version-before.result c.in_ok-report.report.version less,
