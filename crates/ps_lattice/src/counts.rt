@@ -1,16 +1,17 @@
 //! The counts of a counter. Where one replica has changed it, and neither of its counts is great, they take no memory.
 
-ghost use Rattle.std.specs.Prelude.{◌≡◌, ◌↔◌, [], ◌∷◌, IsTrue, IfOk, IfErr};
+ghost use Rattle.std.specs.Prelude.{◌≡◌, ◌↔◌, ◌≤◌, ◌*◌, [], ◌∷◌, sum_by, IsTrue, IfOk, IfErr};
 ghost use Rattle.std.specs.FinMap as map;
 ghost use Rattle.std.specs.Ordering.{nat_cmp};
 ghost use Rattle.ps_grid.specs.declared.refusal.Refusal.{Refusal};
-ghost use Rattle.ps_lattice.specs.Tally.{joined_tallies, greater_counts};
+ghost use Rattle.ps_lattice.specs.Tally.{joined_tallies, greater_counts, is_tally};
 ghost use Rattle.ps_lattice.specs.Inside.Shared.{joined_entries};
 ghost use Rattle.ps_lattice.specs.Inside.Counts.{counts_in, entries_in};
 
 use crate::entries;
+use crate::limits::COUNT_LIMIT;
 use crate::tally::Count;
-use ps_grid::Refusal;
+use ps_grid::{REPLICAS, Refusal};
 use std::alloc::Global;
 use std::slice;
 use std::sync::Arc;
@@ -67,7 +68,7 @@ impl CountList {
     }
 
     /// The list of one replica's counts.
-    #[inline]
+    #[inline(always)]
     pub(crate) fn of_one(alloc: Global, replica: u8, count: Count) -> Result<CountList, Refusal>
         ensures ok { IfOk result (λ l. counts_in l ≡ (replica, count) ∷ []) }
         ensures memory { IfErr result (λ e. e ≡ Refusal.Memory) }
@@ -105,6 +106,25 @@ impl CountList {
         }
     }
 
+    /// The sums of what was added and of what was subtracted.
+    pub(crate) fn totals(&self) -> (u64, u64)
+        requires { IsTrue (is_tally (counts_in self.now)) }
+        ensures added { result.0 ≡ sum_by (λ e. e.1.added) (counts_in self.now) }
+        ensures subtracted { result.1 ≡ sum_by (λ e. e.1.subtracted) (counts_in self.now) }
+        ensures added_fits { result.0 ≤ REPLICAS * COUNT_LIMIT }
+        ensures subtracted_fits { result.1 ≤ REPLICAS * COUNT_LIMIT }
+    {
+        match self {
+            CountList::Empty => (0, 0),
+            CountList::Small {
+                replica: _,
+                added,
+                subtracted,
+            } => (u64::from(*added), u64::from(*subtracted)),
+            CountList::Shared(entries) => totals(entries),
+        }
+    }
+
     /// The entries.
     #[inline(always)]
     pub(crate) fn entries(&self) -> Entries<'_>
@@ -126,6 +146,23 @@ impl CountList {
             CountList::Shared(entries) => Entries::Listed(entries),
         }
     }
+}
+
+/// The sums of a list in memory.
+fn totals(counts: &[(u8, Count)]) -> (u64, u64)
+    requires { IsTrue (is_tally counts.now) }
+    ensures added { result.0 ≡ sum_by (λ e. e.1.added) counts.now }
+    ensures subtracted { result.1 ≡ sum_by (λ e. e.1.subtracted) counts.now }
+    ensures added_fits { result.0 ≤ REPLICAS * COUNT_LIMIT }
+    ensures subtracted_fits { result.1 ≤ REPLICAS * COUNT_LIMIT }
+{
+    let mut added = 0;
+    let mut subtracted = 0;
+    for (_, count) in counts {
+        added += count.added;
+        subtracted += count.subtracted;
+    }
+    (added, subtracted)
 }
 
 /// Both lists merged in the order of their replicas; counts of one replica are joined. Small counts of one replica
@@ -150,7 +187,7 @@ pub(crate) fn joined(
 }
 
 /// Both lists joined, as by `joined`, at once where both have small counts of one replica.
-#[inline(never)]
+#[inline(always)]
 fn joined_filled(alloc: Global, mine: &CountList, theirs: &CountList) -> Result<CountList, Refusal>
     requires mine { IsTrue (map.is_sorted nat_cmp (counts_in mine.now)) }
     requires theirs { IsTrue (map.is_sorted nat_cmp (counts_in theirs.now)) }
@@ -199,7 +236,8 @@ fn merged(alloc: Global, mine: &CountList, theirs: &CountList) -> Result<CountLi
     CountList::new(alloc, all)
 }
 
-/// Whether joining the first list into the second one changes nothing, as it is at once where the first is empty.
+/// Whether joining the first list into the second one changes nothing. That is told at once where the first is empty,
+/// and where both have small counts of one replica.
 #[inline(always)]
 pub(crate) fn is_below(mine: &CountList, theirs: &CountList) -> bool
     requires mine { IsTrue (map.is_sorted nat_cmp (counts_in mine.now)) }
@@ -208,8 +246,20 @@ pub(crate) fn is_below(mine: &CountList, theirs: &CountList) -> bool
         ↔ (joined_tallies (map.from_sorted (counts_in theirs.now)) (map.from_sorted (counts_in mine.now))
         ≡ map.from_sorted (counts_in theirs.now)) }
 {
-    match mine {
-        CountList::Empty => true,
+    match (mine, theirs) {
+        (CountList::Empty, _) => true,
+        (
+            CountList::Small {
+                replica,
+                added,
+                subtracted,
+            },
+            CountList::Small {
+                replica: other,
+                added: their_added,
+                subtracted: their_subtracted,
+            },
+        ) if *replica == *other => *added <= *their_added && *subtracted <= *their_subtracted,
         _ => entries::is_below(mine.entries().as_slice(), theirs.entries().as_slice()),
     }
 }

@@ -1,6 +1,6 @@
 //! A counter that goes up and down: a PN-counter.
 
-ghost use Rattle.std.specs.Prelude.{◌≡◌, ◌+◌, ◌<◌, ◌≤◌, ◌↔◌, not, [], ◌∷◌, ◌*◌, sum_by, Contains, IsTrue, IfOk};
+ghost use Rattle.std.specs.Prelude.{◌≡◌, ◌+◌, ◌<◌, ◌≤◌, ◌↔◌, not, [], ◌∷◌, Contains, IsTrue, IfOk};
 ghost use Rattle.std.specs.Prelude.{IfErr, IsErrOf};
 ghost use Rattle.std.specs.Option.{SomeIff};
 ghost use Rattle.std.specs.List.{list_all};
@@ -188,7 +188,7 @@ impl Tally {
     pub fn value(&self) -> i64
         ensures { result ≡ value_of self.now }
     {
-        let (added, subtracted) = totals(self.parts().as_slice());
+        let (added, subtracted) = self.counts.totals();
         added as i64 - subtracted as i64
     }
 
@@ -199,6 +199,7 @@ impl Tally {
     ///
     /// Cost: logarithmic in the replicas that changed the counter.
     #[tactic(auto, using(crate::proofs::TallyLemmas::add_raises, crate::proofs::TallyLemmas::add_is_fresh))]
+    #[inline(always)]
     pub fn add(&self, alloc: Global, replica: u8, amount: u64) -> Result<Tally, Refusal>
         requires { (1 ≤ replica) × (replica ≤ REPLICAS) }
         ensures ok { IfOk result (λ d. d ≡ counts_of replica (added self.now replica + amount) 0) }
@@ -224,6 +225,7 @@ impl Tally {
     ///
     /// Cost: logarithmic in the replicas that changed the counter.
     #[tactic(auto, using(crate::proofs::TallyLemmas::sub_raises, crate::proofs::TallyLemmas::sub_is_fresh))]
+    #[inline(always)]
     pub fn sub(&self, alloc: Global, replica: u8, amount: u64) -> Result<Tally, Refusal>
         requires { (1 ≤ replica) × (replica ≤ REPLICAS) }
         ensures ok { IfOk result (λ d. d ≡ counts_of replica 0 (subtracted self.now replica + amount)) }
@@ -257,6 +259,7 @@ impl Tally {
     }
 
     /// The counter of one replica's counts and nothing else.
+    #[inline(always)]
     fn of_one(alloc: Global, replica: u8, count: Count) -> Result<Tally, Refusal>
         requires { IsTrue (is_count (replica, count)) }
         ensures ok { IfOk result (λ d. d ≡ counts_of replica count.added count.subtracted) }
@@ -284,23 +287,6 @@ fn count_after(before: u64, amount: u64) -> Result<u64, Refusal>
         return Err(Refusal::TallyFull);
     }
     Ok(after)
-}
-
-/// The sums of what was added and of what was subtracted.
-fn totals(counts: &[(u8, Count)]) -> (u64, u64)
-    requires { IsTrue (is_tally counts.now) }
-    ensures added { result.0 ≡ sum_by (λ e. e.1.added) counts.now }
-    ensures subtracted { result.1 ≡ sum_by (λ e. e.1.subtracted) counts.now }
-    ensures added_fits { result.0 ≤ REPLICAS * COUNT_LIMIT }
-    ensures subtracted_fits { result.1 ≤ REPLICAS * COUNT_LIMIT }
-{
-    let mut added = 0;
-    let mut subtracted = 0;
-    for (_, count) in counts {
-        added += count.added;
-        subtracted += count.subtracted;
-    }
-    (added, subtracted)
 }
 
 /// Whether the replicas ascend, and they and their counts are in range.

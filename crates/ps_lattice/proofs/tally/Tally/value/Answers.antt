@@ -1,12 +1,21 @@
 use Rattle.std.proofs.Common.{ℕ, pos, ◌-ℤ◌, ap, ◌∙◌, arith, sum_by, w64, to_z}
 use Rattle.std.specs.FinMap as map
+use Rattle.std.specs.List.{list_all}
+use Rattle.std.specs.Ordering.{nat_cmp}
 use Rattle.std.proofs.lemmas.Int.{to_z_pos, to_z-of_z, ints}
 use Rattle.ps_lattice.specs.declared.tally.Count.{Count}
+use Rattle.ps_lattice.specs.Inside.Counts.{counts_in}
+use Rattle.ps_lattice.specs.Tally.{is_count}
+use Rattle.ps_lattice.proofs.Rising.{and_left}
+use Rattle.ps_lattice.proofs.Views.{entries_of}
 use Rattle.ps_lattice.proofs.tally.Tally.value.Goals as goal
 
 pub returns : goal.returns
 returns c =
-    let is = c.as_slice.ensures.value ∙ ap map.entries c.parts.ensures.value in
+    let es = counts_in c.self.inside.counts in
+    let is =
+    entries_of nat_cmp es (and_left (map.is_sorted nat_cmp es) (list_all is_count es) c.self.invariant)
+    ∙ ap map.entries c.self.view_is in
     let p = c.totals-added.result.0 in
     let n = c.totals-added.result.1 in
     let added = to_z_pos w64 p (omega arith) in

@@ -3,7 +3,7 @@ use Rattle.std.proofs.lemmas.List.Sums.{sum_by-take-drop}
 use Rattle.ps_lattice.specs.declared.tally.Count.{Count}
 use Rattle.std.proofs.Common.{ℕ}
 use Rattle.ps_lattice.proofs.TallyLemmas.{partial_fits, added_total_fits, subtracted_total_fits}
-use Rattle.ps_lattice.proofs.tally.totals.Goals as goal
+use Rattle.ps_lattice.proofs.counts.totals.Goals as goal
 
 pub overflow_add-added : goal.overflow_add-added
 overflow_add-added c =

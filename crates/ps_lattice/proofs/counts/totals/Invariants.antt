@@ -1,5 +1,5 @@
 use Rattle.std.proofs.Common.{◌≡◌, take, sum_by}
-use Rattle.ps_lattice.proofs.tally.totals.Given as goal
+use Rattle.ps_lattice.proofs.counts.totals.Given as goal
 
 -- the sums so far
 abbrev pub invariant-loop-count : goal.invariant-loop-count
