@@ -3,7 +3,9 @@
 No clause says that a read, a refused edit, and a change that is made or given up once it is worked out take none. What
 can be seen from outside: lines that take none make no request, however many there are; each request of an edit is one
 whose refusal is the reply to it, so none is made once something has changed; and after a request that was refused
-there is no other. A pull makes as many for a delta of many cells as for one of a single cell.
+there is no other. A number that is set in a cell of a plain sheet, and an amount that is added to a counter, ask for
+the room of the history alone, which doubles. A pull makes as many for a delta of many cells as for one of a single
+cell.
 """
 from program import Ended, ProgramTest, lines
 from shortage import ALL, build, each, run_short, serve_short
@@ -97,17 +99,19 @@ class Requests(ProgramTest):
     def assert_requests_come_first(self, how, opening, changes, looks):
         """Each request of one of these changes comes before anything changes, and none after one that is refused."""
         before, known = how((*opening, *looks))()
+        asked = 0
         for line in changes:
             start = how((*opening, line, *looks))
             after, requests = start()
             self.assertEqual(after[len(opening)], f"ok {len(opening) + 1}")
-            self.assertGreater(requests, known)
+            asked += requests - known
             # the looks take none
             spans = [(number, last) for number in range(known + 1, requests + 1) for last in (number, ALL)]
             for span, (replies, found) in zip(spans, each(start, spans)):
                 with self.subTest(line=line, span=span):
                     self.assertEqual(replies, [*before[:len(opening)], REFUSED, *before[len(opening):]])
                     self.assertEqual(found, span[0])
+        self.assertGreater(asked, 0)
 
     def test_each_request_of_an_edit_comes_before_anything_changes_and_none_after_one_that_is_refused(self):
         for how in self.each_way():
@@ -116,4 +120,12 @@ class Requests(ProgramTest):
     def test_the_same_of_an_edit_after_which_2_000_cells_show_other_values(self):
         opening = ("set A1 5", *pushes(lambda column, row: f"=[.A1]+{row}", range(2, 22)))
         for how in self.each_way():
-            self.assert_requests_come_first(how, opening, ("set A1 6",), ("get A1", "get A2", "get CZ21"))
+            self.assert_requests_come_first(how, opening, ("set A1 6", "set A1 text"), ("get A1", "get A2", "get CZ21"))
+
+    def test_numbers_and_amounts_ask_for_the_room_of_the_history_alone(self):
+        for line in ("set A1 6", "add D1 5"):
+            with self.subTest(line=line):
+                _, requests = self.by_run(OPENING)()
+                replies, found = self.by_run((*OPENING, *[line] * TIMES))()
+                self.assertEqual(replies[-1], f"ok {len(OPENING) + TIMES}")
+                self.assertLess(found - requests, 10)

@@ -17,7 +17,6 @@ use ps_value::Value;
 use ps_wire::decode;
 use std::alloc::Global;
 use std::marker::Brand;
-use std::sync::Arc;
 use std::sync::ledger::{Blank, Ledger};
 use std::test::Fail;
 use std::thread::Threads;
@@ -91,7 +90,7 @@ fn change_of(alloc: Global, step: Step) -> Result<Change, Refusal> {
         Step::Sub(name, amount) => Change::Edit(Edit::Sub(cell(name)?, amount)),
         Step::Choose(name, option) => Change::Edit(Edit::Choose(cell(name)?, option)),
         Step::Unchoose(name, option) => Change::Edit(Edit::Unchoose(cell(name)?, option)),
-        Step::Push(line) => Change::Delta(Arc::new(alloc, decode(alloc, line)?)?),
+        Step::Push(line) => Change::Delta(decode(alloc, line)?),
     })
 }
 

@@ -29,7 +29,7 @@ fn told(alloc: Global, line: &[u8]) -> Option<u8> {
 fn pushed(alloc: Global, line: &[u8]) -> Result<Vec<u8>, Refusal> {
     let mut text = Vec::new(alloc);
     if let Some(KeptLine::Push(delta)) = read(alloc, line)? {
-        encode(alloc, &delta.owner(), &mut text)?;
+        encode(alloc, &delta, &mut text)?;
     }
     Ok(text)
 }

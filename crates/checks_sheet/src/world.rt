@@ -14,7 +14,6 @@ use ps_world::{Event, World, play};
 use std::alloc::Global;
 use std::marker::Brand;
 use std::process::Abort;
-use std::sync::Arc;
 use std::sync::ledger::{Blank, Ledger};
 use std::thread::Threads;
 
@@ -33,7 +32,7 @@ fn cell(index: usize) -> Result<Cell, Refusal> {
 }
 
 /// The delta that assigns a number to A1, stamped with time 1 and replica 1.
-fn assigned(alloc: Global, number: i64) -> Result<Arc<Delta>, Refusal> {
+fn assigned(alloc: Global, number: i64) -> Result<Delta, Refusal> {
     let register = Register::from_parts(Assignment {
         time: 1,
         replica: 1,
@@ -46,8 +45,7 @@ fn assigned(alloc: Global, number: i64) -> Result<Arc<Delta>, Refusal> {
     };
     let mut cells = Vec::new(alloc);
     cells.push((cell(0)?, state))?;
-    let delta = Delta::new(cells).ok_or(Refusal::Delta)?;
-    Ok(Arc::new(alloc, delta)?)
+    Delta::new(alloc, cells)?.ok_or(Refusal::Delta)
 }
 
 fn event_of(alloc: Global, step: Step) -> Result<Event, Refusal> {

@@ -11,11 +11,10 @@ ghost use Rattle.ps_delta.specs.Changes.{HasRoomFor};
 use Part::{Added, Assigned, Chosen, Nothing};
 use ps_content::Content;
 use ps_delta::{CellState, Delta, Grid, Touched};
-use ps_grid::{CELLS, Cell, Refusal};
+use ps_grid::{CELLS, Cell, Refusal, Twin};
 use ps_lattice::{Assignment, Choice, Count, Join, Pair, Register, Tally};
 use std::alloc::Global;
 use std::process::Abort;
-use std::sync::Arc;
 
 // What a delta has for a cell.
 #[derive(Clone, Copy)]
@@ -90,7 +89,7 @@ fn made(rt: &impl Abort, alloc: Global, parts: &[(usize, Part)]) -> Result<Optio
     for (index, part) in parts {
         cells.push((cell(rt, *index), state_of(rt, alloc, part)?))?;
     }
-    Ok(Delta::new(cells))
+    Delta::new(alloc, cells)
 }
 
 // The delta of these cells.
@@ -169,10 +168,10 @@ static SIX: [&[(usize, Part)]; 6] = [
     &[(0, Added(2, 9)), (1, Chosen(2, true))],
 ];
 
-fn six(rt: &impl Abort, alloc: Global) -> Result<Vec<Arc<Delta>>, Refusal> {
+fn six(rt: &impl Abort, alloc: Global) -> Result<Vec<Delta>, Refusal> {
     let mut deltas = Vec::new(alloc);
     for parts in SIX {
-        deltas.push(Arc::new(alloc, delta_of(rt, alloc, parts)?)?)?;
+        deltas.push(delta_of(rt, alloc, parts)?)?;
     }
     Ok(deltas)
 }
@@ -206,7 +205,7 @@ fn join_at(
     rt: &impl Abort,
     alloc: Global,
     grid: &mut Grid,
-    deltas: &[Arc<Delta>],
+    deltas: &[Delta],
     places: &[usize],
 ) -> Result<(), Refusal> {
     for k in places {
@@ -219,7 +218,7 @@ fn join_at(
 fn join_in_order(
     rt: &impl Abort,
     alloc: Global,
-    deltas: &[Arc<Delta>],
+    deltas: &[Delta],
     n: usize,
 ) -> Result<(), Refusal> {
     let mut grid = Grid::new(alloc)?;
@@ -264,7 +263,7 @@ fn deltas_join_in_any_order_and_again(rt: HostRuntime) -> Result<(), Refusal> {
 }
 
 // The join of the deltas as one delta.
-fn joined(rt: &impl Abort, alloc: Global, deltas: &[Arc<Delta>]) -> Result<Delta, Refusal> {
+fn joined(rt: &impl Abort, alloc: Global, deltas: &[Delta]) -> Result<Delta, Refusal> {
     assert!(rt; deltas.len() > 0);
     Delta::joined(alloc, deltas)
 }
@@ -349,6 +348,37 @@ fn one_cell_makes_a_delta(rt: HostRuntime) -> Result<(), Refusal> {
     let grid = grid_with(rt.alloc(), &delta)?;
     assert!(rt; delta.parts().len() == 1 && number_at(&rt, &grid, 3) == Some(5));
     assert!(rt; Delta::of_one(cell(&rt, 3), CellState::empty(rt.alloc())).is_none());
+    Ok(())
+}
+
+/// A cell with a state that isn't empty makes the same delta without a question.
+#[test]
+fn a_filled_cell_makes_a_delta(rt: HostRuntime) -> Result<(), Refusal> {
+    let state = state_of(&rt, rt.alloc(), &FIVE)?;
+    assert!(rt; !state.is_empty());
+    let delta = Delta::of_filled(cell(&rt, 3), state);
+    let grid = grid_with(rt.alloc(), &delta)?;
+    assert!(rt; delta.parts().len() == 1 && number_at(&rt, &grid, 3) == Some(5));
+    Ok(())
+}
+
+// A twin of the delta of these cells, which is given up.
+fn twin_of(rt: &impl Abort, alloc: Global, parts: &[(usize, Part)]) -> Result<Delta, Refusal> {
+    let delta = delta_of(rt, alloc, parts)?;
+    delta.twin(alloc)
+}
+
+/// A delta that is given up leaves its twin whole, be it of one cell or of several.
+#[test]
+fn twins_outlive_their_delta(rt: HostRuntime) -> Result<(), Refusal> {
+    let one = twin_of(&rt, rt.alloc(), &[(3, FIVE)])?;
+    let several = twin_of(&rt, rt.alloc(), SIX[5])?;
+    assert!(rt; one.parts().len() == 1 && several.parts().len() == 2);
+    let grid = grid_with(rt.alloc(), &one)?;
+    assert!(rt; number_at(&rt, &grid, 3) == Some(5));
+    let grid = grid_with(rt.alloc(), &several)?;
+    assert!(rt; grid.at(cell(&rt, 0)).tally.value() == 9);
+    assert!(rt; grid.at(cell(&rt, 1)).choice.parts().len() == 1);
     Ok(())
 }
 

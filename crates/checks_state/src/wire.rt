@@ -1,12 +1,11 @@
 //! Lines of deltas, good and bad.
 
 use ps_delta::Delta;
-use ps_grid::Refusal;
+use ps_grid::{Refusal, Twin};
 use ps_wire::{DELTA_LINE_LIMIT, Decoder, decode, encode, fits_line, outgrows_line};
 use serde_json::Value;
 use std::alloc::Global;
 use std::process::Abort;
-use std::sync::Arc;
 
 /// The compact text of the delta that the bytes stand for.
 fn rewritten(alloc: Global, bytes: &[u8]) -> Result<Vec<u8>, Refusal> {
@@ -323,7 +322,7 @@ fn push_pair(
 }
 
 /// The delta of A1 with the first so many pairs of eight options from the given one on, 256 of each of eight replicas.
-fn pairs_from(alloc: Global, first: u64, count: usize) -> Result<Arc<Delta>, Refusal> {
+fn pairs_from(alloc: Global, first: u64, count: usize) -> Result<Delta, Refusal> {
     let mut line = b"[[\"A1\",null,[],[".as_slice().to_vec(alloc)?;
     let mut left = count;
     for option in first..first.saturating_add(8) {
@@ -338,13 +337,13 @@ fn pairs_from(alloc: Global, first: u64, count: usize) -> Result<Arc<Delta>, Ref
     }
     let _ = line.pop();
     line.extend_from_slice(b"]]]")?;
-    Ok(Arc::new(alloc, decode(alloc, &line)?)?)
+    decode(alloc, &line)
 }
 
 /// The join of a delta and of the first so many pairs of the options from 8 on.
-fn joined_with(alloc: Global, first: &Arc<Delta>, count: usize) -> Result<Delta, Refusal> {
+fn joined_with(alloc: Global, first: &Delta, count: usize) -> Result<Delta, Refusal> {
     let more = pairs_from(alloc, 8, count)?;
-    Delta::joined(alloc, &[first.clone()?, more])
+    Delta::joined(alloc, &[first.twin(alloc)?, more])
 }
 
 /// Whether the delta is refused as too long for a line.

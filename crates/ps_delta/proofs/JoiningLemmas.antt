@@ -148,14 +148,11 @@ gathered_next deltas i es more delta within is d grid added g =
       some = λ _. rw added some;
     }
 
--- the same where the deltas are what f gives of other values
-pub gathered_more : {X : Type 0} (f : X → Entries) (xs : List X) (i : ℕ) (x : X) (es more delta : Entries)
-    → i < length xs → x ≡ get_or xs i x → delta ≡ f x → IsDelta delta → AreInGrid delta → more ≡ es ++ delta
-    → Gathered (each f xs) i es → Gathered (each f xs) (i + 1) more
-gathered_more f xs i x es more delta within is same d grid added g =
-    let inside : i < length (each f xs) = rw length-map within in
-    gathered_next (each f xs) i es more delta inside
-    (same ∙ item_mapped f xs i x is ∙ ap (get_or (each f xs) i) (sym same)) d grid added g
+-- the same where the delta is an item of the list
+pub gathered_more : (xs : List Entries) (i : ℕ) (x es more delta : Entries) → i < length xs → x ≡ get_or xs i x
+    → delta ≡ x → IsDelta delta → AreInGrid delta → more ≡ es ++ delta → Gathered xs i es → Gathered xs (i + 1) more
+gathered_more xs i x es more delta within is same =
+    gathered_next xs i es more delta within (same ∙ is ∙ ap (get_or xs i) (sym same))
 
 -- an entry joined to that of its cell, at the place k
 joined_at : (n : ℕ) (es : Entries) (k : ℕ) (d e : ℕ × CellState) (x : CellState) (c : ℕ) → Rising n (cells_of es)

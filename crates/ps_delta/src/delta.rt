@@ -1,9 +1,8 @@
 //! Deltas: what travels between replicas.
 
-ghost use Rattle.std.specs.Prelude.{◌≡◌, ◌↔◌, ◌<◌, [], ◌∷◌, IsTrue, IfOk, IfErr, length, map};
+ghost use Rattle.std.specs.Prelude.{◌≡◌, ◌≢◌, ◌↔◌, ◌<◌, [], ◌∷◌, IsTrue, IfOk, IfErr, OnErr, length};
 ghost use Rattle.std.specs.Bool.{OnTrue};
 ghost use Rattle.std.specs.Option.{SomeIff};
-ghost use Rattle.std.specs.Arc.{arc_value};
 ghost use Rattle.ps_grid.specs.declared.refusal.Refusal.{Refusal};
 ghost use Rattle.ps_delta.specs.State.{empty_cell, joined_state};
 ghost use Rattle.ps_delta.specs.Deltas.{AreEntries, AreInGrid, IsDelta, joined_history, state_of};
@@ -11,15 +10,13 @@ ghost use Rattle.ps_delta.specs.Deltas.{AreEntries, AreInGrid, IsDelta, joined_h
 use crate::cell_state::CellState;
 use crate::delta_cells::DeltaCells;
 use crate::joining::{in_order, joined_in_order};
-use ps_grid::{Cell, Refusal};
+use ps_grid::{Cell, Refusal, Twin};
 use ps_lattice::is_ascending;
 use std::alloc::Global;
 use std::marker::Model;
-use std::sync::Arc;
 
 /// One or more cells in order, each with a state that isn't empty. It stands for the state that has these and nothing
-/// else. A contract sees it as the list of the cells with their states.
-#[derive(Drop)]
+/// else. A contract sees it as the list of the cells with their states, whoever shares them.
 pub struct Delta {
     cells: DeltaCells,
 }
@@ -43,18 +40,20 @@ impl Delta {
     /// The delta of the cells, kept without spare room; none where there are no cells, where they aren't ascending and
     /// distinct, or where one has an empty state.
     ///
-    /// Cost: the number of cells.
-    #[inline(always)]
-    pub fn new(cells: Vec<(Cell, CellState)>) -> Option<Delta>
-        ensures { SomeIff result (IsDelta cells.items) cells.items }
+    /// Refused only when out of memory, and only where there is such a delta.
+    ///
+    /// Cost: the number of cells; one allocation, but for one cell.
+    pub fn new(alloc: Global, cells: Vec<(Cell, CellState)>) -> Result<Option<Delta>, Refusal>
+        ensures made { IfOk result (λ o. SomeIff o (IsDelta cells.items) cells.items) }
+        ensures memory { IfErr result (λ e. e ≡ Refusal.Memory) }
+        ensures asked { OnErr result (IsDelta cells.items) }
     {
-        if are_entries(&cells) && !cells.is_empty() {
-            Some(Delta {
-                cells: DeltaCells::new(cells),
-            })
-        } else {
-            None
+        if cells.is_empty() || !are_entries(&cells) {
+            return Ok(None);
         }
+        Ok(Some(Delta {
+            cells: DeltaCells::new(alloc, cells)?,
+        }))
     }
 
     /// The delta of one cell; none where its state is empty.
@@ -75,21 +74,37 @@ impl Delta {
         }
     }
 
+    /// The delta of one cell, whose state isn't empty.
+    ///
+    /// Cost: constant; it takes no memory.
+    #[inline(always)]
+    pub fn of_filled(cell: Cell, state: CellState) -> Delta
+        requires { state ≢ empty_cell }
+        ensures made { result ≡ (cell, state) ∷ [] }
+        ensures delta { IsDelta result }
+    {
+        // for the fact that the cell is in the grid
+        let _ = cell.index();
+        Delta {
+            cells: DeltaCells::One((cell, state)),
+        }
+    }
+
     /// The join of the deltas.
     ///
     /// Refused only when out of memory.
     ///
     /// Cost: n log n, for n cells of all deltas together; each one's state is copied once, or joined with what its cell
     /// has so far.
-    pub fn joined(alloc: Global, deltas: &[Arc<Delta>]) -> Result<Delta, Refusal>
+    pub fn joined(alloc: Global, deltas: &[Delta]) -> Result<Delta, Refusal>
         requires { 0 < length deltas.now }
-        ensures joined { IfOk result (λ d. state_of d ≡ joined_history (map arc_value deltas.now)) }
+        ensures joined { IfOk result (λ d. state_of d ≡ joined_history deltas.now) }
         ensures memory { IfErr result (λ e. e ≡ Refusal.Memory) }
     {
         let entries = in_order(alloc, deltas)?;
         let cells = joined_in_order(alloc, &entries)?;
         Ok(Delta {
-            cells: DeltaCells::new(cells),
+            cells: DeltaCells::new(alloc, cells)?,
         })
     }
 
@@ -102,6 +117,23 @@ impl Delta {
         ensures in_grid { AreInGrid result.now }
     {
         self.cells.as_slice()
+    }
+}
+
+/// One more owner of the same delta. No memory is taken.
+impl Twin for Delta {
+    #[inline(always)]
+    fn twin(&self, alloc: Global) -> Result<Delta, Refusal> {
+        Ok(Delta {
+            cells: self.cells.share(alloc)?,
+        })
+    }
+}
+
+/// The cells are let go with it. That is a function, so that who drops a delta needn't know what it may hold.
+impl Drop for Delta {
+    fn drop(self) {
+        let Delta { cells: _ } = self;
     }
 }
 

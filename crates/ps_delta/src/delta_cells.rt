@@ -1,29 +1,37 @@
 //! Cells with their states, as a delta keeps them.
 
-ghost use Rattle.std.specs.Prelude.{◌≡◌};
+ghost use Rattle.std.specs.Prelude.{◌≡◌, IfOk, IfErr};
+ghost use Rattle.ps_grid.specs.declared.refusal.Refusal.{Refusal};
 ghost use Rattle.ps_delta.specs.Inside.DeltaCells.{kept_entries};
 
 use crate::cell_state::CellState;
-use ps_grid::Cell;
+use ps_grid::{Cell, Refusal, Twin};
+use std::alloc::Global;
 use std::slice;
+use std::sync::Arc;
 
-/// Cells with their states. One alone takes no memory beside this value: most deltas are of one cell.
+/// Cells with their states, that aren't changed any more. One alone takes no memory beside this value: most deltas are
+/// of one cell. Several have any number of owners.
 #[derive(Drop)]
 pub(crate) enum DeltaCells {
     One((Cell, CellState)),
-    Several(Vec<(Cell, CellState)>),
+    Several(Arc<Vec<(Cell, CellState)>>),
 }
 
 impl DeltaCells {
     /// The cells of the list, without spare room.
-    pub(crate) fn new(mut cells: Vec<(Cell, CellState)>) -> DeltaCells
-        ensures { kept_entries result ≡ cells.items }
+    pub(crate) fn new(
+        alloc: Global,
+        mut cells: Vec<(Cell, CellState)>,
+    ) -> Result<DeltaCells, Refusal>
+        ensures kept { IfOk result (λ d. kept_entries d ≡ cells.items) }
+        ensures memory { IfErr result (λ e. e ≡ Refusal.Memory) }
     {
         if cells.len() == 1 {
-            return DeltaCells::One(cells.swap_remove(0));
+            return Ok(DeltaCells::One(cells.swap_remove(0)));
         }
         cells.shrink_to_fit();
-        DeltaCells::Several(cells)
+        Ok(DeltaCells::Several(Arc::new(alloc, cells)?))
     }
 
     /// The cells with their states.
@@ -33,6 +41,18 @@ impl DeltaCells {
         match self {
             DeltaCells::One(entry) => slice::from_ref(entry),
             DeltaCells::Several(cells) => cells,
+        }
+    }
+
+    /// The same cells, with one owner more. No memory is taken: what a state has beside it is shared.
+    #[inline(always)]
+    pub(crate) fn share(&self, alloc: Global) -> Result<DeltaCells, Refusal>
+        ensures equal { IfOk result (λ d. kept_entries d ≡ kept_entries self.now) }
+        ensures memory { IfErr result (λ e. e ≡ Refusal.Memory) }
+    {
+        match self {
+            DeltaCells::One(entry) => Ok(DeltaCells::One((entry.0, entry.1.twin(alloc)?))),
+            DeltaCells::Several(cells) => Ok(DeltaCells::Several(cells.clone()?)),
         }
     }
 }

@@ -4,7 +4,6 @@ ghost use Rattle.std.specs.Prelude.{◌≡◌, ◌-◌, ◌^◌, ◌++◌, ◌�
 ghost use Rattle.std.specs.Prelude.{min, sum_by};
 ghost use Rattle.std.specs.List.{All};
 ghost use Rattle.std.specs.List.Sorted.{IsNonDecreasingBy};
-ghost use Rattle.std.specs.Arc.{arc_value};
 ghost use Rattle.ps_grid.specs.declared.refusal.Refusal.{Refusal};
 ghost use Rattle.ps_delta.specs.State.{joined_state};
 ghost use Rattle.ps_delta.specs.Deltas.{AreEntries, AreInGrid, joined_history, state_of};
@@ -15,15 +14,14 @@ use crate::delta::Delta;
 use ps_grid::{Cell, Refusal, Twin};
 use ps_lattice::Join;
 use std::alloc::Global;
-use std::sync::Arc;
 
 /// The entries of the deltas in the order of their cells.
 pub(crate) fn in_order<'a>(
     alloc: Global,
-    deltas: &'a [Arc<Delta>],
+    deltas: &'a [Delta],
 ) -> Result<Vec<&'a (Cell, CellState)>, Refusal>
     ensures joined { IfOk result (λ v. joined_entries (map (λ e. e.now) v.items)
-        ≡ joined_history (map arc_value deltas.now)) }
+        ≡ joined_history deltas.now) }
     ensures entries { IfOk result (λ v. All IsEntry (map (λ e. e.now) v.items)) }
     ensures order { IfOk result (λ v. IsNonDecreasingBy (λ e. e.0) (map (λ e. e.now) v.items)) }
     ensures some { IfOk result (λ v. 0 < length deltas.now → 0 < length v.items) }
@@ -36,12 +34,9 @@ pub(crate) fn in_order<'a>(
 }
 
 /// The entries of the deltas, one delta after another.
-fn gathered<'a>(
-    alloc: Global,
-    deltas: &'a [Arc<Delta>],
-) -> Result<Vec<&'a (Cell, CellState)>, Refusal>
+fn gathered<'a>(alloc: Global, deltas: &'a [Delta]) -> Result<Vec<&'a (Cell, CellState)>, Refusal>
     ensures joined { IfOk result (λ v. joined_entries (map (λ e. e.now) v.items)
-        ≡ joined_history (map arc_value deltas.now)) }
+        ≡ joined_history deltas.now) }
     ensures entries { IfOk result (λ v. All IsEntry (map (λ e. e.now) v.items)) }
     ensures some { IfOk result (λ v. 0 < length deltas.now → 0 < length v.items) }
     ensures memory { IfErr result (λ e. e ≡ Refusal.Memory) }
@@ -54,8 +49,8 @@ fn gathered<'a>(
 }
 
 /// How many cells the deltas have together, as far as a number goes.
-fn cell_count(deltas: &[Arc<Delta>]) -> usize
-    ensures { result ≡ min (sum_by (λ d. length (arc_value d)) deltas.now) (2 ^ 64 - 1) }
+fn cell_count(deltas: &[Delta]) -> usize
+    ensures { result ≡ min (sum_by length deltas.now) (2 ^ 64 - 1) }
 {
     let mut count = 0usize;
     for delta in deltas {

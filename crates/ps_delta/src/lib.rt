@@ -17,8 +17,9 @@
 //!
 //! Cost: a delta is joined, tested and touched in the number of its cells and the size of their states, never in the
 //! number of the grid's cells. A fresh grid has a table of blocks alone; the 64 states of a block are made when the
-//! first of them is written. What a counter counts, but for small counts of one replica alone, and which pairs a set has
-//! is kept beside the cell, and shared by whoever has the same, as formulas are.
+//! first of them is written. What a counter counts, but for small counts of one replica alone, and which pairs a set
+//! has is kept beside the cell, and shared by whoever has the same, as formulas are. A delta has the state of one cell
+//! in itself, and shares those of several.
 #![tactic(auto)]
 
 mod block;

@@ -1,8 +1,7 @@
 -- What a receipt tells stays told of a list that was seen earlier.
 use Rattle.std.proofs.Common.{◌≡◌, ℕ, Bool, true, false, List, [], ◌∷◌, ◌++◌, length, sym, ap, ◌∙◌}
-use Rattle.std.proofs.Common.{subst, Result, Ok, Err, ⊎_elim}
+use Rattle.std.proofs.Common.{subst, Result, Ok, Err, ⊎_elim, arith, length-append}
 use Rattle.std.specs.Prelude.{MatchBool, IfOk, if◌then◌else◌}
-use Rattle.std.specs.Arc.{arc_value}
 use mathlib.Core.List.{IsPrefix}
 use Rattle.ps_grid.specs.declared.refusal.Refusal.{Refusal}
 use Rattle.ps_delta.specs.State.{State, IsBelow}
@@ -12,9 +11,10 @@ use Rattle.ps_sheet.specs.Prepared.{IsDeltaOf, PreparedView, history_after}
 use Rattle.ps_sheet.specs.Staging.{IsWorkedOut}
 use Rattle.ps_face.specs.declared.patch.Note.{Note}
 use Rattle.ps_face.specs.Legal.{history_of}
-use Rattle.ps_face.proofs.Beginnings.{begins_trans}
+use Rattle.ps_face.proofs.Beginnings.{begins_itself, begins_trans}
 use Rattle.ps_desk.specs.declared.receipt.Receipt.{Receipt}
 use Rattle.ps_desk.specs.Passes.{PassView}
+use Rattle.ps_desk.specs.Patches.{IsNoted}
 use Rattle.ps_desk.specs.Receipts.{IsAppended, IsIncluded, IsReceipt}
 
 on_both : (b : Bool) (P Q R S : Type 0) → (P → R) → (Q → S) → MatchBool b P Q → MatchBool b R S
@@ -37,12 +37,12 @@ tells_more M N h seen mid now seat r weaker later t =
       numbered = a.numbered;
       delta = a.delta;
       owner = a.owner;
-      made = weaker (joined_history (history_of h a.before)) (arc_value r.delta) a.made;
+      made = weaker (joined_history (history_of h a.before)) r.delta a.made;
     })
     (λ a. record {
       number = a.number;
       below = a.below;
-      made = weaker (joined_history (history_of h now)) (arc_value r.delta) a.made;
+      made = weaker (joined_history (history_of h now)) r.delta a.made;
     })
     t
 
@@ -55,10 +55,34 @@ below_state p is idle =
 pub history_kept : (p : PreparedView) → p.fresh ≡ false → history_after p ≡ p.history
 history_kept p idle = ap (λ b. if b then (p.history ++ p.delta ∷ []) else p.history) idle
 
+-- what a fresh receipt tells
+pub tells_appended : (h : List Entries) (p : PreparedView) (seen now : List Note) (seat : ℕ) (r : Receipt)
+    → IsWorkedOut p → p.fresh ≡ true → p.history ≡ history_of h seen → IsNoted p seat seen now
+    → r.number ≡ p.report.version → r.delta ≡ p.delta
+    → IsAppended (λ s d. (s ≡ joined_history p.history) × (d ≡ p.delta)) h seen now seat r
+tells_appended h p seen now seat r is fresh history noted number delta = record {
+  before = seen;
+  patch = noted.patch;
+  last = noted.last;
+  later = begins_itself seen;
+  number = omega (
+    arith,
+    number,
+    is.version,
+    ap (λ b. length (if b then (p.history ++ p.delta ∷ []) else p.history)) fresh,
+    length-append p.history (p.delta ∷ []),
+    ap length history,
+  );
+  numbered = noted.number ∙ sym number;
+  delta = noted.delta ∙ sym delta;
+  owner = noted.owner;
+  made = (ap joined_history (sym history), delta);
+}
+
 -- what another receipt tells
 pub tells_included : (h : List Entries) (p : PreparedView) (seen : List Note) (seat : ℕ) (r : Receipt)
     → IsWorkedOut p → p.fresh ≡ false → p.history ≡ history_of h seen → r.number ≡ p.report.version
-    → arc_value r.delta ≡ p.delta → r.fresh ≡ false
+    → r.delta ≡ p.delta → r.fresh ≡ false
     → IsReceipt (λ s d. (s ≡ joined_history p.history) × (d ≡ p.delta)) h seen seen seat r
 tells_included h p seen seat r is idle history number delta old =
     let Made : State → Entries → Type 0 = λ s d. (s ≡ joined_history p.history) × (d ≡ p.delta) in

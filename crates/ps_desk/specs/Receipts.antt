@@ -1,6 +1,5 @@
 -- What a receipt tells of the published list.
 use Rattle.std.specs.Prelude.{◌≡◌, ℕ, ◌+◌, List, [], ◌∷◌, ◌++◌, length, MatchBool}
-use Rattle.std.specs.Arc.{arc_value}
 use mathlib.Core.List.{IsPrefix}
 use Rattle.ps_delta.specs.State.{State, IsBelow}
 use Rattle.ps_delta.specs.Deltas.{Entries, state_of, joined_history}
@@ -18,17 +17,17 @@ pub record IsAppended (Made : State → Entries → Type 0) (h : List Entries) (
   pub later : IsPrefix seen before
   pub number : r.number ≡ length (history_of h before) + 1
   pub numbered : patch.number ≡ r.number
-  pub delta : patch.delta ≡ arc_value r.delta
+  pub delta : patch.delta ≡ r.delta
   pub owner : patch.owner ≡ seat
-  pub made : Made (joined_history (history_of h before)) (arc_value r.delta)
+  pub made : Made (joined_history (history_of h before)) r.delta
 
 -- INCLUDED: the receipt's number is the length of the history that the list stands for, and its delta is below the join
 -- of that history; and `Made` holds of the delta and this state
 pub record IsIncluded (Made : State → Entries → Type 0) (h : List Entries) (now : List Note) (r : Receipt) : Type 0
   where
     pub number : r.number ≡ length (history_of h now)
-    pub below : IsBelow (state_of (arc_value r.delta)) (joined_history (history_of h now))
-    pub made : Made (joined_history (history_of h now)) (arc_value r.delta)
+    pub below : IsBelow (state_of r.delta) (joined_history (history_of h now))
+    pub made : Made (joined_history (history_of h now)) r.delta
 
 -- RECEIPT: a fresh receipt's delta was appended, and another's is included, where the list was `seen` and is `now`
 abbrev pub IsReceipt : (State → Entries → Type 0) → List Entries → List Note → List Note → ℕ → Receipt → Type 0

@@ -2,7 +2,6 @@
 
 ghost use Rattle.std.specs.Prelude.{◌≡◌, ◌+◌, true, None, if◌then◌else◌, is_some};
 ghost use Rattle.std.specs.Prelude.{IfOk, IfErr, OnOk, OnErr};
-ghost use Rattle.std.specs.Arc.{arc_value};
 ghost use mathlib.Core.List.{IsPrefix};
 ghost use Rattle.ps_grid.specs.declared.refusal.Refusal.TheVariants.{Memory};
 ghost use Rattle.ps_shown.specs.Shown.{shown_at};
@@ -21,18 +20,18 @@ use crate::patch::patch_of;
 use crate::receipt::Receipt;
 use ps_delta::Delta;
 use ps_face::FaceWriter;
-use ps_grid::Refusal;
+use ps_grid::{Refusal, Twin};
 use ps_sheet::Staging;
 use std::alloc::Global;
+use std::sync::Wait;
 use std::sync::ledger::Book;
-use std::sync::{Arc, Wait};
 
 /// A fresh change that was published and made.
 #[derive(Drop)]
 struct Appended {
     /// the number of its delta in the history
     number: u64,
-    delta: Arc<Delta>,
+    delta: Delta,
 }
 
 /// Makes the change that is staged, and shows it to all who read, or gives it up where there is no memory to tell of
@@ -74,7 +73,7 @@ pub(crate) fn finish<L: DeskName, W: Wait + Drop, V: Wait>(
     }
     let receipt = Receipt {
         number: sheet.report().version,
-        delta: share(wait, sheet.delta()),
+        delta: share(wait, alloc, sheet.delta()),
         fresh: false,
     };
     sheet.commit();
@@ -103,7 +102,7 @@ fn append<L: DeskName, W: Wait + Drop, V: Wait>(
     ensures all { pass.new.list ≡ copies.new.list }
     ensures published { OnOk result (IsNoted (change_in sheet.old) pass.old.seat pass.old.list pass.new.list) }
     ensures told { IfOk result (λ r. (r.number ≡ (change_in sheet.old).report.version)
-        × (arc_value r.delta ≡ (change_in sheet.old).delta)) }
+        × (r.delta ≡ (change_in sheet.old).delta)) }
     ensures memory { IfErr result (λ e. e ≡ Memory) }
     ensures kept { OnErr result ((copies.new ≡ copies.old) × (pass.new ≡ pass.old)) }
     ensures counted { OnOk result (pass.new.appended ≡ pass.old.appended + 1) }
@@ -140,11 +139,11 @@ fn list(sheet: &mut Staging)
 }
 
 /// One more owner of a delta. It tries again where a delta has as many owners as can be counted.
-fn share<V: Wait>(wait: &V, delta: &Arc<Delta>) -> Arc<Delta>
-    ensures { arc_value result ≡ arc_value delta.now }
+fn share<V: Wait>(wait: &V, alloc: Global, delta: &Delta) -> Delta
+    ensures { result ≡ delta.now }
 {
     for _ in wait.forever() {
-        if let Ok(shared) = delta.clone() {
+        if let Ok(shared) = delta.twin(alloc) {
             return shared;
         }
     }

@@ -3,7 +3,6 @@
 ghost use Rattle.std.specs.Prelude.{◌≡◌, ◌⊎◌, ◌+◌, ◌<◌, ◌≤◌, ◌^◌, true, if◌then◌else◌, drop, length, map, take};
 ghost use Rattle.std.specs.Prelude.{List};
 ghost use Rattle.std.specs.Prelude.{Ok, Err, IsOk, IfOk, IfErr, OnOk, OnErr};
-ghost use Rattle.std.specs.Arc.{arc_value};
 ghost use mathlib.Core.List.{IsPrefix};
 ghost use Rattle.ps_grid.specs.declared.refusal.Refusal.TheVariants.{Memory, Version};
 ghost use Rattle.ps_delta.specs.State.{IsBelow};
@@ -27,7 +26,7 @@ use ps_sheet::{Change, Edit, edits_are_fresh};
 use std::alloc::Global;
 use std::marker::Model;
 use std::sync::ledger::Ledger;
-use std::sync::{Arc, Mutex, Wait};
+use std::sync::{Mutex, Wait};
 use std::thread::Threads;
 
 /// A sheet that several sessions share, each by its pass. A contract sees it as the number of its seats.
@@ -142,15 +141,15 @@ impl<L: DeskName, W: Wait + Drop> Desk<L, W> {
         wait: &V,
         alloc: Global,
         pass: &mut Pass<L>,
-        delta: Arc<Delta>,
+        delta: Delta,
         meter: &mut Meter<M>,
     ) -> Result<Receipt, Refusal>
         ensures later { IsPrefix pass.old.list pass.new.list }
         ensures legal { IsLegal L.opening pass.new.list }
-        ensures receipt { IfOk result (IsReceipt (λ s d. d ≡ arc_value delta) L.opening pass.old.list pass.new.list
+        ensures receipt { IfOk result (IsReceipt (λ s d. d ≡ delta) L.opening pass.old.list pass.new.list
             pass.old.seat) }
         ensures memory { IfErr result (λ e. e ≡ Memory) }
-        ensures asked { OnErr result (¬ IsBelow (state_of (arc_value delta))
+        ensures asked { OnErr result (¬ IsBelow (state_of delta)
             (joined_history (history_of L.opening pass.new.list))) }
         ensures counted { IfOk result (λ r. pass.new.appended
             ≡ pass.old.appended + (if r.fresh then 1 else 0)) }
@@ -175,10 +174,10 @@ impl<L: DeskName, W: Wait + Drop> Desk<L, W> {
         pass: &mut Pass<L>,
         from: u64,
         at_most: usize,
-    ) -> Result<Vec<Arc<Delta>>, Refusal>
+    ) -> Result<Vec<Delta>, Refusal>
         ensures later { IsPrefix pass.old.list pass.new.list }
         ensures legal { IsLegal L.opening pass.new.list }
-        ensures deltas { IfOk result (λ ds. map arc_value ds.items
+        ensures deltas { IfOk result (λ ds. ds.items
             ≡ take at_most (drop from (history_of L.opening pass.new.list))) }
         ensures there { IfOk result (λ _. from ≤ length (history_of L.opening pass.new.list)) }
         ensures bound { IfOk result (λ _. length (history_of L.opening pass.new.list) < 2 ^ 64) }
@@ -206,10 +205,10 @@ impl<L: DeskName, W: Wait + Drop> Desk<L, W> {
         alloc: Global,
         place: &mut Place<L>,
         from: u64,
-    ) -> Result<Vec<Arc<Delta>>, Refusal>
+    ) -> Result<Vec<Delta>, Refusal>
         ensures later { IsPrefix place.old place.new }
         ensures legal { IsLegal L.opening place.new }
-        ensures deltas { IfOk result (λ ds. map arc_value ds.items ≡ drop from (history_of L.opening place.new)) }
+        ensures deltas { IfOk result (λ ds. ds.items ≡ drop from (history_of L.opening place.new)) }
         ensures bound { IfOk result (λ _. length (history_of L.opening place.new) < 2 ^ 64) }
         ensures refused { IfErr result (λ e. (e ≡ Memory)
             ⊎ ((e ≡ Version) × (length (history_of L.opening place.new) < from))) }

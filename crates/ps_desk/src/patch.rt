@@ -1,7 +1,6 @@
 //! The patch of a staged change.
 
 ghost use Rattle.std.specs.Prelude.{◌≡◌, true, is_some, map, IfOk, IfErr};
-ghost use Rattle.std.specs.Arc.{arc_value};
 ghost use Rattle.ps_grid.specs.declared.refusal.Refusal.TheVariants.{Memory};
 ghost use Rattle.ps_shown.specs.Shown.{shown_at};
 ghost use Rattle.ps_cells.specs.ChangedCells.{IsChanged};
@@ -16,7 +15,6 @@ use ps_grid::{Cell, Refusal, Twin};
 use ps_sheet::Staging;
 use ps_shown::{Kept, Shown};
 use std::alloc::Global;
-use std::sync::Arc;
 
 /// The patch of the fresh change that is staged, whose cells are listed, made by the call of a seat. It may come next
 /// after the sheet's history. Refused only when out of memory.
@@ -31,7 +29,7 @@ pub(crate) fn patch_of(alloc: Global, sheet: &Staging, owner: u64) -> Result<Pat
     ensures memory { IfErr result (λ e. e ≡ Memory) }
 {
     let number = sheet.report().version;
-    let delta = sheet.delta().clone()?;
+    let delta = sheet.delta().twin(alloc)?;
     patch_over(
         alloc,
         number,
@@ -47,14 +45,14 @@ pub(crate) fn patch_of(alloc: Global, sheet: &Staging, owner: u64) -> Result<Pat
 fn patch_over(
     alloc: Global,
     number: u64,
-    delta: Arc<Delta>,
+    delta: Delta,
     cells: &[Cell],
     shown: &Shown,
     owner: u64,
 ) -> Result<Patch, Refusal>
     ensures patch { IfOk result (λ p. p ≡ record {
       number = number;
-      delta = arc_value delta;
+      delta = delta;
       changes = map (shown_of (shown_at shown.now)) cells.now;
       owner = owner;
     }) }

@@ -1,7 +1,6 @@
 //! What a session is told of a change.
 
 use ps_delta::Delta;
-use std::sync::Arc;
 
 /// What a change came to: its delta, and where that stands in the history.
 #[derive(Drop)]
@@ -10,7 +9,7 @@ pub struct Receipt {
     /// was below.
     pub number: u64,
     /// The delta.
-    pub delta: Arc<Delta>,
+    pub delta: Delta,
     /// Whether this change appended the delta.
     pub fresh: bool,
 }

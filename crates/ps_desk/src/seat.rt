@@ -14,8 +14,8 @@ use ps_sheet::Edit;
 use ps_value::Value;
 use std::alloc::Global;
 use std::marker::Model;
+use std::sync::Wait;
 use std::sync::ledger::Ledger;
-use std::sync::{Arc, Wait};
 use std::thread::Threads;
 
 /// A desk and a session's pass to it, which together answer the lines of the session. A contract sees it as the pass.
@@ -98,7 +98,7 @@ impl<L: DeskName, W: Wait + Drop, V: Wait, M: Ledger> Board<Meter<M>> for Seat<'
         &mut self,
         rt: &R,
         alloc: Global,
-        delta: Arc<Delta>,
+        delta: Delta,
         meter: &mut Meter<M>,
     ) -> Result<u64, Refusal> {
         match self
@@ -131,7 +131,7 @@ impl<L: DeskName, W: Wait + Drop, V: Wait, M: Ledger> Board<Meter<M>> for Seat<'
         self.desk.entries(self.wait, alloc, &mut self.pass, rect)
     }
 
-    fn pull(&mut self, alloc: Global, from: u64, most: usize) -> Result<Vec<Arc<Delta>>, Refusal> {
+    fn pull(&mut self, alloc: Global, from: u64, most: usize) -> Result<Vec<Delta>, Refusal> {
         self.desk.pull(self.wait, alloc, &mut self.pass, from, most)
     }
 

@@ -2,7 +2,6 @@
 
 ghost use Rattle.std.specs.Prelude.{◌≡◌, ◌⊎◌, ◌↔◌, ◌+◌, ◌<◌, ◌≤◌, ◌^◌, [], if◌then◌else◌};
 ghost use Rattle.std.specs.Prelude.{drop, length, map, take, Err, IfOk, IfErr, OnErr};
-ghost use Rattle.std.specs.Arc.{arc_value};
 ghost use mathlib.Core.List.{IsPrefix};
 ghost use Rattle.ps_grid.specs.declared.refusal.Refusal.TheVariants.{Memory, Version};
 ghost use Rattle.ps_delta.specs.Deltas.{joined_history};
@@ -28,8 +27,8 @@ use ps_sheet::{Change, Sheet, Staging};
 use ps_workers::Open;
 use std::alloc::Global;
 use std::marker::Model;
+use std::sync::Wait;
 use std::sync::ledger::{Book, Ledger, Share};
-use std::sync::{Arc, Wait};
 use std::thread::Threads;
 
 /// The sheet, the writer of its published copies, and the book of what was appended. A contract sees it as the
@@ -149,8 +148,8 @@ impl<L: DeskName, W: Wait + Drop> DeskState<L, W> {
         alloc: Global,
         from: u64,
         at_most: usize,
-    ) -> Result<Vec<Arc<Delta>>, Refusal>
-        ensures deltas { IfOk result (λ ds. map arc_value ds.items
+    ) -> Result<Vec<Delta>, Refusal>
+        ensures deltas { IfOk result (λ ds. ds.items
             ≡ take at_most (drop from (history_of L.opening self.now))) }
         ensures above { (result ≡ Err Version) ↔ (length (history_of L.opening self.now) < from) }
         ensures other { IfErr result (λ e. (e ≡ Version) ⊎ (e ≡ Memory)) }

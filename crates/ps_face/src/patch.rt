@@ -1,7 +1,6 @@
 //! A patch: what one delta changes.
 
 ghost use Rattle.std.specs.Prelude.{◌≡◌, [], ◌∷◌, map};
-ghost use Rattle.std.specs.Arc.{arc_value};
 ghost use Rattle.ps_delta.specs.Deltas.{AreInGrid};
 ghost use Rattle.ps_face.specs.CellChanges.{entries_of};
 ghost use Rattle.ps_face.specs.Values.{valued};
@@ -13,7 +12,6 @@ use ps_shown::Kept;
 use ps_value::Value;
 use std::collections::LinkedList;
 use std::marker::Model;
-use std::sync::Arc;
 
 /// A patch as contracts see it. No value of it is made.
 pub struct Note {
@@ -31,7 +29,7 @@ pub struct Note {
 #[derive(Drop)]
 pub struct Patch {
     number: u64,
-    delta: Arc<Delta>,
+    delta: Delta,
     changes: CellChanges,
     /// a note for contracts, which nothing reads
     owner: u64,
@@ -39,7 +37,6 @@ pub struct Patch {
 
 impl Model for Patch {
     ghost use Rattle.std.specs.Prelude.{map};
-    ghost use Rattle.std.specs.Arc.{arc_value};
     ghost use Rattle.ps_face.specs.declared.patch.Note.{Note};
     ghost use Rattle.ps_face.specs.CellChanges.{entries_of};
     ghost use Rattle.ps_face.specs.Values.{valued};
@@ -52,7 +49,7 @@ impl Model for Patch {
 
     ghost view = { λ p. record {
       number = p.number;
-      delta = arc_value p.delta;
+      delta = p.delta;
       changes = map valued (entries_of p.changes);
       owner = p.owner;
     } };
@@ -63,10 +60,10 @@ impl Patch {
     /// show then, and the seat whose call made it.
     ///
     /// Cost: constant.
-    pub fn new(number: u64, delta: Arc<Delta>, changes: Vec<(Cell, Kept)>, owner: u64) -> Patch
+    pub fn new(number: u64, delta: Delta, changes: Vec<(Cell, Kept)>, owner: u64) -> Patch
         ensures { result ≡ record {
           number = number;
-          delta = arc_value delta;
+          delta = delta;
           changes = map valued changes.items;
           owner = owner;
         } }
@@ -83,10 +80,10 @@ impl Patch {
     /// [`Patch::new`].
     ///
     /// Cost: constant; the change takes no memory.
-    pub fn of_one(number: u64, delta: Arc<Delta>, change: (Cell, Kept), owner: u64) -> Patch
+    pub fn of_one(number: u64, delta: Delta, change: (Cell, Kept), owner: u64) -> Patch
         ensures { result ≡ record {
           number = number;
-          delta = arc_value delta;
+          delta = delta;
           changes = valued change ∷ [];
           owner = owner;
         } }
@@ -111,8 +108,8 @@ impl Patch {
     /// What was accepted.
     ///
     /// Cost: constant.
-    pub fn delta(&self) -> &Arc<Delta>
-        ensures delta { arc_value result.now ≡ self.now.delta }
+    pub fn delta(&self) -> &Delta
+        ensures delta { result.now ≡ self.now.delta }
         ensures in_grid { AreInGrid self.now.delta }
     {
         // for the fact that its cells are in the grid
@@ -133,8 +130,8 @@ impl Patch {
     }
 
     /// The delta and the changes.
-    pub(crate) fn split(self) -> (Arc<Delta>, CellChanges)
-        ensures delta { arc_value result.0 ≡ self.delta }
+    pub(crate) fn split(self) -> (Delta, CellChanges)
+        ensures delta { result.0 ≡ self.delta }
         ensures changes { map valued (entries_of result.1) ≡ self.changes }
     {
         (self.delta, self.changes)

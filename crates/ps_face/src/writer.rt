@@ -2,7 +2,6 @@
 
 ghost use Rattle.std.specs.Prelude.{◌≡◌, ◌⊎◌, ◌+◌, ◌<◌, ◌≤◌, ◌++◌, ◌∷◌, [], All, IfOk, IfErr, MatchResult, OnOk, OnErr};
 ghost use Rattle.std.specs.Prelude.{IsOk, drop, false, fold, length, map, vec_len};
-ghost use Rattle.std.specs.Arc.{arc_value};
 ghost use Rattle.ps_grid.specs.declared.parties.TheConstants.{SEATS as MOST};
 ghost use Rattle.ps_grid.specs.declared.refusal.Refusal.TheVariants.{Memory, Seat};
 ghost use Rattle.ps_delta.specs.State.{IsInGrid};
@@ -27,7 +26,7 @@ use ps_grid::Refusal;
 use ps_shown::Shown;
 use std::alloc::{AllocError, Global};
 use std::marker::Model;
-use std::sync::{Arc, Wait};
+use std::sync::Wait;
 
 type Copies<L> = Writer<Face, Operation, View, Law<L>>;
 
@@ -127,10 +126,10 @@ impl<L: Named, R: Wait + Drop> FaceWriter<L, R> {
     /// Nothing in the program calls it. It is part of the public interface, as [`FaceWriter::append`] is.
     ///
     /// Cost: twice the changes of the patch; no memory.
-    pub fn publish(&mut self) -> Arc<Delta>
+    pub fn publish(&mut self) -> Delta
         requires one { length self.old.pending ≡ 1 }
         ensures list { self.new ≡ record { list = self.old.list ++ self.old.pending; pending = [] } }
-        ensures delta { map delta_of self.old.pending ≡ arc_value result ∷ [] }
+        ensures delta { map delta_of self.old.pending ≡ result ∷ [] }
     {
         let patch = self.staged.pop().unwrap();
         self.publish_patch(patch)
@@ -141,11 +140,11 @@ impl<L: Named, R: Wait + Drop> FaceWriter<L, R> {
     /// last patch.
     ///
     /// Cost: twice the changes of the patch; no memory.
-    pub fn publish_patch(&mut self, patch: Patch) -> Arc<Delta>
+    pub fn publish_patch(&mut self, patch: Patch) -> Delta
         requires none { self.old.pending ≡ [] }
         requires legal { Follows (history_of L.opening self.old.list) patch }
         ensures list { self.new ≡ record self.old { list = self.old.list ++ patch ∷ [] } }
-        ensures delta { arc_value result ≡ patch.delta }
+        ensures delta { result ≡ patch.delta }
     {
         let FaceWriter {
             copies,

@@ -1,6 +1,6 @@
 -- A journal into which what a history has more is noted.
-use Rattle.std.proofs.Common.{◌≡◌, ◌+◌, ◌-◌, ◌≤◌, ℕ, List, [], ◌∷◌, ◌++◌, length, take, drop, map, refl, sym, ap, ◌∙◌}
-use Rattle.std.proofs.Common.{append_assoc, arith, subst, length-append, zero, suc, Bool, false, Result, Ok, Err}
+use Rattle.std.proofs.Common.{◌≡◌, ◌+◌, ◌-◌, ◌≤◌, ℕ, List, [], ◌∷◌, ◌++◌, length, take, drop, map, sym, ap, ◌∙◌}
+use Rattle.std.proofs.Common.{append_assoc, arith, subst, length-append, Bool, false, Result, Ok, Err}
 use Rattle.std.specs.Prelude.{OnErr, OnOk, is_err}
 use Rattle.std.proofs.lemmas.List.{append-nil, length-drop, take-append-drop, take_all}
 use mathlib.Core.List.{IsPrefix}
@@ -110,17 +110,11 @@ noting_outlives replica history kept old mid ds is noted notes fresh =
 
 -- ---- the slice of the history that isn't noted
 
-drop-map : {X : Type 0} (value : X → Entries) (n : ℕ) (xs : List X) → map value (drop n xs) ≡ drop n (map value xs)
-drop-map value zero xs = refl
-drop-map value (suc n) [] = refl
-drop-map value (suc n) (x ∷ xs) = drop-map value n xs
-
-pub later_is : {X : Type 0} (value : X → Entries) (lines : List (List ℕ)) (xs : List X) (n : ℕ)
-    → length lines ≡ n + 1 → map value (take (length xs - n) (drop n xs)) ≡ later lines (map value xs)
-later_is value lines xs n is =
+pub later_is : (lines : List (List ℕ)) (h : List Entries) (n : ℕ) → length lines ≡ n + 1
+    → take (length h - n) (drop n h) ≡ later lines h
+later_is lines h n is =
     let count : length lines - 1 ≡ n = omega (arith, is) in
-    ap (map value) (take_all (length xs - n) (drop n xs) (omega (arith, length-drop n xs)))
-    ∙ drop-map value n xs ∙ ap (λ (k : ℕ). drop k (map value xs)) (sym count)
+    take_all (length h - n) (drop n h) (omega (arith, length-drop n h)) ∙ ap (λ (k : ℕ). drop k h) (sym count)
 
 -- ---- once all is synced
 

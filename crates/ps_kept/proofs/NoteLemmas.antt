@@ -1,6 +1,7 @@
 -- The lines of deltas, noted one after another.
-use Rattle.std.proofs.Common.{◌≡◌, ◌+◌, ◌<◌, ℕ, zero, suc, List, [], ◌∷◌, ◌++◌, length, map, refl, sym, ap, ◌∙◌, take}
+use Rattle.std.proofs.Common.{◌≡◌, ◌+◌, ◌<◌, ℕ, suc, List, [], ◌∷◌, ◌++◌, length, map, refl, sym, ap, ◌∙◌, take}
 use Rattle.std.proofs.Common.{append_assoc, arith, subst, get_or}
+use Rattle.std.proofs.lemmas.List.{take_more}
 use Rattle.ps_delta.specs.Deltas.{Entries}
 use Rattle.ps_wire.specs.Line.{IsOneLine, delta_text}
 use Rattle.ps_wire.proofs.NoFeedLemmas.{delta_line}
@@ -40,19 +41,8 @@ more_noted j k l ds es first second = record {
 }
 
 -- once the delta after the first so many is noted too
-pub next_noted : {X : Type 0} (value : X → Entries) (j k l : JournalView) (xs : List X) (n : ℕ) (x : X)
-    → n < length xs → x ≡ get_or xs n x → Notes j (take n (map value xs)) k → Notes k (value x ∷ []) l
-    → Notes j (take (n + 1) (map value xs)) l
-next_noted value j k l xs n x within is first second =
-    subst (λ ds. Notes j ds l) (taken value xs n x within is) (more_noted j k l _ _ first second)
-  where
-    taken : {X : Type 0} (value : X → Entries) (xs : List X) (n : ℕ) (x : X) → n < length xs → x ≡ get_or xs n x
-        → take n (map value xs) ++ value x ∷ [] ≡ take (n + 1) (map value xs)
-    taken value [] n x within is = absurd (omega (arith, within))
-    taken value (y ∷ xs) zero x within is = ap (λ z. value z ∷ []) is
-    taken value (y ∷ xs) (suc n) x within is =
-        ap (λ ds. value y ∷ ds) (taken value xs n x (omega (arith, within)) is)
-        ∙ ap (λ (k : ℕ). take k (map value (y ∷ xs))) one_more
-      where
-        one_more : suc (n + 1) ≡ suc n + 1
-        one_more = omega arith
+pub next_noted : (j k l : JournalView) (h : List Entries) (n : ℕ) (d : Entries) → n < length h → d ≡ get_or h n d
+    → Notes j (take n h) k → Notes k (d ∷ []) l → Notes j (take (n + 1) h) l
+next_noted j k l h n d within is first second =
+    subst (λ ds. Notes j ds l) (ap (λ x. take n h ++ x ∷ []) is ∙ sym (take_more h n d within))
+    (more_noted j k l _ _ first second)

@@ -1,6 +1,6 @@
 -- A sheet that was read, and the journal that keeps it.
-use Rattle.std.proofs.Common.{◌≡◌, ◌<◌, ℕ, List, [], ◌∷◌, length, refl, sym, ap, ◌∙◌, arith, subst}
-use Rattle.std.proofs.Common.{inl, inr, map}
+use Rattle.std.proofs.Common.{◌≡◌, ◌<◌, ℕ, List, [], ◌∷◌, length, refl, sym, ap, arith, subst}
+use Rattle.std.proofs.Common.{inl, inr}
 use Rattle.std.proofs.lemmas.List.{append-nil}
 use Rattle.std.specs.Prelude.{decimal}
 use Rattle.std.specs.Char.{digit_value}
@@ -74,16 +74,12 @@ replica_line-is_line n small =
     let text = digits_line (decimal n) (decimal_is_IsNumeral n (omega (arith, small))).0.1 in
     ((λ e. cc), ((λ e. cc), ((λ e. cc), ((λ e. cc), ((λ e. cc), ((λ e. cc), ((λ e. cc), ((λ e. cc), text))))))))
 
-pub length-map : {X : Type 0} (value : X → Entries) (xs : List X) → length (map value xs) ≡ length xs
-length-map value [] = refl
-length-map value (x ∷ xs) = omega (arith, length-map value xs)
-
 -- as many as there are in a list that is the history
-pub due_of : {X : Type 0} (value : X → Entries) (replica : ℕ) (bytes found : List ℕ) (h : List Entries) (xs : List X)
-    → Reads replica bytes h → bytes ≡ found → map value xs ≡ h → IsDue (length xs) (whole_lines found)
-due_of value replica bytes found h xs read same is =
-    let count : length h ≡ length xs = sym (ap length is) ∙ length-map value xs in
-    subst (λ n. IsDue n (whole_lines found)) count (due replica found h (subst (λ b. Reads replica b h) same read))
+pub due_of : (replica : ℕ) (bytes found : List ℕ) (h xs : List Entries) → Reads replica bytes h → bytes ≡ found
+    → xs ≡ h → IsDue (length xs) (whole_lines found)
+due_of replica bytes found h xs read same is =
+    subst (λ n. IsDue n (whole_lines found)) (sym (ap length is))
+    (due replica found h (subst (λ b. Reads replica b h) same read))
 
 -- ---- the deltas of lines have lines
 

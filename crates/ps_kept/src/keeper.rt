@@ -1,6 +1,5 @@
 //! Who keeps a sheet.
 ghost use Rattle.std.specs.Prelude.{◌≡◌, ◌+◌, ◌≤◌, ℕ, List, OnOk, OnErr, false, length, map, take, ⊤};
-ghost use Rattle.std.specs.Arc.{arc_value};
 ghost use Rattle.ps_delta.specs.Deltas.{Entries};
 ghost use Rattle.ps_sheet.specs.Sheet.{IsFresh, SheetView};
 ghost use Rattle.ps_kept.specs.Inside.{later};
@@ -15,7 +14,6 @@ use ps_session::Keeper;
 use ps_sheet::Sheet;
 use std::alloc::Global;
 use std::marker::Model;
-use std::sync::Arc;
 
 /// Keeps the sheet of one replica in a journal: the replica's number, and after it each change of the history, one line
 /// each. A contract sees it as its journal, a `JournalView`.
@@ -48,11 +46,11 @@ impl<D: Device + Drop> SheetKeeper<D> {
     }
 
     /// Notes what a history has after what is noted.
-    fn note_later(&mut self, alloc: Global, history: &[Arc<Delta>]) -> Result<(), Failed>
+    fn note_later(&mut self, alloc: Global, history: &[Delta]) -> Result<(), Failed>
         requires within { length self.old.lines ≤ length history.now + 1 }
-        ensures all { OnOk result (Notes self.old (later self.old.lines (map arc_value history.now)) self.new) }
+        ensures all { OnOk result (Notes self.old (later self.old.lines history.now) self.new) }
         ensures part { OnErr result ((n : ℕ)
-            × Notes self.old (take n (later self.old.lines (map arc_value history.now))) self.new) }
+            × Notes self.old (take n (later self.old.lines history.now)) self.new) }
     {
         let later = &history[self.noted as usize..];
         note_deltas(alloc, &mut self.journal, later, &mut self.noted)

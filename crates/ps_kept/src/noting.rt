@@ -1,6 +1,5 @@
 //! The lines of deltas, noted in a journal.
 ghost use Rattle.std.specs.Prelude.{◌≡◌, ◌+◌, ◌<◌, ◌≤◌, ◌^◌, ◌++◌, ◌∷◌, ℕ, [], OnOk, OnErr, length, map, take};
-ghost use Rattle.std.specs.Arc.{arc_value};
 ghost use Rattle.ps_keep.specs.Journals.{IsJournal};
 ghost use Rattle.ps_session.specs.PushLine.{Pushes, push_line};
 ghost use Rattle.ps_kept.specs.Kept.{Notes};
@@ -11,7 +10,6 @@ use ps_grid::Refusal;
 use ps_keep::{Device, Journal};
 use ps_session::put_push_line;
 use std::alloc::Global;
-use std::sync::Arc;
 
 /// Writes the line that pushes a delta in the place of what was there.
 fn write_line(alloc: Global, delta: &Delta, line: &mut Vec<u8>) -> Result<(), Refusal>
@@ -49,14 +47,14 @@ fn note_delta<D: Device + Drop>(
 pub fn note_deltas<D: Device + Drop>(
     alloc: Global,
     journal: &mut Journal<D>,
-    deltas: &[Arc<Delta>],
+    deltas: &[Delta],
     noted: &mut u64,
 ) -> Result<(), Failed>
     requires room { noted.old + length deltas.now < 2 ^ 64 }
-    ensures noted { OnOk result (Notes journal.old (map arc_value deltas.now) journal.new
+    ensures noted { OnOk result (Notes journal.old deltas.now journal.new
         × (noted.new ≡ noted.old + length deltas.now)) }
     ensures part { OnErr result ((n : ℕ) × (n ≤ length deltas.now) × (noted.new ≡ noted.old + n)
-        × Notes journal.old (take n (map arc_value deltas.now)) journal.new) }
+        × Notes journal.old (take n deltas.now) journal.new) }
 {
     let mut line = Vec::new(alloc);
     'deltas: for delta in deltas {

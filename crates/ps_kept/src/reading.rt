@@ -66,7 +66,7 @@ fn take_in<R: Threads + Sync, L: Ledger>(
     ensures sheet { IsSheet sheet.old → IsSheet sheet.new }
 {
     let delta = match read_kept_line(alloc, decoder, line) {
-        Ok(Some(KeptLine::Push(delta))) => delta.owner(),
+        Ok(Some(KeptLine::Push(delta))) => delta,
         Ok(Some(KeptLine::Replica(_))) => return Ok(false),
         Ok(None) => return Ok(false),
         Err(Refusal::Delta) => return Ok(false),

@@ -2,7 +2,6 @@
 
 ghost use Rattle.std.specs.Prelude.{◌≡◌, ◌+◌, ◌<◌, ◌≤◌, ◌^◌, [], true, false, All, drop, length, map, vec_len};
 ghost use Rattle.std.specs.Prelude.{MatchBool, OnOk, OnErr};
-ghost use Rattle.std.specs.Arc.{arc_value};
 ghost use mathlib.Core.List.{IsPrefix};
 ghost use Rattle.ps_face.specs.Legal.{history_of};
 ghost use Rattle.ps_keep.specs.Journals.{IsJournal};
@@ -19,7 +18,7 @@ use ps_kept::note_deltas;
 use ps_sheet::Sheet;
 use std::alloc::Global;
 use std::marker::Model;
-use std::sync::{Arc, Wait};
+use std::sync::Wait;
 
 /// A beginning of a desk's list that is kept, as a token. Nothing makes one but a record, of what it keeps. A contract
 /// sees it as that list.
@@ -188,8 +187,8 @@ impl<L: DeskName, D: Device + Drop> Record<L, D> {
     }
 
     /// Notes the deltas that aren't noted yet, and syncs.
-    fn add(&mut self, alloc: Global, deltas: &[Arc<Delta>]) -> Result<(), Failed>
-        requires rest { map arc_value deltas.now ≡ drop self.old.noted (history_of L.opening self.old.seen) }
+    fn add(&mut self, alloc: Global, deltas: &[Delta]) -> Result<(), Failed>
+        requires rest { deltas.now ≡ drop self.old.noted (history_of L.opening self.old.seen) }
         requires bound { length (history_of L.opening self.old.seen) < 2 ^ 64 }
         requires open { self.old.journal.has_failed ≡ false }
         ensures seen { self.new.seen ≡ self.old.seen }
@@ -201,8 +200,8 @@ impl<L: DeskName, D: Device + Drop> Record<L, D> {
     }
 
     /// Notes the deltas that aren't noted yet, or a beginning of them.
-    fn note(&mut self, alloc: Global, deltas: &[Arc<Delta>]) -> Result<(), Failed>
-        requires rest { map arc_value deltas.now ≡ drop self.old.noted (history_of L.opening self.old.seen) }
+    fn note(&mut self, alloc: Global, deltas: &[Delta]) -> Result<(), Failed>
+        requires rest { deltas.now ≡ drop self.old.noted (history_of L.opening self.old.seen) }
         requires bound { length (history_of L.opening self.old.seen) < 2 ^ 64 }
         ensures same { (self.new.seen ≡ self.old.seen) × (self.new.kept ≡ self.old.kept) }
         ensures calm { self.new.journal.has_failed ≡ self.old.journal.has_failed }
@@ -264,8 +263,8 @@ impl<L: DeskName, D: Device + Drop> Record<L, D> {
     }
 
     /// Keeps all of the history that is closed.
-    fn finish(&mut self, alloc: Global, history: &[Arc<Delta>]) -> Result<(), Failed>
-        requires history { map arc_value history.now ≡ history_of L.opening self.old.seen }
+    fn finish(&mut self, alloc: Global, history: &[Delta]) -> Result<(), Failed>
+        requires history { history.now ≡ history_of L.opening self.old.seen }
         ensures seen { self.new.seen ≡ self.old.seen }
         ensures all { OnOk result (self.new.kept ≡ self.old.seen) }
         ensures not_yet { OnErr result (self.new.kept ≡ self.old.kept) }

@@ -1,9 +1,8 @@
 -- What a sheet answers by the calls of a board is what a sheet answers a line.
-use Rattle.std.proofs.Common.{◌≡◌, ◌≢◌, ◌⊎◌, ◌<◌, ◌≤◌, ◌++◌, ◌∷◌, [], ◌∙◌, inl, inr, refl, sym, ap, subst, arith}
-use Rattle.std.proofs.Common.{ℕ, List, length, map, max, Result, Ok, Err}
+use Rattle.std.proofs.Common.{◌≡◌, ◌≢◌, ◌⊎◌, ◌<◌, ◌≤◌, ◌++◌, ◌∷◌, [], ◌∙◌, inl, inr, refl, ap, subst, arith}
+use Rattle.std.proofs.Common.{ℕ, List, length, max, Result, Ok, Err}
 use Rattle.std.specs.Prelude.{◌↔◌, IfErr, IfOk, IsOkAnd, drop, take, unwrap_or}
 use Rattle.std.proofs.lemmas.Bool.{cases_lt}
-use Rattle.std.proofs.lemmas.List.{length-map}
 use Rattle.ps_grid.specs.Rectangle.{spanned}
 use Rattle.ps_grid.specs.declared.refusal.Refusal.{Refusal}
 use Rattle.ps_grid.specs.declared.refusal.Refusal.TheVariants as refusals
@@ -26,27 +25,20 @@ memory_or_other refusals.Memory = inl refl
 memory_or_other _ = inr (λ is. cc)
 
 -- deltas of the history before its end
-pub sheet_pulls : {V X : Type 0} (deltas : V → List Entries) (value : X → Entries) (xs : List X) (old : SheetView)
-    (from most : ℕ) (r : Result V Refusal)
-    → map value xs ≡ old.history → IfOk r (λ v. deltas v ≡ take most (drop from (map value xs)))
+pub sheet_pulls : {V : Type 0} (deltas : V → List Entries) (xs : List Entries) (old : SheetView) (from most : ℕ)
+    (r : Result V Refusal) → xs ≡ old.history → IfOk r (λ v. deltas v ≡ take most (drop from xs))
     → (r ≡ Err refusals.Version) ↔ (length xs < from) → (r ≡ Err refusals.Memory → from < length xs)
     → IfErr r (λ e. (e ≡ refusals.Version) ⊎ (e ≡ refusals.Memory))
     → SheetPulls old from most (with_part deltas r) old
-sheet_pulls {V = V} deltas value xs old from most (Ok v) history is above memory refused =
+sheet_pulls {V = V} deltas xs old from most (Ok v) history is above memory refused =
     let within : from ≤ length xs = elim (cases_lt (length xs) from) [
       | inl lt ↦ let no : ◌≡◌ {A = Result V Refusal} (Ok v) (Err refusals.Version) = above.1 lt in absurd cc
       | inr le ↦ le
-    ] in (
-      subst (λ n. from ≤ n) (sym (length-map xs value) ∙ ap length history) within,
-      is ∙ ap (λ h. take most (drop from h)) history,
-      refl,
-    )
-sheet_pulls deltas value xs old from most (Err e) history is above memory (inl version) = (
-  inl (version, subst (λ n. n < from) (sym (length-map xs value) ∙ ap length history) (above.0 (ap Err version))),
-  refl,
-)
-sheet_pulls deltas value xs old from most (Err e) history is above memory (inr lacks) =
-    (inr (lacks, subst (λ n. from < n) (sym (length-map xs value) ∙ ap length history) (memory (ap Err lacks))), refl)
+    ] in (subst (λ n. from ≤ n) (ap length history) within, is ∙ ap (λ h. take most (drop from h)) history, refl)
+sheet_pulls deltas xs old from most (Err e) history is above memory (inl version) =
+    (inl (version, subst (λ n. n < from) (ap length history) (above.0 (ap Err version))), refl)
+sheet_pulls deltas xs old from most (Err e) history is above memory (inr lacks) =
+    (inr (lacks, subst (λ n. from < n) (ap length history) (memory (ap Err lacks))), refl)
 
 edited_of : (made : Result Entries Refusal) (history next : List Entries) (number : ℕ) (text : List ℕ)
     → IsOkAnd made (λ d. next ≡ history ++ d ∷ []) → number ≡ length next → text ≡ done_text number

@@ -1,9 +1,8 @@
 -- Deltas joined, and the line of the greatest number of them that isn't too long.
 use Rattle.std.proofs.Common.{◌≡◌, ◌≢◌, ◌∙◌, ◌+◌, ◌-◌, ◌<◌, ◌≤◌, inl, inr, refl, sym, ap, ap₂, subst}
 use Rattle.std.proofs.Common.{arith, ℕ, List}
-use Rattle.std.proofs.Common.{[], ◌∷◌, length, take, map, drop, Result, Ok, Err}
+use Rattle.std.proofs.Common.{[], ◌∷◌, length, take, drop, Result, Ok, Err}
 use Rattle.std.specs.Prelude.{IfOk, get_or}
-use Rattle.std.proofs.lemmas.List.{length-map}
 use Rattle.std.specs.List.{All}
 use Rattle.std.proofs.lemmas.Bool.{cases_lt, cases_order}
 use Rattle.std.proofs.lemmas.List.Elements.{All-head, All-tail}
@@ -67,24 +66,24 @@ joint_once deltas d e x y =
     same_rising 0 d e (rising_of d x.lawful) (rising_of e y.lawful) x.lawful.none_empty y.lawful.none_empty
     (λ c. ap (λ (s : State). s c) (x.joined ∙ sym y.joined))
 
-module _ {X : Type 0} (f : X → Entries) (xs : List X) (most : ℕ) where
+module _ (ds : List Entries) (most : ℕ) where
   -- no number above this one has a line
   abbrev pub NoneAbove : ℕ → Type 0
-  NoneAbove count = (k : ℕ) (line : List ℕ) → count < k → k ≤ most → ¬ IsGroupLine (map f xs) k line
+  NoneAbove count = (k : ℕ) (line : List ℕ) → count < k → k ≤ most → ¬ IsGroupLine ds k line
 
   -- none above those that may share a line has one
   pub none_above_all : (count reach : ℕ)
-      → ((k : ℕ) → reach < k → k ≤ most → k ≤ length xs → HasNoLine (take k (map f xs)))
-      → ((k : ℕ) (line : List ℕ) → count < k → k ≤ reach → ¬ IsGroupLine (map f xs) k line) → NoneAbove count
+      → ((k : ℕ) → reach < k → k ≤ most → k ≤ length ds → HasNoLine (take k ds))
+      → ((k : ℕ) (line : List ℕ) → count < k → k ≤ reach → ¬ IsGroupLine ds k line) → NoneAbove count
   none_above_all count reach none few k line above within grouped = elim (cases_lt reach k) [
     | inl lt ↦
-        let long = none k lt within (omega (arith, grouped.within, length-map xs f)) grouped.delta
+        let long = none k lt within grouped.within grouped.delta
         grouped.joint.lawful grouped.joint.joined in
         omega (arith, long, grouped.fits, ap length grouped.is)
     | inr le ↦ few k line above le grouped
   ]
 
-  pub none_above_next : (count : ℕ) (joint : Entries) → IsJoint (take count (map f xs)) joint
+  pub none_above_next : (count : ℕ) (joint : Entries) → IsJoint (take count ds) joint
       → DELTA_LINE_LIMIT < length (delta_text joint) → NoneAbove count → NoneAbove (count - 1)
   none_above_next count joint joined long none k line above within grouped = elim (cases_order k count) [
     | inr (inl lt) ↦ omega (arith, lt, above)
@@ -94,16 +93,16 @@ module _ {X : Type 0} (f : X → Entries) (xs : List X) (most : ℕ) where
     where
       at : k ≡ count → ⊥
       at is =
-          let mine : IsJoint (take count (map f xs)) grouped.delta =
-          subst (λ m. IsJoint (take m (map f xs)) grouped.delta) is grouped.joint in
-          let same : joint ≡ grouped.delta = joint_once (take count (map f xs)) joint grouped.delta joined mine in
+          let mine : IsJoint (take count ds) grouped.delta =
+          subst (λ m. IsJoint (take m ds) grouped.delta) is grouped.joint in
+          let same : joint ≡ grouped.delta = joint_once (take count ds) joint grouped.delta joined mine in
           let longer : length line ≡ length (delta_text joint) =
           ap length grouped.is ∙ ap (λ (d : Entries). length (delta_text d)) (sym same) in
           omega (arith, long, grouped.fits, longer)
 
   pub greatest_found : (count : ℕ) (joint : Entries) (line : List ℕ) → 0 < count → count ≤ most
-      → count ≤ length (map f xs) → IsJoint (take count (map f xs)) joint → line ≡ delta_text joint
-      → length line ≤ DELTA_LINE_LIMIT → NoneAbove count → IsGreatest (map f xs) most count line
+      → count ≤ length ds → IsJoint (take count ds) joint → line ≡ delta_text joint
+      → length line ≤ DELTA_LINE_LIMIT → NoneAbove count → IsGreatest ds most count line
   greatest_found count joint line some within inside joined is fits none = record {
     some = omega (arith, some);
     within = within;
@@ -112,9 +111,9 @@ module _ {X : Type 0} (f : X → Entries) (xs : List X) (most : ℕ) where
   }
 
   -- a line of all that may share one is that of the greatest number
-  pub greatest_whole : (reach : ℕ) (line : List ℕ) → 0 < reach → reach ≤ most → IsGroupLine (map f xs) reach line
-      → ((k : ℕ) → reach < k → k ≤ most → k ≤ length xs → HasNoLine (take k (map f xs)))
-      → IsGreatest (map f xs) most reach line
+  pub greatest_whole : (reach : ℕ) (line : List ℕ) → 0 < reach → reach ≤ most → IsGroupLine ds reach line
+      → ((k : ℕ) → reach < k → k ≤ most → k ≤ length ds → HasNoLine (take k ds))
+      → IsGreatest ds most reach line
   greatest_whole reach line some within grouped none = record {
     some = omega (arith, some);
     within = within;
@@ -122,7 +121,7 @@ module _ {X : Type 0} (f : X → Entries) (xs : List X) (most : ℕ) where
     greatest = none_above_all reach reach none (λ k longer above few. absurd (omega (arith, above, few)));
   }
 
-  pub none_found : (count : ℕ) → count ≤ 0 → NoneAbove count → HasNone (map f xs) most
+  pub none_found : (count : ℕ) → count ≤ 0 → NoneAbove count → HasNone ds most
   none_found count none_left none k line some within = none k line (omega (arith, some, none_left)) within
 
 -- a delta by itself, with a line or without one
@@ -156,11 +155,10 @@ pub alone_line : {V E : Type 0} (items : V → List ℕ) (d : Entries) (r : Resu
 alone_line items d (Ok v) lawful is fits = alone_greatest d lawful (items v) is fits
 alone_line items d (Err e) lawful is fits = tt
 
-pub one_item : {X : Type 0} (f : X → Entries) (xs : List X) (x : X) → length xs ≡ 1 → x ≡ get_or xs 0 x
-    → map f xs ≡ f x ∷ []
-one_item f [] x one is = absurd (omega (arith, one))
-one_item f (y ∷ []) x one is = ap (λ z. f z ∷ []) (sym is)
-one_item f (y ∷ z ∷ zs) x one is = absurd (omega (arith, one))
+pub one_item : (ds : List Entries) (d : Entries) → length ds ≡ 1 → d ≡ get_or ds 0 d → ds ≡ d ∷ []
+one_item [] d one is = absurd (omega (arith, one))
+one_item (y ∷ []) d one is = ap (λ z. z ∷ []) (sym is)
+one_item (y ∷ z ∷ zs) d one is = absurd (omega (arith, one))
 
 -- .. where there is no other, however many may be handed out
 pub none_of_one : (deltas : List Entries) (d : Entries) (most : ℕ) → deltas ≡ d ∷ [] → HasNone (d ∷ []) 1

@@ -1,10 +1,9 @@
 -- Deltas joined upward, one more at a time.
 use Rattle.std.proofs.Common.{◌≡◌, ℕ, zero, suc, ◌+◌, ◌-◌, ◌<◌, ◌≤◌, inl, inr, sym, ap, subst, ◌∙◌, arith}
-use Rattle.std.proofs.Common.{List, [], ◌∷◌, ◌++◌, length, take, map, get_or, Option, Some, None, Result, Ok, Err}
+use Rattle.std.proofs.Common.{List, [], ◌∷◌, ◌++◌, length, take, get_or, Option, Some, None, Result, Ok, Err}
 use Rattle.std.specs.Prelude.{IfOk, IfSome}
 use Rattle.std.proofs.lemmas.Bool.{cases_lt}
-use Rattle.std.proofs.lemmas.List.{get_or-map, get_or_append_left, get_or_push, length-map, length_push}
-use Rattle.std.proofs.lemmas.List.{map_push, take_more}
+use Rattle.std.proofs.lemmas.List.{get_or_append_left, get_or_push, length_push, take_more}
 use Rattle.ps_delta.specs.State.{joined_state}
 use Rattle.ps_delta.specs.Deltas.{Entries, IsDelta, joined_history, state_of}
 use Rattle.ps_delta.proofs.HistoryLemmas.{
@@ -54,15 +53,13 @@ first_more ds js j first joint k d within = elim (cases_lt k (length js)) [
 ]
 
 -- the join of the first so many, where it is read
-pub joint_at : {X : Type 0} (f : X → Entries) (ds : List Entries) (js : List X) (count : ℕ) (x : X) → 0 < count
-    → count ≤ length js → AreFirstJoints ds (map f js) → x ≡ get_or js (count - 1) x → IsJoint (take count ds) (f x)
-joint_at f ds js count x some within first is =
+pub joint_at : (ds js : List Entries) (count : ℕ) (x : Entries) → 0 < count → count ≤ length js → AreFirstJoints ds js
+    → x ≡ get_or js (count - 1) x → IsJoint (take count ds) x
+joint_at ds js count x some within first is =
     let last : count - 1 < length js = omega (arith, some, within) in
-    let here : get_or (map f js) (count - 1) (f x) ≡ f x = get_or-map f js (count - 1) x (f x) last ∙ ap f (sym is) in
-    let long : length (map f js) ≡ length js = length-map js f in
     let next : count - 1 + 1 ≡ count = omega (arith, some) in
-    subst (λ m. IsJoint (take m ds) (f x)) next
-    (subst (IsJoint (take (count - 1 + 1) ds)) here (first (count - 1) (f x) (omega (arith, last, long))))
+    subst (λ m. IsJoint (take m ds) x) next
+    (subst (IsJoint (take (count - 1 + 1) ds)) (sym is) (first (count - 1) x last))
 
 -- what was joined first is below what was joined later
 history_below : (ds : List Entries) (m k : ℕ) → m ≤ k
@@ -97,43 +94,34 @@ none_later ds n j joint outgrows k line above grouped =
     let long = outgrows grouped.delta grouped.joint.lawful below in
     omega (arith, long, grouped.fits, ap length grouped.is)
 
-module _ {X : Type 0} (f : X → Entries) (xs : List X) where
-  -- the first of the deltas, which the value read is
-  pub first_joint : (n : ℕ) (x y : X) → n < length xs → n ≡ 0 → x ≡ get_or xs n x → f y ≡ f x → IsDelta (f x)
-      → IsJoint (take (n + 1) (map f xs)) (f y)
-  first_joint zero x y within none is same lawful =
-      subst (IsJoint (take 1 (map f xs))) (sym same)
-      (joint_first (map f xs) (f x) (omega (arith, within, length-map xs f))
-      (ap f is ∙ sym (get_or-map f xs 0 x (f x) within)) lawful)
-  first_joint (suc n) x y within none is same lawful = absurd (omega (arith, none))
+-- the first of the deltas, which is y as well
+pub first_joint : (ds : List Entries) (n : ℕ) (x y : Entries) → n < length ds → n ≡ 0 → x ≡ get_or ds n x → y ≡ x
+    → IsDelta x → IsJoint (take (n + 1) ds) y
+first_joint ds zero x y within none is same lawful =
+    subst (IsJoint (take 1 ds)) (sym same) (joint_first ds x within is lawful)
+first_joint ds (suc n) x y within none is same lawful = absurd (omega (arith, none))
 
-  -- the join of the last join and the next delta
-  pub later_joint : (js : List X) (x j new : X) → length js < length xs → 0 < length js → x ≡ get_or xs (length js) x
-      → j ≡ get_or js (length js - 1) j → AreFirstJoints (map f xs) (map f js)
-      → state_of (f new) ≡ joined_history (f j ∷ f x ∷ []) → IsDelta (f new)
-      → IsJoint (take (length js + 1) (map f xs)) (f new)
-  later_joint js x j new within some is last first so lawful =
-      joint_next (map f xs) (length js) (f x) (f j) (f new) (omega (arith, within, length-map xs f))
-      (ap f is ∙ sym (get_or-map f xs (length js) x (f x) within))
-      (joint_at f (map f xs) js (length js) j some (omega arith) first last) so lawful
+-- the join of the last join and the next delta
+pub later_joint : (ds js : List Entries) (x j new : Entries) → length js < length ds → 0 < length js
+    → x ≡ get_or ds (length js) x → j ≡ get_or js (length js - 1) j → AreFirstJoints ds js
+    → state_of new ≡ joined_history (j ∷ x ∷ []) → IsDelta new → IsJoint (take (length js + 1) ds) new
+later_joint ds js x j new within some is last first so lawful =
+    joint_next ds (length js) x j new within is (joint_at ds js (length js) j some (omega arith) first last) so lawful
 
-module _ {X : Type 0} (f : X → Entries) (ds : List Entries) (js : List X) (j : X) (n : ℕ) (long : n ≡ length js)
-    (first : AreFirstJoints ds (map f js)) (joint : IsJoint (take (n + 1) ds) (f j)) where
+module _ (ds js : List Entries) (j : Entries) (n : ℕ) (long : n ≡ length js) (first : AreFirstJoints ds js)
+    (joint : IsJoint (take (n + 1) ds) j) where
   -- one more join
-  pub more_joints : (new : List X) → new ≡ js ++ j ∷ [] → AreFirstJoints ds (map f new)
+  pub more_joints : (new : List Entries) → new ≡ js ++ j ∷ [] → AreFirstJoints ds new
   more_joints new is =
-      subst (AreFirstJoints ds) (sym (ap (map f) is ∙ map_push f js j))
-      (first_more ds (map f js) (f j) first (subst (λ m. IsJoint (take (m + 1) ds) (f j)) (long ∙ sym (length-map js f))
-      joint))
+      subst (AreFirstJoints ds) (sym is) (first_more ds js j first (subst (λ m. IsJoint (take (m + 1) ds) j) long joint))
 
   -- the joins end before one that can have no line
-  pub joints_end : (most : ℕ) → length js ≤ most → length js ≤ length ds → OutgrowsLine (f j)
-      → AreJoints ds most (map f js)
+  pub joints_end : (most : ℕ) → length js ≤ most → length js ≤ length ds → OutgrowsLine j → AreJoints ds most js
   joints_end most few within outgrows = record {
-    few = omega (arith, few, length-map js f);
-    within = omega (arith, within, length-map js f);
+    few = few;
+    within = within;
     first = first;
-    last = λ k line above _. none_later ds n (f j) joint outgrows k line (omega (arith, above, long, length-map js f));
+    last = λ k line above _. none_later ds n j joint outgrows k line (omega (arith, above, long));
   }
 
 -- the line of the join of so many, where there is one

@@ -1,8 +1,8 @@
 -- What is handed out of the first of the deltas after a number is what is handed out of all of them, where the first
 -- are as many as may be handed out at once.
 use Rattle.std.proofs.Common.{◌≡◌, ◌⊎◌, ◌<◌, ◌≤◌, ◌-◌, ℕ, List, [], ◌∷◌, length, take, drop, inl, inr}
-use Rattle.std.proofs.Common.{sym, ap, subst, arith, map, min, Ok, ◌∙◌}
-use Rattle.std.proofs.lemmas.List.{drop-map, length-drop, length-take, take-map, take-take, take_all}
+use Rattle.std.proofs.Common.{sym, ap, subst, arith, min, Ok, ◌∙◌}
+use Rattle.std.proofs.lemmas.List.{length-drop, length-take, take-take, take_all}
 use Rattle.std.proofs.lemmas.Bool.{cases_lt}
 use Rattle.ps_grid.specs.declared.refusal.Refusal.{Refusal}
 use Rattle.ps_grid.specs.declared.refusal.Refusal.TheVariants as refusals
@@ -12,12 +12,9 @@ use Rattle.ps_session.specs.PullReplies.{HandsGroup, HandsOut, HasNone, IsGreate
 use Rattle.ps_session.specs.Replies.{refusal_text}
 
 -- at most n of what comes after the first k
-module _ {A B : Type 0} (f : A → B) (xs : List A) (hs : List B) (k n : ℕ) (is : map f xs ≡ hs) where
-  abbrev rest : List A
+module _ (xs : List Entries) (k n : ℕ) where
+  abbrev rest : List Entries
   rest = take (length xs - k) (drop k xs)
-
-  rest_whole : rest ≡ drop k xs
-  rest_whole = take_all (length xs - k) (drop k xs) (omega (arith, length-drop k xs))
 
   cut_twice : take (min n (length rest)) rest ≡ take n rest
   cut_twice = elim (cases_lt n (length rest)) [
@@ -26,10 +23,9 @@ module _ {A B : Type 0} (f : A → B) (xs : List A) (hs : List B) (k n : ℕ) (i
         ∙ take_all (length rest) rest (omega arith) ∙ sym (take_all n rest le)
   ]
 
-  pub pulled_part : map f (take (min n (length rest)) rest) ≡ take n (drop k hs)
+  pub pulled_part : take (min n (length rest)) rest ≡ take n (drop k xs)
   pulled_part =
-      ap (map f) cut_twice ∙ ap (λ ys. map f (take n ys)) rest_whole ∙ sym (take-map f n (drop k xs))
-      ∙ ap (take n) (sym (drop-map f k xs) ∙ ap (drop k) is)
+      cut_twice ∙ ap (take n) (take_all (length xs - k) (drop k xs) (omega (arith, length-drop k xs)))
 
 module _ (deltas : List Entries) (room n : ℕ) (line : List ℕ) (few : n ≤ room) where
   group_of_all : IsGroupLine (take room deltas) n line → IsGroupLine deltas n line

@@ -1,6 +1,5 @@
 //! What answers the commands of a session.
 ghost use Rattle.std.specs.Prelude.{◌+◌, ◌<◌, ◌^◌, IfOk, length, map};
-ghost use Rattle.std.specs.Arc.{arc_value};
 ghost use Rattle.std.specs.Thread.{IsSync};
 ghost use Rattle.ps_session.specs.Boards.{Calls};
 ghost use Rattle.ps_session.specs.Commands.{with_part};
@@ -10,7 +9,6 @@ use ps_grid::{Cell, Rect, Refusal};
 use ps_sheet::Edit;
 use ps_value::Value;
 use std::alloc::Global;
-use std::sync::Arc;
 use std::thread::Threads;
 
 /// What answers the commands of a session, by a call for each. The calls that change something count their evaluations
@@ -46,11 +44,11 @@ pub trait Board<M> {
         &mut self,
         rt: &R,
         alloc: Global,
-        delta: Arc<Delta>,
+        delta: Delta,
         meter: &mut M,
     ) -> Result<u64, Refusal>
         requires shared { IsSync R.row }
-        ensures received { calls.receives self.old (arc_value delta) result self.new };
+        ensures received { calls.receives self.old delta result self.new };
 
     /// What a cell shows.
     ///
@@ -79,8 +77,8 @@ pub trait Board<M> {
     /// The deltas after the number `from`, in order, at most so many.
     ///
     /// Cost: the deltas that are handed out.
-    fn pull(&mut self, alloc: Global, from: u64, most: usize) -> Result<Vec<Arc<Delta>>, Refusal>
-        ensures pulled { calls.pulls self.old from most (with_part (λ deltas. map arc_value deltas.items) result)
+    fn pull(&mut self, alloc: Global, from: u64, most: usize) -> Result<Vec<Delta>, Refusal>
+        ensures pulled { calls.pulls self.old from most (with_part (λ deltas. deltas.items) result)
             self.new }
         ensures numbered { IfOk result (λ deltas. from + length deltas.items < 2 ^ 64) };
 

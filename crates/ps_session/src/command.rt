@@ -6,10 +6,10 @@ ghost use Rattle.ps_session.specs.Commands.{AtCell, ReadsCorners, ReadsLine, Rea
 ghost use Rattle.ps_session.specs.Commands.{ReadsRectangle, ReadsReplica, ReadsSet, ReadsVerb, Pushes};
 ghost use Rattle.ps_session.specs.Commands.{TakesMemoryToRead, group_size, replica_number};
 
-use crate::shared::SharedDelta;
 use crate::verb::Verb;
 use crate::words::{read_whole, split_part, split_word};
 use ps_content::read_entry;
+use ps_delta::Delta;
 use ps_grid::{Cell, REPLICAS, Refusal};
 use ps_sheet::Edit;
 use ps_wire::Decoder;
@@ -36,7 +36,7 @@ pub enum Command {
         most: Option<u8>,
     },
     /// To take in a delta made elsewhere.
-    Push(SharedDelta),
+    Push(Delta),
     /// To tell the own replica, whichever is named beside it.
     Replica(Option<u8>),
 }
@@ -104,7 +104,7 @@ fn read_alone(verb: Verb) -> Result<Command, Refusal>
 
 /// What a verb asks for, by all that stands after its space.
 ///
-/// It is inlined, and what is asked for most is read in it; all other verbs take a call.
+/// It is inlined, and so is what reads the verbs that are asked for less, so that no command is moved between them.
 #[inline(always)]
 fn read_rest(
     alloc: Global,
@@ -130,6 +130,7 @@ fn read_rest(
 }
 
 /// What another verb than these four asks for, by all that stands after its space.
+#[inline(always)]
 fn read_other(
     alloc: Global,
     decoder: &mut Decoder,
@@ -253,8 +254,7 @@ fn read_corners(corners: &[u8]) -> Result<(Cell, Cell), Refusal>
 fn read_push(alloc: Global, decoder: &mut Decoder, line: &[u8]) -> Result<Command, Refusal>
     ensures { Pushes line.now result }
 {
-    let delta = SharedDelta::new(alloc, decoder.decode(alloc, line)?)?;
-    Ok(Command::Push(delta))
+    Ok(Command::Push(decoder.decode(alloc, line)?))
 }
 
 /// `pull`: a version, and perhaps the size of a group after a space.

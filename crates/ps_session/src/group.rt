@@ -2,7 +2,6 @@
 
 ghost use Rattle.std.specs.Prelude.{◌≡◌, ◌⊎◌, ◌↔◌, ◌+◌, ◌-◌, ◌<◌, ◌≤◌, Err, IfOk, IfErr, IfSome, IsTrue, length};
 ghost use Rattle.std.specs.Prelude.{map, sum_by, take, ◌∷◌, []};
-ghost use Rattle.std.specs.Arc.{arc_value};
 ghost use Rattle.std.specs.Option.{SomeIff};
 ghost use Rattle.ps_delta.specs.Deltas.{IsDelta, joined_history, state_of};
 ghost use Rattle.ps_wire.specs.Line.{delta_text};
@@ -11,10 +10,9 @@ ghost use Rattle.ps_session.specs.PullReplies.{HasNone, IsGreatest, IsGroupLine,
 ghost use Rattle.ps_session.specs.Inside.Joints.{AreFirstJoints, AreJoints, part_count, parts_in};
 
 use ps_delta::{CellState, Delta};
-use ps_grid::{Cell, Refusal};
+use ps_grid::{Cell, Refusal, Twin};
 use ps_wire::{encode, may_share_line, outgrows_line};
 use std::alloc::Global;
-use std::sync::Arc;
 
 /// The join of all that may share a line is tried first where they have no more cells, counts and pairs than these:
 /// then it nearly always fits, and little was done in vain where it doesn't.
@@ -27,13 +25,14 @@ const FEW_PARTS: usize = 512;
 /// Cost: for one delta that of its line, and for a few small ones that of one join and its line. Else, and where this
 /// line is too long, that of joining the deltas upward, one more at a time, for as long as one more may fit, of the
 /// line, and of what one line may hold for each greater join.
+#[inline(always)]
 pub fn greatest_group(
     alloc: Global,
-    deltas: &[Arc<Delta>],
+    deltas: &[Delta],
     most: usize,
 ) -> Result<(usize, Vec<u8>), Refusal>
-    ensures found { IfOk result (λ found. IsGreatest (map arc_value deltas.now) most found.0 found.1.items) }
-    ensures none { result ≡ Err Refusal.TooLong → HasNone (map arc_value deltas.now) most }
+    ensures found { IfOk result (λ found. IsGreatest deltas.now most found.0 found.1.items) }
+    ensures none { result ≡ Err Refusal.TooLong → HasNone deltas.now most }
     ensures refused { IfErr result (λ e. (e ≡ Refusal.TooLong) ⊎ (e ≡ Refusal.Memory)) }
 {
     if most > 0 && deltas.len() == 1 {
@@ -62,9 +61,9 @@ pub fn greatest_group(
 }
 
 /// The line of a delta by itself.
-fn line_alone(alloc: Global, delta: &Arc<Delta>) -> Result<Vec<u8>, Refusal>
-    ensures line { IfOk result (λ line. IsGreatest (arc_value delta.now ∷ []) 1 1 line.items) }
-    ensures none { result ≡ Err Refusal.TooLong → HasNone (arc_value delta.now ∷ []) 1 }
+fn line_alone(alloc: Global, delta: &Delta) -> Result<Vec<u8>, Refusal>
+    ensures line { IfOk result (λ line. IsGreatest (delta.now ∷ []) 1 1 line.items) }
+    ensures none { result ≡ Err Refusal.TooLong → HasNone (delta.now ∷ []) 1 }
     ensures refused { IfErr result (λ e. (e ≡ Refusal.TooLong) ⊎ (e ≡ Refusal.Memory)) }
 {
     // for the fact that the parts are a delta
@@ -73,8 +72,8 @@ fn line_alone(alloc: Global, delta: &Arc<Delta>) -> Result<Vec<u8>, Refusal>
 }
 
 /// Whether the deltas have at most so many cells, counts and pairs, where one counts as often as it comes.
-fn have_few_parts(deltas: &[Arc<Delta>], most: usize) -> bool
-    ensures { IsTrue result ↔ (sum_by (λ d. parts_in (arc_value d)) deltas.now ≤ most) }
+fn have_few_parts(deltas: &[Delta], most: usize) -> bool
+    ensures { IsTrue result ↔ (sum_by parts_in deltas.now ≤ most) }
 {
     let mut left = most;
     for delta in deltas {
@@ -111,14 +110,10 @@ fn left_after_one(cell: &(Cell, CellState), most: usize) -> Option<usize>
 }
 
 /// The line of the join of the first deltas, if it isn't too long.
-fn whole_line(
-    alloc: Global,
-    deltas: &[Arc<Delta>],
-    count: usize,
-) -> Result<Option<Vec<u8>>, Refusal>
+fn whole_line(alloc: Global, deltas: &[Delta], count: usize) -> Result<Option<Vec<u8>>, Refusal>
     requires some { 0 < count }
     requires within { count ≤ length deltas.now }
-    ensures line { IfOk result (λ o. IfSome o (λ line. IsGroupLine (map arc_value deltas.now) count line.items)) }
+    ensures line { IfOk result (λ o. IfSome o (λ line. IsGroupLine deltas.now count line.items)) }
     ensures memory { IfErr result (λ e. e ≡ Refusal.Memory) }
 {
     let joint = Delta::joined(alloc, &deltas[..count])?;
@@ -141,12 +136,8 @@ fn short_line(alloc: Global, delta: &Delta) -> Result<Option<Vec<u8>>, Refusal>
 }
 
 /// The joins of the first delta, of the first two, and so on: of at most so many, and of none that can have no line.
-fn joined_upward(
-    alloc: Global,
-    deltas: &[Arc<Delta>],
-    most: usize,
-) -> Result<Vec<Arc<Delta>>, Refusal>
-    ensures joints { IfOk result (λ js. AreJoints (map arc_value deltas.now) most (map arc_value js.items)) }
+fn joined_upward(alloc: Global, deltas: &[Delta], most: usize) -> Result<Vec<Delta>, Refusal>
+    ensures joints { IfOk result (λ js. AreJoints deltas.now most js.items) }
     ensures memory { IfErr result (λ e. e ≡ Refusal.Memory) }
 {
     let count = most.min(deltas.len());
@@ -163,14 +154,10 @@ fn joined_upward(
 }
 
 /// The join of one delta more than the joins so far have.
-fn next_joint(
-    alloc: Global,
-    joints: &[Arc<Delta>],
-    deltas: &[Arc<Delta>],
-) -> Result<Arc<Delta>, Refusal>
+fn next_joint(alloc: Global, joints: &[Delta], deltas: &[Delta]) -> Result<Delta, Refusal>
     requires within { length joints.now < length deltas.now }
-    requires joints { AreFirstJoints (map arc_value deltas.now) (map arc_value joints.now) }
-    ensures joint { IfOk result (λ j. IsJoint (take (length joints.now + 1) (map arc_value deltas.now)) (arc_value j)) }
+    requires joints { AreFirstJoints deltas.now joints.now }
+    ensures joint { IfOk result (λ j. IsJoint (take (length joints.now + 1) deltas.now) j) }
     ensures memory { IfErr result (λ e. e ≡ Refusal.Memory) }
 {
     let count = joints.len();
@@ -178,23 +165,23 @@ fn next_joint(
     if count == 0 {
         // for the fact that the parts are a delta
         let _ = delta.parts();
-        return Ok(delta.clone()?);
+        return delta.twin(alloc);
     }
     joined_pair(alloc, &joints[count - 1], delta)
 }
 
 /// The join of two deltas.
-fn joined_pair(alloc: Global, joint: &Arc<Delta>, delta: &Arc<Delta>) -> Result<Arc<Delta>, Refusal>
-    ensures joined { IfOk result (λ j. state_of (arc_value j)
-        ≡ joined_history (arc_value joint.now ∷ arc_value delta.now ∷ [])) }
-    ensures delta { IfOk result (λ j. IsDelta (arc_value j)) }
+fn joined_pair(alloc: Global, joint: &Delta, delta: &Delta) -> Result<Delta, Refusal>
+    ensures joined { IfOk result (λ j. state_of j
+        ≡ joined_history (joint.now ∷ delta.now ∷ [])) }
+    ensures delta { IfOk result IsDelta }
     ensures memory { IfErr result (λ e. e ≡ Refusal.Memory) }
 {
-    let pair = [joint.clone()?, delta.clone()?];
+    let pair = [joint.twin(alloc)?, delta.twin(alloc)?];
     let joined = Delta::joined(alloc, &pair)?;
     // for the fact that the parts are a delta
     let _ = joined.parts();
-    Ok(Arc::new(alloc, joined)?)
+    Ok(joined)
 }
 
 /// The line of the delta.

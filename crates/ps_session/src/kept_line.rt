@@ -10,9 +10,9 @@ ghost use Rattle.ps_session.specs.Inside.Kept.{is_kept_verb};
 
 use crate::command::Command;
 use crate::replica_line::is_replica_line;
-use crate::shared::SharedDelta;
 use crate::verb::Verb;
 use crate::words::split_word;
+use ps_delta::Delta;
 use ps_grid::Refusal;
 use ps_wire::Decoder;
 use std::alloc::Global;
@@ -23,7 +23,7 @@ pub enum KeptLine {
     /// Whose the lines after it are: the replica of this number.
     Replica(u8),
     /// One change: this delta is pushed.
-    Push(SharedDelta),
+    Push(Delta),
 }
 
 /// What a line of a kept file says: the replica that it tells, in just the spelling of a kept file, or the delta that
@@ -33,8 +33,7 @@ pub enum KeptLine {
 /// A line that begins with `push ` is refused as `Delta` where the rest is no line of a delta, and may be refused out
 /// of memory; any other line takes none. The decoder is lent for the line of a delta.
 ///
-/// Cost: O(n) in the n bytes of the line, and where it begins with `push ` that of [`Decoder::decode`] and one
-/// allocation.
+/// Cost: O(n) in the n bytes of the line, and where it begins with `push ` that of [`Decoder::decode`].
 pub fn read_kept_line(
     alloc: Global,
     decoder: &mut Decoder,

@@ -1,6 +1,5 @@
 //! Obeys a line, whatever the board.
 ghost use Rattle.std.specs.Prelude.{◌≡◌, ◌<◌, List, Ok, OnErr, OnOk, map, max};
-ghost use Rattle.std.specs.Arc.{arc_value};
 ghost use Rattle.ps_device.specs.Device.{HoldsBack};
 ghost use Rattle.ps_delta.specs.Deltas.{Entries};
 ghost use Rattle.ps_session.specs.Boards.{BoardAnswers, HandsOn, Obeyed, TellsAnswer};
@@ -21,7 +20,6 @@ use ps_delta::Delta;
 use ps_device::Failed;
 use ps_grid::{Cell, Rect};
 use std::alloc::Global;
-use std::sync::Arc;
 use std::thread::Threads;
 
 /// Reads a line that isn't empty as a command, obeys it, and tells the reply; another line is refused, and nothing is
@@ -88,7 +86,7 @@ fn obey<R: Threads + Sync, B: Board<M>, M, W: Watcher, K, D: Delivery<K>>(
         Command::Entry(cell) => show_entry(alloc, cell, board),
         Command::Entries(first, last) => list_entries(alloc, Rect::new(first, last), board),
         Command::Pull { from, most } => hand_out(alloc, from, most.unwrap_or(1) as usize, board),
-        Command::Push(delta) => take_in(threads, alloc, delta.owner(), board, meter),
+        Command::Push(delta) => take_in(threads, alloc, delta, board, meter),
         Command::Replica(_) => Reply::Replica(board.replica()),
     };
     tell_other::<W, K, D>(line, other, watcher, sink)
@@ -127,6 +125,7 @@ fn list_entries<B: Board<M>, M>(alloc: Global, rect: Rect, board: &mut B) -> Rep
 }
 
 /// The reply to one who has the first `from` deltas, and takes at most so many at once: as many as one line holds.
+#[inline(always)]
 fn hand_out<B: Board<M>, M>(alloc: Global, from: u64, most: usize, board: &mut B) -> Reply
     ensures { (answer : Read (List Entries)) × B.calls.pulls board.old from (max most 1) answer board.new
         × HandsOn from most answer (reply_text result) }
@@ -149,11 +148,11 @@ fn hand_out<B: Board<M>, M>(alloc: Global, from: u64, most: usize, board: &mut B
 fn take_in<R: Threads + Sync, B: Board<M>, M>(
     rt: &R,
     alloc: Global,
-    delta: Arc<Delta>,
+    delta: Delta,
     board: &mut B,
     meter: &mut M,
 ) -> Reply
-    ensures taken { TellsAnswer (λ answer. B.calls.receives board.old (arc_value delta) answer board.new) done_text
+    ensures taken { TellsAnswer (λ answer. B.calls.receives board.old delta answer board.new) done_text
         (reply_text result) }
 {
     let had_own = board.has_own(&delta);

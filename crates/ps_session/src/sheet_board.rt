@@ -1,16 +1,14 @@
 //! A sheet answers commands.
 ghost use Rattle.std.specs.Prelude.{◌≡◌, ◌⊎◌, ◌↔◌, ◌<◌, Err, IfErr, IfOk, drop, length, map, take};
-ghost use Rattle.std.specs.Arc.{arc_value};
 
 use crate::board::Board;
 use ps_csv::{entries_text, entry_of, exported_text};
 use ps_delta::Delta;
 use ps_eval::Meter;
-use ps_grid::{Cell, Rect, Refusal};
+use ps_grid::{Cell, Rect, Refusal, Twin};
 use ps_sheet::{Edit, Sheet};
 use ps_value::Value;
 use std::alloc::Global;
-use std::sync::Arc;
 use std::sync::ledger::Ledger;
 use std::thread::Threads;
 
@@ -19,6 +17,7 @@ impl<L: Ledger> Board<Meter<L>> for Sheet {
 
     ghost calls = { SheetCalls };
 
+    #[inline(always)]
     fn apply_edit<R: Threads + Sync>(
         &mut self,
         rt: &R,
@@ -40,7 +39,7 @@ impl<L: Ledger> Board<Meter<L>> for Sheet {
         &mut self,
         rt: &R,
         alloc: Global,
-        delta: Arc<Delta>,
+        delta: Delta,
         meter: &mut Meter<L>,
     ) -> Result<u64, Refusal> {
         match self.receive(rt, alloc, delta, meter) {
@@ -67,7 +66,8 @@ impl<L: Ledger> Board<Meter<L>> for Sheet {
         entries_text(alloc, self, rect)
     }
 
-    fn pull(&mut self, alloc: Global, from: u64, most: usize) -> Result<Vec<Arc<Delta>>, Refusal> {
+    #[inline(always)]
+    fn pull(&mut self, alloc: Global, from: u64, most: usize) -> Result<Vec<Delta>, Refusal> {
         deltas_after(alloc, self.history(), from, most)
     }
 
@@ -82,14 +82,16 @@ impl<L: Ledger> Board<Meter<L>> for Sheet {
 /// that there are.
 ///
 /// Cost: the deltas that are handed out, each of which is held once more.
+// Inlined with what copies them, as a pull of one delta is a small matter.
+#[inline(always)]
 pub fn deltas_after(
     alloc: Global,
-    history: &[Arc<Delta>],
+    history: &[Delta],
     from: u64,
     most: usize,
-) -> Result<Vec<Arc<Delta>>, Refusal>
-    ensures deltas { IfOk result (λ ds. map arc_value ds.items
-        ≡ take most (drop from (map arc_value history.now))) }
+) -> Result<Vec<Delta>, Refusal>
+    ensures deltas { IfOk result (λ ds. ds.items
+        ≡ take most (drop from history.now)) }
     ensures above { (result ≡ Err Refusal.Version) ↔ (length history.now < from) }
     ensures memory { result ≡ Err Refusal.Memory → from < length history.now }
     ensures refused { IfErr result (λ e. (e ≡ Refusal.Version) ⊎ (e ≡ Refusal.Memory)) }
@@ -105,13 +107,14 @@ pub fn deltas_after(
 }
 
 /// The same deltas, held once more each.
-fn copy_deltas(alloc: Global, deltas: &[Arc<Delta>]) -> Result<Vec<Arc<Delta>>, Refusal>
-    ensures copied { IfOk result (λ ds. map arc_value ds.items ≡ map arc_value deltas.now) }
+#[inline(always)]
+fn copy_deltas(alloc: Global, deltas: &[Delta]) -> Result<Vec<Delta>, Refusal>
+    ensures copied { IfOk result (λ ds. ds.items ≡ deltas.now) }
     ensures memory { IfErr result (λ e. e ≡ Refusal.Memory) }
 {
     let mut copies = Vec::with_capacity(alloc, deltas.len())?;
     'deltas: for delta in deltas {
-        copies.push(delta.clone()?)?;
+        copies.push(delta.twin(alloc)?)?;
     }
     Ok(copies)
 }

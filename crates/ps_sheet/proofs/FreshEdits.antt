@@ -88,9 +88,9 @@ edits_are_fresh r s (Unchoose c option) d delta h =
     (withdrawn_is_fresh (s c).choice option (not_false (is_chosen (s c).choice option) chosen.0)))
 
 -- so is what an answer to an edit holds
-pub answers_are_fresh : {A : Type 0} (value : A → Entries) (r : ℕ) (s t : State) (e : Edit) (answer : Result A Refusal)
-    → s ≡ t → IfOk answer (λ d. delta_of_edit r s e ≡ Ok (value d)) → IfOk answer (λ d. IsDelta (value d))
-    → IfOk answer (λ d. ¬ IsBelow (state_of (value d)) t)
-answers_are_fresh value r s t e (Ok d) is made delta =
-    subst (λ (u : State). ¬ IsBelow (state_of (value d)) u) is (edits_are_fresh r s e (value d) delta made)
-answers_are_fresh value r s t e (Err x) is made delta = tt
+pub answers_are_fresh : (r : ℕ) (s t : State) (e : Edit) (answer : Result Entries Refusal) → s ≡ t
+    → IfOk answer (λ d. delta_of_edit r s e ≡ Ok d) → IfOk answer IsDelta
+    → IfOk answer (λ d. ¬ IsBelow (state_of d) t)
+answers_are_fresh r s t e (Ok d) is made delta =
+    subst (λ (u : State). ¬ IsBelow (state_of d) u) is (edits_are_fresh r s e d delta made)
+answers_are_fresh r s t e (Err x) is made delta = tt

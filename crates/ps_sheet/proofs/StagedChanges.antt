@@ -2,10 +2,8 @@
 use Rattle.std.proofs.Common.{◌≡◌, ◌++◌, ◌∷◌, [], ℕ, ◌+◌, ◌<◌, ◌≤◌, Bool, true, false, Option, Some, None, List, map}
 use Rattle.std.proofs.Common.{is_some, refl, sym, ap, ◌∙◌, subst, length}
 use Rattle.std.proofs.Common.{Result, Ok, Err}
-use Rattle.std.proofs.lemmas.List.{map-append}
 use Rattle.std.specs.Prelude.{IsSomeAnd, IfOk, OnOk, if◌then◌else◌, vec_len, vec_capacity}
 use Rattle.ps_grid.specs.declared.refusal.Refusal.{Refusal}
-use Rattle.std.specs.Arc.{arc_value}
 use Rattle.ps_grid.specs.declared.parties.TheConstants.{REPLICAS}
 use Rattle.ps_shown.specs.declared.kept.Kept.{Kept}
 use Rattle.ps_shown.specs.Shown.{shown_at}
@@ -30,7 +28,7 @@ use Rattle.ps_sheet.proofs.Staged.{idle_before, idle_holds, idle_sheet, of_some}
 use Rattle.ps_sheet.proofs.WorkedOut.{after_fresh, after_joined, worked_idle, worked_made}
 
 abbrev pub history_of : Inside → List Entries
-history_of x = map arc_value x.history.items
+history_of x = x.history.items
 
 -- nothing is there
 pub none_there : {A : Type 0} (o : Option A) → is_some o ≡ false → o ≡ None
@@ -57,7 +55,7 @@ kept_idle x none sheet holds unstaged still = record {
 pub opened_sheet : (x : Inside) → x.history.items ≡ [] → IsSettled (state_now x.cells) (shown_at x.cells.shown)
     → state_now x.cells ≡ empty_state → (1 ≤ x.replica) × (x.replica ≤ REPLICAS) → IsSheet (sheet_of (view_of x))
 opened_sheet x none settled empty range =
-    sheet_open x.replica (history_of x) x.cells.shown x.cells.workers (ap (map arc_value) none) range
+    sheet_open x.replica (history_of x) x.cells.shown x.cells.workers none range
     (subst (λ (s : State). IsSettled s (shown_at x.cells.shown)) empty settled)
 
 pub kept_open : (x : Inside) → x.staged ≡ None → x.history.items ≡ []
@@ -65,12 +63,12 @@ pub kept_open : (x : Inside) → x.staged ≡ None → x.history.items ≡ []
     → (x.cells.staged ≡ None) × (x.cells.olds ≡ []) → (1 ≤ x.replica) × (x.replica ≤ REPLICAS) → IsKept x
 kept_open x unstaged none settled empty still range =
     kept_idle x unstaged (opened_sheet x none settled empty range)
-    (empty ∙ (sym joined_history-nil ∙ ap joined_history (sym (ap (map arc_value) none)))) still.0 still.1
+    (empty ∙ (sym joined_history-nil ∙ ap joined_history (sym none))) still.0 still.1
 
 -- the staged change, where there is one
 abbrev pub staged_view : Inside → Staged → StagedView
 staged_view x s = record {
-  delta = arc_value s.delta;
+  delta = s.delta;
   fresh = is_some x.cells.staged;
   olds = x.cells.olds;
   changed = x.cells.changed;
@@ -94,9 +92,8 @@ module _ (x y : Inside) (s : Staged) (is : x.staged ≡ Some s) (fresh : true �
     (grid : y.cells.grid ≡ x.cells.grid) (shown : y.cells.shown ≡ x.cells.shown) where
   after_push : history_of y ≡ history_after (change_of x s)
   after_push =
-      ap (map arc_value) pushed
-      ∙ map-append arc_value x.history.items (s.delta ∷ [])
-      ∙ ap (λ (b : Bool). if b then (history_of x ++ arc_value s.delta ∷ []) else history_of x) fresh
+      pushed
+      ∙ ap (λ (b : Bool). if b then (history_of x ++ s.delta ∷ []) else history_of x) fresh
 
   committed_state : state_now y.cells ≡ joined_history (history_of y)
   committed_state = ap state_at grid ∙ (kept_state x s is kept ∙ ap joined_history (sym after_push))
@@ -108,7 +105,7 @@ module _ (x y : Inside) (s : Staged) (is : x.staged ≡ Some s) (fresh : true �
         (sym shown)
         (kept_worked x s is kept).after);
     fresh = subst IsFresh (sym after_push)
-        (after_fresh (history_of x) (arc_value s.delta) (is_some x.cells.staged) kept.fresh
+        (after_fresh (history_of x) s.delta (is_some x.cells.staged) kept.fresh
         (kept_worked x s is kept).fresh.0);
     in_grid = subst IsInGrid (kept_state x s is kept ∙ ap joined_history (sym after_push)) kept.in_grid_now;
     replica = subst (λ (r : ℕ). (1 ≤ r) × (r ≤ REPLICAS)) (sym replica) kept.replica;
@@ -205,7 +202,7 @@ kept_staged y s is worked holds before room still fresh in_grid in_grid_now repl
 module _ (x : Inside) (v : StagingView) (is : view_of x ≡ v) (none : v.staged ≡ None) (kept : IsKept x) (s : Staged)
     (n : ℕ) (report : s.report ≡ record { version = n; evaluated = 0; cyclic = 0; levels = 0 })
     (version : n ≡ length (history_of x))
-    (below : IsBelow (state_of (arc_value s.delta)) (joined_history v.history)) where
+    (below : IsBelow (state_of s.delta) (joined_history v.history)) where
   abbrev pub idle_staging : Inside
   idle_staging = record { replica = x.replica; history = x.history; cells = x.cells; staged = Some s }
 
@@ -217,7 +214,7 @@ module _ (x : Inside) (v : StagingView) (is : view_of x ≡ v) (none : v.staged 
       (λ (r : Report). IsWorkedOut (record {
         replica = x.replica;
         history = history_of x;
-        delta = arc_value s.delta;
+        delta = s.delta;
         fresh = is_some x.cells.staged;
         shown = x.cells.shown;
         olds = x.cells.olds;
@@ -226,15 +223,15 @@ module _ (x : Inside) (v : StagingView) (is : view_of x ≡ v) (none : v.staged 
         workers = x.cells.workers;
       }))
       (sym report)
-      (worked_idle x.replica (history_of x) (arc_value s.delta) x.cells.shown x.cells.olds x.cells.changes n
+      (worked_idle x.replica (history_of x) s.delta x.cells.shown x.cells.olds x.cells.changes n
       x.cells.workers (is_some x.cells.staged) (ap is_some unstaged) (kept.still unstaged)
       (idle_sheet x v is none kept).settled
-      (subst (λ (w : StagingView). IsBelow (state_of (arc_value s.delta)) (joined_history w.history)) (sym is) below)
+      (subst (λ (w : StagingView). IsBelow (state_of s.delta) (joined_history w.history)) (sym is) below)
       version)
 
   pub kept_staged_idle : IsKept idle_staging
   kept_staged_idle = kept_staged idle_staging s refl idle_worked
-      (after_joined (history_of x) (arc_value s.delta) (is_some x.cells.staged) (state_now x.cells)
+      (after_joined (history_of x) s.delta (is_some x.cells.staged) (state_now x.cells)
       (λ on. absurd (let f : is_some x.cells.staged ≡ false = ap is_some unstaged in
       let g : true ≡ false = sym on ∙ f in cc))
       (λ off. (idle_holds x v is none kept).0))
@@ -257,8 +254,8 @@ module _ (x y : Inside) (v : StagingView) (is : view_of x ≡ v) (none : v.stage
     (report : s.report ≡ record { version = n + 1; evaluated = evaluated; cyclic = cyclic; levels = levels })
     (staged : y.staged ≡ Some s) (replica : y.replica ≡ x.replica) (history : history_of y ≡ history_of x)
     (version : n ≡ length (history_of y))
-    (new : ¬ IsBelow (state_of (arc_value s.delta)) (joined_history v.history))
-    (joined : state_now y.cells ≡ joined_state (state_now x.cells) (state_of (arc_value s.delta)))
+    (new : ¬ IsBelow (state_of s.delta) (joined_history v.history))
+    (joined : state_now y.cells ≡ joined_state (state_now x.cells) (state_of s.delta))
     (settled : IsSettled (state_now y.cells) (shown_at y.cells.shown)) (on : is_some y.cells.staged ≡ true)
     (before : (state_before y.cells ≡ state_now x.cells)
     × (put_back y.cells.olds (shown_at y.cells.shown) ≡ shown_at x.cells.shown))
@@ -268,9 +265,9 @@ module _ (x y : Inside) (v : StagingView) (is : view_of x ≡ v) (none : v.stage
   was : state_now x.cells ≡ joined_history (history_of y)
   was = (idle_holds x v is none kept).0 ∙ ap joined_history (sym history)
 
-  becomes : state_now y.cells ≡ joined_history (history_of y ++ arc_value s.delta ∷ [])
-  becomes = joined ∙ (ap (λ (q : State). joined_state q (state_of (arc_value s.delta))) was
-      ∙ sym (joined_history-push (history_of y) (arc_value s.delta)))
+  becomes : state_now y.cells ≡ joined_history (history_of y ++ s.delta ∷ [])
+  becomes = joined ∙ (ap (λ (q : State). joined_state q (state_of s.delta)) was
+      ∙ sym (joined_history-push (history_of y) s.delta))
 
   as_in : v.history ≡ history_of y
   as_in = sym (ap (λ (w : StagingView). w.history) is) ∙ sym history
@@ -280,7 +277,7 @@ module _ (x y : Inside) (v : StagingView) (is : view_of x ≡ v) (none : v.stage
       (λ (r : Report). IsWorkedOut (record {
         replica = y.replica;
         history = history_of y;
-        delta = arc_value s.delta;
+        delta = s.delta;
         fresh = is_some y.cells.staged;
         shown = y.cells.shown;
         olds = y.cells.olds;
@@ -289,10 +286,10 @@ module _ (x y : Inside) (v : StagingView) (is : view_of x ≡ v) (none : v.stage
         workers = y.cells.workers;
       }))
       (sym report)
-      (worked_made y.replica (history_of y) (arc_value s.delta) y.cells.shown y.cells.olds y.cells.changes
+      (worked_made y.replica (history_of y) s.delta y.cells.shown y.cells.olds y.cells.changes
       (shown_at x.cells.shown) (state_now x.cells) (state_now y.cells) n evaluated cyclic levels y.cells.workers
       (is_some y.cells.staged) on
-      (subst (λ (h : List Entries). ¬ IsBelow (state_of (arc_value s.delta)) (joined_history h)) as_in new)
+      (subst (λ (h : List Entries). ¬ IsBelow (state_of s.delta) (joined_history h)) as_in new)
       before.1 was becomes
       (subst (λ (q : State). IsSettled q (shown_at x.cells.shown)) (sym (idle_holds x v is none kept).0)
       (idle_sheet x v is none kept).settled)
@@ -300,7 +297,7 @@ module _ (x y : Inside) (v : StagingView) (is : view_of x ≡ v) (none : v.stage
 
   pub kept_staged_fresh : vec_len y.history < vec_capacity y.history → IsInGrid (state_now y.cells) → IsKept y
   kept_staged_fresh room in_grid = kept_staged y s staged fresh_worked
-      (after_joined (history_of y) (arc_value s.delta) (is_some y.cells.staged) (state_now y.cells) (λ e. becomes)
+      (after_joined (history_of y) s.delta (is_some y.cells.staged) (state_now y.cells) (λ e. becomes)
       (λ off. absurd (let g : true ≡ false = sym on ∙ off in cc)))
       (before.0 ∙ was) (λ e. room)
       (λ off. absurd (let f : is_some y.cells.staged ≡ false = ap is_some off in

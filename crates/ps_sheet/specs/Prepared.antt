@@ -1,7 +1,6 @@
 -- A change of a sheet that is worked out, and not yet made: the sheet before it, and what it is after it.
 use Rattle.std.specs.Prelude.{◌≡◌, ℕ, ◌↔◌, Bool, true, if◌then◌else◌, List, [], ◌∷◌, ◌++◌, length}
 use Rattle.std.specs.Prelude.{Ok, Err, IsOk}
-use Rattle.std.specs.Arc.{arc_value}
 use Rattle.ps_grid.specs.declared.refusal.Refusal.{Refusal}
 use Rattle.ps_value.specs.declared.value.Value.{Value}
 use Rattle.ps_eval.specs.Items.{Assignment}
@@ -63,7 +62,7 @@ pub record IsPrepared (p : PreparedView) : Type 0 where
 -- d is the delta of a change at replica r over the state s
 abbrev pub IsDeltaOf : ℕ → State → Change → Entries → Type 0
 IsDeltaOf r s (Edit e) d = delta_of_edit r s e ≡ Ok d
-IsDeltaOf r s (Delta a) d = d ≡ arc_value a
+IsDeltaOf r s (Delta a) d = d ≡ a
 
 -- the change is refused by e over the state s, for another cause than memory
 abbrev pub IsRefusedBy : ℕ → State → Change → Refusal → Type 0
@@ -73,4 +72,4 @@ IsRefusedBy r s (Delta a) e = ⊥
 -- the change would be appended
 abbrev pub IsToAppend : ℕ → State → Change → Type 0
 IsToAppend r s (Edit e) = IsOk (delta_of_edit r s e)
-IsToAppend r s (Delta a) = ¬ IsBelow (state_of (arc_value a)) s
+IsToAppend r s (Delta a) = ¬ IsBelow (state_of a) s

@@ -8,7 +8,6 @@ use ps_delta::Delta;
 use ps_grid::Cell;
 use ps_lattice::is_ascending;
 use std::marker::Model;
-use std::sync::Arc;
 
 /// One change of a sheet.
 #[derive(Drop)]
@@ -33,7 +32,7 @@ pub enum Change {
     /// What people ask of it.
     Edit(Edit),
     /// A delta made elsewhere.
-    Delta(Arc<Delta>),
+    Delta(Delta),
 }
 
 /// Cells with contents, ascending and distinct, at least one. A contract sees it as the list of them.

@@ -1,17 +1,17 @@
 //! The delta of an edit.
 
-ghost use Rattle.std.specs.Prelude.{◌≡◌, ◌≢◌, ◌⊎◌, ◌≤◌, [], ◌∷◌, Ok, Err, IfOk, IfErr, if◌then◌else◌, nat_le};
+ghost use Rattle.std.specs.Prelude.{◌≡◌, ◌⊎◌, ◌≤◌, Ok, Err, IfOk, IfErr, if◌then◌else◌, nat_le};
 ghost use Rattle.std.specs.Prelude.{IsOk, IsErrOf};
-ghost use Rattle.std.specs.Arc.{arc_value};
 ghost use Rattle.std.specs.List.{list_any};
 ghost use Rattle.ps_grid.specs.declared.refusal.Refusal.{Refusal};
-ghost use Rattle.ps_delta.specs.State.{empty_cell, state_at};
+ghost use Rattle.ps_delta.specs.State.{state_at};
 ghost use Rattle.ps_delta.specs.Deltas.{IsDelta};
 ghost use Rattle.ps_lattice.specs.Tally.{is_amount};
 ghost use Rattle.ps_cells.specs.Settled.{content_of};
 ghost use Rattle.ps_sheet.specs.Batches.{IsBatch};
 ghost use Rattle.ps_sheet.specs.Edits.{counted, paired, registered, delta_of_batch, delta_of_edit};
 ghost use Rattle.ps_sheet.specs.Edits.{holds_choice, holds_tally, is_clock_full};
+ghost use Rattle.ps_sheet.specs.declared.edit.Edit.TheVariants.{Choose, Unchoose};
 
 use crate::contents::is_clock_full;
 use crate::edit::Edit;
@@ -21,7 +21,6 @@ use ps_delta::{CellState, Delta, Grid};
 use ps_grid::{Cell, REPLICAS, Refusal};
 use ps_lattice::{AMOUNT_LIMIT, Choice, OPTIONS, Register, Tally};
 use std::alloc::Global;
-use std::sync::Arc;
 
 /// The delta of an edit at the replica over the grid, or the first refusal that holds.
 #[inline(always)]
@@ -30,10 +29,10 @@ pub(crate) fn delta_of(
     grid: &Grid,
     replica: u8,
     edit: Edit,
-) -> Result<Arc<Delta>, Refusal>
+) -> Result<Delta, Refusal>
     requires { (1 ≤ replica) × (replica ≤ REPLICAS) }
-    ensures made { IfOk result (λ d. delta_of_edit replica (state_at grid.now) edit ≡ Ok (arc_value d)) }
-    ensures delta { IfOk result (λ d. IsDelta (arc_value d)) }
+    ensures made { IfOk result (λ d. delta_of_edit replica (state_at grid.now) edit ≡ Ok d) }
+    ensures delta { IfOk result IsDelta }
     ensures refused { IfErr result (λ e. (e ≡ Refusal.Memory)
         ⊎ (delta_of_edit replica (state_at grid.now) edit ≡ Err e)) }
     ensures asked { IsErrOf result Refusal.Memory → IsOk (delta_of_edit replica (state_at grid.now) edit) }
@@ -41,40 +40,75 @@ pub(crate) fn delta_of(
     match edit {
         Edit::Set(cell, content) => {
             let register = grid.at(cell).register.assign(replica, content)?;
-            of_cell(alloc, cell, with_register(alloc, register))
+            Ok(Delta::of_filled(cell, with_register(alloc, register)))
         }
-        Edit::SetAll(batch) => {
-            let delta = all_assigned(alloc, grid, replica, batch.into_cells())?;
-            Ok(Arc::new(alloc, delta)?)
-        }
+        Edit::SetAll(batch) => all_assigned(alloc, grid, replica, batch.into_cells()),
         Edit::Add(cell, amount) => {
             let state = grid.at(cell);
             check_tally(state, amount)?;
             let tally = state.tally.add(alloc, replica, amount)?;
-            of_cell(alloc, cell, with_tally(alloc, tally))
+            Ok(Delta::of_filled(cell, with_tally(alloc, tally)))
         }
         Edit::Sub(cell, amount) => {
             let state = grid.at(cell);
             check_tally(state, amount)?;
             let tally = state.tally.sub(alloc, replica, amount)?;
-            of_cell(alloc, cell, with_tally(alloc, tally))
+            Ok(Delta::of_filled(cell, with_tally(alloc, tally)))
         }
-        Edit::Choose(cell, option) => {
-            let state = grid.at(cell);
-            check_choice(state, option)?;
-            let choice = state.choice.choose(alloc, replica, option)?;
-            of_cell(alloc, cell, with_choice(alloc, choice))
-        }
-        Edit::Unchoose(cell, option) => {
-            let state = grid.at(cell);
-            check_choice(state, option)?;
-            let choice = state.choice.unchoose(alloc, option)?;
-            of_cell(alloc, cell, with_choice(alloc, choice))
-        }
+        Edit::Choose(cell, option) => chosen(alloc, grid, replica, cell, option),
+        Edit::Unchoose(cell, option) => unchosen(alloc, grid, replica, cell, option),
     }
 }
 
+/// The delta of putting an option into the set of a cell.
+// Not inlined, as `unchosen` and `all_assigned` aren't: more common edits don't clear the room that these want.
+#[inline(never)]
+fn chosen(
+    alloc: Global,
+    grid: &Grid,
+    replica: u8,
+    cell: Cell,
+    option: u64,
+) -> Result<Delta, Refusal>
+    requires { (1 ≤ replica) × (replica ≤ REPLICAS) }
+    ensures made { IfOk result (λ d. delta_of_edit replica (state_at grid.now) (Choose cell option) ≡ Ok d) }
+    ensures delta { IfOk result IsDelta }
+    ensures refused { IfErr result (λ e. (e ≡ Refusal.Memory)
+        ⊎ (delta_of_edit replica (state_at grid.now) (Choose cell option) ≡ Err e)) }
+    ensures asked { IsErrOf result Refusal.Memory
+        → IsOk (delta_of_edit replica (state_at grid.now) (Choose cell option)) }
+{
+    let state = grid.at(cell);
+    check_choice(state, option)?;
+    let choice = state.choice.choose(alloc, replica, option)?;
+    Ok(Delta::of_filled(cell, with_choice(alloc, choice)))
+}
+
+/// The delta of taking an option out of the set of a cell.
+#[inline(never)]
+fn unchosen(
+    alloc: Global,
+    grid: &Grid,
+    replica: u8,
+    cell: Cell,
+    option: u64,
+) -> Result<Delta, Refusal>
+    requires { (1 ≤ replica) × (replica ≤ REPLICAS) }
+    ensures made { IfOk result (λ d. delta_of_edit replica (state_at grid.now) (Unchoose cell option) ≡ Ok d) }
+    ensures delta { IfOk result IsDelta }
+    ensures refused { IfErr result (λ e. (e ≡ Refusal.Memory)
+        ⊎ (delta_of_edit replica (state_at grid.now) (Unchoose cell option) ≡ Err e)) }
+    ensures asked { IsErrOf result Refusal.Memory
+        → IsOk (delta_of_edit replica (state_at grid.now) (Unchoose cell option)) }
+{
+    let state = grid.at(cell);
+    check_choice(state, option)?;
+    let choice = state.choice.unchoose(alloc, option)?;
+    Ok(Delta::of_filled(cell, with_choice(alloc, choice)))
+}
+
 /// The delta of giving cells their contents. All clocks are looked at before anything is allocated.
+#[inline(never)]
 fn all_assigned(
     alloc: Global,
     grid: &Grid,
@@ -97,7 +131,7 @@ fn all_assigned(
         let register = grid.at(cell).register.assign(replica, content)?;
         entries.push((cell, with_register(alloc, register)))?;
     }
-    match Delta::new(entries) {
+    match Delta::new(alloc, entries)? {
         Some(delta) => Ok(delta),
         None => unreachable!(),
     }
@@ -171,19 +205,5 @@ fn with_choice(alloc: Global, choice: Choice) -> CellState
         register: Register::empty(),
         tally: Tally::empty(alloc),
         choice,
-    }
-}
-
-/// The delta of one cell.
-#[inline(always)]
-fn of_cell(alloc: Global, cell: Cell, state: CellState) -> Result<Arc<Delta>, Refusal>
-    requires { state ≢ empty_cell }
-    ensures made { IfOk result (λ d. arc_value d ≡ (cell, state) ∷ []) }
-    ensures delta { IfOk result (λ d. IsDelta (arc_value d)) }
-    ensures memory { IfErr result (λ e. e ≡ Refusal.Memory) }
-{
-    match Delta::of_one(cell, state) {
-        Some(delta) => Ok(Arc::new(alloc, delta)?),
-        None => unreachable!(),
     }
 }

@@ -1,7 +1,6 @@
 //! A change of a sheet that is worked out before it is made.
 
 ghost use Rattle.std.specs.Prelude.{◌≡◌, ◌+◌, ◌⊎◌, IsSomeAnd, IfOk, IfErr, OnErr};
-ghost use Rattle.std.specs.Arc.{arc_value};
 ghost use Rattle.ps_shown.specs.Shown.{shown_at};
 ghost use Rattle.ps_delta.specs.Deltas.{joined_history};
 ghost use Rattle.ps_sheet.specs.Sheet.{IsSheet};
@@ -21,7 +20,6 @@ use ps_value::Value;
 use ps_workers::{Gate, Open};
 use std::alloc::Global;
 use std::marker::Model;
-use std::sync::Arc;
 use std::sync::ledger::Ledger;
 use std::thread::Threads;
 
@@ -135,8 +133,8 @@ impl Prepared {
     /// The change's delta.
     ///
     /// Cost: constant.
-    pub fn delta(&self) -> &Arc<Delta>
-        ensures delta { arc_value result.now ≡ self.now.delta }
+    pub fn delta(&self) -> &Delta
+        ensures delta { result.now ≡ self.now.delta }
         ensures prepared { IsPrepared self.now }
     {
         self.staging.delta()

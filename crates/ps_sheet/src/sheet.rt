@@ -2,7 +2,6 @@
 
 ghost use Rattle.std.specs.Prelude.{◌≡◌, ◌+◌, ◌<◌, ◌≤◌, ◌⊎◌, ◌↔◌, ℕ, List, [], ◌∷◌, ◌++◌, length, map};
 ghost use Rattle.std.specs.Prelude.{IfOk, IfErr, IsOk, IsOkAnd, IsErrOf, OnOk, OnErr};
-ghost use Rattle.std.specs.Arc.{arc_value};
 ghost use Rattle.std.specs.Option.{option_copied, option_map};
 ghost use Rattle.ps_grid.specs.declared.parties.TheConstants.{WORKERS};
 ghost use Rattle.ps_delta.specs.State.{IsBelow, joined_state};
@@ -27,7 +26,6 @@ use ps_value::{Fault, Operand, Value};
 use ps_workers::Open;
 use std::alloc::Global;
 use std::marker::Model;
-use std::sync::Arc;
 use std::sync::ledger::Ledger;
 use std::thread::Threads;
 
@@ -133,6 +131,8 @@ impl Sheet {
     ///
     /// Cost: that of the delta and its join, and of the region: its cells, their references, and the evaluations that
     /// the report counts, which the workers of a wide level share.
+    // Inlined, as what reads a line has the edit at hand, and needs no more of the report than its version.
+    #[inline(always)]
     pub fn edit<R: Threads + Sync, L: Ledger>(
         &mut self,
         rt: &R,
@@ -172,15 +172,15 @@ impl Sheet {
         &mut self,
         rt: &R,
         alloc: Global,
-        delta: Arc<Delta>,
+        delta: Delta,
         meter: &mut Meter<L>,
     ) -> Result<Report, Refusal>
-        ensures taken { OnOk result (Takes (arc_value delta) self.old.history self.new.history) }
+        ensures taken { OnOk result (Takes delta self.old.history self.new.history) }
         ensures joined { OnOk result (joined_history self.new.history
-            ≡ joined_state (joined_history self.old.history) (state_of (arc_value delta))) }
-        ensures below { IsBelow (state_of (arc_value delta)) (joined_history self.old.history)
+            ≡ joined_state (joined_history self.old.history) (state_of delta)) }
+        ensures below { IsBelow (state_of delta) (joined_history self.old.history)
             → IsOk result × (self.new ≡ self.old) × (meter.new ≡ meter.old) }
-        ensures idle { IsBelow (state_of (arc_value delta)) (joined_history self.old.history)
+        ensures idle { IsBelow (state_of delta) (joined_history self.old.history)
             → IfOk result (λ r. (r.evaluated ≡ 0) × (r.cyclic ≡ 0) × (r.levels ≡ 0)) }
         ensures version { IfOk result (λ r. r.version ≡ length self.new.history) }
         ensures report { IfOk result (IsReport (joined_history self.old.history) (joined_history self.new.history)
@@ -222,9 +222,13 @@ impl Sheet {
     {
         // for the fact that it is a sheet (`IsSheet`)
         let _ = self.staging.version();
-        let report = self.staging.stage(rt, &Open, alloc, change, meter)?;
-        self.staging.make();
-        Ok(report)
+        match self.staging.stage(rt, &Open, alloc, change, meter) {
+            Ok(report) => {
+                self.staging.make();
+                Ok(report)
+            }
+            Err(refusal) => Err(refusal),
+        }
     }
 
     /// What a cell shows.
@@ -284,8 +288,8 @@ impl Sheet {
     /// The accepted deltas that changed the state, in the order in which they came.
     ///
     /// Cost: constant.
-    pub fn history(&self) -> &[Arc<Delta>]
-        ensures history { map arc_value result.now ≡ self.now.history }
+    pub fn history(&self) -> &[Delta]
+        ensures history { result.now ≡ self.now.history }
         ensures sheet { IsSheet self.now }
     {
         self.staging.history()

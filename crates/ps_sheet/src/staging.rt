@@ -2,7 +2,6 @@
 
 ghost use Rattle.std.specs.Prelude.{◌≡◌, ◌+◌, ◌≤◌, ◌⊎◌, ◌↔◌, [], ℕ, true, false, is_some, length, map};
 ghost use Rattle.std.specs.Prelude.{None, Ok, Err, IfOk, IfErr, IsErrOf, IsOk, IsSomeAnd, IsTrue, OnOk, OnErr};
-ghost use Rattle.std.specs.Arc.{arc_value};
 ghost use Rattle.std.specs.Option.{option_copied, option_map};
 ghost use Rattle.ps_grid.specs.declared.parties.TheConstants.{WORKERS};
 ghost use Rattle.ps_shown.specs.Shown.{shown_at};
@@ -30,7 +29,6 @@ use ps_value::Value;
 use ps_workers::Gate;
 use std::alloc::Global;
 use std::marker::Model;
-use std::sync::Arc;
 use std::sync::ledger::Ledger;
 use std::thread::Threads;
 
@@ -42,7 +40,7 @@ use std::thread::Threads;
 pub struct Staging {
     replica: u8,
     /// the accepted deltas that changed the state, without that of the staged change, for which there is room
-    history: Vec<Arc<Delta>>,
+    history: Vec<Delta>,
     /// what follows from them and from the staged change
     cells: Cells,
     /// the staged change; where its delta is below the state, nothing is staged in the cells
@@ -52,7 +50,7 @@ pub struct Staging {
 /// The delta of a staged change, and its report.
 #[derive(Drop)]
 pub(crate) struct Staged {
-    delta: Arc<Delta>,
+    delta: Delta,
     report: Report,
 }
 
@@ -152,10 +150,10 @@ impl Staging {
         ensures unmetered { OnErr result (meter.new ≡ meter.old) }
     {
         match change {
-            Change::Edit(edit) => {
-                let delta = self.edit_delta(alloc, edit)?;
-                self.stage_fresh(rt, gate, alloc, delta, meter)
-            }
+            Change::Edit(edit) => match self.edit_delta(alloc, edit) {
+                Ok(delta) => self.stage_fresh(rt, gate, alloc, delta, meter),
+                Err(refusal) => Err(refusal),
+            },
             Change::Delta(delta) => self.stage_delta(rt, gate, alloc, delta, meter),
         }
     }
@@ -166,20 +164,20 @@ impl Staging {
         rt: &R,
         gate: &G,
         alloc: Global,
-        delta: Arc<Delta>,
+        delta: Delta,
         meter: &mut Meter<L>,
     ) -> Result<Report, Refusal>
         requires none { self.old.staged ≡ None }
         ensures staged { IfOk result (λ r. Stages self.old self.new r) }
-        ensures delta { OnOk result (IsSomeAnd self.new.staged (λ p. p.delta ≡ arc_value delta)) }
+        ensures delta { OnOk result (IsSomeAnd self.new.staged (λ p. p.delta ≡ delta)) }
         ensures fresh { OnOk result (IsSomeAnd self.new.staged
-            (λ p. ¬ IsBelow (state_of (arc_value delta)) (joined_history self.old.history) → p.fresh ≡ true)) }
+            (λ p. ¬ IsBelow (state_of delta) (joined_history self.old.history) → p.fresh ≡ true)) }
         ensures idle { IfOk result (λ r. IsSomeAnd self.new.staged
             (λ p. p.fresh ≡ false → IsIdle (sheet_of self.old) (sheet_of self.new) r)) }
         ensures metered { IfOk result (λ r. meter.new ≡ meter.old + r.evaluated) }
         ensures kept { OnErr result (self.new ≡ self.old) }
         ensures memory { IfErr result (λ e. e ≡ Refusal.Memory) }
-        ensures asked { IfErr result (λ e. ¬ IsBelow (state_of (arc_value delta)) (joined_history self.old.history)) }
+        ensures asked { IfErr result (λ e. ¬ IsBelow (state_of delta) (joined_history self.old.history)) }
         ensures unmetered { OnErr result (meter.new ≡ meter.old) }
     {
         if self.covers(&delta) {
@@ -189,18 +187,19 @@ impl Staging {
     }
 
     /// Stages a delta that isn't below the state.
+    #[inline(always)]
     fn stage_fresh<R: Threads + Sync, G: Gate, L: Ledger>(
         &mut self,
         rt: &R,
         gate: &G,
         alloc: Global,
-        delta: Arc<Delta>,
+        delta: Delta,
         meter: &mut Meter<L>,
     ) -> Result<Report, Refusal>
         requires none { self.old.staged ≡ None }
-        requires fresh { ¬ IsBelow (state_of (arc_value delta)) (joined_history self.old.history) }
+        requires fresh { ¬ IsBelow (state_of delta) (joined_history self.old.history) }
         ensures staged { IfOk result (λ r. Stages self.old self.new r) }
-        ensures delta { OnOk result (IsSomeAnd self.new.staged (λ p. p.delta ≡ arc_value delta)) }
+        ensures delta { OnOk result (IsSomeAnd self.new.staged (λ p. p.delta ≡ delta)) }
         ensures fresh { OnOk result (IsSomeAnd self.new.staged (λ p. p.fresh ≡ true)) }
         ensures metered { IfOk result (λ r. meter.new ≡ meter.old + r.evaluated) }
         ensures kept { OnErr result (self.new ≡ self.old) }
@@ -215,11 +214,11 @@ impl Staging {
     }
 
     /// Stages a delta below the state, which changes nothing.
-    fn stage_idle(&mut self, delta: Arc<Delta>) -> Report
+    fn stage_idle(&mut self, delta: Delta) -> Report
         requires none { self.old.staged ≡ None }
-        requires below { IsBelow (state_of (arc_value delta)) (joined_history self.old.history) }
+        requires below { IsBelow (state_of delta) (joined_history self.old.history) }
         ensures staged { Stages self.old self.new result }
-        ensures delta { IsSomeAnd self.new.staged (λ p. p.delta ≡ arc_value delta) }
+        ensures delta { IsSomeAnd self.new.staged (λ p. p.delta ≡ delta) }
         ensures idle { IsIdle (sheet_of self.old) (sheet_of self.new) result }
     {
         let report = Report::of(self.history.len() as u64, Work::none());
@@ -229,11 +228,11 @@ impl Staging {
 
     /// The delta of an edit over the sheet.
     #[inline(always)]
-    fn edit_delta(&self, alloc: Global, edit: Edit) -> Result<Arc<Delta>, Refusal>
+    fn edit_delta(&self, alloc: Global, edit: Edit) -> Result<Delta, Refusal>
         requires none { self.now.staged ≡ None }
         ensures made { IfOk result (λ d. delta_of_edit self.now.replica (joined_history self.now.history) edit
-            ≡ Ok (arc_value d)) }
-        ensures fresh { IfOk result (λ d. ¬ IsBelow (state_of (arc_value d)) (joined_history self.now.history)) }
+            ≡ Ok d) }
+        ensures fresh { IfOk result (λ d. ¬ IsBelow (state_of d) (joined_history self.now.history)) }
         ensures refused { IfErr result (λ e. (e ≡ Refusal.Memory)
             ⊎ (delta_of_edit self.now.replica (joined_history self.now.history) edit ≡ Err e)) }
         ensures asked { IsErrOf result Refusal.Memory
@@ -367,9 +366,9 @@ impl Staging {
     /// The delta of the staged change.
     ///
     /// Cost: constant.
-    pub fn delta(&self) -> &Arc<Delta>
+    pub fn delta(&self) -> &Delta
         requires staged { is_some self.now.staged ≡ true }
-        ensures delta { IsSomeAnd self.now.staged (λ p. arc_value result.now ≡ p.delta) }
+        ensures delta { IsSomeAnd self.now.staged (λ p. result.now ≡ p.delta) }
         ensures staging { IsStaging self.now }
     {
         let Some(staged) = &self.staged else {
@@ -435,8 +434,8 @@ impl Staging {
     /// The accepted deltas that changed the state, in the order in which they came, without that of the staged change.
     ///
     /// Cost: constant.
-    pub fn history(&self) -> &[Arc<Delta>]
-        ensures history { map arc_value result.now ≡ self.now.history }
+    pub fn history(&self) -> &[Delta]
+        ensures history { result.now ≡ self.now.history }
         ensures staging { IsStaging self.now }
     {
         &self.history

@@ -15,7 +15,7 @@ use crate::fault::SquashFault;
 use ps_delta::Grid;
 use ps_device::{PIECE_BYTES, Source};
 use ps_grid::Refusal;
-use ps_session::{KeptLine, Line, Session, SharedDelta, read_kept_line};
+use ps_session::{KeptLine, Line, Session, read_kept_line};
 use ps_wire::Decoder;
 use std::alloc::Global;
 
@@ -48,10 +48,7 @@ fn read_line(alloc: Global, decoder: &mut Decoder, line: &[u8]) -> Result<Option
         return Ok(None);
     }
     match read_kept_line(alloc, decoder, line)? {
-        None => {
-            let delta = SharedDelta::new(alloc, decoder.decode(alloc, line)?)?;
-            Ok(Some(KeptLine::Push(delta)))
-        }
+        None => Ok(Some(KeptLine::Push(decoder.decode(alloc, line)?))),
         said => Ok(said),
     }
 }
@@ -74,7 +71,7 @@ fn join_line(
         None => Ok(None),
         Some(KeptLine::Replica(replica)) => Ok(Some(replica)),
         Some(KeptLine::Push(delta)) => {
-            state.join(alloc, &delta.owner())?;
+            state.join(alloc, &delta)?;
             Ok(None)
         }
     }

@@ -92,7 +92,8 @@ fn delta_of(alloc: Global, entries: &[(Cell, CellState)]) -> Result<Delta, Refus
     for entry in entries {
         cells.push((entry.0, entry.1.twin(alloc)?))?;
     }
-    Ok(Delta::new(cells).unwrap())
+    let delta = Delta::new(alloc, cells)?;
+    Ok(delta.unwrap())
 }
 
 /// Appends the lines that push the cells, whose texts are so long: each has as many cells as it can.

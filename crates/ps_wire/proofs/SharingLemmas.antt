@@ -4,7 +4,7 @@ use Rattle.std.proofs.Common.{◌∙◌, arith, Bool, true, false, cond, if◌th
 use Rattle.std.proofs.Common.{map, length, take, get_or, set, ◌++◌, length-append}
 use Rattle.std.proofs.lemmas.Bool.{cases_eq}
 use Rattle.std.proofs.lemmas.List.{get_or-set_other, get_or-set_same, get_or-take, get_or_default, length-take-le}
-use Rattle.std.proofs.lemmas.List.{length-set, take-append-le, take-map, take-take, take_all}
+use Rattle.std.proofs.lemmas.List.{length-set, take-append-le, take-take, take_all}
 use Rattle.std.proofs.lemmas.List.Elements.{All-head, All-more, All-nil, All-tail, All-take}
 use Rattle.std.proofs.lemmas.List.Sums.{sum_by-cons}
 use Rattle.std.specs.Prelude.{nat_lt, sum_by, Contains}
@@ -263,11 +263,6 @@ module _ (floors : List ℕ) (c : ℕ) where
         sum_by-cons (floor_at (set floors c 0)) b cs,
         sum_by-cons (floor_at floors) b cs,
       )
-
--- the first so many of some, joined
-pub first_of : {X : Type 0} (f : X → Entries) (xs : List X) (k count : ℕ) → k ≤ count
-    → take k (map f (take count xs)) ≡ take k (map f xs)
-first_of f xs k count le = ap (take k) (sym (take-map f count xs)) ∙ take-take k count (map f xs) le
 
 -- ---- one more
 

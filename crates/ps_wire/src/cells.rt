@@ -58,7 +58,8 @@ pub(crate) fn read_delta(alloc: Global, reader: &mut Reader<'_>) -> Result<Delta
         return Delta::of_one(cell, state).ok_or(Refusal::Delta);
     }
     let cells = read_cells(alloc, reader, (cell, state))?;
-    Delta::new(cells).ok_or(Refusal::Delta)
+    let made = Delta::new(alloc, cells)?;
+    made.ok_or(Refusal::Delta)
 }
 
 /// Takes what an array of cells has after its first one, and the bracket that closes it; all cells, the first one too.

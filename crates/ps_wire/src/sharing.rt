@@ -3,7 +3,6 @@
 ghost use Rattle.std.specs.Prelude.{◌≡◌, ◌↔◌, ℕ, ◌+◌, ◌-◌, ◌<◌, ◌≤◌, None, IsTrue, IfOk, IfErr, IfSome, length, map};
 ghost use Rattle.std.specs.Prelude.{sum_by, take};
 ghost use Rattle.std.specs.List.{All};
-ghost use Rattle.std.specs.Arc.{arc_value};
 ghost use Rattle.ps_grid.specs.declared.size.TheConstants.{CELLS};
 ghost use Rattle.ps_wire.specs.Inside.{AreAbove, AreFloors, AreListed, Overspends, Spends, cell_floor, floor_at};
 ghost use Rattle.ps_wire.specs.Length.{HasNoLine};
@@ -14,7 +13,6 @@ use crate::length::unescaped_size;
 use ps_delta::{CellState, Delta};
 use ps_grid::{CELLS, Cell, Refusal};
 use std::alloc::Global;
-use std::sync::Arc;
 
 /// The contents of so many cells always have room in one line, where no byte is escaped.
 const FEW_CELLS: usize = 512;
@@ -26,11 +24,11 @@ const FEW_CELLS: usize = 512;
 ///
 /// Cost: the cells of the deltas and of the grid, and memory for the grid's; for one delta, and for deltas of few
 /// cells, their number.
-pub fn may_share_line(alloc: Global, deltas: &[Arc<Delta>], most: usize) -> Result<usize, Refusal>
+pub fn may_share_line(alloc: Global, deltas: &[Delta], most: usize) -> Result<usize, Refusal>
     ensures most { IfOk result (λ n. n ≤ most) }
     ensures within { IfOk result (λ n. n ≤ length deltas.now) }
     ensures more { IfOk result (λ n. (k : ℕ) → n < k → k ≤ most → k ≤ length deltas.now
-        → HasNoLine (take k (map arc_value deltas.now))) }
+        → HasNoLine (take k deltas.now)) }
     ensures memory { IfErr result (λ e. e ≡ Refusal.Memory) }
 {
     let count = most.min(deltas.len());
@@ -43,8 +41,8 @@ pub fn may_share_line(alloc: Global, deltas: &[Arc<Delta>], most: usize) -> Resu
 }
 
 /// Whether the deltas have more than so many cells, where one counts as often as it comes.
-fn have_more_cells(deltas: &[Arc<Delta>], most: usize) -> bool
-    ensures { IsTrue result ↔ (most < sum_by (λ d. length (arc_value d)) deltas.now) }
+fn have_more_cells(deltas: &[Delta], most: usize) -> bool
+    ensures { IsTrue result ↔ (most < sum_by length deltas.now) }
 {
     let mut left = most;
     for delta in deltas {
@@ -57,9 +55,9 @@ fn have_more_cells(deltas: &[Arc<Delta>], most: usize) -> bool
 }
 
 /// For each cell of the grid the least that any of the deltas takes for its content.
-fn floors_of(alloc: Global, deltas: &[Arc<Delta>]) -> Result<Vec<usize>, Refusal>
+fn floors_of(alloc: Global, deltas: &[Delta]) -> Result<Vec<usize>, Refusal>
     ensures whole { IfOk result (λ floors. length floors.items ≡ CELLS) }
-    ensures floors { IfOk result (λ floors. AreFloors floors.items (map arc_value deltas.now)) }
+    ensures floors { IfOk result (λ floors. AreFloors floors.items deltas.now) }
     ensures memory { IfErr result (λ e. e ≡ Refusal.Memory) }
 {
     let mut floors = vec![in alloc; usize::MAX; CELLS]?;
@@ -91,11 +89,11 @@ fn cell_floor(state: &CellState) -> usize
 }
 
 /// How many of the deltas a line has room for, by the floors of their cells, which it takes away.
-fn room_for(deltas: &[Arc<Delta>], floors: &mut [usize]) -> usize
+fn room_for(deltas: &[Delta], floors: &mut [usize]) -> usize
     requires whole { length floors.old ≡ CELLS }
     ensures within { result ≤ length deltas.now }
     ensures more { result < length deltas.now
-        → Overspends (λ listed. All (AreListed listed) (take (result + 1) (map arc_value deltas.now))) floors.old
+        → Overspends (λ listed. All (AreListed listed) (take (result + 1) deltas.now)) floors.old
         (DELTA_LINE_LIMIT - 1) }
 {
     let mut left = DELTA_LINE_LIMIT - 1;

@@ -1,6 +1,6 @@
 -- Worlds, one event further.
 use Rattle.std.proofs.Common.{◌≡◌, ◌≢◌, ℕ, zero, suc, ◌+◌, ◌-◌, ◌<◌, ◌≤◌, Bool, true, false, cond, ◌⊎◌, ⊎_elim}
-use Rattle.std.proofs.Common.{◌&&◌, ◌||◌, eqb, List, [], ◌∷◌, ◌++◌, length, map, refl, sym, ap, subst, ◌∙◌, arith}
+use Rattle.std.proofs.Common.{◌&&◌, ◌||◌, eqb, List, [], ◌∷◌, ◌++◌, length, refl, sym, ap, subst, ◌∙◌, arith}
 use Rattle.std.proofs.Common.{inl, inr, Option, Some, None, Result, Ok, Err, length-append}
 use Rattle.std.specs.Prelude.{slice_get}
 use Rattle.std.specs.Result.{IsOkAnd}
@@ -34,9 +34,9 @@ use Rattle.ps_cells.specs.Settled.{IsSettled}
 use Rattle.ps_sheet.proofs.AcceptedRuns.{same_shown}
 use Rattle.ps_world.proofs.PickedJoins.{picked-append, joined_more}
 
--- the world of these deltas, whatever they are kept as, and these replicas
-abbrev pub viewed : {X : Type 0} → (X → Entries) → List X → List ReplicaView → WorldView
-viewed f deltas replicas = record { deltas = map f deltas; replicas = replicas }
+-- the world of these deltas and these replicas
+abbrev pub viewed : List Entries → List ReplicaView → WorldView
+viewed deltas replicas = record { deltas = deltas; replicas = replicas }
 
 -- the last of a list with one more at its end
 get_seam : {X : Type 0} (h : List X) (d : X) → slice_get (h ++ d ∷ []) (length h) ≡ Some d

@@ -2,7 +2,6 @@
 use Rattle.std.specs.Prelude.{ℕ, ◌+◌, Bool, false, ◌&&◌, ◌||◌, ◌==◌, nat_le, if◌then◌else◌}
 use Rattle.std.specs.Prelude.{List, [], ◌∷◌, ◌++◌, length, map, filter, fold, Result, Ok, Err}
 use Rattle.std.specs.List.{enumerate_from}
-use Rattle.std.specs.Arc.{arc_value}
 use Rattle.ps_grid.specs.declared.refusal.Refusal.{Refusal}
 use Rattle.ps_delta.specs.State.{State}
 use Rattle.ps_delta.specs.Deltas.{Entries, joined_history}
@@ -55,7 +54,7 @@ is_up_to n k = nat_le 1 k && nat_le k n
 -- the world of n replicas after one event; one that names an unknown replica or an unknown delta changes nothing
 abbrev pub after : ℕ → WorldState → Event → WorldState
 after n w (Edit r e) = if is_up_to n r then after_edit w r (delta_of_edit r (joined_of w r) e) else w
-after n w (Foreign d) = with_delta w (arc_value d)
+after n w (Foreign d) = with_delta w d
 after n w (Deliver r k) = if is_up_to n r && is_up_to (length w.deltas) k then with_taken w r k else w
 
 -- the world of n replicas after a list of events

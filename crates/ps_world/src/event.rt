@@ -2,7 +2,6 @@
 
 use ps_delta::Delta;
 use ps_sheet::Edit;
-use std::sync::Arc;
 
 /// One step of a world. Replicas and deltas are counted from 1, deltas in the order in which they were made or added.
 #[derive(Drop)]
@@ -10,7 +9,7 @@ pub enum Event {
     /// An edit at a replica. Its delta gets the next number and is taken there; a refused edit changes nothing.
     Edit(u8, Edit),
     /// The delta of an untrusted peer, whatever its stamps. It gets the next number, and no replica takes it yet.
-    Foreign(Arc<Delta>),
+    Foreign(Delta),
     /// A replica receives the delta with a number, whenever and however often.
     Deliver(u8, usize),
 }

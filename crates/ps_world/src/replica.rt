@@ -4,19 +4,17 @@ ghost use Rattle.std.specs.Prelude.{◌≡◌, ◌-◌, ◌<◌, ◌≤◌, leng
 ghost use Rattle.std.specs.Prelude.{IfOk, IfErr, OnOk, IfSome, IfNone, IsErr, Ok, Some};
 ghost use Rattle.std.specs.Ordering.{nat_cmp};
 ghost use Rattle.std.specs.BTreeSet.{Updates};
-ghost use Rattle.std.specs.Arc.{arc_value};
 ghost use Rattle.ps_grid.specs.declared.refusal.Refusal.{Refusal};
 ghost use Rattle.ps_delta.specs.State.{joined_state};
 ghost use Rattle.ps_delta.specs.Deltas.{joined_history, state_of};
 
 use ps_delta::Delta;
 use ps_eval::Meter;
-use ps_grid::{REPLICAS, Refusal};
+use ps_grid::{REPLICAS, Refusal, Twin};
 use ps_sheet::{Edit, Sheet};
 use std::alloc::Global;
 use std::collections::BTreeSet;
 use std::marker::Model;
-use std::sync::Arc;
 use std::sync::ledger::Ledger;
 use std::thread::Threads;
 
@@ -68,12 +66,12 @@ impl Replica {
         number: usize,
         edit: Edit,
         meter: &mut Meter<L>,
-    ) -> Result<Option<Arc<Delta>>, Refusal>
+    ) -> Result<Option<Delta>, Refusal>
         ensures made { IfOk result (λ o. IfSome o (λ d.
-            delta_of_edit self.old.sheet.replica (joined_history self.old.sheet.history) edit ≡ Ok (arc_value d))) }
+            delta_of_edit self.old.sheet.replica (joined_history self.old.sheet.history) edit ≡ Ok d)) }
         ensures joined { IfOk result (λ o. IfSome o (λ d.
             joined_history self.new.sheet.history
-            ≡ joined_state (joined_history self.old.sheet.history) (state_of (arc_value d)))) }
+            ≡ joined_state (joined_history self.old.sheet.history) (state_of d))) }
         ensures taken { IfOk result (λ o. IfSome o (λ _. Updates nat_cmp self.old.taken self.new.taken number true)) }
         ensures refused { IfOk result (λ o. IfNone o
             (IsErr (delta_of_edit self.old.sheet.replica (joined_history self.old.sheet.history) edit))) }
@@ -88,7 +86,7 @@ impl Replica {
             Err(_) => return Ok(None),
         }
         self.taken.insert(number)?;
-        Ok(Some(newest(&self.sheet)?))
+        Ok(Some(newest(alloc, &self.sheet)?))
     }
 
     /// Receives a delta and takes it with its number. Refused only when out of memory.
@@ -97,11 +95,11 @@ impl Replica {
         rt: &R,
         alloc: Global,
         number: usize,
-        delta: Arc<Delta>,
+        delta: Delta,
         meter: &mut Meter<L>,
     ) -> Result<(), Refusal>
         ensures joined { OnOk result (joined_history self.new.sheet.history
-            ≡ joined_state (joined_history self.old.sheet.history) (state_of (arc_value delta))) }
+            ≡ joined_state (joined_history self.old.sheet.history) (state_of delta)) }
         ensures taken { OnOk result (Updates nat_cmp self.old.taken self.new.taken number true) }
         ensures replica { self.new.sheet.replica ≡ self.old.sheet.replica }
         ensures sheet { OnOk result (IsSheet self.new.sheet) }
@@ -128,13 +126,13 @@ impl Replica {
 }
 
 /// The last delta of a history that has one.
-fn newest(sheet: &Sheet) -> Result<Arc<Delta>, Refusal>
+fn newest(alloc: Global, sheet: &Sheet) -> Result<Delta, Refusal>
     requires { 0 < length sheet.now.history }
-    ensures newest { let h = sheet.now.history in IfOk result (λ d. slice_get h (length h - 1) ≡ Some (arc_value d)) }
+    ensures newest { let h = sheet.now.history in IfOk result (λ d. slice_get h (length h - 1) ≡ Some d) }
     ensures memory { IfErr result (λ e. e ≡ Refusal.Memory) }
 {
     match sheet.history().last() {
-        Some(delta) => Ok(delta.clone()?),
+        Some(delta) => delta.twin(alloc),
         None => unreachable!(),
     }
 }

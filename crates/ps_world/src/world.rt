@@ -11,12 +11,11 @@ use crate::event::Event;
 use crate::replica::Replica;
 use ps_delta::Delta;
 use ps_eval::Meter;
-use ps_grid::{REPLICAS, Refusal};
+use ps_grid::{REPLICAS, Refusal, Twin};
 use ps_sheet::{Edit, Sheet};
 use std::alloc::Global;
 use std::collections::BTreeSet;
 use std::marker::Model;
-use std::sync::Arc;
 use std::sync::ledger::Ledger;
 use std::thread::Threads;
 
@@ -26,13 +25,12 @@ use std::thread::Threads;
 #[derive(Drop)]
 pub struct World {
     /// in the order of their numbers
-    deltas: Vec<Arc<Delta>>,
+    deltas: Vec<Delta>,
     replicas: Vec<Replica>,
 }
 
 impl Model for World {
     ghost use Rattle.std.specs.Prelude.{map};
-    ghost use Rattle.std.specs.Arc.{arc_value};
     ghost use Rattle.ps_world.specs.Replicas.{WorldView};
 
     ghost Value = { WorldView };
@@ -41,11 +39,11 @@ impl Model for World {
 
     ghost coded = { world_code };
 
-    ghost view = { λ w. record { deltas = map arc_value w.deltas.items; replicas = w.replicas.items } };
+    ghost view = { λ w. record { deltas = w.deltas.items; replicas = w.replicas.items } };
 
     ghost use Rattle.ps_world.specs.Replicas.{IsWorld};
 
-    ghost invariant = { λ w. IsWorld (record { deltas = map arc_value w.deltas.items; replicas = w.replicas.items }) };
+    ghost invariant = { λ w. IsWorld (record { deltas = w.deltas.items; replicas = w.replicas.items }) };
 }
 
 impl World {
@@ -119,7 +117,7 @@ impl World {
     }
 
     /// Adds the delta of an untrusted peer.
-    fn add(self, delta: Arc<Delta>) -> Result<World, Refusal>
+    fn add(self, delta: Delta) -> Result<World, Refusal>
         ensures follows { IfOk result (IsAfter (Event.Foreign delta) self) }
         ensures memory { IfErr result (λ e. e ≡ Refusal.Memory) }
     {
@@ -153,7 +151,7 @@ impl World {
             deltas,
             mut replicas,
         } = self;
-        let delta = deltas[sent].clone()?;
+        let delta = deltas[sent].twin(alloc)?;
         let taker = &mut replicas[place];
         taker.take(rt, alloc, number, delta, meter)?;
         Ok(World { deltas, replicas })

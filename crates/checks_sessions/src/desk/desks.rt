@@ -7,13 +7,13 @@ use ps_content::read_entry;
 use ps_delta::Delta;
 use ps_desk::{Desk, DeskName, Parts, Pass, Receipt};
 use ps_eval::Meter;
-use ps_grid::{Cell, Refusal};
+use ps_grid::{Cell, Refusal, Twin};
 use ps_sheet::{Change, Edit, Sheet};
 use std::alloc::Global;
 use std::marker::Brand;
 use std::process::Abort;
+use std::sync::Wait;
 use std::sync::ledger::{Blank, Ledger};
-use std::sync::{Arc, Wait};
 use std::thread::Threads;
 
 pub(crate) fn cell(rt: &impl Abort, name: &str) -> Cell {
@@ -122,7 +122,7 @@ pub(crate) fn sheet_of<T: Abort + Threads + Sync>(
 }
 
 /// The last delta of a sheet.
-pub(crate) fn last(rt: &impl Abort, sheet: &Sheet) -> Arc<Delta> {
+pub(crate) fn last(rt: &impl Abort, alloc: Global, sheet: &Sheet) -> Delta {
     let delta = sheet.history().last().expect(rt, "a delta");
-    delta.clone().ok().expect(rt, "the delta once more")
+    delta.twin(alloc).ok().expect(rt, "the delta once more")
 }

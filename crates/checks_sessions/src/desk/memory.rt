@@ -16,7 +16,7 @@ use ps_wire::decode;
 use std::alloc::Global;
 use std::marker::Brand;
 use std::process::Abort;
-use std::sync::{Arc, Wait};
+use std::sync::Wait;
 use std::thread::Threads;
 
 /// What is asked of a desk.
@@ -83,8 +83,7 @@ fn change_of(rt: &impl Abort, alloc: Global, name: &str, entry: &str) -> Result<
 }
 
 fn received(alloc: Global, line: &str) -> Result<Change, Refusal> {
-    let delta = decode(alloc, line.as_bytes())?;
-    Ok(Change::Delta(Arc::new(alloc, delta)?))
+    Ok(Change::Delta(decode(alloc, line.as_bytes())?))
 }
 
 /// Asks one thing of a desk.

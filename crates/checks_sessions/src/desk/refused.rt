@@ -14,7 +14,7 @@ use ps_wire::decode;
 use std::alloc::Global;
 use std::marker::Brand;
 use std::process::Abort;
-use std::sync::{Arc, Wait};
+use std::sync::Wait;
 use std::thread::Threads;
 
 /// What is asked of a cell.
@@ -42,13 +42,12 @@ static REFUSED: [(&str, Asked, Refusal); 9] = [
 
 /// The delta of a full tally, a choice without a sequence left, and a register without a time left. Its line is written
 /// by FORMATS.
-fn full(rt: &impl Abort, alloc: Global) -> Arc<Delta> {
+fn full(rt: &impl Abort, alloc: Global) -> Delta {
     let line = format!(in alloc;
         "[[\"A1\",null,[[1,{COUNT_LIMIT},7]],[]],[\"B1\",null,[],[[5,1,256,0]]],[\"C1\",[{LAST_TIME},2,\"1\"],[],[]]]"
     );
     let line = line.ok().expect(rt, "room");
-    let delta = decode(alloc, line.as_bytes()).ok().expect(rt, "a delta");
-    Arc::new(alloc, delta).ok().expect(rt, "room")
+    decode(alloc, line.as_bytes()).ok().expect(rt, "a delta")
 }
 
 /// The edit that asks this of a cell.

@@ -6,13 +6,13 @@ use crate::desk::desks::{cell, close, entered, last, make, open, sheet_of};
 use Asked::{Count, Enter, Pull, Read, ReadAll, Receive};
 use ps_delta::Delta;
 use ps_desk::{Desk, DeskName, Parts, Pass, Receipt};
-use ps_grid::{CELLS, Refusal};
+use ps_grid::{CELLS, Refusal, Twin};
 use ps_sheet::{Change, Sheet};
 use ps_value::Value;
 use std::alloc::Global;
 use std::marker::Brand;
 use std::process::Abort;
-use std::sync::{Arc, Wait};
+use std::sync::Wait;
 use std::thread::Threads;
 
 /// What is asked of a seat, and what it answers.
@@ -76,7 +76,7 @@ fn answers<L: DeskName, W: Wait + Drop, T: Abort + Threads + Wait + Sync>(
     alloc: Global,
     desk: &Desk<L, W>,
     pass: &mut Pass<L>,
-    delta: &Arc<Delta>,
+    delta: &Delta,
     asked: &Asked,
 ) -> bool {
     match asked {
@@ -85,7 +85,7 @@ fn answers<L: DeskName, W: Wait + Drop, T: Abort + Threads + Wait + Sync>(
             place(make(rt, alloc, desk, pass, change)) == (*number, true)
         }
         Receive(number, fresh) => {
-            let again = delta.clone().ok().expect(rt, "the delta once more");
+            let again = delta.twin(alloc).ok().expect(rt, "the delta once more");
             place(make(rt, alloc, desk, pass, Change::Delta(again))) == (*number, *fresh)
         }
         Pull(from, at_most, due) => pull(rt, alloc, desk, pass, *from, *at_most) == *due,
@@ -101,7 +101,7 @@ fn go_through<L: DeskName, W: Wait + Drop, T: Abort + Threads + Wait + Sync>(
     alloc: Global,
     desk: &Desk<L, W>,
     passes: &mut [Pass<L>],
-    delta: &Arc<Delta>,
+    delta: &Delta,
     steps: &[(usize, Asked)],
 ) {
     for (at, (seat, asked)) in steps.iter().enumerate() {
@@ -119,7 +119,7 @@ fn life<L: DeskName, T: Abort + Threads + Wait + Sync>(
     rt: &T,
     alloc: Global,
     parts: Parts,
-    delta: &Arc<Delta>,
+    delta: &Delta,
     steps: &[(usize, Asked)],
 ) -> Sheet
     requires named { IsNamed L.name L.parts L.book L.opening L.replica parts }
@@ -137,7 +137,7 @@ fn after<T: Abort + Threads + Wait + Sync>(
     steps: &[(usize, Asked)],
     name: &str,
 ) -> (u64, Value) {
-    let delta = last(rt, &sheet_of(rt, alloc, 2, &[("A1", "5")]));
+    let delta = last(rt, alloc, &sheet_of(rt, alloc, 2, &[("A1", "5")]));
     let sheet = life::<Brand, T>(rt, alloc, parts, &delta, steps);
     (sheet.version(), sheet.shown(cell(rt, name)))
 }

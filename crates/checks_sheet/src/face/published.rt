@@ -9,7 +9,7 @@ ghost use Rattle.ps_face.specs.Values.{valued};
 
 use ps_eval::Meter;
 use ps_face::{FaceReader, FaceWriter, Named, NewBook, Patch};
-use ps_grid::{Cell, Refusal};
+use ps_grid::{Cell, Refusal, Twin};
 use ps_sheet::{Change, Edit, Prepared, Sheet};
 use ps_shown::Kept;
 use ps_value::{SharedLabel, Value};
@@ -91,7 +91,10 @@ fn patch_of(rt: &impl Abort, alloc: Global, prepared: &Prepared) -> Result<Patch
     ensures after { IfOk result (λ p. history_after prepared.now ≡ prepared.now.history ++ p.delta ∷ []) }
 {
     assert!(rt; prepared.fresh());
-    let delta = prepared.delta().clone().expect(rt, "the delta once more");
+    let delta = prepared
+        .delta()
+        .twin(alloc)
+        .expect(rt, "the delta once more");
     let changes = keep_all(alloc, prepared.changes())?;
     Ok(Patch::new(prepared.report().version, delta, changes, 1))
 }

@@ -18,7 +18,6 @@ use ps_value::{Fault, Value};
 use ps_workers::Open;
 use std::alloc::Global;
 use std::process::Abort;
-use std::sync::Arc;
 use std::thread::Threads;
 
 /// Whether two sheets answer the same about a cell.
@@ -140,7 +139,7 @@ fn try_delta<R: Abort + Threads + Sync>(
     rt: &R,
     alloc: Global,
     slot: &mut Option<Sheet>,
-    delta: Arc<Delta>,
+    delta: Delta,
     is_fresh: bool,
     is_made: bool,
 ) -> Report {

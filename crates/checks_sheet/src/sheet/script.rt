@@ -19,7 +19,6 @@ use ps_value::{Fault, Label, Value};
 use std::alloc::Global;
 use std::marker::Brand;
 use std::process::Abort;
-use std::sync::Arc;
 use std::sync::ledger::{Blank, Ledger};
 use std::thread::Threads;
 
@@ -126,7 +125,7 @@ fn received<L: Ledger, R: Threads + Sync>(
     blank: Blank,
     alloc: Global,
     sheet: &mut Sheet,
-    delta: Arc<Delta>,
+    delta: Delta,
 ) -> Result<Report, Refusal>
     requires { IsBlankOf blank L.name L.parts }
 {
@@ -147,7 +146,7 @@ pub(crate) fn take<R: Threads + Sync>(
     rt: &R,
     alloc: Global,
     sheet: &mut Sheet,
-    delta: Arc<Delta>,
+    delta: Delta,
 ) -> Result<Report, Refusal> {
     received::<Brand, R>(rt, Blank::new(1), alloc, sheet, delta)
 }
@@ -307,10 +306,10 @@ pub(crate) fn delta_of(
     rt: &impl Abort,
     alloc: Global,
     parts: &[(&str, Part)],
-) -> Result<Arc<Delta>, Refusal> {
+) -> Result<Delta, Refusal> {
     let mut cells = Vec::new(alloc);
     add_parts(rt, alloc, &mut cells, parts)?;
-    Ok(Arc::new(alloc, Delta::new(cells).expect(rt, "a delta"))?)
+    Ok(Delta::new(alloc, cells)?.expect(rt, "a delta"))
 }
 
 /// The value that is seen.

@@ -12,7 +12,6 @@ use ps_grid::Refusal;
 use ps_lattice::Join;
 use std::alloc::Global;
 use std::process::Abort;
-use std::sync::Arc;
 
 /// Joins a delta, by a second call where the first one is refused. Whether that refusal was `Memory` and left each cell
 /// as it is in the twin.
@@ -66,7 +65,7 @@ fn refused_join(rt: HostRuntime) {
 }
 
 /// The join of the deltas, by a second call where the first one is refused memory.
-fn joined_again(rt: &impl Abort, alloc: Global, deltas: &[Arc<Delta>]) -> Result<Delta, Refusal> {
+fn joined_again(rt: &impl Abort, alloc: Global, deltas: &[Delta]) -> Result<Delta, Refusal> {
     match joined(rt, alloc, deltas) {
         Err(Refusal::Memory) => joined(rt, alloc, deltas),
         answer => answer,

@@ -1,8 +1,7 @@
 -- What a sheet with a staged change keeps beside what contracts see, and what the sheet and the prepared change make of
 -- it.
-use Rattle.std.specs.Prelude.{◌≡◌, ◌≤◌, ◌<◌, true, false, Option, Some, None, is_some, [], ◌∷◌, ◌++◌, map}
+use Rattle.std.specs.Prelude.{◌≡◌, ◌≤◌, ◌<◌, true, false, Option, Some, None, is_some, [], ◌∷◌, ◌++◌}
 use Rattle.std.specs.Prelude.{IsSomeAnd, vec_len, vec_capacity}
-use Rattle.std.specs.Arc.{arc_value}
 use Rattle.ps_grid.specs.declared.parties.TheConstants.{REPLICAS}
 use Rattle.ps_delta.specs.State.{IsBelow, IsInGrid}
 use Rattle.ps_delta.specs.Deltas.{Entries, joined_history, state_of}
@@ -18,7 +17,7 @@ use Rattle.ps_sheet.specs.declared.staging.Staging.TheInside.{Inside}
 abbrev pub staged_of : CellsView → Option Staged → Option StagedView
 staged_of cells None = None
 staged_of cells (Some s) = Some (record {
-  delta = arc_value s.delta;
+  delta = s.delta;
   fresh = is_some cells.staged;
   olds = cells.olds;
   changed = cells.changed;
@@ -29,7 +28,7 @@ staged_of cells (Some s) = Some (record {
 abbrev pub view_of : Inside → StagingView
 view_of x = record {
   replica = x.replica;
-  history = map arc_value x.history.items;
+  history = x.history.items;
   shown = x.cells.shown;
   workers = x.cells.workers;
   staged = staged_of x.cells x.staged;
@@ -43,11 +42,11 @@ IsStagedBy x cells (Some p) = state_now cells ≡ joined_history (history_after 
 pub record IsKept (x : Inside) : Type 0 where
   pub staging : IsStaging (view_of x)
   pub holds : IsStagedBy (view_of x) x.cells (staged_of x.cells x.staged)
-  pub before : state_before x.cells ≡ joined_history (map arc_value x.history.items)
+  pub before : state_before x.cells ≡ joined_history x.history.items
   pub room : is_some x.cells.staged ≡ true → vec_len x.history < vec_capacity x.history
   pub still : x.cells.staged ≡ None → x.cells.olds ≡ []
-  pub fresh : IsFresh (map arc_value x.history.items)
-  pub in_grid : IsInGrid (joined_history (map arc_value x.history.items))
+  pub fresh : IsFresh x.history.items
+  pub in_grid : IsInGrid (joined_history x.history.items)
   pub in_grid_now : IsInGrid (state_now x.cells)
   pub replica : (1 ≤ x.replica) × (x.replica ≤ REPLICAS)
 

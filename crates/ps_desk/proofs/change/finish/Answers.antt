@@ -1,5 +1,4 @@
 use Rattle.std.proofs.Common.{◌≡◌, refl, ap, sym, ◌∙◌}
-use Rattle.std.specs.Arc.{arc_value}
 use Rattle.ps_shown.specs.Shown.{shown_at}
 use Rattle.ps_sheet.specs.declared.sheet.Report.{Report}
 use Rattle.ps_sheet.specs.Prepared.{IsOf, history_after}
@@ -8,7 +7,7 @@ use Rattle.ps_face.specs.Legal.{history_of}
 use Rattle.ps_desk.specs.Patches.{change_in}
 use Rattle.ps_desk.proofs.Locked.{same_locked}
 use Rattle.ps_desk.proofs.Noted.{at_staged, worked_out}
-use Rattle.ps_desk.proofs.Receipted.{history_kept, tells_included}
+use Rattle.ps_desk.proofs.Receipted.{history_kept, tells_appended, tells_included}
 use Rattle.ps_desk.proofs.change.finish.Goals as goal
 
 pub append-requires-clause-fresh : goal.append-requires-clause-fresh
@@ -41,5 +40,15 @@ returns-clause-receipt g c =
     (ap (λ (r : Report). r.version)
     (at_staged (λ (p : StagedView). c.report.result ≡ p.report) x.staged c.report.ensures.report))
     (c.share.ensures
-    ∙ at_staged (λ (p : StagedView). arc_value c.delta.result.now ≡ p.delta) x.staged c.delta.ensures.delta)
+    ∙ at_staged (λ (p : StagedView). c.delta.result.now ≡ p.delta) x.staged c.delta.ensures.delta)
     refl
+
+pub returns-then-fresh-clause-receipt : goal.returns-then-fresh-clause-receipt
+returns-then-fresh-clause-receipt g c =
+    let x : StagingView = c.args.sheet.now in
+    let made = c.in_ok-number.ensures in
+    tells_appended g.L.Named.opening (change_in x) c.args.pass.now.list c.append.new.pass.list c.args.pass.now.seat _
+    (worked_out x c.requires.staged c.fresh.ensures.staging)
+    (sym (at_staged (λ (p : StagedView). c.fresh.result ≡ p.fresh) x.staged c.fresh.ensures.fresh) ∙ c.if-fresh.true)
+    (c.requires.under_lock.history ∙ ap (history_of g.L.Named.opening) (sym c.requires.seen)) made.published
+    made.told.0 made.told.1

@@ -1,23 +1,20 @@
 use denote.Param.Send.{IsSend, IsSync, sendable, view_send}
-use denote.Param.SendFields.{declared_send, as_row_send}
+use denote.Param.SendFields.{declared_send}
 use denote.Struct.Declared as S
 use Rattle.std.proofs.Crossing.{crosses}
-use Rattle.std.specs.contracts.sync.Arc as Arc
-use Rattle.std.specs.contracts.alloc.Global as Global
-use Rattle.std.specs.contracts.impls.GlobalAllocator.TheImpl.{ghosts}
 use Rattle.ps_delta.specs.contracts.cell_state.CellState as cell_state
 use Rattle.ps_delta.specs.contracts.delta.Delta as delta
 use Rattle.ps_face.specs.contracts.patch.Patch.TheInside as patch_inside
-use Rattle.ps_sheet.proofs.SharedDeltas.{delta_send, delta_sync, shared_send}
+use Rattle.ps_sheet.proofs.SharedDeltas.{delta_send}
 use Rattle.ps_face.proofs.threads.patch_is_send.Goals as goal
 
 -- from what the bounds say of the delta that the whole may go to another thread
 
-patch_send : IsSend delta.the_row → IsSync delta.the_row → IsSend (S.row patch_inside.the_type)
-patch_send d e = declared_send patch_inside.the_type (
+patch_send : IsSend delta.the_row → IsSend (S.row patch_inside.the_type)
+patch_send d = declared_send patch_inside.the_type (
   search sendable,
   (
-    as_row_send (Arc.the_field delta.the_row Global.the_row ghosts) (shared_send d e),
+    d,
     (search (crosses, sendable) depth 60 fits 100000, (search sendable, tt)),
   ),
 )
@@ -27,4 +24,4 @@ returns c =
     let a = c.is_send_and_sync.ensures in
     let d : IsSend cell_state.the_row = record { owned = a.send.owned; leaving = λ k x w. (tt, (tt, (tt, tt))) } in
     let e : IsSync cell_state.the_row = record { shared = a.sync.shared } in
-    view_send _ _ _ _ _ (patch_send (delta_send d) (delta_sync e))
+    view_send _ _ _ _ _ (patch_send (delta_send d e))

@@ -1,5 +1,4 @@
-use Rattle.std.proofs.Common.{◌≡◌, ◌+◌, map, take}
-use Rattle.std.specs.Arc.{arc_value}
+use Rattle.std.proofs.Common.{◌≡◌, ◌+◌, take}
 use Rattle.ps_kept.specs.Kept.{Notes}
 use Rattle.ps_kept.proofs.noting.note_deltas.Given as goal
 
@@ -7,5 +6,5 @@ use Rattle.ps_kept.proofs.noting.note_deltas.Given as goal
 abbrev pub invariant-deltas : goal.invariant-deltas
 invariant-deltas g l = record {
   counted : l.noted ≡ l.fn.noted + l.delta-index;
-  noted : Notes l.fn.journal (take l.delta-index (map arc_value l.deltas)) l.journal;
+  noted : Notes l.fn.journal (take l.delta-index l.deltas) l.journal;
 }

@@ -1,5 +1,4 @@
 use Rattle.std.proofs.Common.{ℕ, List, None, inr, subst}
-use Rattle.std.specs.Arc.{arc_value}
 use Rattle.ps_keep.specs.Lines.{whole_lines}
 use Rattle.ps_kept.specs.Inside.{IsKeepFault}
 use Rattle.ps_kept.specs.Starts.{IsRefusal, Reads}
@@ -10,7 +9,7 @@ use Rattle.ps_kept.proofs.opening.open_kept.Goals as goal
 
 pub keep_on-requires : goal.keep_on-requires
 keep_on-requires g c = record {
-  due = due_of arc_value c.args.replica c.bytes.result.now _ c.in-Ok.sheet.history c.history.result.now
+  due = due_of c.args.replica c.bytes.result.now _ c.in-Ok.sheet.history c.history.result.now
       c.in-Ok.ensures.read c.bytes.ensures c.history.ensures.history;
 }
 

@@ -1,7 +1,6 @@
 use Rattle.std.proofs.Common.{Err, Some, ap, arith, subst, ◌∙◌}
 use Rattle.std.specs.Prelude.{MatchOption}
 use Rattle.std.proofs.lemmas.Bool.{ltb-false, ltb-true}
-use Rattle.ps_sheet.specs.Sheet.{Takes}
 use Rattle.ps_session.specs.KeptLines.{LineSays, LineSaysNothing}
 use Rattle.ps_kept.proofs.TakenLemmas.{not_new, taken_new}
 use Rattle.ps_kept.proofs.reading.take_in.Goals as goal
@@ -18,8 +17,7 @@ returns-clause-taken g c = λ less.
     (subst (λ f. MatchOption f (LineSaysNothing line) (LineSays line)) (found.field-0-is ∙ ap Some found.field-0-0-is)
     found.ensures.says)
     c.args.sheet.now.history c.receive.new.self.history
-    (subst (λ x. Takes x c.args.sheet.now.history c.receive.new.self.history)
-    c.owner-delta.ensures c.in_ok-report.ensures.taken)
+    c.in_ok-report.ensures.taken
     (omega (
       arith,
       ltb-true c.version-before.result c.in_ok-report.report.version less,
@@ -35,8 +33,7 @@ returns-clause-refused g c = λ less.
     (subst (λ f. MatchOption f (LineSaysNothing line) (LineSays line)) (found.field-0-is ∙ ap Some found.field-0-0-is)
     found.ensures.says)
     c.args.sheet.now.history c.receive.new.self.history
-    (subst (λ x. Takes x c.args.sheet.now.history c.receive.new.self.history)
-    c.owner-delta.ensures c.in_ok-report.ensures.taken)
+    c.in_ok-report.ensures.taken
     (omega (
       arith,
       ltb-false c.version-before.result c.in_ok-report.report.version less,

@@ -1,8 +1,4 @@
-use Rattle.std.proofs.Common.{◌∙◌, ◌<◌, Err, ap, length, map, refl, subst, sym, arith}
-use Rattle.std.proofs.lemmas.List.{length-map}
-use Rattle.std.specs.Arc.{arc_value}
-use Rattle.ps_wire.specs.Line.{delta_text}
-use Rattle.ps_wire.specs.declared.TheConstants.{DELTA_LINE_LIMIT}
+use Rattle.std.proofs.Common.{◌∙◌, Err, ap, refl, sym, arith}
 use Rattle.ps_session.proofs.GreatestGroup.{greatest_found, greatest_whole, none_above_all, none_above_next}
 use Rattle.ps_session.proofs.GreatestGroup.{none_found, none_of_one, one_item}
 use Rattle.ps_session.proofs.JointLemmas.{joint_at}
@@ -14,47 +10,46 @@ pub counts-init : goal.counts-init
 counts-init c =
     let joints = c.in_ok-joints.joints.items in (
       omega (arith, c.len-count.ensures),
-      none_above_all arc_value c.args.deltas.now c.args.most _ c.in_ok-reach.reach c.in_ok-reach.ensures.more
+      none_above_all c.args.deltas.now c.args.most _ c.in_ok-reach.reach c.in_ok-reach.ensures.more
           (λ k line above. c.in_ok-joints.ensures.joints.last k line
-          (omega (arith, above, c.len-count.ensures, length-map joints arc_value))),
+          (omega (arith, above, c.len-count.ensures))),
     )
 
 pub returns-in-Ok-joint_line-clause-found : goal.returns-in-Ok-joint_line-clause-found
 returns-in-Ok-joint_line-clause-found c =
-    let deltas = map arc_value c.args.deltas.now in
+    let deltas = c.args.deltas.now in
     let joints = c.in_ok-joints.joints.items in
     let upward = c.in_ok-joints.ensures.joints in
-    let joint = joint_at arc_value deltas joints c.counts.count c.index.result.now (omega (arith, c.counts-test.true))
+    let joint = joint_at deltas joints c.counts.count c.index.result.now (omega (arith, c.counts-test.true))
     c.counts.invariant.0 upward.first c.index.ensures in
-    let long = length-map joints arc_value in
-    greatest_found arc_value c.args.deltas.now c.args.most c.counts.count (arc_value c.index.result.now)
+    greatest_found c.args.deltas.now c.args.most c.counts.count c.index.result.now
     c.in-Ok-joint_line.line.items (omega (arith, c.counts-test.true))
-    (omega (arith, c.counts.invariant.0, long, upward.few, c.in_ok-reach.ensures.most))
-    (omega (arith, c.counts.invariant.0, long, upward.within)) joint
-    (c.in-Ok-joint_line.ensures.line ∙ ap delta_text c.deref.ensures) c.in-Ok-joint_line.ensures.fits
+    (omega (arith, c.counts.invariant.0, upward.few, c.in_ok-reach.ensures.most))
+    (omega (arith, c.counts.invariant.0, upward.within)) joint
+    c.in-Ok-joint_line.ensures.line c.in-Ok-joint_line.ensures.fits
     c.counts.invariant.1
 
 pub counts-preserved : goal.counts-preserved
 counts-preserved c =
-    let deltas = map arc_value c.args.deltas.now in
+    let deltas = c.args.deltas.now in
     let joints = c.in_ok-joints.joints.items in
     let upward = c.in_ok-joints.ensures.joints in
-    let joint = joint_at arc_value deltas joints c.counts.count c.index.result.now (omega (arith, c.counts-test.true))
+    let joint = joint_at deltas joints c.counts.count c.index.result.now (omega (arith, c.counts-test.true))
     c.counts.invariant.0 upward.first c.index.ensures in
     let long = c.joint_line.ensures.too_long (c.in-Err-TooLong.is ∙ ap Err c.in-Err-TooLong.field-0-is) in (
       omega (arith, c.counts.invariant.0),
-      none_above_next arc_value c.args.deltas.now c.args.most c.counts.count (arc_value c.index.result.now) joint
-          (subst (λ d. DELTA_LINE_LIMIT < length (delta_text d)) c.deref.ensures long) c.counts.invariant.1,
+      none_above_next c.args.deltas.now c.args.most c.counts.count c.index.result.now joint
+          long c.counts.invariant.1,
     )
 
 pub returns-clause-none : goal.returns-clause-none
 returns-clause-none c = λ _.
-    none_found arc_value c.args.deltas.now c.args.most c.counts.count c.counts-test.false c.counts.invariant.1
+    none_found c.args.deltas.now c.args.most c.counts.count c.counts-test.false c.counts.invariant.1
 
 pub returns-then-deltas-eq1-clause-none : goal.returns-then-deltas-eq1-clause-none
 returns-then-deltas-eq1-clause-none c = λ is.
-    let one = one_item arc_value c.args.deltas.now c.index-deltas-0.result c.if-deltas-eq1.true c.index-deltas-0.is in
-    none_of_one (map arc_value c.args.deltas.now) (arc_value c.index-deltas-0.result) c.args.most one
+    let one = one_item c.args.deltas.now c.index-deltas-0.result c.if-deltas-eq1.true c.index-deltas-0.is in
+    none_of_one c.args.deltas.now c.index-deltas-0.result c.args.most one
     (c.line_alone.ensures.none (elim c.match-line_alone.branch [
       | in-Ok w ↦ absurd (let no = sym w.result-is ∙ is in cc)
       | in-Err w ↦ w.in-Err.is ∙ same_fault c.match-line_alone.result _ _ _ w.result-is refl is
@@ -62,6 +57,6 @@ returns-then-deltas-eq1-clause-none c = λ is.
 
 pub returns-in-Some-clause-found : goal.returns-in-Some-clause-found
 returns-in-Some-clause-found c =
-    greatest_whole arc_value c.args.deltas.now c.args.most c.in_ok-reach.reach c.in-Some.line.items
+    greatest_whole c.args.deltas.now c.args.most c.in_ok-reach.reach c.in-Some.line.items
     (omega arith) c.in_ok-reach.ensures.most (rw c.in-Some.is at c.in_ok-line.ensures.line)
     c.in_ok-reach.ensures.more

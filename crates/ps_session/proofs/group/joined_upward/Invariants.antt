@@ -1,12 +1,11 @@
-use Rattle.std.proofs.Common.{◌-◌, ◌≤◌, length, map}
-use Rattle.std.specs.Arc.{arc_value}
+use Rattle.std.proofs.Common.{◌-◌, ◌≤◌, length}
 use Rattle.ps_session.specs.Inside.Joints.{AreFirstJoints}
 use Rattle.ps_session.proofs.group.joined_upward.Given as goal
 
 abbrev pub invariant-joints : goal.invariant-joints
 invariant-joints l = record {
   few : length l.joints.items ≤ l.count;
-  first : AreFirstJoints (map arc_value l.deltas) (map arc_value l.joints.items);
+  first : AreFirstJoints l.deltas l.joints.items;
 }
 
 abbrev pub decreases-joints : goal.decreases-joints

@@ -1,7 +1,5 @@
-use Rattle.std.proofs.Common.{◌∙◌, ◌<◌, Err, ap, arith, length, map, subst}
-use Rattle.std.proofs.lemmas.List.{length-map}
+use Rattle.std.proofs.Common.{◌∙◌, ◌<◌, Err, ap, arith, length, subst}
 use Rattle.std.proofs.lemmas.Grind.{common_steps}
-use Rattle.std.specs.Arc.{arc_value}
 use Rattle.std.specs.Prelude.{Ok}
 use Rattle.ps_session.specs.PullReplies.{HasNone}
 use Rattle.ps_session.proofs.PulledDeltas.{hands_refusal}
@@ -14,9 +12,7 @@ overflow_add-result g c =
     omega (
       arith,
       found.grouped.within,
-      length-map c.deref.result.now arc_value,
       ap length c.deref.ensures.value,
-      length-map items arc_value,
       c.in-Ok.ensures.numbered,
     )
 
@@ -25,11 +21,11 @@ returns g c =
     let items = c.in-Ok.deltas.items in
     let some : 0 < length items = grind (arith, common_steps, c.if-is_empty.ensures) in
     let refused = c.in-Err-greatest_group in (
-      Ok (map arc_value items),
-      subst (λ m. g.B.Board.calls.pulls c.args.board.now c.args.from m (Ok (map arc_value items)) c.pull.new.self)
+      Ok items,
+      subst (λ m. g.B.Board.calls.pulls c.args.board.now c.args.from m (Ok items) c.pull.new.self)
           c.max.ensures c.in-Ok.ensures.pulled,
-      hands_refusal c.args.from c.args.most (map arc_value items) refused.refusal
-          (omega (arith, length-map items arc_value, some)) refused.ensures.refused
-          (λ long. subst (λ ds. HasNone (map arc_value ds) c.args.most) c.deref.ensures.value
+      hands_refusal c.args.from c.args.most items refused.refusal
+          some refused.ensures.refused
+          (λ long. subst (λ ds. HasNone ds c.args.most) c.deref.ensures.value
           (c.greatest_group.ensures.none (refused.is ∙ ap Err long))),
     )

@@ -1,16 +1,17 @@
-use Rattle.std.proofs.Common.{◌≡◌, ℕ, true, length, map, Err, inr, sym, ap, ◌∙◌}
+use Rattle.std.proofs.Common.{◌≡◌, ℕ, true, length, map, Err, Option, inr, sym, ap, ◌∙◌}
 use Rattle.std.proofs.Common.{subst, eq-eqb}
 use Rattle.std.proofs.lemmas.List.{map-id}
 use Rattle.std.proofs.lemmas.Result.{err_from_is_err_and}
 use Rattle.std.proofs.lemmas.Iterator.Consumers.{YieldsList-turn, YieldsList-end}
 use Rattle.std.proofs.lemmas.Iterator.Adapters.{YieldsList-from_vec}
 use Rattle.std.specs.List.{list_any}
+use Rattle.std.specs.Option.{SomeIff}
 use Rattle.ps_lattice.specs.Register.{time_of}
 use Rattle.ps_lattice.specs.declared.limits.TheConstants.{LAST_TIME}
 use Rattle.ps_content.specs.declared.content.Content.{Content}
 use Rattle.ps_delta.specs.declared.cell_state.CellState.{CellState}
 use Rattle.ps_delta.specs.State.{State, state_at}
-use Rattle.ps_delta.specs.Deltas.{IsDelta}
+use Rattle.ps_delta.specs.Deltas.{Entries, IsDelta}
 use Rattle.ps_sheet.specs.Edits.{assigned, is_clock_full}
 use Rattle.ps_sheet.proofs.BatchDeltas.{any_full_refuses, full_refuses, batch_is_delta}
 use Rattle.ps_sheet.proofs.edit_delta.all_assigned.Goals as goal
@@ -41,7 +42,9 @@ unreachable-requires c =
     (i.1 ∙ c.args.cells.ok.0)) c.loop-cell.yielded c.loop-cell.cell-iterator c.loop-cell.yielded_by
     c.next.result c.next.new.self c.in-None.is c.next.ensures.steps in
     let all : c.loop-cell.yielded ≡ c.args.cells.items = sym (map-id c.loop-cell.yielded) ∙ e.0 in
-    c.in-None-new.ensures (subst IsDelta (sym (c.loop-cell.invariant.entries
+    let es : Entries = c.loop-cell.entries.items in
+    subst (λ (o : Option Entries). SomeIff o (IsDelta es) es) c.in-None-2.is c.in_ok-delta.ensures.made
+    (subst IsDelta (sym (c.loop-cell.invariant.entries
     ∙ ap (map (λ (q : ℕ × Content). (q.0, assigned c.args.replica (state_at c.args.grid.now q.0) q.1))) all))
     (batch_is_delta c.args.replica (state_at c.args.grid.now) c.args.cells.items c.requires.batch))
 

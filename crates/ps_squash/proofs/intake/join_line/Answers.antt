@@ -1,5 +1,4 @@
 use Rattle.std.proofs.Common.{[], ◌∷◌, Some, ap, subst, sym, ◌∙◌}
-use Rattle.ps_delta.specs.Deltas.{state_of}
 use Rattle.ps_delta.specs.State.{joined_state, state_at}
 use Rattle.ps_delta.proofs.HistoryLemmas.{joined_history-nil, joined_history-one}
 use Rattle.ps_delta.proofs.StateLemmas.{joined_state-empty_right}
@@ -31,6 +30,5 @@ returns-in_ok-join-in-Some-Push-clause-joined c =
       subst (IsRead c.args.line.now) (c.in-Some-Push.is ∙ ap Some c.in-Some-Push.field-0-is)
           c.in_ok-read_line.ensures.read,
       c.in_ok-join-in-Some-Push.ensures.ok
-          ∙ ap (λ x. joined_state s (state_of x)) (c.deref.ensures ∙ c.owner.ensures)
           ∙ ap (joined_state s) (sym (joined_history-one d)),
     )

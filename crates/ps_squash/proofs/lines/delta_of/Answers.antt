@@ -8,4 +8,4 @@ unwrap-requires c =
     let all : c.loop-entry.cells.items ≡ c.args.entries.now =
     c.loop-entry.invariant ∙ take_all _ _ c.loop-entry-test.false in
     let delta : IsDelta c.loop-entry.cells.items = subst IsDelta (sym all) c.requires in
-    search (rules, c.new.ensures, delta)
+    search (rules, c.in_ok-delta.ensures.made, delta)

@@ -50,11 +50,11 @@ returns-clause-refused c =
     let all = c.in_ok-cells.cells.items in
     let opens = c.in_ok-open_array.ensures.taken in
     rw c.ok_or-2.ensures.value
-    (cells_read _ _ all c.new.result
+    (cells_read _ _ all c.in_ok-made.made
     (λ n.
     subst (λ ts. Spells (suc (suc (suc (suc n)))) ts (delta_value all) c.read_cells.new.reader) (sym opens)
     (c.in_ok-cells.ensures.found n c.open_array.new.reader
     (subst (λ r. Spells (suc (suc (suc n))) c.open_array.new.reader (cell_value
     (c.in_ok-cell.cell, c.in_ok-cell.state)) r)
     (sym c.if-take_end_array.ensures.1) (c.in_ok-cell.ensures.found n))))
-    c.in_ok-cells.ensures.good c.new.ensures).refused
+    c.in_ok-cells.ensures.good c.in_ok-made.ensures.made).refused

@@ -1,5 +1,4 @@
-use Rattle.std.proofs.Common.{◌≡◌, length, map, take}
-use Rattle.std.specs.Arc.{arc_value}
+use Rattle.std.proofs.Common.{◌≡◌, length, take}
 use Rattle.ps_grid.specs.declared.size.TheConstants.{CELLS}
 use Rattle.ps_wire.specs.Inside.{AreFloors}
 use Rattle.ps_wire.proofs.sharing.floors_of.Given as goal
@@ -7,5 +6,5 @@ use Rattle.ps_wire.proofs.sharing.floors_of.Given as goal
 abbrev pub invariant-loop-delta : goal.invariant-loop-delta
 invariant-loop-delta l = record {
   whole : length l.floors.items ≡ CELLS;
-  floors : AreFloors l.floors.items (take l.delta-index (map arc_value l.deltas));
+  floors : AreFloors l.floors.items (take l.delta-index l.deltas);
 }

@@ -1,6 +1,5 @@
-use Rattle.std.proofs.Common.{◌≡◌, ◌-◌, ◌≤◌, length, map, take}
+use Rattle.std.proofs.Common.{◌≡◌, ◌-◌, ◌≤◌, length, take}
 use Rattle.std.specs.List.{All}
-use Rattle.std.specs.Arc.{arc_value}
 use Rattle.ps_grid.specs.declared.size.TheConstants.{CELLS}
 use Rattle.ps_wire.specs.Inside.{AreListed, Spends}
 use Rattle.ps_wire.specs.declared.TheConstants.{DELTA_LINE_LIMIT}
@@ -10,7 +9,7 @@ abbrev pub invariant-deltas : goal.invariant-deltas
 invariant-deltas l = record {
   whole : length l.floors ≡ CELLS;
   few : l.count ≤ length l.deltas;
-  spends : Spends (λ listed. All (AreListed listed) (take l.count (map arc_value l.deltas))) l.initial.floors
+  spends : Spends (λ listed. All (AreListed listed) (take l.count l.deltas)) l.initial.floors
       (DELTA_LINE_LIMIT - 1) l.floors l.left;
 }
 

@@ -1,7 +1,6 @@
-use Rattle.std.proofs.Common.{◌≡◌, ◌-◌, ◌^◌, List, ap, arith, map, drop, sym, subst, ◌∙◌}
+use Rattle.std.proofs.Common.{◌≡◌, ◌-◌, ◌^◌, List, ap, arith, drop, sym, subst, ◌∙◌}
 use Rattle.std.proofs.lemmas.List.{length-drop, take_all}
 use Rattle.std.specs.Prelude.{IfOk}
-use Rattle.std.specs.Arc.{arc_value}
 use Rattle.ps_delta.specs.Deltas.{Entries}
 use Rattle.ps_face.specs.Legal.{history_of}
 use Rattle.ps_face.specs.Seen.{Told}
@@ -13,7 +12,7 @@ returns-clause-deltas g c =
     let h : List Entries = g.L.Named.opening in
     let from = c.args.from in
     let is = c.catch_up.ensures.all ∙ ap (λ (t : Told). t.list) c.front.ensures.front in
-    subst (λ (z : List Entries). IfOk c.deltas_after.result (λ ds. map arc_value ds.items ≡ z))
+    subst (λ (z : List Entries). IfOk c.deltas_after.result (λ ds. ds.items ≡ z))
     (take_all (2 ^ 64 - 1) (drop from (history_of h c.deref-2.result.now))
     (omega (arith, length-drop from (history_of h c.deref-2.result.now), c.deltas_after.ensures.bound))
     ∙ ap (λ (l : List Note). drop from (history_of h l)) (c.deref-2.ensures ∙ sym c.deref.ensures ∙ sym is))

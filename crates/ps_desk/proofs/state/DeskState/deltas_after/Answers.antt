@@ -1,26 +1,24 @@
-use Rattle.std.proofs.Common.{◌≡◌, ◌∙◌, ap, length, map, sym}
-use Rattle.std.proofs.lemmas.List.{length-map}
-use Rattle.std.specs.Arc.{arc_value}
+use Rattle.std.proofs.Common.{◌≡◌, ◌∙◌, ap, length}
 use Rattle.ps_face.specs.Legal.{history_of}
 use Rattle.ps_desk.proofs.state.DeskState.deltas_after.Goals as goal
 
 pub returns-clause-deltas : goal.returns-clause-deltas
 returns-clause-deltas g c =
     let h = g.L.Named.opening in
-    let is : map arc_value c.history.result.now ≡ history_of h c.args.self.now =
+    let is : c.history.result.now ≡ history_of h c.args.self.now =
     c.history.ensures.history ∙ c.self.invariant.1.history ∙ ap (history_of h) c.self.view_is in
     rw is at c.deltas_after.ensures.deltas
 
 pub returns-clause-above : goal.returns-clause-above
 returns-clause-above g c =
     let h = g.L.Named.opening in
-    let is : map arc_value c.history.result.now ≡ history_of h c.args.self.now =
+    let is : c.history.result.now ≡ history_of h c.args.self.now =
     c.history.ensures.history ∙ c.self.invariant.1.history ∙ ap (history_of h) c.self.view_is in
-    rw (sym (length-map c.history.result.now arc_value) ∙ ap length is) at c.deltas_after.ensures.above
+    rw (ap length is) at c.deltas_after.ensures.above
 
 pub returns-clause-asked : goal.returns-clause-asked
 returns-clause-asked g c =
     let h = g.L.Named.opening in
-    let is : map arc_value c.history.result.now ≡ history_of h c.args.self.now =
+    let is : c.history.result.now ≡ history_of h c.args.self.now =
     c.history.ensures.history ∙ c.self.invariant.1.history ∙ ap (history_of h) c.self.view_is in
-    rw (sym (length-map c.history.result.now arc_value) ∙ ap length is) at c.deltas_after.ensures.memory
+    rw (ap length is) at c.deltas_after.ensures.memory

@@ -1,9 +1,7 @@
 use Rattle.std.proofs.Common.{ap, arith, length, subst, take, ◌∙◌}
-use Rattle.std.specs.Arc.{arc_value}
 use Rattle.ps_keep.specs.Crash.{SurvivesCrashes}
 use Rattle.ps_kept.specs.Inside.{later}
 use Rattle.ps_kept.specs.Kept.{IsKept, IsNoted, Notes}
-use Rattle.ps_kept.proofs.StartLemmas.{length-map}
 use Rattle.ps_kept.proofs.KeeperLemmas.{kept_all, kept_outlives, lines_within, noted_again, noted_all, noted_part}
 use Rattle.ps_kept.proofs.KeeperLemmas.{noting_outlives, ok_fits, on_ok, told_all}
 use Rattle.ps_kept.proofs.keeper.SheetKeeperKeeperSheet.sync.Goals as goal
@@ -13,8 +11,7 @@ pub note_later-requires : goal.note_later-requires
 note_later-requires g c =
     let h = c.args.board.now.history in
     let within = lines_within c.args.board.now.replica h c.args.self.now c.requires.fits.0 in
-    let count = length-map arc_value c.history.result.now in
-    record { within = omega (arith, within, count, ap length c.history.ensures.history) }
+    record { within = omega (arith, within, ap length c.history.ensures.history) }
 
 -- all of the history is noted
 all : (g : _) (c : After-sync g)

@@ -1,6 +1,4 @@
-use Rattle.std.proofs.Common.{◌≡◌, List, drop, length, map, sym, subst, ◌∙◌}
-use Rattle.std.proofs.lemmas.List.{length-map}
-use Rattle.std.specs.Arc.{arc_value}
+use Rattle.std.proofs.Common.{◌≡◌, List, drop, length, refl, sym, subst, ◌∙◌}
 use Rattle.ps_delta.specs.Deltas.{Entries}
 use Rattle.ps_face.specs.Legal.{history_of}
 use Rattle.ps_kept_desk.specs.Records.{RecordView}
@@ -16,7 +14,7 @@ invariant_of-self g c =
       noted = c.self.inside.noted;
     } in
     let h : List Entries = g.L.Named.opening in
-    let deltas : List Entries = map arc_value c.args.deltas.now in
+    let deltas : List Entries = c.args.deltas.now in
     let rest : deltas ≡ drop v.noted (history_of h v.seen) =
     subst (λ (w : RecordView). deltas ≡ drop w.noted (history_of h w.seen)) (sym c.self.view_is) c.requires.rest in
     let j = c.note_deltas.new.journal in
@@ -25,5 +23,5 @@ invariant_of-self g c =
       stays_calm _ h v c.self.invariant.1 c.note_deltas.result j deltas (length c.args.deltas.now) count told.noted
           told.part ∙ c.self.invariant.0,
       noted_some _ h v c.self.invariant.1 c.note_deltas.result j deltas (length c.args.deltas.now) count rest
-          (length-map c.args.deltas.now arc_value) told.noted told.part,
+          refl told.noted told.part,
     )

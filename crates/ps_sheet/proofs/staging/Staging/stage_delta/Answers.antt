@@ -1,5 +1,4 @@
 use Rattle.std.proofs.Common.{◌≡◌, false}
-use Rattle.std.specs.Arc.{arc_value}
 use Rattle.ps_delta.specs.State.{IsBelow}
 use Rattle.ps_delta.specs.Deltas.{joined_history, state_of}
 use Rattle.ps_sheet.specs.Staging.{IsIdle, sheet_of}
@@ -11,13 +10,13 @@ pub returns-then-covers-clause-idle : goal.returns-then-covers-clause-idle
 returns-then-covers-clause-idle g c =
     let x = c.args.self.now in
     let y = c.stage_idle.new.self in
-    of_some (λ p. p.delta ≡ arc_value c.args.delta)
+    of_some (λ p. p.delta ≡ c.args.delta)
     (λ p. p.fresh ≡ false → IsIdle (sheet_of x) (sheet_of y) c.stage_idle.result) y.staged
     (λ p is off. c.stage_idle.ensures.idle) c.stage_idle.ensures.delta
 
 pub returns-clause-fresh : goal.returns-clause-fresh
 returns-clause-fresh g c =
-    fresh_on (¬ IsBelow (state_of (arc_value c.args.delta)) (joined_history c.args.self.now.history))
+    fresh_on (¬ IsBelow (state_of c.args.delta) (joined_history c.args.self.now.history))
     c.stage_fresh.result c.stage_fresh.new.self.staged c.stage_fresh.ensures.fresh
 
 pub returns-clause-idle : goal.returns-clause-idle

@@ -1,6 +1,4 @@
 use Rattle.std.proofs.Common.{◌≡◌, ℕ, ap, ◌∙◌, arith}
-use Rattle.std.specs.Arc.{arc_value}
-use Rattle.std.proofs.lemmas.List.{length-map}
 use Rattle.ps_cells.specs.declared.tables.Work.{Work}
 use Rattle.ps_sheet.specs.Reports.{report_of}
 use Rattle.ps_sheet.specs.Staging.{sheet_of}
@@ -24,7 +22,7 @@ invariant_of-self c =
     kept_staged_idle x c.args.self.now c.self.view_is c.requires.none c.self.invariant
     (record { delta = c.args.delta; report = c.of-report.result }) c.len.result
     (c.of-report.ensures ∙ idle_report c.len.result c.none.result no.evaluated no.cyclic no.levels)
-    (let n = c.len.ensures in let m = length-map x.history.items arc_value in omega (arith, n, m)) c.requires.below
+    (omega (arith, c.len.ensures)) c.requires.below
 
 pub returns-clause-staged : goal.returns-clause-staged
 returns-clause-staged c =
@@ -33,7 +31,7 @@ returns-clause-staged c =
     stages_idle x c.args.self.now c.self.view_is c.requires.none c.self.invariant
     (record { delta = c.args.delta; report = c.of-report.result }) c.len.result
     (c.of-report.ensures ∙ idle_report c.len.result c.none.result no.evaluated no.cyclic no.levels)
-    (let n = c.len.ensures in let m = length-map x.history.items arc_value in omega (arith, n, m)) c.requires.below
+    (omega (arith, c.len.ensures)) c.requires.below
 
 pub returns-clause-idle : goal.returns-clause-idle
 returns-clause-idle c =

@@ -1,9 +1,6 @@
 use Rattle.std.proofs.Common.{◌≡◌, ◌≤◌, ℕ, length, ap, ◌∙◌, refl, subst, sym, arith, set, Some}
 use Rattle.std.specs.Prelude.{slice_get}
-use Rattle.std.specs.Option.{option_map}
-use Rattle.std.specs.Arc.{arc_value}
-use Rattle.std.proofs.lemmas.List.{length-map}
-use Rattle.std.proofs.lemmas.Option.{slice_get-map, slice_get_read}
+use Rattle.std.proofs.lemmas.Option.{slice_get_read}
 use Rattle.ps_world.specs.declared.event.Event.TheVariants.{Deliver}
 use Rattle.ps_world.proofs.WorldSteps.{Goes, delivered, viewed}
 use Rattle.ps_world.proofs.world.World.deliver.Given.{Over}
@@ -12,28 +9,26 @@ use Rattle.ps_world.proofs.world.World.deliver.Goals.{In_ok-take}
 
 -- the world where the replica took the delta
 goes : (g : Over) (c : In_ok-take g) → Goes (Deliver c.args.replica c.args.number)
-    (viewed arc_value c.self.inside.deltas.items c.self.inside.replicas.items)
-    (viewed arc_value c.self.inside.deltas.items
+    (viewed c.self.inside.deltas.items c.self.inside.replicas.items)
+    (viewed c.self.inside.deltas.items
     (set c.self.inside.replicas.items c.in-Some.place c.take.new.self))
 goes g c =
-    let w = viewed arc_value c.self.inside.deltas.items c.self.inside.replicas.items in
+    let w = viewed c.self.inside.deltas.items c.self.inside.replicas.items in
     let i = c.in-Some.place in
     let there = c.in-Some.ensures in
     let sent = c.in-Some-place_of.ensures in
     let high : c.args.number ≤ length w.deltas =
-    omega (arith, sent.0.1, length-map c.self.inside.deltas.items arc_value) in
+    omega (arith, sent.0.1) in
     let at : slice_get w.replicas i ≡ Some c.index_mut-taker.result.now =
     slice_get_read c.self.inside.replicas.items _ i c.index_mut-taker.result.now refl (omega (arith, there))
     c.index_mut-taker.ensures.value in
-    let delta : slice_get w.deltas c.in-Some-place_of.sent ≡ Some (arc_value c.in_ok-delta.delta) =
-    slice_get-map arc_value c.self.inside.deltas.items c.in-Some-place_of.sent
-    ∙ (ap (option_map arc_value)
-    (slice_get_read c.self.inside.deltas.items _ c.in-Some-place_of.sent c.index.result.now refl
-    (omega (arith, sent)) c.index.ensures)
-    ∙ ap Some (sym c.in_ok-delta.ensures.cases)) in
+    let delta : slice_get w.deltas c.in-Some-place_of.sent ≡ Some c.in_ok-delta.delta =
+    slice_get_read c.self.inside.deltas.items _ c.in-Some-place_of.sent c.index.result.now refl
+    (omega (arith, sent)) c.index.ensures
+    ∙ ap Some (sym c.in_ok-delta.ensures.equal) in
     delivered w c.args.replica c.args.number i c.index_mut-taker.result.now c.take.new.self
-    (arc_value c.in_ok-delta.delta) c.self.invariant (omega (arith, there)) at sent.0.0 high
-    (subst (λ (n : ℕ). slice_get w.deltas n ≡ Some (arc_value c.in_ok-delta.delta)) sent.1 delta)
+    c.in_ok-delta.delta c.self.invariant (omega (arith, there)) at sent.0.0 high
+    (subst (λ (n : ℕ). slice_get w.deltas n ≡ Some c.in_ok-delta.delta) sent.1 delta)
     c.in_ok-take.ensures.joined c.in_ok-take.ensures.taken c.take.ensures.replica c.in_ok-take.ensures.sheet
 
 pub invariant_of-result : goal.invariant_of-result

@@ -1,8 +1,6 @@
-use Rattle.std.proofs.Common.{◌≡◌, ◌+◌, ◌∷◌, [], ◌++◌, length, ap, ◌∙◌, refl}
+use Rattle.std.proofs.Common.{◌≡◌, ◌+◌, length, refl}
 use Rattle.std.proofs.Common.{arith, set, Some}
-use Rattle.std.specs.Prelude.{map, slice_get}
-use Rattle.std.specs.Arc.{arc_value}
-use Rattle.std.proofs.lemmas.List.{length-map, map-append}
+use Rattle.std.specs.Prelude.{slice_get}
 use Rattle.std.proofs.lemmas.Option.{slice_get_read}
 use Rattle.ps_world.specs.declared.event.Event.TheVariants.{Edit}
 use Rattle.ps_world.proofs.WorldSteps.{Goes, edited, refused, viewed}
@@ -12,23 +10,20 @@ use Rattle.ps_world.proofs.world.World.edit.Goals.{In-None, In_ok-push-in-Some-2
 
 -- the world where the replica made a delta
 made_one : (g : Over) (c : In_ok-push-in-Some-2 g) → Goes (Edit c.args.replica c.args.edit)
-    (viewed arc_value c.self.inside.deltas.items c.self.inside.replicas.items)
-    (viewed arc_value c.push.new.self.items (set c.self.inside.replicas.items c.in-Some.place c.make.new.self))
+    (viewed c.self.inside.deltas.items c.self.inside.replicas.items)
+    (viewed c.push.new.self.items (set c.self.inside.replicas.items c.in-Some.place c.make.new.self))
 made_one g c =
-    let w = viewed arc_value c.self.inside.deltas.items c.self.inside.replicas.items in
+    let w = viewed c.self.inside.deltas.items c.self.inside.replicas.items in
     let i = c.in-Some.place in
     let there = c.in-Some.ensures in
     let number : c.len-number.result + 1 ≡ length w.deltas + 1 =
-    omega (arith, length-map c.self.inside.deltas.items arc_value) in
+    omega arith in
     let at : slice_get w.replicas i ≡ Some c.index_mut-maker.result.now =
     slice_get_read c.self.inside.replicas.items _ i c.index_mut-maker.result.now refl (omega (arith, there))
     c.index_mut-maker.ensures.value in
-    let pushed : map arc_value c.push.new.self.items ≡ w.deltas ++ arc_value c.in-Some-2.made ∷ [] =
-    ap (map arc_value) c.in_ok-push-in-Some-2.ensures.items
-    ∙ map-append arc_value c.self.inside.deltas.items (c.in-Some-2.made ∷ []) in
-    rw pushed
+    rw c.in_ok-push-in-Some-2.ensures.items
     (edited w c.args.replica (c.len-number.result + 1) i c.index_mut-maker.result.now c.make.new.self c.args.edit
-    (arc_value c.in-Some-2.made) c.self.invariant (omega (arith, there)) at number
+    c.in-Some-2.made c.self.invariant (omega (arith, there)) at number
     (rw c.in-Some-2.is at c.in_ok-make.ensures.made) (rw c.in-Some-2.is at c.in_ok-make.ensures.joined)
     (rw c.in-Some-2.is at c.in_ok-make.ensures.taken) c.make.ensures.replica c.make.ensures.sheet)
 
@@ -40,11 +35,11 @@ returns-in_ok-push-in-Some-2-clause-follows g c = rw (← c.self.view_is) (made_
 
 -- the world where the edit was refused
 made_none : (g : Over) (c : In-None g) → Goes (Edit c.args.replica c.args.edit)
-    (viewed arc_value c.self.inside.deltas.items c.self.inside.replicas.items)
-    (viewed arc_value c.self.inside.deltas.items
+    (viewed c.self.inside.deltas.items c.self.inside.replicas.items)
+    (viewed c.self.inside.deltas.items
     (set c.self.inside.replicas.items c.in-Some.place c.make.new.self))
 made_none g c =
-    let w = viewed arc_value c.self.inside.deltas.items c.self.inside.replicas.items in
+    let w = viewed c.self.inside.deltas.items c.self.inside.replicas.items in
     let i = c.in-Some.place in
     let there = c.in-Some.ensures in
     let at : slice_get w.replicas i ≡ Some c.index_mut-maker.result.now =
