@@ -75,12 +75,14 @@ impl<R: Threads + Sync, F: Formulas + Sync, K: Look + Sync, G: Gate> Task<'_, R,
     {
         let mut meter = Meter::<L>::new(blank);
         for k in 0..cells.len() {
-            self.gate.pass(worker);
-            if let Some(formula) = self.formulas.formula(cells[k]) {
-                out[k] = kept_of(eval_number(formula, self.look, &mut meter));
-            } else {
-                unreachable!()
-            }
+            out[k] = eval_as(
+                worker,
+                cells[k],
+                self.formulas,
+                self.look,
+                self.gate,
+                &mut meter,
+            );
         }
         meter.finish(cells.len() as u64)
     }
@@ -135,7 +137,25 @@ pub fn eval_cell<F: Formulas, K: Look, G: Gate, L: Ledger>(
     ensures value { value_kept result ∷ [] ≡ values_of (F.formula_at formulas.now) (K.value_at look.now) (cell ∷ []) }
     ensures ticks { meter.new ≡ meter.old + 1 }
 {
-    gate.pass(0);
+    eval_as(0, cell, formulas, look, gate, meter)
+}
+
+/// Evaluates the formula of a cell, once it has passed the gate as this worker.
+#[inline(always)]
+fn eval_as<F: Formulas, K: Look, G: Gate, L: Ledger>(
+    worker: usize,
+    cell: Cell,
+    formulas: &F,
+    look: &K,
+    gate: &G,
+    meter: &mut Meter<L>,
+) -> Kept
+    requires worker { worker < WORKERS }
+    requires formula { HaveFormulas (F.formula_at formulas.now) (cell ∷ []) }
+    ensures value { value_kept result ∷ [] ≡ values_of (F.formula_at formulas.now) (K.value_at look.now) (cell ∷ []) }
+    ensures ticks { meter.new ≡ meter.old + 1 }
+{
+    gate.pass(worker);
     match formulas.formula(cell) {
         Some(formula) => kept_of(eval_number(formula, look, meter)),
         None => unreachable!(),
