@@ -3,8 +3,6 @@
 ghost use Rattle.std.specs.Prelude.{◌≡◌, ◌<◌, ◌≤◌, [], ℕ, true, false, length, slice_set};
 ghost use Rattle.std.specs.Prelude.{vec_capacity, IfOk, IfErr, map, nat_eq};
 ghost use Rattle.std.specs.List.{IsDistinct};
-ghost use Rattle.std.specs.List.Sorted.{IsPermutation, IsSorted};
-ghost use Rattle.std.specs.Ordering.{nat_cmp};
 ghost use Rattle.ps_grid.specs.Chains.{In};
 ghost use Rattle.ps_value.specs.Operand.{operand_of};
 ghost use Rattle.ps_value.specs.declared.value.Value.TheVariants.{Empty as Nothing};
@@ -201,7 +199,7 @@ impl Screen {
         ensures changed { IsChanged (before_of self.old) (shown_at self.old.kept) self.new.changed }
     {
         list_differing(&self.olds, &self.shown, &mut self.cells);
-        sort(&mut self.cells);
+        self.cells.sort_unstable();
     }
 
     /// Lists the cells that were listed, with what they show.
@@ -295,19 +293,6 @@ fn list_one(old: &(Cell, Kept), shown: &Shown, cells: &mut Vec<Cell>)
 {
     if !old.1.is_same(shown.kept(old.0)) {
         cells.push_reserved(old.0);
-    }
-}
-
-/// Sorts cells, ascending. Fewer than two are sorted as they stand.
-#[inline]
-fn sort(cells: &mut Vec<Cell>)
-    ensures permutation { IsPermutation cells.old.items cells.new.items }
-    ensures len { length cells.new.items ≡ length cells.old.items }
-    ensures capacity { vec_capacity cells.new ≡ vec_capacity cells.old }
-    ensures sorted { IsSorted nat_cmp cells.new.items }
-{
-    if cells.len() > 1 {
-        cells.sort_unstable();
     }
 }
 

@@ -17,11 +17,11 @@ list_differing-requires-clause-room c =
 pub returns-clause-changed : goal.returns-clause-changed
 returns-clause-changed c =
     let w = shown_at c.self.inside.shown in
-    subst (λ (s : ScreenView). IsChanged (before_of s) (shown_at s.kept) c.sort.new.cells.items) c.self.view_is
-    (changed_of (put_back c.self.inside.olds.items w) w c.list_differing.new.cells.items c.sort.new.cells.items
+    subst (λ (s : ScreenView). IsChanged (before_of s) (shown_at s.kept) c.sort_unstable.new.self.items) c.self.view_is
+    (changed_of (put_back c.self.inside.olds.items w) w c.list_differing.new.cells.items c.sort_unstable.new.self.items
     (subst (λ (xs : List (ℕ × Kept)). Differ w (put_back xs w) c.list_differing.new.cells.items) c.deref.ensures.value
     c.list_differing.ensures.differ)
-    c.sort.ensures.permutation c.sort.ensures.sorted)
+    c.sort_unstable.ensures.permutation c.sort_unstable.ensures.sorted)
 
 pub invariant_of-self : goal.invariant_of-self
 invariant_of-self c =
@@ -31,7 +31,7 @@ invariant_of-self c =
     let more = c.list_differing.ensures.room in
     let room = c.self.invariant.2 in
     let all = c.list_differing.new.cells.ok in
-    let sorted = c.sort.ensures.len in (
+    let sorted = c.sort_unstable.ensures.len in (
       c.self.invariant.0,
       c.self.invariant.1,
       omega (arith, room, more),
