@@ -4,7 +4,7 @@ ghost use Rattle.std.specs.Prelude.{◌≡◌, ◌≢◌, ◌↔◌, ◌<◌, []
 ghost use Rattle.std.specs.Bool.{OnTrue};
 ghost use Rattle.std.specs.Option.{SomeIff};
 ghost use Rattle.ps_grid.specs.declared.refusal.Refusal.{Refusal};
-ghost use Rattle.ps_delta.specs.State.{empty_cell, joined_state};
+ghost use Rattle.ps_delta.specs.State.{empty_cell};
 ghost use Rattle.ps_delta.specs.Deltas.{AreEntries, AreInGrid, IsDelta, joined_history, state_of};
 
 use crate::cell_state::CellState;
@@ -40,13 +40,13 @@ impl Delta {
     /// The delta of the cells, kept without spare room; none where there are no cells, where they aren't ascending and
     /// distinct, or where one has an empty state.
     ///
-    /// Refused only when out of memory, and only where there is such a delta.
+    /// Refused only when out of memory, and only where there is such a delta, of several cells.
     ///
     /// Cost: the number of cells; one allocation, but for one cell.
     pub fn new(alloc: Global, cells: Vec<(Cell, CellState)>) -> Result<Option<Delta>, Refusal>
         ensures made { IfOk result (λ o. SomeIff o (IsDelta cells.items) cells.items) }
         ensures memory { IfErr result (λ e. e ≡ Refusal.Memory) }
-        ensures asked { OnErr result (IsDelta cells.items) }
+        ensures asked { OnErr result (IsDelta cells.items × (1 < length cells.items)) }
     {
         if cells.is_empty() || !are_entries(&cells) {
             return Ok(None);
@@ -63,14 +63,10 @@ impl Delta {
     pub fn of_one(cell: Cell, state: CellState) -> Option<Delta>
         ensures { SomeIff result (IsDelta ((cell, state) ∷ [])) ((cell, state) ∷ []) }
     {
-        // for the fact that the cell is in the grid
-        let _ = cell.index();
         if state.is_empty() {
             None
         } else {
-            Some(Delta {
-                cells: DeltaCells::One((cell, state)),
-            })
+            Some(Delta::of_filled(cell, state))
         }
     }
 
@@ -121,6 +117,8 @@ impl Delta {
 }
 
 /// One more owner of the same delta. No memory is taken.
+///
+/// Cost: constant.
 impl Twin for Delta {
     #[inline(always)]
     fn twin(&self, alloc: Global) -> Result<Delta, Refusal> {

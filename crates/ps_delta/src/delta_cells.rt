@@ -1,6 +1,6 @@
 //! Cells with their states, as a delta keeps them.
 
-ghost use Rattle.std.specs.Prelude.{◌≡◌, IfOk, IfErr};
+ghost use Rattle.std.specs.Prelude.{◌≡◌, ◌<◌, IfOk, IfErr, OnErr, length};
 ghost use Rattle.ps_grid.specs.declared.refusal.Refusal.{Refusal};
 ghost use Rattle.ps_delta.specs.Inside.DeltaCells.{kept_entries};
 
@@ -19,13 +19,15 @@ pub(crate) enum DeltaCells {
 }
 
 impl DeltaCells {
-    /// The cells of the list, without spare room.
+    /// The cells of the list, of which there is one at least, without spare room.
     pub(crate) fn new(
         alloc: Global,
         mut cells: Vec<(Cell, CellState)>,
     ) -> Result<DeltaCells, Refusal>
+        requires some { 0 < length cells.items }
         ensures kept { IfOk result (λ d. kept_entries d ≡ cells.items) }
         ensures memory { IfErr result (λ e. e ≡ Refusal.Memory) }
+        ensures several { OnErr result (1 < length cells.items) }
     {
         if cells.len() == 1 {
             return Ok(DeltaCells::One(cells.swap_remove(0)));

@@ -1,5 +1,5 @@
 //! As few lines as cells need.
-ghost use Rattle.std.specs.Prelude.{◌≡◌, ◌≢◌, ◌⊎◌, ◌+◌, ◌<◌, ◌≤◌, ◌++◌, ℕ, List, Err, IfOk, IfErr, OnOk, length};
+ghost use Rattle.std.specs.Prelude.{◌≡◌, ◌≢◌, ◌⊎◌, ◌+◌, ◌<◌, ◌≤◌, ◌++◌, List, Err, IfOk, IfErr, OnOk, length};
 ghost use Rattle.std.specs.Prelude.{◌∷◌, [], map as each, take, sum_by};
 ghost use Rattle.std.specs.List.{All};
 ghost use Rattle.ps_grid.specs.declared.refusal.Refusal.TheVariants as refusals;
@@ -79,7 +79,7 @@ fn delta_of_one(alloc: Global, entry: &(Cell, CellState)) -> Result<Delta, Refus
     ensures memory { IfErr result (λ e. e ≡ refusals.Memory) }
 {
     let state = entry.1.twin(alloc)?;
-    Ok(Delta::of_one(entry.0, state).unwrap())
+    Ok(Delta::of_filled(entry.0, state))
 }
 
 /// The delta of these cells.
