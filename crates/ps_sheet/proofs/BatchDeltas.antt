@@ -1,8 +1,8 @@
 -- The delta of a batch: cells with contents.
 use Rattle.std.proofs.Common.{◌≡◌, ◌≢◌, ℕ, ◌+◌, ◌<◌, Bool, true, false, List, [], ◌∷◌, length, map}
-use Rattle.std.proofs.Common.{get_or, Option, Some, None, is_some, Ok, Err, nat_cmp, refl, sym, ap, ◌∙◌}
+use Rattle.std.proofs.Common.{Option, Some, None, is_some, Ok, Err, nat_cmp, refl, sym, ap, ◌∙◌}
 use Rattle.std.proofs.Common.{arith, subst}
-use Rattle.std.specs.List.{All, list_any, remove}
+use Rattle.std.specs.List.{All, list_any}
 use Rattle.std.specs.List.Sorted.{IsStrictlyIncreasing}
 use Rattle.std.specs.Ordering.{is_lt, on, ordering_then, then_cmp}
 use Rattle.std.specs.declared.cmp.Ordering.{Ordering}
@@ -11,7 +11,6 @@ use Rattle.std.specs.Cmp.{nat_cmp_is}
 use Rattle.std.proofs.lemmas.Simd.{map-map}
 use Rattle.std.proofs.lemmas.List.{length-map}
 use Rattle.std.proofs.lemmas.List.Elements.{All-map, All-cons, All-nil}
-use Rattle.std.proofs.lemmas.List.Sorted.{IsPermutation-remove, list_any-IsPermutation}
 use Rattle.ps_grid.specs.declared.refusal.Refusal.TheVariants.{ClockFull}
 use Rattle.ps_lattice.specs.declared.register.Assignment.{Assignment}
 use Rattle.ps_lattice.specs.Register.{joined_registers, assignment_cmp, time_of}
@@ -32,21 +31,6 @@ pub any_full_refuses : (r : ℕ) (s : State) (cells : List (ℕ × Content))
 any_full_refuses r s cells full =
     ap (λ (b : Bool). refused_if b ClockFull
     (Ok (map (λ (q : ℕ × Content). (q.0, assigned r (s q.0) q.1)) cells))) full
-
-pub full_refuses : (r : ℕ) (s : State) (cells : List (ℕ × Content)) (k : ℕ) (e : ℕ × Content) → k < length cells
-    → e ≡ get_or cells k e
-    → is_clock_full (s e.0) ≡ true → delta_of_batch r s cells ≡ Err ClockFull
-full_refuses r s cells k e lt is full =
-    let there : list_any (λ (q : ℕ × Content). is_clock_full (s q.0)) cells ≡ true =
-    list_any-IsPermutation (λ (q : ℕ × Content). is_clock_full (s q.0)) cells (e ∷ remove cells k)
-    (IsPermutation-remove cells k e lt is)
-    ∙ first_any (is_clock_full (s e.0))
-    (list_any (λ (q : ℕ × Content). is_clock_full (s q.0)) (remove cells k)) full in
-    any_full_refuses r s cells there
-  where
-    first_any : (a b : Bool) → a ≡ true → Rattle.std.specs.Prelude.◌||◌ a b ≡ true
-    first_any true b h = refl
-    first_any false b h = absurd (let x : false ≡ true = h in cc)
 
 -- an assigned cell isn't empty
 assigned_some : (r : ℕ) (x : CellState) (content : Content) → assigned r x content ≢ empty_cell

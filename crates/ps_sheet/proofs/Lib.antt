@@ -1,10 +1,10 @@
 pub mod AcceptedRuns
 pub mod AppendedDeltas
 pub mod BatchDeltas
+pub mod CrossingDeltas
 pub mod EmptySheets
 pub mod FreshCells
 pub mod FreshEdits
-pub mod SharedDeltas
 pub mod MadeChanges
 pub mod Staged
 pub mod StagedChanges

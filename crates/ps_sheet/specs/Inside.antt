@@ -1,2 +1,3 @@
--- What a sheet keeps, in words that no public contract cites.
+-- What a sheet keeps, and what makes the delta of an edit answers, in words that no public contract cites.
 pub mod Kept
+pub mod Makes

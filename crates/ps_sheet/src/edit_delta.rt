@@ -1,16 +1,15 @@
 //! The delta of an edit.
 
-ghost use Rattle.std.specs.Prelude.{◌≡◌, ◌⊎◌, ◌≤◌, Ok, Err, IfOk, IfErr, if◌then◌else◌, nat_le};
-ghost use Rattle.std.specs.Prelude.{IsOk, IsErrOf};
+ghost use Rattle.std.specs.Prelude.{◌≡◌, ◌≤◌, Ok, Err, if◌then◌else◌, nat_le};
 ghost use Rattle.std.specs.List.{list_any};
 ghost use Rattle.ps_grid.specs.declared.refusal.Refusal.{Refusal};
 ghost use Rattle.ps_delta.specs.State.{state_at};
-ghost use Rattle.ps_delta.specs.Deltas.{IsDelta};
 ghost use Rattle.ps_lattice.specs.Tally.{is_amount};
 ghost use Rattle.ps_cells.specs.Settled.{content_of};
 ghost use Rattle.ps_sheet.specs.Batches.{IsBatch};
 ghost use Rattle.ps_sheet.specs.Edits.{counted, paired, registered, delta_of_batch, delta_of_edit};
 ghost use Rattle.ps_sheet.specs.Edits.{holds_choice, holds_tally, is_clock_full};
+ghost use Rattle.ps_sheet.specs.Inside.Makes.{MakesDelta};
 ghost use Rattle.ps_sheet.specs.declared.edit.Edit.TheVariants.{Choose, Unchoose};
 
 use crate::contents::is_clock_full;
@@ -31,11 +30,7 @@ pub(crate) fn delta_of(
     edit: Edit,
 ) -> Result<Delta, Refusal>
     requires { (1 ≤ replica) × (replica ≤ REPLICAS) }
-    ensures made { IfOk result (λ d. delta_of_edit replica (state_at grid.now) edit ≡ Ok d) }
-    ensures delta { IfOk result IsDelta }
-    ensures refused { IfErr result (λ e. (e ≡ Refusal.Memory)
-        ⊎ (delta_of_edit replica (state_at grid.now) edit ≡ Err e)) }
-    ensures asked { IsErrOf result Refusal.Memory → IsOk (delta_of_edit replica (state_at grid.now) edit) }
+    ensures { MakesDelta (delta_of_edit replica (state_at grid.now) edit) result }
 {
     match edit {
         Edit::Set(cell, content) => {
@@ -71,12 +66,7 @@ fn chosen(
     option: u64,
 ) -> Result<Delta, Refusal>
     requires { (1 ≤ replica) × (replica ≤ REPLICAS) }
-    ensures made { IfOk result (λ d. delta_of_edit replica (state_at grid.now) (Choose cell option) ≡ Ok d) }
-    ensures delta { IfOk result IsDelta }
-    ensures refused { IfErr result (λ e. (e ≡ Refusal.Memory)
-        ⊎ (delta_of_edit replica (state_at grid.now) (Choose cell option) ≡ Err e)) }
-    ensures asked { IsErrOf result Refusal.Memory
-        → IsOk (delta_of_edit replica (state_at grid.now) (Choose cell option)) }
+    ensures { MakesDelta (delta_of_edit replica (state_at grid.now) (Choose cell option)) result }
 {
     let state = grid.at(cell);
     check_choice(state, option)?;
@@ -94,12 +84,7 @@ fn unchosen(
     option: u64,
 ) -> Result<Delta, Refusal>
     requires { (1 ≤ replica) × (replica ≤ REPLICAS) }
-    ensures made { IfOk result (λ d. delta_of_edit replica (state_at grid.now) (Unchoose cell option) ≡ Ok d) }
-    ensures delta { IfOk result IsDelta }
-    ensures refused { IfErr result (λ e. (e ≡ Refusal.Memory)
-        ⊎ (delta_of_edit replica (state_at grid.now) (Unchoose cell option) ≡ Err e)) }
-    ensures asked { IsErrOf result Refusal.Memory
-        → IsOk (delta_of_edit replica (state_at grid.now) (Unchoose cell option)) }
+    ensures { MakesDelta (delta_of_edit replica (state_at grid.now) (Unchoose cell option)) result }
 {
     let state = grid.at(cell);
     check_choice(state, option)?;
@@ -117,11 +102,7 @@ fn all_assigned(
 ) -> Result<Delta, Refusal>
     requires replica { (1 ≤ replica) × (replica ≤ REPLICAS) }
     requires batch { IsBatch cells.items }
-    ensures made { IfOk result (λ d. delta_of_batch replica (state_at grid.now) cells.items ≡ Ok d) }
-    ensures delta { IfOk result IsDelta }
-    ensures refused { IfErr result (λ e. (e ≡ Refusal.Memory)
-        ⊎ (delta_of_batch replica (state_at grid.now) cells.items ≡ Err e)) }
-    ensures asked { IsErrOf result Refusal.Memory → IsOk (delta_of_batch replica (state_at grid.now) cells.items) }
+    ensures { MakesDelta (delta_of_batch replica (state_at grid.now) cells.items) result }
 {
     if is_any_full(grid, &cells) {
         return Err(Refusal::ClockFull);

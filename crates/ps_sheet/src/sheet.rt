@@ -1,6 +1,6 @@
 //! The sheet of one replica.
 
-ghost use Rattle.std.specs.Prelude.{◌≡◌, ◌+◌, ◌<◌, ◌≤◌, ◌⊎◌, ◌↔◌, ℕ, List, [], ◌∷◌, ◌++◌, length, map};
+ghost use Rattle.std.specs.Prelude.{◌≡◌, ◌+◌, ◌<◌, ◌≤◌, ◌⊎◌, ◌↔◌, [], ◌∷◌, ◌++◌, length};
 ghost use Rattle.std.specs.Prelude.{IfOk, IfErr, IsOk, IsOkAnd, IsErrOf, OnOk, OnErr};
 ghost use Rattle.std.specs.Option.{option_copied, option_map};
 ghost use Rattle.ps_grid.specs.declared.parties.TheConstants.{WORKERS};
@@ -222,6 +222,7 @@ impl Sheet {
     {
         // for the fact that it is a sheet (`IsSheet`)
         let _ = self.staging.version();
+        // (a `match`, as `?` would move the report once more)
         match self.staging.stage(rt, &Open, alloc, change, meter) {
             Ok(report) => {
                 self.staging.make();

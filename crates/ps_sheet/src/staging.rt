@@ -1,7 +1,7 @@
 //! A sheet in which at most one change is staged.
 
-ghost use Rattle.std.specs.Prelude.{◌≡◌, ◌+◌, ◌≤◌, ◌⊎◌, ◌↔◌, [], ℕ, true, false, is_some, length, map};
-ghost use Rattle.std.specs.Prelude.{None, Ok, Err, IfOk, IfErr, IsErrOf, IsOk, IsSomeAnd, IsTrue, OnOk, OnErr};
+ghost use Rattle.std.specs.Prelude.{◌≡◌, ◌+◌, ◌≤◌, ◌⊎◌, ◌↔◌, [], true, false, is_some, length, map};
+ghost use Rattle.std.specs.Prelude.{None, IfOk, IfErr, IsSomeAnd, IsTrue, OnOk, OnErr};
 ghost use Rattle.std.specs.Option.{option_copied, option_map};
 ghost use Rattle.ps_grid.specs.declared.parties.TheConstants.{WORKERS};
 ghost use Rattle.ps_shown.specs.Shown.{shown_at};
@@ -10,9 +10,10 @@ ghost use Rattle.ps_delta.specs.Deltas.{joined_history, state_of};
 ghost use Rattle.ps_cells.specs.ChangedCells.{IsChanged};
 ghost use Rattle.ps_sheet.specs.Edits.{delta_of_edit, is_clock_full};
 ghost use Rattle.ps_sheet.specs.Own.{has_own};
+ghost use Rattle.ps_sheet.specs.Inside.Makes.{MakesDelta};
 ghost use Rattle.ps_sheet.specs.Prepared.{IsDeltaOf, IsOf, IsRefusedBy, IsToAppend, history_after, shown_before};
 ghost use Rattle.ps_sheet.specs.Sheet.{IsSheet};
-ghost use Rattle.ps_sheet.specs.Staging.{IsIdle, IsListed, IsStaging, IsWorkedOut, Stages};
+ghost use Rattle.ps_sheet.specs.Staging.{IsIdle, IsListed, IsStaging, Stages};
 ghost use Rattle.ps_sheet.specs.Staging.{prepared_of, sheet_of, staging_of};
 
 use crate::edit::{Change, Edit};
@@ -150,6 +151,7 @@ impl Staging {
         ensures unmetered { OnErr result (meter.new ≡ meter.old) }
     {
         match change {
+            // (a `match`, as `?` would move the delta once more)
             Change::Edit(edit) => match self.edit_delta(alloc, edit) {
                 Ok(delta) => self.stage_fresh(rt, gate, alloc, delta, meter),
                 Err(refusal) => Err(refusal),
@@ -230,13 +232,8 @@ impl Staging {
     #[inline(always)]
     fn edit_delta(&self, alloc: Global, edit: Edit) -> Result<Delta, Refusal>
         requires none { self.now.staged ≡ None }
-        ensures made { IfOk result (λ d. delta_of_edit self.now.replica (joined_history self.now.history) edit
-            ≡ Ok d) }
+        ensures made { MakesDelta (delta_of_edit self.now.replica (joined_history self.now.history) edit) result }
         ensures fresh { IfOk result (λ d. ¬ IsBelow (state_of d) (joined_history self.now.history)) }
-        ensures refused { IfErr result (λ e. (e ≡ Refusal.Memory)
-            ⊎ (delta_of_edit self.now.replica (joined_history self.now.history) edit ≡ Err e)) }
-        ensures asked { IsErrOf result Refusal.Memory
-            → IsOk (delta_of_edit self.now.replica (joined_history self.now.history) edit) }
         ensures staging { IsStaging self.now }
     {
         delta_of(alloc, self.cells.grid(), self.replica, edit)

@@ -5,7 +5,7 @@ use Rattle.std.proofs.Crossing.{crosses}
 use Rattle.ps_delta.specs.contracts.cell_state.CellState as cell_state
 use Rattle.ps_delta.specs.contracts.delta.Delta as delta
 use Rattle.ps_face.specs.contracts.patch.Patch.TheInside as patch_inside
-use Rattle.ps_sheet.proofs.SharedDeltas.{delta_send}
+use Rattle.ps_sheet.proofs.CrossingDeltas.{delta_send}
 use Rattle.ps_face.proofs.threads.patch_is_send.Goals as goal
 
 -- from what the bounds say of the delta that the whole may go to another thread

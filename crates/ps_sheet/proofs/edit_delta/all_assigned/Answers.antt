@@ -1,38 +1,16 @@
-use Rattle.std.proofs.Common.{◌≡◌, ℕ, true, length, map, Err, Option, inr, sym, ap, ◌∙◌}
-use Rattle.std.proofs.Common.{subst, eq-eqb}
+use Rattle.std.proofs.Common.{◌≡◌, ℕ, true, map, Option, inr, sym, ap, ◌∙◌}
+use Rattle.std.proofs.Common.{subst}
 use Rattle.std.proofs.lemmas.List.{map-id}
-use Rattle.std.proofs.lemmas.Result.{err_from_is_err_and}
-use Rattle.std.proofs.lemmas.Iterator.Consumers.{YieldsList-turn, YieldsList-end}
+use Rattle.std.proofs.lemmas.Iterator.Consumers.{YieldsList-end}
 use Rattle.std.proofs.lemmas.Iterator.Adapters.{YieldsList-from_vec}
 use Rattle.std.specs.List.{list_any}
 use Rattle.std.specs.Option.{SomeIff}
-use Rattle.ps_lattice.specs.Register.{time_of}
-use Rattle.ps_lattice.specs.declared.limits.TheConstants.{LAST_TIME}
 use Rattle.ps_content.specs.declared.content.Content.{Content}
-use Rattle.ps_delta.specs.declared.cell_state.CellState.{CellState}
 use Rattle.ps_delta.specs.State.{State, state_at}
 use Rattle.ps_delta.specs.Deltas.{Entries, IsDelta}
 use Rattle.ps_sheet.specs.Edits.{assigned, is_clock_full}
-use Rattle.ps_sheet.proofs.BatchDeltas.{any_full_refuses, full_refuses, batch_is_delta}
+use Rattle.ps_sheet.proofs.BatchDeltas.{any_full_refuses, batch_is_delta}
 use Rattle.ps_sheet.proofs.edit_delta.all_assigned.Goals as goal
-
-pub returns-in_err-register-clause-refused : goal.returns-in_err-register-clause-refused
-returns-in_err-register-clause-refused c =
-    let p = err_from_is_err_and c.from_residual-in_err-register.result
-    c.from_residual-in_err-register.ensures.1 in
-    let i = c.into_iter-cell-iterator.ensures.into_iter_gives in
-    let t = YieldsList-turn
-    (YieldsList-from_vec c.args.cells.items i.0
-    (i.1 ∙ c.args.cells.ok.0)) c.loop-cell.yielded c.loop-cell.cell-iterator c.loop-cell.yielded_by
-    c.next.result c.next.new.self (c.in-Some.cell, c.in-Some.content) c.in-Some.is c.next.ensures.steps in
-    let full : is_clock_full (state_at c.args.grid.now c.in-Some.cell) ≡ true =
-    eq-eqb (time_of (state_at c.args.grid.now c.in-Some.cell).register) LAST_TIME
-    (ap (λ (x : CellState). time_of x.register) (sym c.at.ensures.value)
-    ∙ c.in_err-register.ensures.full.0 (ap Err c.in_err-register.ensures.only_full)) in
-    let answer = full_refuses c.args.replica (state_at c.args.grid.now) c.args.cells.items
-    (length c.loop-cell.yielded)
-    (c.in-Some.cell, c.in-Some.content) t.0 t.1 full in
-    rw (p.1, p.2) (inr (answer ∙ ap Err (sym c.in_err-register.ensures.only_full)))
 
 pub unreachable-requires : goal.unreachable-requires
 unreachable-requires c =
@@ -48,10 +26,15 @@ unreachable-requires c =
     ∙ ap (map (λ (q : ℕ × Content). (q.0, assigned c.args.replica (state_at c.args.grid.now q.0) q.1))) all))
     (batch_is_delta c.args.replica (state_at c.args.grid.now) c.args.cells.items c.requires.batch))
 
-pub returns-then-is_any_full-clause-refused : goal.returns-then-is_any_full-clause-refused
-returns-then-is_any_full-clause-refused c =
+pub returns-then-is_any_full : goal.returns-then-is_any_full
+returns-then-is_any_full c =
     let s : State = state_at c.args.grid.now in
     let full : list_any (λ (e : ℕ × Content). is_clock_full (s e.0)) c.args.cells.items ≡ true =
     ap (list_any (λ (e : ℕ × Content). is_clock_full (s e.0))) (sym c.deref.ensures.value)
     ∙ (sym c.is_any_full.ensures ∙ c.if-is_any_full.true) in
-    inr (any_full_refuses c.args.replica s c.args.cells.items full)
+    record {
+      made = tt;
+      delta = tt;
+      refused = inr (any_full_refuses c.args.replica s c.args.cells.items full);
+      asked = λ is. absurd (cc);
+    }

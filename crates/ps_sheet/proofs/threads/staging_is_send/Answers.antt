@@ -13,7 +13,7 @@ use Rattle.ps_cells.specs.contracts.cells.Cells as cells
 use Rattle.ps_sheet.specs.contracts.sheet.Report as report
 use Rattle.ps_sheet.specs.contracts.staging.Staged as staged
 use Rattle.ps_sheet.specs.contracts.staging.Staging.TheInside as inside
-use Rattle.ps_sheet.proofs.SharedDeltas.{delta_send}
+use Rattle.ps_sheet.proofs.CrossingDeltas.{delta_send}
 use Rattle.ps_sheet.proofs.threads.staging_is_send.Goals as goal
 
 -- from what the bounds say of the parts, one after another, that the whole may go to another thread

@@ -1,4 +1,4 @@
--- that a delta may go to another thread, where the state of a cell may, and where several may look at it
+-- That a delta may go to another thread, where the state of a cell may, and where several threads may look at one.
 
 use denote.RattleType.{RattleType}
 use denote.Param.Send.{IsSend, IsSync, sendable, view_send}
