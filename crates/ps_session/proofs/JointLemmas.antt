@@ -113,7 +113,8 @@ module _ (ds js : List Entries) (j : Entries) (n : ℕ) (long : n ≡ length js)
   -- one more join
   pub more_joints : (new : List Entries) → new ≡ js ++ j ∷ [] → AreFirstJoints ds new
   more_joints new is =
-      subst (AreFirstJoints ds) (sym is) (first_more ds js j first (subst (λ m. IsJoint (take (m + 1) ds) j) long joint))
+      subst (AreFirstJoints ds) (sym is)
+      (first_more ds js j first (subst (λ m. IsJoint (take (m + 1) ds) j) long joint))
 
   -- the joins end before one that can have no line
   pub joints_end : (most : ℕ) → length js ≤ most → length js ≤ length ds → OutgrowsLine j → AreJoints ds most js

@@ -1,7 +1,8 @@
 -- The lines of a kept file: what each says as the command that it is. None both pushes a delta and tells a replica, and
 -- none tells two.
 use Rattle.std.proofs.Common.{◌≡◌, ◌≢◌, ◌⊎◌, inl, inr, ◌≤◌, ◌==◌, ℕ, Bool, true, false, cond, List, [], ◌∷◌, ◌++◌}
-use Rattle.std.proofs.Common.{Some, None, Ok, Err, refl, ap, sym, ◌∙◌, arith, codes, get_or, length, drop, nat_lt, subst}
+use Rattle.std.proofs.Common.{Some, None, Ok, Err, refl, ap, sym, ◌∙◌, arith, codes, get_or, length, drop, nat_lt}
+use Rattle.std.proofs.Common.{subst}
 use Rattle.std.proofs.lemmas.Bool.{eqb-true, false≢true, le-leb, ltb-true}
 use Rattle.std.proofs.lemmas.Fmt.{decimal_injective}
 use Rattle.std.proofs.lemmas.List.{append_cancel_left}
@@ -93,7 +94,8 @@ no_push line alone push =
 push_read : (line text : List ℕ) (read : Read Command) → line ≡ push_word ++ text → ReadsLine line read
     → PushIsRead text read
 unfolding verb_of
-push_read line text read is reads = by (words text) (parts_are_some 32 text).are (subst (λ l. ReadsLine l read) is reads)
+push_read line text read is reads =
+    by (words text) (parts_are_some 32 text).are (subst (λ l. ReadsLine l read) is reads)
   where
     by : (texts : List (List ℕ)) {first : List ℕ} {others : List (List ℕ)} → texts ≡ first ∷ others
         → ReadsPush texts text read → PushIsRead text read

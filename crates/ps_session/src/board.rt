@@ -1,5 +1,5 @@
 //! What answers the commands of a session.
-ghost use Rattle.std.specs.Prelude.{◌+◌, ◌<◌, ◌^◌, IfOk, length, map};
+ghost use Rattle.std.specs.Prelude.{◌+◌, ◌<◌, ◌^◌, IfOk, length};
 ghost use Rattle.std.specs.Thread.{IsSync};
 ghost use Rattle.ps_session.specs.Boards.{Calls};
 ghost use Rattle.ps_session.specs.Commands.{with_part};
@@ -78,8 +78,7 @@ pub trait Board<M> {
     ///
     /// Cost: the deltas that are handed out.
     fn pull(&mut self, alloc: Global, from: u64, most: usize) -> Result<Vec<Delta>, Refusal>
-        ensures pulled { calls.pulls self.old from most (with_part (λ deltas. deltas.items) result)
-            self.new }
+        ensures pulled { calls.pulls self.old from most (with_part (λ deltas. deltas.items) result) self.new }
         ensures numbered { IfOk result (λ deltas. from + length deltas.items < 2 ^ 64) };
 
     /// The own replica, 1 to 32.

@@ -1,7 +1,7 @@
 //! How many deltas one line holds, for those who pull them.
 
 ghost use Rattle.std.specs.Prelude.{◌≡◌, ◌⊎◌, ◌↔◌, ◌+◌, ◌-◌, ◌<◌, ◌≤◌, Err, IfOk, IfErr, IfSome, IsTrue, length};
-ghost use Rattle.std.specs.Prelude.{map, sum_by, take, ◌∷◌, []};
+ghost use Rattle.std.specs.Prelude.{sum_by, take, ◌∷◌, []};
 ghost use Rattle.std.specs.Option.{SomeIff};
 ghost use Rattle.ps_delta.specs.Deltas.{IsDelta, joined_history, state_of};
 ghost use Rattle.ps_wire.specs.Line.{delta_text};
@@ -172,8 +172,7 @@ fn next_joint(alloc: Global, joints: &[Delta], deltas: &[Delta]) -> Result<Delta
 
 /// The join of two deltas.
 fn joined_pair(alloc: Global, joint: &Delta, delta: &Delta) -> Result<Delta, Refusal>
-    ensures joined { IfOk result (λ j. state_of j
-        ≡ joined_history (joint.now ∷ delta.now ∷ [])) }
+    ensures joined { IfOk result (λ j. state_of j ≡ joined_history (joint.now ∷ delta.now ∷ [])) }
     ensures delta { IfOk result IsDelta }
     ensures memory { IfErr result (λ e. e ≡ Refusal.Memory) }
 {

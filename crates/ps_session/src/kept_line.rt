@@ -2,7 +2,6 @@
 ghost use Rattle.std.specs.Prelude.{◌≡◌, ◌⊎◌, Err, IfErr, IfOk, MatchOption};
 ghost use Rattle.ps_delta.specs.Deltas.{Entries};
 ghost use Rattle.ps_session.specs.PushLine.{IsPush, Pushes};
-ghost use Rattle.ps_session.specs.ReplicaLine.{Tells, TellsNone};
 ghost use Rattle.ps_session.specs.KeptLines.{LineSays, LineSaysNothing};
 ghost use Rattle.ps_session.specs.Words.{first_word};
 ghost use Rattle.ps_session.specs.Commands.{verb_of};

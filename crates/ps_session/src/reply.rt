@@ -149,11 +149,22 @@ fn send_number<K: Sink>(word: &[u8], number: u64, sink: &mut K) -> Result<(), Fa
     ensures calm { OnOk result (K.failures sink.new ≡ K.failures sink.old) }
     ensures failed { OnErr result (K.failures sink.old < K.failures sink.new) }
 {
-    // from its end on, as the digits come
     let mut line = [b'\n'; ROOM];
-    let digits = write_digits(number, &mut line, ROOM - 1);
-    let start = write_before(word, &mut line, digits);
+    let start = write_numbered(word, number, &mut line);
     put_all(sink, &line[start..])
+}
+
+/// Writes a word with its space and a number so that they end before the last byte, and returns where they start.
+#[inline(always)]
+fn write_numbered(word: &[u8], number: u64, line: &mut [u8]) -> usize
+    requires short { length word.now ≤ 11 }
+    requires room { length line.old ≡ ROOM }
+    ensures written { drop result line.new ≡ word.now ++ decimal number ++ drop 31 line.old }
+    ensures within { result ≤ length line.new }
+{
+    // from its end on, as the digits come
+    let digits = write_digits(number, line, ROOM - 1);
+    write_before(word, line, digits)
 }
 
 /// Writes `val`, a number and a line feed, in one piece.
@@ -200,15 +211,17 @@ fn write_before(bytes: &[u8], line: &mut [u8], end: usize) -> usize
     start
 }
 
-/// Writes a word with its space, a number, a text after a space, and a line feed.
+/// Writes a word with its space, a number, a text after a space, and a line feed: up to the text in one piece.
 fn send_words<K: Sink>(word: &[u8], number: u64, text: &[u8], sink: &mut K) -> Result<(), Failed>
+    requires short { length word.now ≤ 11 }
     ensures sent { Sends (K.contents sink.old) (K.contents sink.new) result
         (word.now ++ decimal number ++ (codes " " ++ text.now) ++ 10 ∷ []) }
     ensures calm { OnOk result (K.failures sink.new ≡ K.failures sink.old) }
     ensures failed { OnErr result (K.failures sink.old < K.failures sink.new) }
 {
-    let mut buffer = Buffer::new();
-    let pieces: [&[u8]; 5] = [word, buffer.format(number).as_bytes(), b" ", text, b"\n"];
+    let mut head = [b' '; ROOM];
+    let start = write_numbered(word, number, &mut head);
+    let pieces: [&[u8]; 3] = [&head[start..], text, b"\n"];
     send_pieces(pieces.as_slice(), sink)
 }
 

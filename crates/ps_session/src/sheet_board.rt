@@ -1,5 +1,5 @@
 //! A sheet answers commands.
-ghost use Rattle.std.specs.Prelude.{◌≡◌, ◌⊎◌, ◌↔◌, ◌<◌, Err, IfErr, IfOk, drop, length, map, take};
+ghost use Rattle.std.specs.Prelude.{◌≡◌, ◌⊎◌, ◌↔◌, ◌<◌, Err, IfErr, IfOk, drop, length, take};
 
 use crate::board::Board;
 use ps_csv::{entries_text, entry_of, exported_text};
@@ -90,8 +90,7 @@ pub fn deltas_after(
     from: u64,
     most: usize,
 ) -> Result<Vec<Delta>, Refusal>
-    ensures deltas { IfOk result (λ ds. ds.items
-        ≡ take most (drop from history.now)) }
+    ensures deltas { IfOk result (λ ds. ds.items ≡ take most (drop from history.now)) }
     ensures above { (result ≡ Err Refusal.Version) ↔ (length history.now < from) }
     ensures memory { result ≡ Err Refusal.Memory → from < length history.now }
     ensures refused { IfErr result (λ e. (e ≡ Refusal.Version) ⊎ (e ≡ Refusal.Memory)) }
@@ -113,8 +112,12 @@ fn copy_deltas(alloc: Global, deltas: &[Delta]) -> Result<Vec<Delta>, Refusal>
     ensures memory { IfErr result (λ e. e ≡ Refusal.Memory) }
 {
     let mut copies = Vec::with_capacity(alloc, deltas.len())?;
+    // (a `match`, as `?` would move each copy once more)
     'deltas: for delta in deltas {
-        copies.push(delta.twin(alloc)?)?;
+        match delta.twin(alloc) {
+            Ok(copy) => copies.push_reserved(copy),
+            Err(refusal) => return Err(refusal),
+        }
     }
     Ok(copies)
 }
