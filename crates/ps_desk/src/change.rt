@@ -138,7 +138,7 @@ fn list(sheet: &mut Staging)
     sheet.list_changed();
 }
 
-/// One more owner of a delta. It tries again where a delta has as many owners as can be counted.
+/// One more owner of a delta. It tries again where what the delta shares has as many owners as can be counted.
 fn share<V: Wait>(wait: &V, alloc: Global, delta: &Delta) -> Delta
     ensures { result ≡ delta.now }
 {

@@ -1,6 +1,6 @@
 //! The desk: a lock round what its passes share.
 
-ghost use Rattle.std.specs.Prelude.{◌≡◌, ◌⊎◌, ◌+◌, ◌<◌, ◌≤◌, ◌^◌, true, if◌then◌else◌, drop, length, map, take};
+ghost use Rattle.std.specs.Prelude.{◌≡◌, ◌⊎◌, ◌+◌, ◌<◌, ◌≤◌, ◌^◌, true, if◌then◌else◌, drop, length, take};
 ghost use Rattle.std.specs.Prelude.{List};
 ghost use Rattle.std.specs.Prelude.{Ok, Err, IsOk, IfOk, IfErr, OnOk, OnErr};
 ghost use mathlib.Core.List.{IsPrefix};
@@ -177,8 +177,7 @@ impl<L: DeskName, W: Wait + Drop> Desk<L, W> {
     ) -> Result<Vec<Delta>, Refusal>
         ensures later { IsPrefix pass.old.list pass.new.list }
         ensures legal { IsLegal L.opening pass.new.list }
-        ensures deltas { IfOk result (λ ds. ds.items
-            ≡ take at_most (drop from (history_of L.opening pass.new.list))) }
+        ensures deltas { IfOk result (λ ds. ds.items ≡ take at_most (drop from (history_of L.opening pass.new.list))) }
         ensures there { IfOk result (λ _. from ≤ length (history_of L.opening pass.new.list)) }
         ensures bound { IfOk result (λ _. length (history_of L.opening pass.new.list) < 2 ^ 64) }
         ensures refused { IfErr result (λ e. (e ≡ Memory)

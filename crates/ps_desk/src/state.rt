@@ -1,7 +1,7 @@
 //! What lies under the lock of a desk.
 
-ghost use Rattle.std.specs.Prelude.{◌≡◌, ◌⊎◌, ◌↔◌, ◌+◌, ◌<◌, ◌≤◌, ◌^◌, [], if◌then◌else◌};
-ghost use Rattle.std.specs.Prelude.{drop, length, map, take, Err, IfOk, IfErr, OnErr};
+ghost use Rattle.std.specs.Prelude.{◌≡◌, ◌⊎◌, ◌↔◌, ◌+◌, ◌<◌, ◌^◌, [], if◌then◌else◌};
+ghost use Rattle.std.specs.Prelude.{drop, length, take, Err, IfOk, IfErr, OnErr};
 ghost use mathlib.Core.List.{IsPrefix};
 ghost use Rattle.ps_grid.specs.declared.refusal.Refusal.TheVariants.{Memory, Version};
 ghost use Rattle.ps_delta.specs.Deltas.{joined_history};
@@ -149,8 +149,7 @@ impl<L: DeskName, W: Wait + Drop> DeskState<L, W> {
         from: u64,
         at_most: usize,
     ) -> Result<Vec<Delta>, Refusal>
-        ensures deltas { IfOk result (λ ds. ds.items
-            ≡ take at_most (drop from (history_of L.opening self.now))) }
+        ensures deltas { IfOk result (λ ds. ds.items ≡ take at_most (drop from (history_of L.opening self.now))) }
         ensures above { (result ≡ Err Version) ↔ (length (history_of L.opening self.now) < from) }
         ensures other { IfErr result (λ e. (e ≡ Version) ⊎ (e ≡ Memory)) }
         ensures asked { result ≡ Err Memory → from < length (history_of L.opening self.now) }

@@ -1,5 +1,5 @@
 //! Who keeps a sheet.
-ghost use Rattle.std.specs.Prelude.{◌≡◌, ◌+◌, ◌≤◌, ℕ, List, OnOk, OnErr, false, length, map, take, ⊤};
+ghost use Rattle.std.specs.Prelude.{◌≡◌, ◌+◌, ◌≤◌, ℕ, List, OnOk, OnErr, false, length, take, ⊤};
 ghost use Rattle.ps_delta.specs.Deltas.{Entries};
 ghost use Rattle.ps_sheet.specs.Sheet.{IsFresh, SheetView};
 ghost use Rattle.ps_kept.specs.Inside.{later};

@@ -1,6 +1,5 @@
 //! The lines of deltas, noted in a journal.
-ghost use Rattle.std.specs.Prelude.{◌≡◌, ◌+◌, ◌<◌, ◌≤◌, ◌^◌, ◌++◌, ◌∷◌, ℕ, [], OnOk, OnErr, length, map, take};
-ghost use Rattle.ps_keep.specs.Journals.{IsJournal};
+ghost use Rattle.std.specs.Prelude.{◌≡◌, ◌+◌, ◌<◌, ◌≤◌, ◌^◌, ◌∷◌, ℕ, [], OnOk, OnErr, length, take};
 ghost use Rattle.ps_session.specs.PushLine.{Pushes, push_line};
 ghost use Rattle.ps_kept.specs.Kept.{Notes};
 

@@ -65,33 +65,33 @@ module _ (r : ℕ) (h : List Entries) (v : RecordView) (is : IsRecord r h v) whe
       }
 
   -- all of them were
-  pub all_noted : (j : JournalView) (deltas : List Entries) (k : ℕ) → deltas ≡ drop v.noted (history_of h v.seen)
-      → Notes v.journal deltas j → k ≡ length deltas → IsRecord r h (record v { journal = j; noted = v.noted + k })
-  all_noted j deltas k rest notes all =
-      more_noted j deltas k rest
-      (subst (λ (ds : List Entries). Notes v.journal ds j) (sym (take_all k deltas (omega (arith, all)))) notes)
-      (omega (arith, all))
+  all_noted : (j : JournalView) (deltas : List Entries) → deltas ≡ drop v.noted (history_of h v.seen)
+      → Notes v.journal deltas j → IsRecord r h (record v { journal = j; noted = v.noted + length deltas })
+  all_noted j deltas rest notes =
+      more_noted j deltas (length deltas) rest
+      (subst (λ (ds : List Entries). Notes v.journal ds j) (sym (take_all (length deltas) deltas (omega arith))) notes)
+      (omega arith)
 
   -- what of them was noted is counted, whatever it came to
-  pub noted_some : {A E : Type 0} (result : Result A E) (j : JournalView) (deltas : List Entries) (k count : ℕ)
-      → deltas ≡ drop v.noted (history_of h v.seen) → length deltas ≡ k
-      → OnOk result (Notes v.journal deltas j × (count ≡ v.noted + k))
-      → OnErr result ((n : ℕ) × (n ≤ k) × (count ≡ v.noted + n) × Notes v.journal (take n deltas) j)
+  pub noted_some : {A E : Type 0} (result : Result A E) (j : JournalView) (deltas : List Entries) (count : ℕ)
+      → deltas ≡ drop v.noted (history_of h v.seen)
+      → OnOk result (Notes v.journal deltas j × (count ≡ v.noted + length deltas))
+      → OnErr result ((n : ℕ) × (n ≤ length deltas) × (count ≡ v.noted + n) × Notes v.journal (take n deltas) j)
       → IsRecord r h (record v { journal = j; noted = count })
-  noted_some (Ok a) j deltas k count rest all told part =
+  noted_some (Ok a) j deltas count rest told part =
       subst (λ (n : ℕ). IsRecord r h (record v { journal = j; noted = n })) (sym told.1)
-      (all_noted j deltas k rest told.0 (sym all))
-  noted_some (Err e) j deltas k count rest all told part =
+      (all_noted j deltas rest told.0)
+  noted_some (Err e) j deltas count rest told part =
       subst (λ (n : ℕ). IsRecord r h (record v { journal = j; noted = n })) (sym part.2)
-      (more_noted j deltas part.0 rest part.3 (omega (arith, part.1, all)))
+      (more_noted j deltas part.0 rest part.3 part.1)
 
   -- .. and the device isn't called
-  pub stays_calm : {A E : Type 0} (result : Result A E) (j : JournalView) (deltas : List Entries) (k count : ℕ)
-      → OnOk result (Notes v.journal deltas j × (count ≡ v.noted + k))
-      → OnErr result ((n : ℕ) × (n ≤ k) × (count ≡ v.noted + n) × Notes v.journal (take n deltas) j)
+  pub stays_calm : {A E : Type 0} (result : Result A E) (j : JournalView) (deltas : List Entries) (count : ℕ)
+      → OnOk result (Notes v.journal deltas j × (count ≡ v.noted + length deltas))
+      → OnErr result ((n : ℕ) × (n ≤ length deltas) × (count ≡ v.noted + n) × Notes v.journal (take n deltas) j)
       → j.has_failed ≡ v.journal.has_failed
-  stays_calm (Ok a) j deltas k count told part = ap (λ (w : JournalView). w.has_failed) told.0.lines
-  stays_calm (Err e) j deltas k count told part = ap (λ (w : JournalView). w.has_failed) part.3.lines
+  stays_calm (Ok a) j deltas count told part = ap (λ (w : JournalView). w.has_failed) told.0.lines
+  stays_calm (Err e) j deltas count told part = ap (λ (w : JournalView). w.has_failed) part.3.lines
 
   -- what was noted is all that was seen, and was synced
   pub synced : (j : JournalView) → v.noted ≡ length (history_of h v.seen) → j.kept ≡ v.journal.lines

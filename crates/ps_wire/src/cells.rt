@@ -1,6 +1,6 @@
 //! The cells of a delta, as they are read from JSON.
 
-ghost use Rattle.std.specs.Prelude.{◌≡◌, ◌<◌, ◌∷◌, [], ℕ, suc, List, map as each, IfOk, IfErr, OnOk};
+ghost use Rattle.std.specs.Prelude.{◌<◌, ◌∷◌, ℕ, suc, List, IfOk, IfErr};
 ghost use Rattle.std.specs.List.{All};
 ghost use Rattle.json.specs.Token.{Token as JsonToken};
 ghost use Rattle.serde_json.specs.Data.{string};
@@ -8,7 +8,7 @@ ghost use Rattle.ps_grid.specs.Place.{cell_name};
 ghost use Rattle.ps_grid.specs.declared.size.TheConstants.{CELLS};
 ghost use Rattle.ps_delta.specs.declared.cell_state.CellState.{CellState as State};
 ghost use Rattle.ps_delta.specs.Deltas.{Entries};
-ghost use Rattle.ps_wire.specs.Value.{cell_value, IsState, array_of, IsLawful, delta_value};
+ghost use Rattle.ps_wire.specs.Value.{cell_value, IsState, IsLawful, delta_value};
 ghost use Rattle.ps_wire.specs.Inside.{RefusedAs, RefusedSince, Spells};
 
 use crate::parts::{close_array, open_array, text};

@@ -1,6 +1,6 @@
 //! How many deltas may share a line, as far as the lengths of their contents tell.
 
-ghost use Rattle.std.specs.Prelude.{◌≡◌, ◌↔◌, ℕ, ◌+◌, ◌-◌, ◌<◌, ◌≤◌, None, IsTrue, IfOk, IfErr, IfSome, length, map};
+ghost use Rattle.std.specs.Prelude.{◌≡◌, ◌↔◌, ℕ, ◌+◌, ◌-◌, ◌<◌, ◌≤◌, None, IsTrue, IfOk, IfErr, IfSome, length};
 ghost use Rattle.std.specs.Prelude.{sum_by, take};
 ghost use Rattle.std.specs.List.{All};
 ghost use Rattle.ps_grid.specs.declared.size.TheConstants.{CELLS};

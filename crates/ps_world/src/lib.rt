@@ -15,8 +15,8 @@
 //! Say replica 1 gives A1 the text `x`, and replica 2 the text `y`, which are deltas 1 and 2. Then delta 2 is delivered
 //! to replica 1, and delta 1 to replica 2, twice. Both took {1, 2} and show `y`, the text of the greater replica.
 //!
-//! Cost: a sheet for each replica, and each delta once, which the sheets share; an event costs the one call of a sheet
-//! that it leads to.
+//! Cost: a sheet for each replica, and each delta in the world and in each history that took it, where deltas of
+//! several cells share their list; an event costs the one call of a sheet that it leads to.
 #![tactic(auto)]
 
 mod event;

@@ -1,6 +1,6 @@
 //! Worlds: several replicas, and the deltas that travel between them.
 
-ghost use Rattle.std.specs.Prelude.{◌≡◌, ◌⊎◌, ◌↔◌, ◌<◌, ◌≤◌, ◌-◌, IfOk, IfErr, OnOk, length};
+ghost use Rattle.std.specs.Prelude.{◌≡◌, ◌⊎◌, ◌↔◌, ◌<◌, ◌≤◌, ◌-◌, IfOk, IfErr, length};
 ghost use Rattle.std.specs.Option.{SomeIff, option_map, option_copied};
 ghost use Rattle.ps_grid.specs.declared.refusal.Refusal.{Refusal};
 ghost use Rattle.ps_world.specs.Replicas.{IsWorld, SameTakenShowTheSame, ShowsSettled, replica_at, world_of};

@@ -1,4 +1,4 @@
-use Rattle.std.proofs.Common.{◌≡◌, List, drop, length, refl, sym, subst, ◌∙◌}
+use Rattle.std.proofs.Common.{◌≡◌, List, drop, sym, subst, ◌∙◌}
 use Rattle.ps_delta.specs.Deltas.{Entries}
 use Rattle.ps_face.specs.Legal.{history_of}
 use Rattle.ps_kept_desk.specs.Records.{RecordView}
@@ -20,8 +20,7 @@ invariant_of-self g c =
     let j = c.note_deltas.new.journal in
     let count = c.note_deltas.new.noted in
     let told = c.note_deltas.ensures in (
-      stays_calm _ h v c.self.invariant.1 c.note_deltas.result j deltas (length c.args.deltas.now) count told.noted
-          told.part ∙ c.self.invariant.0,
-      noted_some _ h v c.self.invariant.1 c.note_deltas.result j deltas (length c.args.deltas.now) count rest
-          refl told.noted told.part,
+      stays_calm _ h v c.self.invariant.1 c.note_deltas.result j deltas count told.noted told.part
+          ∙ c.self.invariant.0,
+      noted_some _ h v c.self.invariant.1 c.note_deltas.result j deltas count rest told.noted told.part,
     )
