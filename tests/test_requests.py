@@ -3,9 +3,9 @@
 No clause says that a read, a refused edit, and a change that is made or given up once it is worked out take none. What
 can be seen from outside: lines that take none make no request, however many there are; each request of an edit is one
 whose refusal is the reply to it, so none is made once something has changed; and after a request that was refused
-there is no other. A number that is set in a cell of a plain sheet, and an amount that is added to a counter, ask for
-the room of the history alone, which doubles. A pull makes as many for a delta of many cells as for one of a single
-cell.
+there is no other. A number that is set in a cell of a plain sheet, and an amount that is added to a counter or taken
+off it, ask for the room of the history alone, which doubles. A pull makes as many for a delta of many cells as for one
+of a single cell.
 """
 from program import Ended, ProgramTest, lines
 from shortage import ALL, build, each, run_short, serve_short
@@ -36,6 +36,8 @@ CHANGES = (
     "set A1 6", "set A1 ", "set A1 text", "set A9 7", "set C1 =[.A1]*3", "set A1 =[.C1]", "set F1 1", "add D1 5",
     "choose E1 8", 'push [["A1",[9,2,"7"],[],[]],["B9",[1,2,"=[.A1]"],[],[]]]',
 )
+# Those of them that may ask for nothing, where the history has room for one more.
+QUIET = ("set A1 6", "set A1 ", "set F1 1", "add D1 5")
 LOOKS = ("get A1", "get B1", "get C1", "get D1", "get E1", "get F1", "get G1", "get A9", "get B9")
 
 
@@ -96,36 +98,50 @@ class Requests(ProgramTest):
                 requests.add((many[1] - few[1]) / (TIMES - TIMES // 2))
             self.assertEqual(len(requests), 1, requests)
 
-    def assert_requests_come_first(self, how, opening, changes, looks):
-        """Each request of one of these changes comes before anything changes, and none after one that is refused."""
+    def assert_requests_come_first(self, how, opening, changes, looks, quiet=()):
+        """Each request of one of these changes comes before anything changes, and none after one that is refused.
+
+        Each of them makes one, but for those that may be quiet.
+        """
         before, known = how((*opening, *looks))()
-        asked = 0
         for line in changes:
             start = how((*opening, line, *looks))
             after, requests = start()
             self.assertEqual(after[len(opening)], f"ok {len(opening) + 1}")
-            asked += requests - known
+            self.assertGreater(requests + (line in quiet), known, line)
             # the looks take none
             spans = [(number, last) for number in range(known + 1, requests + 1) for last in (number, ALL)]
             for span, (replies, found) in zip(spans, each(start, spans)):
                 with self.subTest(line=line, span=span):
                     self.assertEqual(replies, [*before[:len(opening)], REFUSED, *before[len(opening):]])
                     self.assertEqual(found, span[0])
-        self.assertGreater(asked, 0)
+
+    def filled(self, how):
+        """The opening, and edits after it, until the history has no room for one more."""
+        opening = [*OPENING, "set A9 7"]
+        while how((*opening, "set A9 7"))()[1] == how(opening)()[1]:
+            opening.append("set A9 7")
+            self.assertLess(len(opening), TIMES)
+        return opening
 
     def test_each_request_of_an_edit_comes_before_anything_changes_and_none_after_one_that_is_refused(self):
         for how in self.each_way():
-            self.assert_requests_come_first(how, OPENING, CHANGES, LOOKS)
+            self.assert_requests_come_first(how, OPENING, CHANGES, LOOKS, QUIET)
+
+    def test_the_same_where_the_history_has_no_room_for_one_more(self):
+        for how in self.each_way():
+            self.assert_requests_come_first(how, self.filled(how), CHANGES, LOOKS)
 
     def test_the_same_of_an_edit_after_which_2_000_cells_show_other_values(self):
         opening = ("set A1 5", *pushes(lambda column, row: f"=[.A1]+{row}", range(2, 22)))
         for how in self.each_way():
-            self.assert_requests_come_first(how, opening, ("set A1 6", "set A1 text"), ("get A1", "get A2", "get CZ21"))
+            looks = ("get A1", "get A2", "get CZ21")
+            self.assert_requests_come_first(how, opening, ("set A1 6", "set A1 text"), looks, QUIET)
 
     def test_numbers_and_amounts_ask_for_the_room_of_the_history_alone(self):
-        for line in ("set A1 6", "add D1 5"):
+        _, requests = self.by_run(OPENING)()
+        for line in ("set A1 6", "add D1 5", "sub D1 5"):
             with self.subTest(line=line):
-                _, requests = self.by_run(OPENING)()
                 replies, found = self.by_run((*OPENING, *[line] * TIMES))()
                 self.assertEqual(replies[-1], f"ok {len(OPENING) + TIMES}")
                 self.assertLess(found - requests, 10)
