@@ -248,6 +248,101 @@ fn no_sum_is_stale(rt: HostRuntime) -> Result<(), Fail> {
     Ok(())
 }
 
+/// What is put into a column of 57 numbers one after another, and into which row.
+const STEPS: [(u16, Operand); 18] = [
+    (30, Operand::Num(40)),
+    (30, Operand::Text),
+    (30, Operand::Num(-3)),
+    (30, Operand::Empty),
+    (30, Operand::Num(100)),
+    (30, Operand::Num(30)),
+    (57, Operand::Empty),
+    (56, Operand::Text),
+    (1, Operand::Num(55)),
+    (31, Operand::Err(Fault::DivZero)),
+    (32, Operand::Num(7)),
+    (33, Operand::Err(Fault::Value)),
+    (31, Operand::Num(31)),
+    (33, Operand::Text),
+    (2, Operand::Num(i64::MAX)),
+    (3, Operand::Num(i64::MIN)),
+    (2, Operand::Num(i64::MIN)),
+    (57, Operand::Num(57)),
+];
+
+/// Puts what evaluation reads as this, and notes it by its row.
+fn put_operand(
+    alloc: Global,
+    shown: &mut Shown,
+    noted: &mut [Operand; 58],
+    row: u16,
+    operand: Operand,
+) -> Result<(), Fail> {
+    let kept = match operand {
+        Operand::Empty => Kept::Empty,
+        Operand::Num(number) => Kept::Num(number),
+        Operand::Err(fault) => Kept::Err(fault),
+        Operand::Text => {
+            let label = Label::new(b"text").ok_or("a label")?;
+            Kept::Text(SharedLabel::new(alloc, label).ok().ok_or("a text")?)
+        }
+    };
+    let cell = Cell::new(0, row).ok_or("a cell")?;
+    let _ = shown.put(cell, kept);
+    let note = noted.get_mut(usize::from(row)).ok_or("a row")?;
+    *note = operand;
+    Ok(())
+}
+
+/// Whether each function of the first 57 rows shows what is made of the operands that were noted.
+fn agrees_with(
+    rt: &impl Abort,
+    alloc: Global,
+    shown: &Shown,
+    noted: &[Operand; 58],
+) -> Result<(), Fail> {
+    let mut plain = Plain {
+        count: 0,
+        sum: 0,
+        least: i64::MAX,
+        greatest: i64::MIN,
+        fault: None,
+    };
+    for operand in noted {
+        take(&mut plain, *operand);
+    }
+    let values = expected(&plain);
+    for (k, function) in ["SUM", "MIN", "MAX", "COUNT"].into_iter().enumerate() {
+        let value = shows(alloc, function, "[.A1:.A57]", shown).ok();
+        assert!(rt; value == values.get(k).copied(), "{function}");
+    }
+    Ok(())
+}
+
+/// The sum of a block that is remembered follows what is put into it: numbers, texts, faults and nothing, and where the
+/// least or the greatest number comes or goes.
+#[test]
+fn a_remembered_sum_follows_what_is_put(rt: HostRuntime) -> Result<(), Fail> {
+    let alloc = rt.alloc();
+    let mut shown = Shown::new(alloc).ok().ok_or("a table")?;
+    let mut noted = [Operand::Empty; 58];
+    for row in 1..58 {
+        put_operand(
+            alloc,
+            &mut shown,
+            &mut noted,
+            row,
+            Operand::Num(i64::from(row)),
+        )?;
+    }
+    for (row, operand) in STEPS {
+        shown.remember(rect(0, 1, 0, 57)?);
+        put_operand(alloc, &mut shown, &mut noted, row, operand)?;
+        agrees_with(&rt, alloc, &shown, &noted)?;
+    }
+    Ok(())
+}
+
 /// A copy of a table sums what it shows, and not what the table shows that it was copied from.
 #[test]
 fn a_copy_has_sums_of_its_own(rt: HostRuntime) -> Result<(), Fail> {

@@ -11,7 +11,7 @@ use Rattle.std.proofs.lemmas.List.Sums.{fold-append}
 use Rattle.std.proofs.lemmas.Bool.{cond_both, lt-ltb, ltb-false, ltb-true}
 use Rattle.std.proofs.lemmas.Int.{ints, clamps, fold-int_min_bounds, fold-int_max_bounds}
 use Rattle.std.proofs.Common.{◌-◌, ◌^◌, ◌≤◌, ◌≢◌, ◌≤ℤ◌, sym, true, fold, negsuc, FitsSigned, w64}
-use Rattle.std.specs.Prelude.{nat_lt}
+use Rattle.std.specs.Prelude.{nat_lt, is_some, None, Bool, false, unsigned_abs, ◌*◌, ◌<ℤ◌, ◌-ℤ◌}
 use Rattle.ps_eval.specs.Summarized.{AreKnown, lowest_of, highest_of}
 use Rattle.ps_value.specs.declared.value.Fault.{Fault}
 use Rattle.ps_eval.specs.Number.{Number, is_zero, in_range}
@@ -193,3 +193,161 @@ pub fewer_numbers : (items : List Number) → length (numbers_in items) ≤ leng
 fewer_numbers [] = omega arith
 fewer_numbers (Ok n ∷ items) = let p = fewer_numbers items in omega (arith, p)
 fewer_numbers (Err fault ∷ items) = let p = fewer_numbers items in omega (arith, p)
+
+-- ---- one item less, and one among others
+
+-- the sum of 64-bit numbers is bounded by how many there are
+pub total_bounded : (ns : List ℤ) → list_all in_range ns ≡ true → unsigned_abs (total ns) ≤ length ns * 2 ^ 63
+total_bounded [] h = omega (arith, ints)
+total_bounded (n ∷ ns) h =
+    let first = head_ranged n ns h in
+    let rest = total_bounded ns (tail_ranged n ns h) in
+    let more = total_from (pos 0 +ℤ n) ns in
+    let small = range_bounded n first in
+    omega (arith, ints, rest, more, small)
+  where
+    tail_ranged : (n : ℤ) (ns : List ℤ) → list_all in_range (n ∷ ns) ≡ true → list_all in_range ns ≡ true
+    tail_ranged n ns h = grind arith
+
+    range_bounded : (n : ℤ) → in_range n ≡ true → unsigned_abs n ≤ 2 ^ 63
+    range_bounded (pos k) h = let b = ltb-true k (2 ^ 63) h in omega (arith, ints, b)
+    range_bounded (negsuc k) h = let b = ltb-true k (2 ^ 63) h in omega (arith, ints, b)
+
+without_middle : (x y z : Bool) → (x && (y && z)) ≡ true → (x && z) ≡ true
+without_middle true true z h = h
+without_middle true false z h = absurd (let e : false ≡ true = h in cc)
+without_middle false y z h = absurd (let e : false ≡ true = h in cc)
+
+-- a number among items counts
+pub counted_among : (front : List Number) (n : ℤ) (back : List Number) → 1 ≤ length (numbers_in (front ++ Ok n ∷ back))
+counted_among front n back =
+    let all = ap length (numbers_in-append front (Ok n ∷ back)) ∙ length-append (numbers_in front) (n ∷ numbers_in back) in
+    omega (arith, all)
+
+-- without one of the numbers that is neither the least nor the greatest
+pub known-less : (front back : List Number) (n : ℤ) (m : ℕ) (b : ℤ) {k : ℕ} {a low high : ℤ} {f : Option Fault}
+    → AreKnown (front ++ Ok n ∷ back) k a low high f → low <ℤ n → n <ℤ high
+    → m + 1 ≡ k → b ≡ a -ℤ n
+    → AreKnown (front ++ back) m b low high f
+known-less front back n m b s above below count_is sum_is =
+    let ns = numbers_in front in
+    let ms = numbers_in back in
+    let all = numbers_in-append front (Ok n ∷ back) in
+    let rest = numbers_in-append front back in
+    let count = ap length all ∙ length-append ns (n ∷ ms) in
+    let sum = ap total all ∙ total-append ns (n ∷ ms) in
+    let sum_back = total-append (n ∷ []) ms in
+    let low_all = ap lowest_of all ∙ lowest-append ns (n ∷ ms) in
+    let low_back = lowest-append (n ∷ []) ms in
+    let low_most = (fold-int_min_bounds (pos (2 ^ 63 - 1)) ms (lowest_of ms) refl).0 in
+    let high_all = ap highest_of all ∙ highest-append ns (n ∷ ms) in
+    let high_back = highest-append (n ∷ []) ms in
+    let high_most = (fold-int_max_bounds (negsuc (2 ^ 63 - 1)) ms (highest_of ms) refl).0 in
+    let parts = sym (list_all-append in_range ns (n ∷ ms)) ∙ sym (ap (list_all in_range) all) ∙ s.ranged in
+    record {
+      counted = omega (arith, s.counted, count) ∙ sym (ap length rest ∙ length-append ns ms);
+      summed = omega (arith, ints, s.summed, sum, sum_back, sum_is) ∙ sym (ap total rest ∙ total-append ns ms);
+      lowest = omega (arith, ints, clamps, s.lowest, low_all, low_back, low_most, above)
+          ∙ sym (ap lowest_of rest ∙ lowest-append ns ms);
+      highest = omega (arith, ints, clamps, s.highest, high_all, high_back, high_most, below)
+          ∙ sym (ap highest_of rest ∙ highest-append ns ms);
+      first = s.first ∙ first_fault-append front (Ok n ∷ back) ∙ sym (first_fault-append front back);
+      ranged = ap (list_all in_range) rest ∙ list_all-append in_range ns ms
+          ∙ without_middle (list_all in_range ns) (in_range n) (list_all in_range ms) parts;
+    }
+
+-- items after others, or among them where there is no fault
+pub known-among : (front middle back : List Number) {k : ℕ} {a low high : ℤ} {f : Option Fault}
+    → AreKnown ((front ++ back) ++ middle) k a low high f → first_fault (front ++ back) ≡ None
+    → AreKnown (front ++ middle ++ back) k a low high f
+known-among front middle back s none =
+    let ns = numbers_in front in
+    let ls = numbers_in middle in
+    let ms = numbers_in back in
+    let after = numbers_in-append (front ++ back) middle ∙ ap (λ xs. xs ++ ls) (numbers_in-append front back) in
+    let among = numbers_in-append (front ++ middle) back ∙ ap (λ xs. xs ++ ms) (numbers_in-append front middle) in
+    let count = length-append (ns ++ ms) ls in
+    let sum = total-append (ns ++ ms) ls in
+    let low_all = lowest-append (ns ++ ms) ls in
+    let high_all = highest-append (ns ++ ms) ls in
+    record {
+      counted = s.counted ∙ ap length after ∙ omega (
+        arith,
+        count,
+        length-append ns ms,
+        length-append (ns ++ ls) ms,
+        length-append ns ls,
+      ) ∙ sym (ap length among);
+      summed = s.summed ∙ ap total after ∙ omega (
+        arith,
+        ints,
+        sum,
+        total-append ns ms,
+        total-append (ns ++ ls) ms,
+        total-append ns ls,
+      ) ∙ sym (ap total among);
+      lowest = s.lowest ∙ ap lowest_of after ∙ omega (
+        arith,
+        ints,
+        clamps,
+        low_all,
+        lowest-append ns ms,
+        lowest-append (ns ++ ls) ms,
+        lowest-append ns ls,
+      )
+          ∙ sym (ap lowest_of among);
+      highest = s.highest ∙ ap highest_of after ∙ omega (
+        arith,
+        ints,
+        clamps,
+        high_all,
+        highest-append ns ms,
+        highest-append (ns ++ ls) ms,
+        highest-append ns ls,
+      )
+          ∙ sym (ap highest_of among);
+      first = s.first ∙ first_fault-append (front ++ back) middle
+          ∙ ap (λ x. option_or x (first_fault middle)) none
+          ∙ fault_among front middle back none;
+      ranged = ap (list_all in_range) among
+          ∙ list_all-append in_range (ns ++ ls) ms
+          ∙ ap (λ b. b && list_all in_range ms) (list_all-append in_range ns ls)
+          ∙ turned_and (list_all in_range ns) (list_all in_range ls) (list_all in_range ms)
+          ∙ ap (λ b. b && list_all in_range ls) (sym (list_all-append in_range ns ms))
+          ∙ sym (list_all-append in_range (ns ++ ms) ls)
+          ∙ sym (ap (list_all in_range) after)
+          ∙ s.ranged;
+    }
+  where
+    or_none : (x : Option Fault) → option_or x None ≡ x
+    or_none None = refl
+    or_none (Some fault) = refl
+
+    fault_among : (front middle back : List Number) → first_fault (front ++ back) ≡ None
+        → option_or None (first_fault middle) ≡ first_fault (front ++ middle ++ back)
+    fault_among [] middle back none =
+        sym (first_fault-append middle back ∙ ap (option_or (first_fault middle)) none ∙ or_none (first_fault middle))
+    fault_among (Ok n ∷ front) middle back none = fault_among front middle back none
+    fault_among (Err fault ∷ front) middle back none = absurd (let e : Some fault ≡ None = none in cc)
+
+    turned_and : (x y z : Bool) → ((x && y) && z) ≡ ((x && z) && y)
+    turned_and true true true = refl
+    turned_and true true false = refl
+    turned_and true false true = refl
+    turned_and true false false = refl
+    turned_and false y z = refl
+
+-- where all items have no fault, those around some of them have none
+pub none_around : (front middle back : List Number) → is_some (first_fault (front ++ middle ++ back)) ≡ false
+    → first_fault (front ++ back) ≡ None
+none_around front middle back h =
+    first_fault-append front back
+    ∙ without (first_fault front) (first_fault middle) (first_fault back)
+    (sym (ap is_some (first_fault-append (front ++ middle) back
+    ∙ ap (λ x. option_or x (first_fault back)) (first_fault-append front middle))) ∙ h)
+  where
+    without : (x y z : Option Fault) → is_some (option_or (option_or x y) z) ≡ false → option_or x z ≡ None
+    without None None None e = refl
+    without None None (Some fault) e = absurd (let no : true ≡ false = e in cc)
+    without None (Some fault) z e = absurd (let no : true ≡ false = e in cc)
+    without (Some fault) y z e = absurd (let no : true ≡ false = e in cc)

@@ -1,6 +1,7 @@
 //! What SUM, MIN, MAX and COUNT need to know of some items, as those of a range.
 
-ghost use Rattle.std.specs.Prelude.{◌≡◌, ◌+◌, ◌*◌, ◌^◌, ◌<◌, ◌≤◌, List, [], ◌∷◌, ◌++◌, unsigned_abs, is_some};
+ghost use Rattle.std.specs.Prelude.{◌≡◌, ◌+◌, ◌*◌, ◌^◌, ◌<◌, ◌≤◌, ◌<ℤ◌, List, [], ◌∷◌, ◌++◌, unsigned_abs, is_some};
+ghost use Rattle.std.specs.Prelude.{None, IsTrue, IsFalse};
 ghost use Rattle.ps_eval.specs.Number.{Number};
 
 use ps_value::{Fault, Operand};
@@ -101,6 +102,57 @@ impl Summary {
         self.count += other.count;
         self.sum += other.sum;
         self.fault = self.fault.or(other.fault);
+    }
+
+    /// Whether a number is more than the least and less than the greatest.
+    #[inline(always)]
+    fn lies_within(&self, number: i64) -> bool
+        ensures { IsTrue result → (self.now.least <ℤ number) × (number <ℤ self.now.greatest) }
+    {
+        self.least < number && number < self.greatest
+    }
+
+    /// One of the numbers less, where it is neither the least nor the greatest.
+    #[inline(always)]
+    fn leave_out(&mut self, number: i64)
+        requires among { (front : List Number) × (back : List Number)
+            × Summarizes (front ++ Ok number ∷ back) self.old }
+        requires within { (self.old.least <ℤ number) × (number <ℤ self.old.greatest) }
+        requires room { self.old.count < 2 ^ 60 }
+        ensures items { (front back : List Number)
+            → Summarizes (front ++ Ok number ∷ back) self.old
+            → Summarizes (front ++ back) self.new }
+        ensures count { self.new.count ≤ self.old.count }
+    {
+        self.count -= 1;
+        self.sum -= i128::from(number);
+    }
+
+    /// Takes the operand of one cell in place of that of another one among the items, and says whether it could. It
+    /// can't where there is a fault, nor where the number that goes is the least or the greatest: then nothing is
+    /// changed. No clause says when it can.
+    ///
+    /// Cost: constant.
+    #[inline]
+    pub fn exchange(&mut self, old: Operand, new: Operand) -> bool
+        requires among { (front : List Number) × (back : List Number)
+            × Summarizes (front ++ items_from old ++ back) self.old }
+        requires room { numbers_taken self.old < 2 ^ 60 }
+        ensures items { IsTrue result → (front back : List Number)
+            → Summarizes (front ++ items_from old ++ back) self.old
+            → Summarizes (front ++ items_from new ++ back) self.new }
+        ensures same { IsFalse result → self.new ≡ self.old }
+    {
+        if self.has_fault() {
+            return false;
+        }
+        match old {
+            Operand::Empty | Operand::Text => {}
+            Operand::Num(number) if self.lies_within(number) => self.leave_out(number),
+            Operand::Num(_) | Operand::Err(_) => return false,
+        }
+        self.take_cell(new);
+        true
     }
 
     /// Whether there is a fault among the items.

@@ -4,7 +4,7 @@ use Rattle.std.proofs.Common.{◌∙◌, eq-eqb, ne_eqb, arith, subst, inl, inr,
 use Rattle.std.proofs.Common.{[], if◌then◌else◌}
 use Rattle.std.proofs.lemmas.Bool.{cases_eq, cases_lt, lt-ltb, le-ltb}
 use Rattle.std.proofs.lemmas.List.{get_or_read, get_or_past}
-use Rattle.std.proofs.lemmas.Nat.{same_from_place, div_below, div-add-mod', mod_below}
+use Rattle.std.proofs.lemmas.Nat.{same_from_place, div_below, div-add-mod', mod-mul-add, mod_below}
 use Rattle.std.proofs.Math.Path.{fun_ext}
 use Rattle.ps_grid.specs.declared.size.TheConstants.{CELLS, COLUMNS, ROWS}
 use Rattle.ps_value.specs.declared.value.Value.{Value}
@@ -13,7 +13,7 @@ use Rattle.ps_shown.specs.declared.kept.Kept.{Kept}
 use Rattle.ps_shown.specs.declared.kept.Kept.TheVariants.{Empty}
 use Rattle.ps_shown.specs.declared.shown.TheConstants.{STRIDE, PLACES}
 use Rattle.ps_shown.specs.Kept.{value_of}
-use Rattle.ps_shown.specs.Shown.{place_of, shown_at, with_value}
+use Rattle.ps_shown.specs.Shown.{KeepsCells, place_of, shown_at, with_value}
 
 -- two cells of the grid at one place are one
 pub place_of-once : (c d : ℕ) → c < CELLS → d < CELLS → place_of c ≡ place_of d → c ≡ d
@@ -100,3 +100,23 @@ shown_at-empty kept empty =
     fun_ext (λ c. ⊎_elim
     (λ h. shown_at-here kept c h ∙ ap (λ (xs : List Kept). value_of (get_or xs (place_of c) Empty)) empty)
     (λ h. shown_at-past kept c h) (cases_lt c CELLS))
+
+-- ---- the places after a column's last row
+
+-- no cell lies there
+place_of-row : (c : ℕ) → c < CELLS → place_of c % STRIDE < ROWS
+unfolding place_of
+place_of-row c h =
+    let row = div_below c COLUMNS ROWS (omega arith) (omega arith) in
+    let rest = mod-mul-add (c % COLUMNS) STRIDE (c / COLUMNS) (omega (arith, row)) in
+    omega (arith, row, rest)
+
+-- a table where a cell is put keeps nothing there
+pub keeps_put : (kept reached : List Kept) (cell place : ℕ) (x : Kept) → KeepsCells kept
+    → ((p : ℕ) → get_or reached p Empty ≡ get_or kept p Empty) → cell < CELLS → place ≡ place_of cell
+    → KeepsCells (set reached place x)
+keeps_put kept reached cell place x keeps same h is p low =
+    let row = place_of-row cell h in
+    get_or-set_other reached place p x Empty
+    (λ e. let at : p % STRIDE ≡ place_of cell % STRIDE = ap (λ q. q % STRIDE) (e ∙ is) in omega (arith, low, row, at))
+    ∙ same p ∙ keeps p low

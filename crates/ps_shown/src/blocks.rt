@@ -1,9 +1,8 @@
-//! Summaries of blocks of the table that are remembered until a cell of the block is put.
-ghost use Rattle.std.specs.Prelude.{◌≡◌, ◌≢◌, ◌+◌, ◌*◌, ◌^◌, ◌/◌, ◌<◌, ◌≤◌, ℕ, List, ◌++◌, None, Some};
-ghost use Rattle.std.specs.Prelude.{IfSome, length, slice_index_or, vec_capacity};
+//! Summaries of blocks of the table that are remembered, and follow the cells that are put.
+ghost use Rattle.std.specs.Prelude.{◌≡◌, ◌+◌, ◌*◌, ◌^◌, ◌/◌, ◌<◌, ◌≤◌, ℕ, List, ◌++◌, None, Some};
+ghost use Rattle.std.specs.Prelude.{IfSome, length, slice_index_or, slice_set, vec_capacity};
 ghost use Rattle.ps_eval.specs.Number.{Number};
 ghost use Rattle.ps_eval.specs.Summarized.{Summarizes, numbers_taken};
-ghost use Rattle.ps_eval.specs.declared.summary.Summary.{Summary as Sum};
 ghost use Rattle.ps_shown.specs.Blocks.{AreRemembered, block_items, items_between};
 ghost use Rattle.ps_shown.specs.declared.shown.TheConstants.{PLACES};
 
@@ -199,21 +198,49 @@ pub(crate) fn remember_blocks(
     }
 }
 
-/// Forgets the summary of the block in which a place lies.
-#[inline]
-pub(crate) fn forget(sums: &mut Vec<Option<Summary>>, runs: &mut Runs, place: usize)
-    ensures left { (b : ℕ) (s : Sum) → slice_index_or sums.new.items b None ≡ Some s → b ≢ place / BLOCK }
-    ensures there { (b : ℕ) (s : Sum) → slice_index_or sums.new.items b None ≡ Some s
-        → slice_index_or sums.old.items b None ≡ Some s }
+/// What is remembered of the block in which a place lies follows what is put there, or is forgotten.
+#[inline(always)]
+pub(crate) fn follow(
+    kept: &[Kept],
+    sums: &mut Vec<Option<Summary>>,
+    runs: &mut Runs,
+    place: usize,
+    put: &Kept,
+)
+    requires remembered { AreRemembered kept.now sums.old.items }
+    requires reached { place < length kept.now }
+    ensures remembered { AreRemembered (slice_set kept.now place put.now) sums.new.items }
     ensures capacity { vec_capacity sums.old ≤ vec_capacity sums.new }
 {
     // mostly no block was ever remembered
-    if sums.is_empty() {
+    if !sums.is_empty() {
+        exchange_or_forget(kept, sums, runs, place, put);
+    }
+}
+
+/// The same where some block was remembered: what is known of this one exchanges one operand for another, and is
+/// forgotten where it can't.
+#[inline(never)]
+fn exchange_or_forget(
+    kept: &[Kept],
+    sums: &mut Vec<Option<Summary>>,
+    runs: &mut Runs,
+    place: usize,
+    put: &Kept,
+)
+    requires remembered { AreRemembered kept.now sums.old.items }
+    requires reached { place < length kept.now }
+    ensures remembered { AreRemembered (slice_set kept.now place put.now) sums.new.items }
+    ensures capacity { vec_capacity sums.old ≤ vec_capacity sums.new }
+{
+    let block = place / BLOCK;
+    if block >= sums.len() {
         return;
     }
-    let block = place / BLOCK;
-    if block < sums.len() && sums[block].is_some() {
-        sums[block] = None;
-        runs.cut(block);
+    if let Some(known) = &mut sums[block] {
+        if !known.exchange(kept[place].operand(), put.operand()) {
+            sums[block] = None;
+            runs.cut(block);
+        }
     }
 }

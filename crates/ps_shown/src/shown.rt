@@ -1,5 +1,5 @@
 //! What each cell shows.
-ghost use Rattle.std.specs.Prelude.{◌≡◌, ◌<◌, ◌≤◌, ℕ, length, slice_index_or, vec_capacity, IfOk, IfErr};
+ghost use Rattle.std.specs.Prelude.{◌≡◌, ◌+◌, ◌%◌, ◌<◌, ◌≤◌, ℕ, length, slice_index_or, vec_capacity, IfOk, IfErr};
 ghost use Rattle.ps_grid.specs.declared.size.TheConstants.{CELLS as ALL};
 ghost use Rattle.ps_grid.specs.Rectangle.{LiesInGrid};
 ghost use Rattle.ps_grid.specs.declared.refusal.Refusal.TheVariants.{Memory};
@@ -12,7 +12,7 @@ ghost use Rattle.ps_shown.specs.Sums.{column_items, items_by_columns};
 ghost use Rattle.ps_eval.specs.Summarized.{Summarizes};
 ghost use Rattle.ps_eval.specs.Items.{range_items};
 
-use crate::blocks::{BLOCK, forget, remember_blocks, summary_between};
+use crate::blocks::{BLOCK, follow, remember_blocks, summary_between};
 use crate::kept::Kept;
 use crate::runs::Runs;
 use ps_eval::{Look, Summary};
@@ -53,13 +53,14 @@ impl Model for Shown {
     ghost use Rattle.ps_shown.specs.declared.kept.Kept.TheVariants.{Empty};
     ghost use Rattle.ps_shown.specs.declared.shown.TheConstants.{BLOCKS, PLACES};
     ghost use Rattle.ps_shown.specs.Blocks.{AreRemembered};
+    ghost use Rattle.ps_shown.specs.Shown.{KeepsCells};
 
     ghost Value = { List Kept };
 
     ghost view = { λ s. s.kept.items };
 
     ghost invariant = { λ s. (PLACES ≤ vec_capacity s.kept) × (s.empty ≡ Empty)
-        × (BLOCKS ≤ vec_capacity s.sums) × AreRemembered s.kept.items s.sums.items };
+        × (BLOCKS ≤ vec_capacity s.sums) × AreRemembered s.kept.items s.sums.items × KeepsCells s.kept.items };
 }
 
 /// Where a cell lies.
@@ -71,6 +72,23 @@ fn place(cell: Cell) -> usize
 {
     let index = cell.index();
     index % COLUMNS * STRIDE + index / COLUMNS
+}
+
+/// The end of the places of some rows of a column. Where they reach the bottom row it is the end of the column, so that
+/// its last block is whole: no cell lies at the places between.
+#[inline]
+fn end_of(top: usize, height: usize) -> usize
+    requires { top + height ≤ PLACES }
+    ensures order { top + height ≤ result }
+    ensures within { result ≤ PLACES }
+    ensures past { (p : ℕ) → top + height ≤ p → p < result → ROWS ≤ p % STRIDE }
+{
+    let end = top + height;
+    if end % STRIDE == ROWS {
+        end + (STRIDE - ROWS)
+    } else {
+        end
+    }
 }
 
 /// Keeps nothing of the places up to this one that the table doesn't reach yet.
@@ -183,11 +201,12 @@ impl Shown {
         // for the fact that the range lies in the grid
         let _ = rect.area();
         let top = place(rect.at(across, 0));
-        summary_between(&self.kept, &self.sums, top, top + rect.height())
+        summary_between(&self.kept, &self.sums, top, end_of(top, rect.height()))
     }
 
     /// Remembers what SUM, MIN, MAX and COUNT need to know of each block of 57 rows that lies in the range, so that
-    /// `summary` doesn't walk those cells again before one of the block is put. What the cells show stays.
+    /// `summary` doesn't walk those cells again before `put` drops what is remembered of the block. What the cells show
+    /// stays.
     ///
     /// Cost: constant for each column where all blocks of the range are known to be remembered; else its blocks, and
     /// the cells of those that aren't remembered yet.
@@ -208,7 +227,7 @@ impl Shown {
         let _ = rect.area();
         let top = place(rect.at(across, 0));
         let first = top.div_ceil(BLOCK);
-        let end = (top + rect.height()) / BLOCK;
+        let end = end_of(top, rect.height()) / BLOCK;
         let column = top / STRIDE;
         let from = self.runs.past(column, first);
         if from < end {
@@ -219,16 +238,18 @@ impl Shown {
 
     /// Puts what a cell shows from now on, and returns what was kept of it. It takes no memory.
     ///
-    /// Cost: constant, and what is remembered of the cell's block is dropped; but the first that lies further on in the
-    /// table than all before writes what is between, so that all calls together write the table once more at most.
+    /// Cost: constant, and what is remembered of the cell's block follows, or is dropped where there is a fault among
+    /// the block's cells, or the number that goes is the least or the greatest of them; but the first that lies further
+    /// on in the table than all before writes what is between, so that all calls together write the table once more at
+    /// most.
     #[inline(always)]
     pub fn put(&mut self, cell: Cell, kept: Kept) -> Kept
         ensures shown { shown_at self.new ≡ with_value (shown_at self.old) cell (value_of kept) }
         ensures old { value_of result ≡ shown_at self.old cell }
     {
         let place = place(cell);
-        forget(&mut self.sums, &mut self.runs, place);
         reach(&mut self.kept, place);
+        follow(&self.kept, &mut self.sums, &mut self.runs, place, &kept);
         mem::replace(&mut self.kept[place], kept)
     }
 }
