@@ -4,6 +4,7 @@ mod Receipted
 mod Noted
 mod Owners
 mod Read
+mod SeatChanges
 pub mod SeatLemmas
 pub mod SeatRuns
 mod TableLemmas

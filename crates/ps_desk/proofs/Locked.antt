@@ -15,7 +15,7 @@ use Rattle.ps_desk.specs.Patches.{KeepsChange, change_in, note_of, staged_in}
 use Rattle.ps_desk.specs.UnderLock.{IsUnderLock}
 use Rattle.ps_desk.proofs.Closes.{deltas}
 
-history_push : (h : List Entries) (xs : List Note) (n : Note)
+pub history_push : (h : List Entries) (xs : List Note) (n : Note)
     → history_of h (xs ++ n ∷ []) ≡ history_of h xs ++ n.delta ∷ []
 history_push h xs n =
     ap (λ (ds : List Entries). h ++ ds) (deltas xs (n ∷ [])) ∙ sym (append_assoc h (map delta_of xs) (n.delta ∷ []))

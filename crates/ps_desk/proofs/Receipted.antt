@@ -1,21 +1,26 @@
 -- What a receipt tells stays told of a list that was seen earlier.
 use Rattle.std.proofs.Common.{◌≡◌, ℕ, Bool, true, false, List, [], ◌∷◌, ◌++◌, length, sym, ap, ◌∙◌}
-use Rattle.std.proofs.Common.{subst, Result, Ok, Err, ⊎_elim, arith, length-append}
+use Rattle.std.proofs.Common.{subst, refl, Result, Ok, Err, ⊎_elim, arith, get_or, length-append, ◌-◌, ◌≤◌}
+use Rattle.std.proofs.Math.Seq.{get_or-append_seam}
 use Rattle.std.specs.Prelude.{MatchBool, IfOk, if◌then◌else◌}
 use mathlib.Core.List.{IsPrefix}
 use Rattle.ps_grid.specs.declared.refusal.Refusal.{Refusal}
 use Rattle.ps_delta.specs.State.{State, IsBelow}
-use Rattle.ps_delta.specs.Deltas.{Entries, joined_history, state_of}
+use Rattle.ps_delta.specs.Deltas.{Entries, IsDelta, joined_history, state_of}
 use Rattle.ps_sheet.specs.declared.edit.Change.{Change}
+use Rattle.ps_sheet.specs.declared.edit.Edit.{Edit}
+use Rattle.ps_sheet.specs.Edits.{EditsAreFresh, delta_of_edit}
 use Rattle.ps_sheet.specs.Prepared.{IsDeltaOf, PreparedView, history_after}
 use Rattle.ps_sheet.specs.Staging.{IsWorkedOut}
 use Rattle.ps_face.specs.declared.patch.Note.{Note}
 use Rattle.ps_face.specs.Legal.{history_of}
 use Rattle.ps_face.proofs.Beginnings.{begins_itself, begins_trans}
 use Rattle.ps_desk.specs.declared.receipt.Receipt.{Receipt}
+use Rattle.ps_desk.specs.declared.receipt.Standing.{Standing}
 use Rattle.ps_desk.specs.Passes.{PassView}
 use Rattle.ps_desk.specs.Patches.{IsNoted}
-use Rattle.ps_desk.specs.Receipts.{IsAppended, IsIncluded, IsReceipt}
+use Rattle.ps_desk.proofs.Locked.{history_push}
+use Rattle.ps_desk.specs.Receipts.{IsAppended, IsIncluded, IsReceipt, Stands, with_delta}
 
 on_both : (b : Bool) (P Q R S : Type 0) → (P → R) → (Q → S) → MatchBool b P Q → MatchBool b R S
 on_both true P Q R S f g m = f m
@@ -102,15 +107,52 @@ module _ (list : List Note) (old new : PassView) where
   caught_seat is = ap (λ (q : PassView). q.seat) is
 
 -- what is told of a prepared change is told of the change
-pub tells_change : (r : ℕ) (h : List Entries) (change : Change) (p : PreparedView) (res : Result Receipt Refusal)
-    (old mid : PassView) (now : List Note) → IsPrefix old.list mid.list → mid.seat ≡ old.seat
+pub stands_change : (r : ℕ) (h : List Entries) (change : Change) (p : PreparedView) (res : Result Standing Refusal)
+    (old mid : PassView) (now : List Note) → IsPrefix old.list mid.list → mid.seat ≡ old.seat → IsDelta p.delta
     → IsDeltaOf r (joined_history p.history) change p.delta
-    → IfOk res (IsReceipt (λ s d. (s ≡ joined_history p.history) × (d ≡ p.delta)) h mid.list now mid.seat)
-    → IfOk res (IsReceipt (λ s d. IsDeltaOf r s change d) h old.list now old.seat)
-tells_change r h change p (Ok t) old mid now later seat made told =
+    → IfOk res (λ s. IsReceipt (λ s d. (s ≡ joined_history p.history) × (d ≡ p.delta)) h mid.list now mid.seat
+    (with_delta s p.delta))
+    → IfOk res (Stands (λ s d. IsDeltaOf r s change d) h old.list now old.seat)
+stands_change r h change p (Ok t) old mid now later seat is made told =
     let M : State → Entries → Type 0 = λ s d. (s ≡ joined_history p.history) × (d ≡ p.delta) in
     let N : State → Entries → Type 0 = λ s d. IsDeltaOf r s change d in
-    tells_more M N h old.list mid.list now old.seat t
-    (λ s d m. subst (λ (z : State × Entries). IsDeltaOf r z.0 change z.1) (λ i. (sym m.0 i, sym m.1 i)) made)
-    later (subst (λ n. IsReceipt M h mid.list now n t) seat told)
-tells_change r h change p (Err e) old mid now later seat made told = tt
+    record {
+      delta = p.delta;
+      is_delta = is;
+      tells = tells_more M N h old.list mid.list now old.seat (with_delta t p.delta)
+          (λ s d m. subst (λ (z : State × Entries). IsDeltaOf r z.0 change z.1) (λ i. (sym m.0 i, sym m.1 i)) made)
+          later (subst (λ n. IsReceipt M h mid.list now n (with_delta t p.delta)) seat told);
+    }
+stands_change r h change p (Err e) old mid now later seat is made told = tt
+
+module _ (r : ℕ) (h : List Entries) (edit : Edit) (seen now : List Note) (seat : ℕ) (s : Standing) where
+  -- what an edit makes
+  abbrev pub Makes : State → Entries → Type 0
+  Makes t d = delta_of_edit r t edit ≡ Ok d
+
+  by_fresh : EditsAreFresh → (d : Entries) → IsDelta d → (b : Bool) → s.fresh ≡ b
+      → MatchBool b (IsAppended Makes h seen now seat (with_delta s d)) (IsIncluded Makes h now (with_delta s d))
+      → (s.fresh ≡ true) × IsAppended Makes h seen now seat (with_delta s d)
+  by_fresh fresh d is true so a = (so, a)
+  by_fresh fresh d is false so a =
+      absurd (fresh r (joined_history (history_of h now)) edit d is a.made a.below)
+
+  -- an edit is always appended
+  pub edit_stands : EditsAreFresh → (stands : Stands Makes h seen now seat s)
+      → (s.fresh ≡ true) × IsAppended Makes h seen now seat (with_delta s stands.delta)
+  edit_stands fresh stands = by_fresh fresh stands.delta stands.is_delta s.fresh refl stands.tells
+
+-- the delta of an appended change stands at its number in the history
+pub stands_there : (M : State → Entries → Type 0) (h : List Entries) (seen now : List Note) (seat : ℕ) (r : Receipt)
+    → IsAppended M h seen now seat r
+    → (1 ≤ r.number) × (r.number ≤ length (history_of h now)) × (get_or (history_of h now) (r.number - 1) [] ≡ r.delta)
+stands_there M h seen now seat r a =
+    let before : List Entries = history_of h a.before in
+    let all : history_of h now ≡ before ++ a.patch.delta ∷ [] =
+    ap (history_of h) a.last ∙ history_push h a.before a.patch in
+    let place : r.number - 1 ≡ length before = omega (arith, a.number) in (
+      omega (arith, a.number),
+      omega (arith, a.number, ap length all, length-append before (a.patch.delta ∷ [])),
+      ap (λ n. get_or (history_of h now) n []) place ∙ ap (λ xs. get_or xs (length before) []) all
+          ∙ get_or-append_seam before a.patch.delta [] [] ∙ a.delta,
+    )

@@ -2,10 +2,11 @@
 use Rattle.std.specs.Prelude.{◌≡◌, ℕ, ◌+◌, List, [], ◌∷◌, ◌++◌, length, MatchBool}
 use mathlib.Core.List.{IsPrefix}
 use Rattle.ps_delta.specs.State.{State, IsBelow}
-use Rattle.ps_delta.specs.Deltas.{Entries, state_of, joined_history}
+use Rattle.ps_delta.specs.Deltas.{Entries, IsDelta, state_of, joined_history}
 use Rattle.ps_face.specs.declared.patch.Note.{Note}
 use Rattle.ps_face.specs.Legal.{history_of}
 use Rattle.ps_desk.specs.declared.receipt.Receipt.{Receipt}
+use Rattle.ps_desk.specs.declared.receipt.Standing.{Standing}
 
 -- APPENDED: the list ends with a patch of the receipt's delta and number, of this seat, which comes after all that was
 -- seen before; and `Made` holds of the delta and the state before it
@@ -32,3 +33,14 @@ pub record IsIncluded (Made : State → Entries → Type 0) (h : List Entries) (
 -- RECEIPT: a fresh receipt's delta was appended, and another's is included, where the list was `seen` and is `now`
 abbrev pub IsReceipt : (State → Entries → Type 0) → List Entries → List Note → List Note → ℕ → Receipt → Type 0
 IsReceipt Made h seen now seat r = MatchBool r.fresh (IsAppended Made h seen now seat r) (IsIncluded Made h now r)
+
+-- the receipt of a change that stands there, with this delta
+abbrev pub with_delta : Standing → Entries → Receipt
+with_delta s d = record { number = s.number; delta = d; fresh = s.fresh }
+
+-- STANDS: with a delta it is a receipt
+pub record Stands (Made : State → Entries → Type 0) (h : List Entries) (seen now : List Note) (seat : ℕ)
+    (s : Standing) : Type 0 where
+  pub delta : Entries
+  pub is_delta : IsDelta delta
+  pub tells : IsReceipt Made h seen now seat (with_delta s delta)

@@ -12,12 +12,12 @@ ghost use Rattle.ps_sheet.specs.Prepared.{shown_before};
 ghost use Rattle.ps_sheet.specs.Staging.{IsWorkedOut};
 ghost use Rattle.ps_desk.specs.UnderLock.{IsUnderLock};
 ghost use Rattle.ps_desk.specs.Patches.{IsNoted, KeepsChange, change_in, staged_in};
-ghost use Rattle.ps_desk.specs.Receipts.{IsReceipt};
+ghost use Rattle.ps_desk.specs.Receipts.{IsReceipt, with_delta};
 
 use crate::name::DeskName;
 use crate::pass::Pass;
 use crate::patch::patch_of;
-use crate::receipt::Receipt;
+use crate::receipt::Standing;
 use ps_delta::Delta;
 use ps_face::FaceWriter;
 use ps_grid::{Refusal, Twin};
@@ -25,14 +25,6 @@ use ps_sheet::Staging;
 use std::alloc::Global;
 use std::sync::Wait;
 use std::sync::ledger::Book;
-
-/// A fresh change that was published and made.
-#[derive(Drop)]
-struct Appended {
-    /// the number of its delta in the history
-    number: u64,
-    delta: Delta,
-}
 
 /// Makes the change that is staged, and shows it to all who read, or gives it up where there is no memory to tell of
 /// it. Then nothing is staged any more.
@@ -44,7 +36,7 @@ pub(crate) fn finish<L: DeskName, W: Wait + Drop, V: Wait>(
     copies: &mut FaceWriter<L, W>,
     book: &mut Book<L>,
     pass: &mut Pass<L>,
-) -> Result<Receipt, Refusal>
+) -> Result<Standing, Refusal>
     requires staged { is_some sheet.old.staged ≡ true }
     requires under_lock { IsUnderLock L.replica L.opening sheet.old.replica sheet.old.history copies.old
         book.old.total }
@@ -54,8 +46,9 @@ pub(crate) fn finish<L: DeskName, W: Wait + Drop, V: Wait>(
         book.new.total }
     ensures later { IsPrefix pass.old.list pass.new.list }
     ensures all { pass.new.list ≡ copies.new.list }
-    ensures receipt { IfOk result (IsReceipt (λ s d. (s ≡ joined_history sheet.old.history)
-        × (d ≡ (change_in sheet.old).delta)) L.opening pass.old.list pass.new.list pass.old.seat) }
+    ensures receipt { IfOk result (λ r. IsReceipt (λ s d. (s ≡ joined_history sheet.old.history)
+        × (d ≡ (change_in sheet.old).delta)) L.opening pass.old.list pass.new.list pass.old.seat
+        (with_delta r (change_in sheet.old).delta)) }
     ensures memory { IfErr result (λ e. e ≡ Memory) }
     ensures asked { OnErr result (¬ IsBelow (state_of ((change_in sheet.old).delta))
         (joined_history sheet.old.history)) }
@@ -64,23 +57,22 @@ pub(crate) fn finish<L: DeskName, W: Wait + Drop, V: Wait>(
     ensures seat { (pass.new.seat ≡ pass.old.seat) × (pass.new.enters ≡ pass.old.enters) }
 {
     if sheet.fresh() {
-        let Appended { number, delta } = append(wait, alloc, sheet, copies, book, pass)?;
-        return Ok(Receipt {
+        let number = append(wait, alloc, sheet, copies, book, pass)?;
+        return Ok(Standing {
             number,
-            delta,
             fresh: true,
         });
     }
-    let receipt = Receipt {
-        number: sheet.report().version,
-        delta: share(wait, alloc, sheet.delta()),
-        fresh: false,
-    };
+    let number = sheet.report().version;
     sheet.commit();
-    Ok(receipt)
+    Ok(Standing {
+        number,
+        fresh: false,
+    })
 }
 
-/// Publishes a fresh change and makes it, or gives it up where it can't be told.
+/// Publishes a fresh change and makes it, or gives it up where it can't be told. Returns the number of its delta in the
+/// history.
 #[inline(always)]
 fn append<L: DeskName, W: Wait + Drop, V: Wait>(
     wait: &V,
@@ -89,7 +81,7 @@ fn append<L: DeskName, W: Wait + Drop, V: Wait>(
     copies: &mut FaceWriter<L, W>,
     book: &mut Book<L>,
     pass: &mut Pass<L>,
-) -> Result<Appended, Refusal>
+) -> Result<u64, Refusal>
     requires staged { is_some sheet.old.staged ≡ true }
     requires worked_out { IsWorkedOut (change_in sheet.old) }
     requires fresh { (change_in sheet.old).fresh ≡ true }
@@ -101,8 +93,7 @@ fn append<L: DeskName, W: Wait + Drop, V: Wait>(
         book.new.total }
     ensures all { pass.new.list ≡ copies.new.list }
     ensures published { OnOk result (IsNoted (change_in sheet.old) pass.old.seat pass.old.list pass.new.list) }
-    ensures told { IfOk result (λ r. (r.number ≡ (change_in sheet.old).report.version)
-        × (r.delta ≡ (change_in sheet.old).delta)) }
+    ensures told { IfOk result (λ number. number ≡ (change_in sheet.old).report.version) }
     ensures memory { IfErr result (λ e. e ≡ Memory) }
     ensures kept { OnErr result ((copies.new ≡ copies.old) × (pass.new ≡ pass.old)) }
     ensures counted { OnOk result (pass.new.appended ≡ pass.old.appended + 1) }
@@ -114,11 +105,11 @@ fn append<L: DeskName, W: Wait + Drop, V: Wait>(
             // for the fact that the pass has seen what it appended
             let _ = pass.appended();
             let number = patch.number();
-            let delta = copies.publish_patch(patch);
+            copies.publish_patch(patch);
             pass.catch_up(wait, copies.front());
             pass.count(book);
             sheet.commit();
-            Ok(Appended { number, delta })
+            Ok(number)
         }
         Err(refusal) => {
             sheet.cancel();
@@ -139,7 +130,7 @@ fn list(sheet: &mut Staging)
 }
 
 /// One more owner of a delta. It tries again where what the delta shares has as many owners as can be counted.
-fn share<V: Wait>(wait: &V, alloc: Global, delta: &Delta) -> Delta
+pub(crate) fn share<V: Wait>(wait: &V, alloc: Global, delta: &Delta) -> Delta
     ensures { result ≡ delta.now }
 {
     for _ in wait.forever() {

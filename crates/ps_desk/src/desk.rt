@@ -9,15 +9,17 @@ ghost use Rattle.ps_delta.specs.State.{IsBelow};
 ghost use Rattle.ps_delta.specs.Deltas.{joined_history, state_of};
 ghost use Rattle.ps_sheet.specs.Edits.{delta_of_edit};
 ghost use Rattle.ps_sheet.specs.Own.{has_own};
+ghost use Rattle.ps_sheet.specs.Prepared.{IsDeltaOf, IsRefusedBy, IsToAppend};
 ghost use Rattle.ps_csv.specs.Exports.{entry_text, exported_entries, held_in};
 ghost use Rattle.ps_face.specs.declared.patch.Note.{Note};
 ghost use Rattle.ps_face.specs.Legal.{IsLegal, history_of};
-ghost use Rattle.ps_desk.specs.Receipts.{IsAppended, IsReceipt};
+ghost use Rattle.ps_desk.specs.Receipts.{IsAppended, IsReceipt, Stands};
 
+use crate::change::share;
 use crate::name::DeskName;
 use crate::pass::Pass;
 use crate::place::Place;
-use crate::receipt::Receipt;
+use crate::receipt::{Receipt, Standing};
 use crate::state::DeskState;
 use ps_delta::Delta;
 use ps_eval::Meter;
@@ -94,6 +96,9 @@ impl<L: DeskName, W: Wait + Drop> Desk<L, W> {
 
     /// Makes the delta of an edit over the sheet's state, appends it to the history, and shows it to all who read.
     ///
+    /// Nothing in the program calls it or [`Desk::receive`], for a `Seat` needs no delta in return. They are part
+    /// of the public interface, for who wants the receipt.
+    ///
     /// Refused as [`ps_sheet::Sheet::edit`] is, over the history that the pass has then seen, and when out of memory,
     /// where there is such a delta. It may wait for other calls, and for those that still read what was published
     /// before the last patch.
@@ -122,11 +127,11 @@ impl<L: DeskName, W: Wait + Drop> Desk<L, W> {
         ensures seat { (pass.new.seat ≡ pass.old.seat) × (pass.new.enters ≡ pass.old.enters) }
     {
         let mut state = self.state.lock(wait);
-        let receipt = state.make(rt, wait, alloc, pass, Change::Edit(edit), meter)?;
-        // for the facts that it is a delta, and that an edit's delta is never below the state
-        let _ = receipt.delta.parts();
+        let standing = state.make(rt, wait, alloc, pass, Change::Edit(edit), meter)?;
+        // for the fact that an edit's delta is never below the state
         edits_are_fresh();
-        Ok(receipt)
+        let delta = state.delta_at(wait, alloc, standing.number);
+        Ok(standing.with_delta(delta))
     }
 
     /// Accepts a delta made elsewhere: appends it to the history and shows it to all who read, unless it is below the
@@ -156,8 +161,38 @@ impl<L: DeskName, W: Wait + Drop> Desk<L, W> {
         ensures uncounted { OnErr result (pass.new.appended ≡ pass.old.appended) }
         ensures seat { (pass.new.seat ≡ pass.old.seat) × (pass.new.enters ≡ pass.old.enters) }
     {
+        let told = share(wait, alloc, &delta);
         let mut state = self.state.lock(wait);
-        state.make(rt, wait, alloc, pass, Change::Delta(delta), meter)
+        let standing = state.make(rt, wait, alloc, pass, Change::Delta(delta), meter)?;
+        Ok(standing.with_delta(told))
+    }
+
+    /// Makes a change as [`Desk::edit`] and [`Desk::receive`] do, and tells where it stands, without the delta.
+    #[inline(always)]
+    pub(crate) fn change<R: Threads + Sync, V: Wait, M: Ledger>(
+        &self,
+        rt: &R,
+        wait: &V,
+        alloc: Global,
+        pass: &mut Pass<L>,
+        change: Change,
+        meter: &mut Meter<M>,
+    ) -> Result<Standing, Refusal>
+        ensures later { IsPrefix pass.old.list pass.new.list }
+        ensures legal { IsLegal L.opening pass.new.list }
+        ensures stands { IfOk result (Stands (λ s d. IsDeltaOf L.replica s change d) L.opening pass.old.list
+            pass.new.list pass.old.seat) }
+        ensures refused { IfErr result (λ e. (e ≡ Memory)
+            ⊎ IsRefusedBy L.replica (joined_history (history_of L.opening pass.new.list)) change e) }
+        ensures asked { IfErr result (λ e. e ≡ Memory
+            → IsToAppend L.replica (joined_history (history_of L.opening pass.new.list)) change) }
+        ensures counted { IfOk result (λ s. pass.new.appended
+            ≡ pass.old.appended + (if s.fresh then 1 else 0)) }
+        ensures uncounted { OnErr result (pass.new.appended ≡ pass.old.appended) }
+        ensures seat { (pass.new.seat ≡ pass.old.seat) × (pass.new.enters ≡ pass.old.enters) }
+    {
+        let mut state = self.state.lock(wait);
+        state.make(rt, wait, alloc, pass, change, meter)
     }
 
     /// The deltas of the history after the number `from`, in order, at most so many. The pass has then seen all that is

@@ -19,7 +19,7 @@ use std::alloc::Global;
 /// The patch of the fresh change that is staged, whose cells are listed, made by the call of a seat. It may come next
 /// after the sheet's history. Refused only when out of memory.
 #[inline(always)]
-pub(crate) fn patch_of(alloc: Global, sheet: &Staging, owner: u64) -> Result<Patch, Refusal>
+pub(crate) fn patch_of(alloc: Global, sheet: &Staging, owner: u64) -> Result<Patch<'_>, Refusal>
     requires staged { is_some sheet.now.staged ≡ true }
     requires fresh { (change_in sheet.now).fresh ≡ true }
     requires listed { IsChanged (shown_before (change_in sheet.now)) (shown_at sheet.now.shown)
@@ -29,11 +29,10 @@ pub(crate) fn patch_of(alloc: Global, sheet: &Staging, owner: u64) -> Result<Pat
     ensures memory { IfErr result (λ e. e ≡ Memory) }
 {
     let number = sheet.report().version;
-    let delta = sheet.delta().twin(alloc)?;
     patch_over(
         alloc,
         number,
-        delta,
+        sheet.delta(),
         sheet.changed(),
         sheet.all_shown(),
         owner,
@@ -42,17 +41,17 @@ pub(crate) fn patch_of(alloc: Global, sheet: &Staging, owner: u64) -> Result<Pat
 
 /// The patch of a delta that makes these cells show what a table has. That of one cell takes no memory.
 #[inline(always)]
-fn patch_over(
+fn patch_over<'a>(
     alloc: Global,
     number: u64,
-    delta: Delta,
+    delta: &'a Delta,
     cells: &[Cell],
     shown: &Shown,
     owner: u64,
-) -> Result<Patch, Refusal>
+) -> Result<Patch<'a>, Refusal>
     ensures patch { IfOk result (λ p. p ≡ record {
       number = number;
-      delta = delta;
+      delta = delta.now;
       changes = map (shown_of (shown_at shown.now)) cells.now;
       owner = owner;
     }) }

@@ -1,5 +1,8 @@
 //! What a session is told of a change.
 
+ghost use Rattle.std.specs.Prelude.{◌≡◌};
+ghost use Rattle.ps_desk.specs.Receipts.{with_delta};
+
 use ps_delta::Delta;
 
 /// What a change came to: its delta, and where that stands in the history.
@@ -12,4 +15,26 @@ pub struct Receipt {
     pub delta: Delta,
     /// Whether this change appended the delta.
     pub fresh: bool,
+}
+
+/// Where a change stands in the history: its receipt without the delta.
+#[derive(Drop)]
+pub(crate) struct Standing {
+    /// as that of [`Receipt`]
+    pub(crate) number: u64,
+    /// as that of [`Receipt`]
+    pub(crate) fresh: bool,
+}
+
+impl Standing {
+    /// The receipt, with its delta.
+    pub(crate) fn with_delta(self, delta: Delta) -> Receipt
+        ensures { result ≡ with_delta self delta }
+    {
+        Receipt {
+            number: self.number,
+            delta,
+            fresh: self.fresh,
+        }
+    }
 }

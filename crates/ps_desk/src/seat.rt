@@ -10,7 +10,7 @@ use ps_delta::Delta;
 use ps_eval::Meter;
 use ps_grid::{Cell, Rect, Refusal};
 use ps_session::Board;
-use ps_sheet::Edit;
+use ps_sheet::{Change, Edit, edits_are_fresh};
 use ps_value::Value;
 use std::alloc::Global;
 use std::marker::Model;
@@ -81,13 +81,12 @@ impl<L: DeskName, W: Wait + Drop, V: Wait, M: Ledger> Board<Meter<M>> for Seat<'
         edit: Edit,
         meter: &mut Meter<M>,
     ) -> Result<u64, Refusal> {
-        match self
-            .desk
-            .edit(rt, self.wait, alloc, &mut self.pass, edit, meter)
-        {
-            Ok(receipt) => Ok(receipt.number),
-            Err(refusal) => Err(refusal),
-        }
+        let change = Change::Edit(edit);
+        let desk = self.desk;
+        let made = desk.change(rt, self.wait, alloc, &mut self.pass, change, meter)?;
+        // for the fact that an edit's delta is never below the state
+        edits_are_fresh();
+        Ok(made.number)
     }
 
     fn has_own(&self, delta: &Delta) -> bool {
@@ -101,13 +100,10 @@ impl<L: DeskName, W: Wait + Drop, V: Wait, M: Ledger> Board<Meter<M>> for Seat<'
         delta: Delta,
         meter: &mut Meter<M>,
     ) -> Result<u64, Refusal> {
-        match self
-            .desk
-            .receive(rt, self.wait, alloc, &mut self.pass, delta, meter)
-        {
-            Ok(taken) => Ok(taken.number),
-            Err(refusal) => Err(refusal),
-        }
+        let change = Change::Delta(delta);
+        let desk = self.desk;
+        let taken = desk.change(rt, self.wait, alloc, &mut self.pass, change, meter)?;
+        Ok(taken.number)
     }
 
     fn value(&mut self, cell: Cell) -> Result<Value, Refusal> {

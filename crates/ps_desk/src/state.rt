@@ -1,7 +1,7 @@
 //! What lies under the lock of a desk.
 
-ghost use Rattle.std.specs.Prelude.{◌≡◌, ◌⊎◌, ◌↔◌, ◌+◌, ◌<◌, ◌^◌, [], if◌then◌else◌};
-ghost use Rattle.std.specs.Prelude.{drop, length, take, Err, IfOk, IfErr, OnErr};
+ghost use Rattle.std.specs.Prelude.{◌≡◌, ◌⊎◌, ◌↔◌, ◌+◌, ◌-◌, ◌<◌, ◌≤◌, ◌^◌, [], if◌then◌else◌};
+ghost use Rattle.std.specs.Prelude.{drop, get_or, length, take, Err, IfOk, IfErr, OnErr};
 ghost use mathlib.Core.List.{IsPrefix};
 ghost use Rattle.ps_grid.specs.declared.refusal.Refusal.TheVariants.{Memory, Version};
 ghost use Rattle.ps_delta.specs.Deltas.{joined_history};
@@ -10,12 +10,12 @@ ghost use Rattle.ps_sheet.specs.Prepared.{IsDeltaOf, IsRefusedBy, IsToAppend};
 ghost use Rattle.ps_sheet.specs.Own.{has_own};
 ghost use Rattle.ps_sheet.specs.Sheet.{IsSheet};
 ghost use Rattle.ps_face.specs.Legal.{IsLegal, history_of};
-ghost use Rattle.ps_desk.specs.Receipts.{IsReceipt};
+ghost use Rattle.ps_desk.specs.Receipts.{Stands};
 
-use crate::change::finish;
+use crate::change::{finish, share};
 use crate::name::DeskName;
 use crate::pass::Pass;
-use crate::receipt::Receipt;
+use crate::receipt::Standing;
 use ps_content::Content;
 use ps_csv::{Holds, entries_text, entry_of};
 use ps_delta::Delta;
@@ -111,11 +111,11 @@ impl<L: DeskName, W: Wait + Drop> DeskState<L, W> {
         pass: &mut Pass<L>,
         change: Change,
         meter: &mut Meter<M>,
-    ) -> Result<Receipt, Refusal>
+    ) -> Result<Standing, Refusal>
         ensures later { IsPrefix pass.old.list pass.new.list }
         ensures all { pass.new.list ≡ self.new }
         ensures legal { IsLegal L.opening pass.new.list }
-        ensures receipt { IfOk result (IsReceipt (λ s d. IsDeltaOf L.replica s change d) L.opening pass.old.list
+        ensures stands { IfOk result (Stands (λ s d. IsDeltaOf L.replica s change d) L.opening pass.old.list
             pass.new.list pass.old.seat) }
         ensures refused { IfErr result (λ e. (e ≡ Memory)
             ⊎ IsRefusedBy L.replica (joined_history (history_of L.opening pass.new.list)) change e) }
@@ -134,10 +134,21 @@ impl<L: DeskName, W: Wait + Drop> DeskState<L, W> {
         } = self;
         pass.catch_up(wait, copies.front());
         let _report = sheet.stage(rt, &Open, alloc, change, meter)?;
-        let receipt = finish(wait, alloc, sheet, copies, book, pass);
+        // for the fact that it is a delta
+        let _ = sheet.delta().parts();
+        let standing = finish(wait, alloc, sheet, copies, book, pass);
         // for the fact that the list is legal
         let _ = copies.front();
-        receipt
+        standing
+    }
+
+    /// The delta that has this number in the history, with one owner more.
+    pub(crate) fn delta_at<V: Wait>(&self, wait: &V, alloc: Global, number: u64) -> Delta
+        requires some { 1 ≤ number }
+        requires there { number ≤ length (history_of L.opening self.now) }
+        ensures { result ≡ get_or (history_of L.opening self.now) (number - 1) [] }
+    {
+        share(wait, alloc, &self.sheet.history()[number as usize - 1])
     }
 
     /// The deltas of the history after a number, in order, at most so many.

@@ -52,7 +52,7 @@ impl Play<Note, u64> for Add {
     ghost then = { Adds };
 }
 
-impl Plain<Patch, Note, u64> for Add {
+impl Plain<Patch<'_>, Note, u64> for Add {
     ghost use Rattle.std.specs.Prelude.{None};
 
     ghost ask = { λ patch. patch };
@@ -177,7 +177,7 @@ impl BookPrefix {
 
     /// Adds a patch where this is the whole list, which only its writer can know. It may answer no, and then nothing
     /// was added.
-    pub(crate) fn add(&mut self, head: &Head, patch: &Patch) -> bool
+    pub(crate) fn add(&mut self, head: &Head, patch: &Patch<'_>) -> bool
         requires book { head.now ≡ self.old.book }
         ensures { MatchBool result
             (self.new ≡ record self.old { list = self.old.list ++ patch.now ∷ [] })
@@ -188,7 +188,7 @@ impl BookPrefix {
             return false;
         }
         let mut seen = self.seen.again();
-        let mut offer: Offer<Note, u64, BookLaw, Nothing> = seen.plain::<Nothing, Patch, Add>(
+        let mut offer: Offer<Note, u64, BookLaw, Nothing> = seen.plain::<Nothing, Patch<'_>, Add>(
             patch,
         );
         let mut pen = seen.no_pen();

@@ -1,15 +1,17 @@
 //! A patch: what one delta changes.
 
-ghost use Rattle.std.specs.Prelude.{◌≡◌, [], ◌∷◌, map};
+ghost use Rattle.std.specs.Prelude.{◌≡◌, [], ◌∷◌, map, IfOk, IfErr};
+ghost use Rattle.ps_grid.specs.declared.refusal.Refusal.TheVariants.{Memory};
 ghost use Rattle.ps_delta.specs.Deltas.{AreInGrid};
 ghost use Rattle.ps_face.specs.CellChanges.{entries_of};
 ghost use Rattle.ps_face.specs.Values.{valued};
 
 use crate::changes::CellChanges;
 use ps_delta::Delta;
-use ps_grid::Cell;
+use ps_grid::{Cell, Refusal, Twin};
 use ps_shown::Kept;
 use ps_value::Value;
+use std::alloc::Global;
 use std::collections::LinkedList;
 use std::marker::Model;
 
@@ -25,17 +27,18 @@ pub struct Note {
     pub owner: u64,
 }
 
-/// A delta, its number in the history, and each cell whose shown value it changes, with what it shows then.
+/// A delta, its number in the history, and each cell whose shown value it changes, with what it shows then. The delta is
+/// lent, since the copies take in the changes alone.
 #[derive(Drop)]
-pub struct Patch {
-    number: u64,
-    delta: Delta,
-    changes: CellChanges,
+pub struct Patch<'a> {
+    pub(crate) number: u64,
+    pub(crate) delta: &'a Delta,
+    pub(crate) changes: CellChanges,
     /// a note for contracts, which nothing reads
-    owner: u64,
+    pub(crate) owner: u64,
 }
 
-impl Model for Patch {
+impl<'a> Model for Patch<'a> {
     ghost use Rattle.std.specs.Prelude.{map};
     ghost use Rattle.ps_face.specs.declared.patch.Note.{Note};
     ghost use Rattle.ps_face.specs.CellChanges.{entries_of};
@@ -49,21 +52,21 @@ impl Model for Patch {
 
     ghost view = { λ p. record {
       number = p.number;
-      delta = p.delta;
+      delta = p.delta.now;
       changes = map valued (entries_of p.changes);
       owner = p.owner;
     } };
 }
 
-impl Patch {
+impl<'a> Patch<'a> {
     /// The patch of a delta: its number in the history, the cells whose shown values change, ascending, with what they
     /// show then, and the seat whose call made it.
     ///
     /// Cost: constant.
-    pub fn new(number: u64, delta: Delta, changes: Vec<(Cell, Kept)>, owner: u64) -> Patch
+    pub fn new(number: u64, delta: &'a Delta, changes: Vec<(Cell, Kept)>, owner: u64) -> Patch<'a>
         ensures { result ≡ record {
           number = number;
-          delta = delta;
+          delta = delta.now;
           changes = map valued changes.items;
           owner = owner;
         } }
@@ -80,10 +83,10 @@ impl Patch {
     /// [`Patch::new`].
     ///
     /// Cost: constant; the change takes no memory.
-    pub fn of_one(number: u64, delta: Delta, change: (Cell, Kept), owner: u64) -> Patch
+    pub fn of_one(number: u64, delta: &'a Delta, change: (Cell, Kept), owner: u64) -> Patch<'a>
         ensures { result ≡ record {
           number = number;
-          delta = delta;
+          delta = delta.now;
           changes = valued change ∷ [];
           owner = owner;
         } }
@@ -108,13 +111,13 @@ impl Patch {
     /// What was accepted.
     ///
     /// Cost: constant.
-    pub fn delta(&self) -> &Delta
+    pub fn delta(&self) -> &'a Delta
         ensures delta { result.now ≡ self.now.delta }
         ensures in_grid { AreInGrid self.now.delta }
     {
         // for the fact that its cells are in the grid
         let _ = self.delta.parts();
-        &self.delta
+        self.delta
     }
 
     /// Each cell whose shown value changes, with what it shows then.
@@ -129,11 +132,52 @@ impl Patch {
         self.changes.as_slice()
     }
 
-    /// The delta and the changes.
-    pub(crate) fn split(self) -> (Delta, CellChanges)
-        ensures delta { result.0 ≡ self.delta }
-        ensures changes { map valued (entries_of result.1) ≡ self.changes }
+    /// The patch with a delta of its own. Refused only when out of memory.
+    pub(crate) fn keep(self, alloc: Global) -> Result<KeptPatch, Refusal>
+        ensures kept { IfOk result (λ p. p ≡ self.entry) }
+        ensures memory { IfErr result (λ e. e ≡ Memory) }
     {
-        (self.delta, self.changes)
+        let Patch {
+            number,
+            delta,
+            changes,
+            owner,
+        } = self;
+        Ok(KeptPatch {
+            number,
+            delta: delta.twin(alloc)?,
+            changes,
+            owner,
+        })
     }
+}
+
+/// A patch with a delta of its own, until it is published.
+#[derive(Drop)]
+pub(crate) struct KeptPatch {
+    pub(crate) number: u64,
+    pub(crate) delta: Delta,
+    pub(crate) changes: CellChanges,
+    /// a note for contracts, which nothing reads
+    pub(crate) owner: u64,
+}
+
+impl Model for KeptPatch {
+    ghost use Rattle.std.specs.Prelude.{map};
+    ghost use Rattle.ps_face.specs.declared.patch.Note.{Note};
+    ghost use Rattle.ps_face.specs.CellChanges.{entries_of};
+    ghost use Rattle.ps_face.specs.Values.{valued};
+    ghost use Rattle.std.specs.Coded.{codes};
+    ghost use Rattle.ps_face.specs.contracts.patch.Note as note;
+
+    ghost Value = { Note };
+
+    ghost coded = { Prim.hlevel (codes, note.the_row.coded) };
+
+    ghost view = { λ p. record {
+      number = p.number;
+      delta = p.delta;
+      changes = map valued (entries_of p.changes);
+      owner = p.owner;
+    } };
 }

@@ -2,13 +2,13 @@
 //!
 //! The search for this finds no proof over the whole writer at once, so its parts are taken one after another.
 ghost use denote.Param.Send.{IsSend, IsSync};
-ghost use Rattle.ps_face.specs.contracts.patch.Patch as patch;
+ghost use Rattle.ps_face.specs.contracts.patch.KeptPatch as patch;
 ghost use Rattle.ps_face.specs.contracts.writer.FaceWriter as writer;
 
 use crate::book::{BookPrefix, Head};
 use crate::face::{Face, Operation};
 use crate::name::Named;
-use crate::patch::Patch;
+use crate::patch::KeptPatch;
 use crate::rule::{Law, View};
 use left_right::writer::Writer;
 use ps_delta::CellState;
@@ -25,7 +25,7 @@ fn is_send_and_sync<T: Send + Sync>()
     ensures sync { IsSync T.row }
 {}
 
-/// A patch may go to another thread.
+/// A patch that is kept may go to another thread.
 fn patch_is_send()
     ensures { IsSend patch.the_row }
 {
@@ -44,5 +44,5 @@ pub fn writer_is_send<L: Named, R: Wait + Drop + Send>()
     is_send::<Writer<Face, Operation, View, Law<L>>>();
     is_send::<Head>();
     is_send::<BookPrefix>();
-    is_send::<Vec<Patch>>();
+    is_send::<Vec<KeptPatch>>();
 }

@@ -16,7 +16,7 @@ ghost use Rattle.ps_face.specs.Published.{MayShow};
 use crate::book::{BookPrefix, Head, NewBook};
 use crate::face::{Face, Operation};
 use crate::name::Named;
-use crate::patch::Patch;
+use crate::patch::{KeptPatch, Patch};
 use crate::reader::FaceReader;
 use crate::rule::{Law, Publish, View};
 use core::mem::replace_with;
@@ -36,7 +36,7 @@ pub struct FaceWriter<L: Named, R: Wait + Drop> {
     copies: Copies<L>,
     head: Head,
     front: BookPrefix,
-    staged: Vec<Patch>,
+    staged: Vec<KeptPatch>,
     /// the drop of the copies waits for those that read
     rt: R,
 }
@@ -101,22 +101,24 @@ impl<L: Named, R: Wait + Drop> FaceWriter<L, R> {
         }
     }
 
-    /// Takes a patch that may come next. Refused only when out of memory, and then nothing has changed.
+    /// Takes a patch that may come next, and its delta once more. Refused only when out of memory, and then nothing has
+    /// changed.
     ///
     /// Nothing in the program calls it: [`FaceWriter::publish_patch`] does this and [`FaceWriter::publish`] in one. It
     /// is part of the public interface, for who has something to do between the two, as a test that looks at the copies
     /// there.
     ///
     /// Cost: constant; the first call takes memory for one patch.
-    pub fn append(&mut self, patch: Patch) -> Result<(), Refusal>
+    pub fn append(&mut self, patch: Patch<'_>) -> Result<(), Refusal>
         requires none { self.old.pending ≡ [] }
         requires legal { Follows (history_of L.opening self.old.list) patch }
         ensures pending { MatchResult result
-            (λ _. self.new ≡ record self.old { pending = patch ∷ [] })
+            (λ _. self.new ≡ record self.old { pending = patch.entry ∷ [] })
             (λ _. self.new ≡ self.old) }
         ensures memory { IfErr result (λ e. e ≡ Memory) }
     {
-        self.staged.push(patch)?;
+        let kept = patch.keep(*self.staged.allocator())?;
+        self.staged.push(kept)?;
         Ok(())
     }
 
@@ -131,20 +133,29 @@ impl<L: Named, R: Wait + Drop> FaceWriter<L, R> {
         ensures list { self.new ≡ record { list = self.old.list ++ self.old.pending; pending = [] } }
         ensures delta { map delta_of self.old.pending ≡ result ∷ [] }
     {
-        let patch = self.staged.pop().unwrap();
-        self.publish_patch(patch)
+        let KeptPatch {
+            number,
+            delta,
+            changes,
+            owner,
+        } = self.staged.pop().unwrap();
+        self.publish_patch(Patch {
+            number,
+            delta: &delta,
+            changes,
+            owner,
+        });
+        delta
     }
 
-    /// Shows readers a patch that may come next, as [`FaceWriter::append`] and then [`FaceWriter::publish`] do, and
-    /// gives its delta back. The program publishes so. It waits for those that still read what was published before the
-    /// last patch.
+    /// Shows readers a patch that may come next, as [`FaceWriter::append`] and then [`FaceWriter::publish`] do. The
+    /// program publishes so. It waits for those that still read what was published before the last patch.
     ///
     /// Cost: twice the changes of the patch; no memory.
-    pub fn publish_patch(&mut self, patch: Patch) -> Delta
+    pub fn publish_patch(&mut self, patch: Patch<'_>)
         requires none { self.old.pending ≡ [] }
         requires legal { Follows (history_of L.opening self.old.list) patch }
-        ensures list { self.new ≡ record self.old { list = self.old.list ++ patch ∷ [] } }
-        ensures delta { result ≡ patch.delta }
+        ensures list { self.new ≡ record self.old { list = self.old.list ++ patch.entry ∷ [] } }
     {
         let FaceWriter {
             copies,
@@ -156,12 +167,15 @@ impl<L: Named, R: Wait + Drop> FaceWriter<L, R> {
         // for the fact that its cells are in the grid
         let _ = patch.delta();
         add_to(rt, head, front, &patch);
-        let number = patch.number();
-        let (delta, changes) = patch.split();
+        let Patch {
+            number,
+            delta: _,
+            changes,
+            owner: _,
+        } = patch;
         let operation = Operation::new(number, changes, front.again());
         // it isn't refused, since it may not be
         let _ = turn_over(rt, copies, operation, false);
-        delta
     }
 
     /// The published list.
@@ -241,7 +255,7 @@ fn make_readers<L: Named>(
 }
 
 /// Adds the patch to the book, of which this is the one writer.
-fn add_to<R: Wait>(rt: &R, head: &Head, front: &mut BookPrefix, patch: &Patch)
+fn add_to<R: Wait>(rt: &R, head: &Head, front: &mut BookPrefix, patch: &Patch<'_>)
     requires book { head.now ≡ front.old.book }
     ensures { front.new ≡ record front.old { list = front.old.list ++ patch.now ∷ [] } }
 {

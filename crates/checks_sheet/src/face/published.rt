@@ -9,7 +9,7 @@ ghost use Rattle.ps_face.specs.Values.{valued};
 
 use ps_eval::Meter;
 use ps_face::{FaceReader, FaceWriter, Named, NewBook, Patch};
-use ps_grid::{Cell, Refusal, Twin};
+use ps_grid::{Cell, Refusal};
 use ps_sheet::{Change, Edit, Prepared, Sheet};
 use ps_shown::Kept;
 use ps_value::{SharedLabel, Value};
@@ -86,17 +86,17 @@ fn keep_all(alloc: Global, changes: &[(Cell, Value)]) -> Result<Vec<(Cell, Kept)
 }
 
 /// The patch of a fresh change.
-fn patch_of(rt: &impl Abort, alloc: Global, prepared: &Prepared) -> Result<Patch, Refusal>
+fn patch_of<'a>(
+    rt: &impl Abort,
+    alloc: Global,
+    prepared: &'a Prepared,
+) -> Result<Patch<'a>, Refusal>
     ensures follows { IfOk result (λ p. Follows prepared.now.history p) }
     ensures after { IfOk result (λ p. history_after prepared.now ≡ prepared.now.history ++ p.delta ∷ []) }
 {
     assert!(rt; prepared.fresh());
-    let delta = prepared
-        .delta()
-        .twin(alloc)
-        .expect(rt, "the delta once more");
     let changes = keep_all(alloc, prepared.changes())?;
-    Ok(Patch::new(prepared.report().version, delta, changes, 1))
+    Ok(Patch::new(prepared.report().version, prepared.delta(), changes, 1))
 }
 
 /// Appends the patch of a change that is prepared over the published history.

@@ -16,8 +16,8 @@ use Rattle.ps_desk.proofs.Owners.{owned_next}
 use Rattle.ps_desk.proofs.change.append.Goals as goal
 
 -- the published list, with the patch of the change after what was there
-pub publish_patch-delta-requires-clause-legal : goal.publish_patch-delta-requires-clause-legal
-publish_patch-delta-requires-clause-legal g c =
+pub publish_patch-requires-clause-legal : goal.publish_patch-requires-clause-legal
+publish_patch-requires-clause-legal g c =
     subst (λ (h : List Entries). Follows h c.in-Ok.patch) (c.list.ensures.same.history ∙ c.requires.under_lock.history)
     c.in-Ok.ensures.follows
 
@@ -35,7 +35,7 @@ count-requires-clause-owned g c =
     let pass : PassView = c.args.pass.now in
     let patch : Note = note_of c.list.new.sheet c.seat.result in
     let published : c.front.result.now.list ≡ pass.list ++ patch ∷ [] =
-    ap (λ (t : Told). t.list) c.front.ensures.front ∙ ap (λ (p : Published). p.list) c.publish_patch-delta.ensures.list
+    ap (λ (t : Told). t.list) c.front.ensures.front ∙ ap (λ (p : Published). p.list) c.publish_patch.ensures.list
     ∙ (λ i. sym c.requires.seen i ++ c.in-Ok.ensures.patch i ∷ []) in
     owned_next pass c.catch_up.new.self c.front.result.now.list patch c.catch_up.ensures.pass published c.seat.ensures
     (subst (λ n. n ≤ owned_by pass.seat pass.list) c.appended.ensures.appended c.appended.ensures.owned)
@@ -47,12 +47,12 @@ returns-in-Ok-clause-under_lock g c =
     let of = at_staged (λ (p : StagedView). IsOf (sheet_of new) y.replica (history_after (prepared_of y p))
     (shown_at y.shown)) y.staged
     c.commit.ensures.of in
-    let published = c.publish_patch-delta.ensures.list ∙ (λ i. record {
+    let published = c.publish_patch.ensures.list ∙ (λ i. record {
       list = c.args.copies.now.list ++ c.in-Ok.ensures.patch i ∷ [];
       pending = c.requires.under_lock.none i;
     }) in
     appended_locked g.L.DeskName.replica g.L.Named.opening c.args.sheet.now c.args.copies.now c.args.book.now.total
-    c.requires.under_lock y (sheet_of new) (shown_at y.shown) c.publish_patch-delta.new.self c.count.new.book.total
+    c.requires.under_lock y (sheet_of new) (shown_at y.shown) c.publish_patch.new.self c.count.new.book.total
     c.seat.result c.list.ensures.same c.requires.fresh of published c.count.ensures.book
 
 pub returns-in-Ok-clause-published : goal.returns-in-Ok-clause-published
@@ -63,7 +63,7 @@ returns-in-Ok-clause-published g c =
       patch = patch;
       last = ap (λ (q : PassView). q.list) c.count.ensures.pass ∙ ap (λ (q : PassView). q.list) c.catch_up.ensures.pass
           ∙ ap (λ (t : Told). t.list) c.front.ensures.front
-          ∙ ap (λ (p : Published). p.list) c.publish_patch-delta.ensures.list
+          ∙ ap (λ (p : Published). p.list) c.publish_patch.ensures.list
           ∙ (λ i. sym c.requires.seen i ++ c.in-Ok.ensures.patch i ∷ []);
       number = ap (λ (r : Report). r.version) keeps.report;
       delta = keeps.delta;
@@ -82,8 +82,5 @@ returns-in-Err-clause-under_lock g c =
 
 pub returns-in-Ok-clause-told : goal.returns-in-Ok-clause-told
 returns-in-Ok-clause-told g c =
-    let keeps = c.list.ensures.same in (
-      c.number-number.ensures.number ∙ ap (λ (p : Note). p.number) c.in-Ok.ensures.patch
-          ∙ ap (λ (r : Report). r.version) keeps.report,
-      c.publish_patch-delta.ensures.delta ∙ ap (λ (p : Note). p.delta) c.in-Ok.ensures.patch ∙ keeps.delta,
-    )
+    c.number-number.ensures.number ∙ ap (λ (p : Note). p.number) c.in-Ok.ensures.patch
+    ∙ ap (λ (r : Report). r.version) c.list.ensures.same.report

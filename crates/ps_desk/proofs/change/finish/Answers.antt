@@ -38,10 +38,8 @@ returns-clause-receipt g c =
     (worked_out x c.requires.staged c.fresh.ensures.staging) idle
     (c.requires.under_lock.history ∙ ap (history_of g.L.Named.opening) (sym c.requires.seen))
     (ap (λ (r : Report). r.version)
-    (at_staged (λ (p : StagedView). c.report.result ≡ p.report) x.staged c.report.ensures.report))
-    (c.share.ensures
-    ∙ at_staged (λ (p : StagedView). c.delta.result.now ≡ p.delta) x.staged c.delta.ensures.delta)
-    refl
+    (at_staged (λ (p : StagedView). c.report-number.result ≡ p.report) x.staged c.report-number.ensures.report))
+    refl refl
 
 pub returns-then-fresh-clause-receipt : goal.returns-then-fresh-clause-receipt
 returns-then-fresh-clause-receipt g c =
@@ -51,4 +49,4 @@ returns-then-fresh-clause-receipt g c =
     (worked_out x c.requires.staged c.fresh.ensures.staging)
     (sym (at_staged (λ (p : StagedView). c.fresh.result ≡ p.fresh) x.staged c.fresh.ensures.fresh) ∙ c.if-fresh.true)
     (c.requires.under_lock.history ∙ ap (history_of g.L.Named.opening) (sym c.requires.seen)) made.published
-    made.told.0 made.told.1
+    made.told refl

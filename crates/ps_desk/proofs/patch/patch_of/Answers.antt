@@ -1,4 +1,4 @@
-use Rattle.std.proofs.Common.{◌≡◌, ◌∙◌, map, subst, sym, List, ℕ}
+use Rattle.std.proofs.Common.{◌≡◌, map, subst, sym, List, ℕ}
 use Rattle.std.proofs.lemmas.Result.{IfOk-weaker}
 use Rattle.std.specs.Prelude.{IfOk}
 use Rattle.ps_sheet.specs.Staging.{StagedView, StagingView}
@@ -13,8 +13,7 @@ returns-clause-patch c =
     let x : StagingView = c.args.sheet.now in
     let report = at_staged (λ (p : StagedView). c.report-number.result ≡ p.report) x.staged
     c.report-number.ensures.report in
-    let delta = c.in_ok-delta.ensures.equal
-    ∙ at_staged (λ (p : StagedView). c.delta.result.now ≡ p.delta) x.staged c.delta.ensures.delta in
+    let delta = at_staged (λ (p : StagedView). c.delta.result.now ≡ p.delta) x.staged c.delta.ensures.delta in
     let cells : List ℕ = c.changed.result.now in
     let changed = at_staged (λ (p : StagedView). cells ≡ p.changed) x.staged c.changed.ensures.changed in
     subst (λ (n : Note). IfOk c.patch_over.result (λ p. p ≡ n)) (λ i. record {

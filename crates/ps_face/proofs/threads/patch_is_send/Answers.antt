@@ -4,7 +4,7 @@ use denote.Struct.Declared as S
 use Rattle.std.proofs.Crossing.{crosses}
 use Rattle.ps_delta.specs.contracts.cell_state.CellState as cell_state
 use Rattle.ps_delta.specs.contracts.delta.Delta as delta
-use Rattle.ps_face.specs.contracts.patch.Patch.TheInside as patch_inside
+use Rattle.ps_face.specs.contracts.patch.KeptPatch.TheInside as patch_inside
 use Rattle.ps_sheet.proofs.CrossingDeltas.{delta_send}
 use Rattle.ps_face.proofs.threads.patch_is_send.Goals as goal
 

@@ -10,7 +10,7 @@ use Rattle.std.specs.contracts.alloc.Global as Global
 use Rattle.std.specs.contracts.impls.GlobalAllocator.TheImpl.{ghosts}
 use Rattle.ps_face.specs.contracts.book.BookPrefix as front
 use Rattle.ps_face.specs.contracts.book.Head as head
-use Rattle.ps_face.specs.contracts.patch.Patch as patch
+use Rattle.ps_face.specs.contracts.patch.KeptPatch as patch
 use Rattle.ps_face.specs.contracts.writer.FaceWriter.TheInside as inside
 use Rattle.ps_face.proofs.threads.writer_is_send.Goals as goal
 

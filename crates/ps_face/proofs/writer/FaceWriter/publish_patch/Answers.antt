@@ -24,8 +24,8 @@ new-operation-requires g c =
     c.delta.ensures.in_grid
     (subst (λ (l : List Note). Follows (history_of h l) patch) (sym (ap (λ (p : Published). p.list) c.self.view_is))
     c.requires.legal) in
-    let entries = entries_of c.split-delta.result.1 in
-    record { few = omega (arith, few, ap length c.split-delta.ensures.changes, length-map entries valued) }
+    let changes = ap (λ (n : Note). n.changes) c.patch.view_is in
+    record { few = omega (arith, few, ap length changes, length-map (entries_of c.patch.inside.changes) valued) }
 
 pub turn_over-requires-clause-turn : goal.turn_over-requires-clause-turn
 turn_over-requires-clause-turn g c =
@@ -43,6 +43,6 @@ turn_over-requires-clause-turn g c =
     may_show h b w.copies.desk.shown.value c.new-operation.result front patch i.stands i.same
     (ap (λ (t : Turn). t.book) made ∙ ap (λ (t : Told). t.book) told ∙ i.book)
     (ap (λ (t : Turn). t.list) made ∙ ap (λ (t : Told). t.list) told)
-    (ap (λ (t : Turn). t.version) made ∙ c.number-number.ensures.number)
-    (ap (λ (t : Turn). t.changes) made ∙ c.split-delta.ensures.changes)
+    (ap (λ (t : Turn). t.version) made ∙ ap (λ (n : Note). n.number) c.patch.view_is)
+    (ap (λ (t : Turn). t.changes) made ∙ ap (λ (n : Note). n.changes) c.patch.view_is)
     c.delta.ensures.in_grid follows
