@@ -176,7 +176,6 @@ fn read_cell(word: &[u8]) -> Result<Cell, Refusal>
 }
 
 /// A cell, and no more words.
-#[inline(always)]
 fn read_one_cell(rest: &[u8]) -> Result<Cell, Refusal>
     ensures { ReadsOneCell (words rest.now) result }
 {
