@@ -205,6 +205,26 @@ def budget(draw, size):
             yield "rows B1001:N1001"
 
 
+def under(draw, size, formula):
+    """Numbers set here and there in a column of 1,024, beside a formula."""
+    for row in range(ROWS):
+        yield f"set A{row + 1} {amount(draw)}"
+    yield f"set B1 {formula}"
+    for _ in range(size):
+        yield f"set A{draw.randrange(ROWS) + 1} {amount(draw)}"
+    yield "get B1"
+
+
+def summed(draw, size):
+    """numbers set in a column of 1,024, under a SUM over all of them"""
+    yield from under(draw, size, f"=SUM([.A1:.A{ROWS}])")
+
+
+def unsummed(draw, size):
+    """the same under a formula that refers to all of them, and doesn't sum them"""
+    yield from under(draw, size, f"=IF(FALSE();SUM([.A1:.A{ROWS}]);0)")
+
+
 def counters(draw, size):
     """`add` and `sub` lines at 1,000 counters"""
     for index in range(1000):
@@ -305,7 +325,7 @@ SIZES = {
     pull16: (5000, "lines"), chain: (20, "edits"), fan: (20, "edits"), cycles: (100, "edits"), quiet: (40, "edits"),
     sums: (2000, "edits"), budget: (3000, "edits"), table: (1024, "rows"), counters: (200_000, "lines"),
     chained: (100_000, "formulas"), fanned: (100_000, "formulas"), mixed: (80_000, "formulas"),
-    circled: (1000, "lines"), apart: (200, "formulas"),
+    circled: (1000, "lines"), apart: (200, "formulas"), summed: (400_000, "lines"), unsummed: (400_000, "lines"),
     vote: (100, "people"), replicas: (50_000, "deltas"), accounts: (1000, "rows"), above: (1000, "rows"),
     accounting: (2000, "edits"),
 }
