@@ -1,6 +1,7 @@
-//! Sums over a table beside a plain walk of the same cells, row by row, over tables filled by chance.
+//! Sums over a table beside plain walks: of the same cells row by row, over tables filled by chance, and of what was
+//! put into one column, as it was noted.
 //!
-//! The plain walk stands here: it knows no runs, no summaries and nothing that is remembered.
+//! The plain walks stand here: they know no runs, no summaries and nothing that is remembered.
 
 ghost use Rattle.ps_grid.specs.Blanks.{IsBlankOf};
 
@@ -15,7 +16,7 @@ use std::process::Abort;
 use std::sync::ledger::{Blank, Ledger};
 use std::test::Fail;
 
-/// What the plain walk knows of the items so far.
+/// What a plain walk knows of the items so far.
 #[derive(Drop)]
 struct Plain {
     count: u64,
@@ -23,6 +24,17 @@ struct Plain {
     least: i64,
     greatest: i64,
     fault: Option<Fault>,
+}
+
+/// What it knows before the first of them.
+fn nothing() -> Plain {
+    Plain {
+        count: 0,
+        sum: 0,
+        least: i64::MAX,
+        greatest: i64::MIN,
+        fault: None,
+    }
 }
 
 fn take(plain: &mut Plain, operand: Operand) {
@@ -60,13 +72,7 @@ const RANGES: [(&str, u8, u16, u8, u16); 12] = [
 
 /// The cells of a range, row by row.
 fn walked(shown: &Shown, left: u8, top: u16, right: u8, bottom: u16) -> Plain {
-    let mut plain = Plain {
-        count: 0,
-        sum: 0,
-        least: i64::MAX,
-        greatest: i64::MIN,
-        fault: None,
-    };
+    let mut plain = nothing();
     for row in top..=bottom {
         for column in left..=right {
             if let Some(cell) = Cell::new(column, row) {
@@ -120,14 +126,27 @@ fn shows(alloc: Global, function: &str, range: &str, shown: &Shown) -> Result<Va
     Ok(evaluated(&formula, shown))
 }
 
-/// Whether each function of each range shows what the plain walk gives.
+/// Whether each function of a range shows what a plain walk gives.
+fn compare(
+    rt: &impl Abort,
+    alloc: Global,
+    shown: &Shown,
+    range: &str,
+    plain: &Plain,
+) -> Result<(), Fail> {
+    let values = expected(plain);
+    for (k, function) in ["SUM", "MIN", "MAX", "COUNT"].into_iter().enumerate() {
+        let value = shows(alloc, function, range, shown).ok();
+        assert!(rt; value == values.get(k).copied(), "{function} {range}");
+    }
+    Ok(())
+}
+
+/// The same of each range and the walk of its cells.
 fn agree(rt: &impl Abort, alloc: Global, shown: &Shown) -> Result<(), Fail> {
     for (range, left, top, right, bottom) in RANGES {
-        let values = expected(&walked(shown, left, top, right, bottom));
-        for (k, function) in ["SUM", "MIN", "MAX", "COUNT"].into_iter().enumerate() {
-            let value = shows(alloc, function, range, shown).ok();
-            assert!(rt; value == values.get(k).copied(), "{function} {range}");
-        }
+        let plain = walked(shown, left, top, right, bottom);
+        compare(rt, alloc, shown, range, &plain)?;
     }
     Ok(())
 }
@@ -301,22 +320,11 @@ fn agrees_with(
     shown: &Shown,
     noted: &[Operand; 58],
 ) -> Result<(), Fail> {
-    let mut plain = Plain {
-        count: 0,
-        sum: 0,
-        least: i64::MAX,
-        greatest: i64::MIN,
-        fault: None,
-    };
+    let mut plain = nothing();
     for operand in noted {
         take(&mut plain, *operand);
     }
-    let values = expected(&plain);
-    for (k, function) in ["SUM", "MIN", "MAX", "COUNT"].into_iter().enumerate() {
-        let value = shows(alloc, function, "[.A1:.A57]", shown).ok();
-        assert!(rt; value == values.get(k).copied(), "{function}");
-    }
-    Ok(())
+    compare(rt, alloc, shown, "[.A1:.A57]", &plain)
 }
 
 /// The sum of a block that is remembered follows what is put into it: numbers, texts, faults and nothing, and where the

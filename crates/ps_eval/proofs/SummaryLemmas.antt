@@ -221,7 +221,8 @@ without_middle false y z h = absurd (let e : false ≡ true = h in cc)
 -- a number among items counts
 pub counted_among : (front : List Number) (n : ℤ) (back : List Number) → 1 ≤ length (numbers_in (front ++ Ok n ∷ back))
 counted_among front n back =
-    let all = ap length (numbers_in-append front (Ok n ∷ back)) ∙ length-append (numbers_in front) (n ∷ numbers_in back) in
+    let all = ap length (numbers_in-append front (Ok n ∷ back))
+    ∙ length-append (numbers_in front) (n ∷ numbers_in back) in
     omega (arith, all)
 
 -- without one of the numbers that is neither the least nor the greatest

@@ -1,8 +1,10 @@
 -- What a summary says of the items that it has taken.
-use Rattle.std.specs.Prelude.{◌≡◌, ◌-◌, ◌^◌, ℕ, not, true, List, Option, length, fold, ℤ, pos, negsuc}
+use Rattle.std.specs.Prelude.{◌≡◌, ◌-◌, ◌^◌, ◌<ℤ◌, ℕ, not, true, List, Option, length, fold, ℤ, pos, negsuc, ⊤}
 use Rattle.std.specs.Int.{int_min, int_max}
 use Rattle.std.specs.List.{list_all, list_any}
 use Rattle.ps_value.specs.declared.value.Fault.{Fault}
+use Rattle.ps_value.specs.declared.operand.Operand.{Operand}
+use Rattle.ps_value.specs.declared.operand.Operand.TheVariants as operands
 use Rattle.ps_eval.specs.declared.arguments_summary.ArgumentsSummary.{ArgumentsSummary}
 use Rattle.ps_eval.specs.declared.summary.Summary.{Summary}
 use Rattle.ps_eval.specs.declared.truths.Truths.{Truths}
@@ -34,6 +36,14 @@ SummarizesArguments items s = AreKnown items s.count s.sum s.least s.greatest s.
 -- how many numbers it has taken
 abbrev pub numbers_taken : Summary → ℕ
 numbers_taken s = s.count
+
+-- whether an operand may go from among items, and what is known of the others stays known: it is no item, or a number
+-- that is neither the least nor the greatest of them
+abbrev pub MayLeave : Operand → List Number → Type 0
+MayLeave operands.Empty items = ⊤
+MayLeave operands.Text items = ⊤
+MayLeave (operands.Num n) items = (lowest_of (numbers_in items) <ℤ n) × (n <ℤ highest_of (numbers_in items))
+MayLeave (operands.Err fault) items = ⊥
 
 pub record Judges (values : List Number) (t : Truths) : Type 0 where
   pub every : t.all ≡ list_all (λ n. not (is_zero n)) (numbers_in values)

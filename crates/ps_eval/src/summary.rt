@@ -1,7 +1,7 @@
 //! What SUM, MIN, MAX and COUNT need to know of some items, as those of a range.
 
-ghost use Rattle.std.specs.Prelude.{◌≡◌, ◌+◌, ◌*◌, ◌^◌, ◌<◌, ◌≤◌, ◌<ℤ◌, List, [], ◌∷◌, ◌++◌, unsigned_abs, is_some};
-ghost use Rattle.std.specs.Prelude.{None, IsTrue, IsFalse};
+ghost use Rattle.std.specs.Prelude.{◌≡◌, ◌↔◌, ◌+◌, ◌*◌, ◌^◌, ◌<◌, ◌≤◌, ◌<ℤ◌, List, [], ◌∷◌, ◌++◌, unsigned_abs};
+ghost use Rattle.std.specs.Prelude.{is_some, IsTrue, IsFalse};
 ghost use Rattle.ps_eval.specs.Number.{Number};
 
 use ps_value::{Fault, Operand};
@@ -24,7 +24,7 @@ pub struct Summary {
 impl Summary {
     ghost use Rattle.ps_eval.specs.Items.{first_fault};
     ghost use Rattle.ps_eval.specs.Inside.Operands.{items_from};
-    ghost use Rattle.ps_eval.specs.Summarized.{Summarizes, numbers_taken};
+    ghost use Rattle.ps_eval.specs.Summarized.{MayLeave, Summarizes, numbers_taken};
 
     /// Of no items.
     ///
@@ -107,7 +107,7 @@ impl Summary {
     /// Whether a number is more than the least and less than the greatest.
     #[inline(always)]
     fn lies_within(&self, number: i64) -> bool
-        ensures { IsTrue result → (self.now.least <ℤ number) × (number <ℤ self.now.greatest) }
+        ensures { IsTrue result ↔ ((self.now.least <ℤ number) × (number <ℤ self.now.greatest)) }
     {
         self.least < number && number < self.greatest
     }
@@ -128,9 +128,8 @@ impl Summary {
         self.sum -= i128::from(number);
     }
 
-    /// Takes the operand of one cell in place of that of another one among the items, and says whether it could. It
-    /// can't where there is a fault, nor where the number that goes is the least or the greatest: then nothing is
-    /// changed. No clause says when it can.
+    /// Takes the new operand of a cell among the items in place of the old one, and says whether it could. It can't
+    /// where there is a fault, nor where the number that goes is the least or the greatest: then nothing is changed.
     ///
     /// Cost: constant.
     #[inline]
@@ -141,6 +140,11 @@ impl Summary {
         ensures items { IsTrue result → (front back : List Number)
             → Summarizes (front ++ items_from old ++ back) self.old
             → Summarizes (front ++ items_from new ++ back) self.new }
+        ensures can { (items : List Number)
+            → Summarizes items self.old
+            → IsFalse (is_some (first_fault items))
+            → MayLeave old items
+            → IsTrue result }
         ensures same { IsFalse result → self.new ≡ self.old }
     {
         if self.has_fault() {

@@ -1,5 +1,5 @@
 -- Runs of the table, and the items of what is kept there.
-use Rattle.std.proofs.Common.{◌≡◌, ℕ, zero, suc, ◌+◌, ◌-◌, ◌<◌, ◌≤◌, min, List, [], ◌∷◌, ◌++◌, length}
+use Rattle.std.proofs.Common.{◌≡◌, ℕ, zero, suc, ◌+◌, ◌-◌, ◌*◌, ◌%◌, ◌<◌, ◌≤◌, min, List, [], ◌∷◌, ◌++◌, length}
 use Rattle.std.proofs.Common.{◌⊎◌, inl, inr, length-drop}
 use Rattle.std.proofs.Common.{get_or, take, drop, slice_range, flat_map, refl, ap, sym, ◌∙◌, arith, ⊎_elim, append-nil}
 use Rattle.std.specs.List.{range_with_len}
@@ -7,7 +7,7 @@ use Rattle.std.proofs.lemmas.Bool.{cases_lt}
 use Rattle.std.proofs.lemmas.List.{drop_more, drop_all, drop_min, take_all, take_more, get_or_past}
 use Rattle.std.proofs.lemmas.List.Concat.{flat_map-append}
 use Rattle.std.proofs.lemmas.Nat.{div-mul-add, mod-mul-add}
-use Rattle.ps_grid.specs.declared.size.TheConstants.{CELLS, COLUMNS}
+use Rattle.ps_grid.specs.declared.size.TheConstants.{CELLS, COLUMNS, ROWS}
 use Rattle.ps_grid.specs.Rectangle.{Area, LiesInGrid, cell_within}
 use Rattle.ps_value.specs.declared.operand.Operand.{Operand}
 use Rattle.ps_value.specs.Operand.{operand_of}
@@ -15,9 +15,9 @@ use Rattle.ps_eval.specs.Items.{cell_items}
 use Rattle.ps_eval.specs.Inside.Operands.{items_from, items_from-operand}
 use Rattle.ps_shown.specs.declared.kept.Kept.{Kept}
 use Rattle.ps_shown.specs.declared.kept.Kept.TheVariants.{Empty}
-use Rattle.ps_shown.specs.declared.shown.TheConstants.{PLACES}
+use Rattle.ps_shown.specs.declared.shown.TheConstants.{PLACES, STRIDE}
 use Rattle.ps_shown.specs.Kept.{value_of}
-use Rattle.ps_shown.specs.Shown.{place_of, shown_at}
+use Rattle.ps_shown.specs.Shown.{LieBelow, place_of, shown_at}
 use Rattle.ps_shown.specs.Sums.{column_items, items_kept}
 use Rattle.ps_shown.proofs.PlaceLemmas.{shown_at-here}
 
@@ -90,16 +90,30 @@ within_grid a across down g left upper =
     let rows = g.within_rows in
     omega arith
 
--- a column ends before the table does
-pub column_fits : (a : Area) (across : ℕ) → LiesInGrid a → across < a.width
-    → place_of (cell_within a across 0) + a.height ≤ PLACES
+-- the places below the rows of a column end before the table does
+pub below_fits : (a : Area) (across n : ℕ) → LiesInGrid a → across < a.width → LieBelow a n
+    → place_of (cell_within a across 0) + a.height + n ≤ PLACES
 unfolding place_of
-column_fits a across g left =
+below_fits a across n g left below =
     let columns = g.within_columns in
-    let rows = g.within_rows in
     let c0 = mod-mul-add (a.top + 0) COLUMNS (a.left + across) (omega arith) in
     let r0 = div-mul-add (a.top + 0) COLUMNS (a.left + across) (omega arith) in
-    omega (arith, c0, r0, columns, rows)
+    omega (arith, c0, r0, columns, below.within)
+
+-- and lie past the column's last row
+pub below_rows : (a : Area) (across n p : ℕ) → LiesInGrid a → across < a.width → LieBelow a n
+    → place_of (cell_within a across 0) + a.height ≤ p → p < place_of (cell_within a across 0) + a.height + n
+    → ROWS ≤ p % STRIDE
+unfolding place_of
+below_rows a across n p g left below low high =
+    let columns = g.within_columns in
+    let c0 = mod-mul-add (a.top + 0) COLUMNS (a.left + across) (omega arith) in
+    let r0 = div-mul-add (a.top + 0) COLUMNS (a.left + across) (omega arith) in
+    let k = p - (place_of (cell_within a across 0) + a.height) in
+    let less : k < n = omega (arith, low, high) in
+    let is : p ≡ (a.left + across) * STRIDE + (a.top + a.height + k) = omega (arith, c0, r0, low) in
+    let rest = mod-mul-add (a.left + across) STRIDE (a.top + a.height + k) (omega (arith, less, below.within)) in
+    omega (arith, below.past k less, rest, ap (λ q. q % STRIDE) is)
 
 column_from : (kept : List Kept) (a : Area) (across k n : ℕ) → LiesInGrid a → across < a.width → k + n ≤ a.height
     → flat_map (λ j. cell_items (value_of (get_or kept (place_of (cell_within a across 0) + j) Empty)))

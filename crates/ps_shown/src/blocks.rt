@@ -1,8 +1,11 @@
 //! Summaries of blocks of the table that are remembered, and follow the cells that are put.
 ghost use Rattle.std.specs.Prelude.{◌≡◌, ◌+◌, ◌*◌, ◌^◌, ◌/◌, ◌<◌, ◌≤◌, ℕ, List, ◌++◌, None, Some};
 ghost use Rattle.std.specs.Prelude.{IfSome, length, slice_index_or, slice_set, vec_capacity};
+ghost use Rattle.ps_value.specs.Operand.{operand_of};
 ghost use Rattle.ps_eval.specs.Number.{Number};
 ghost use Rattle.ps_eval.specs.Summarized.{Summarizes, numbers_taken};
+ghost use Rattle.ps_shown.specs.declared.kept.Kept.{Kept};
+ghost use Rattle.ps_shown.specs.Kept.{value_of};
 ghost use Rattle.ps_shown.specs.Blocks.{AreRemembered, block_items, items_between};
 ghost use Rattle.ps_shown.specs.declared.shown.TheConstants.{PLACES};
 
@@ -10,6 +13,7 @@ use crate::kept::Kept;
 use crate::run::summary_of_run;
 use crate::runs::Runs;
 use ps_eval::Summary;
+use ps_value::Operand;
 
 /// How many places a block has. It is no power of two, and neither is a column of whole blocks, so that the cells of a
 /// row don't share a few sets of the processor's cache.
@@ -214,23 +218,27 @@ pub(crate) fn follow(
 {
     // mostly no block was ever remembered
     if !sums.is_empty() {
-        exchange_or_forget(kept, sums, runs, place, put);
+        exchange_or_forget(kept, sums, runs, place, put.operand());
     }
 }
 
-/// The same where some block was remembered: what is known of this one exchanges one operand for another, and is
-/// forgotten where it can't.
+/// The same where some block was remembered: what is known of this one exchanges the operand there for that of whatever
+/// is put, and is forgotten where it can't.
+// Not inlined, so that a put into a table that remembers nothing stays short; and what is put comes as its operand, so
+// that it need not lie in memory.
 #[inline(never)]
 fn exchange_or_forget(
     kept: &[Kept],
     sums: &mut Vec<Option<Summary>>,
     runs: &mut Runs,
     place: usize,
-    put: &Kept,
+    operand: Operand,
 )
     requires remembered { AreRemembered kept.now sums.old.items }
     requires reached { place < length kept.now }
-    ensures remembered { AreRemembered (slice_set kept.now place put.now) sums.new.items }
+    ensures remembered { (put : Kept)
+        → operand ≡ operand_of (value_of put)
+        → AreRemembered (slice_set kept.now place put) sums.new.items }
     ensures capacity { vec_capacity sums.old ≤ vec_capacity sums.new }
 {
     let block = place / BLOCK;
@@ -238,7 +246,7 @@ fn exchange_or_forget(
         return;
     }
     if let Some(known) = &mut sums[block] {
-        if !known.exchange(kept[place].operand(), put.operand()) {
+        if !known.exchange(kept[place].operand(), operand) {
             sums[block] = None;
             runs.cut(block);
         }

@@ -10,10 +10,11 @@
 //! only that there is a text, and `Shown::operand` of `B1` is the number 7. `Shown::put` of `Kept::Num(1)` at `A1`
 //! returns the kept text, and the same call with that text makes the table what it was.
 //!
-//! For SUM, MIN, MAX and COUNT a table remembers what they need to know of blocks of 57 rows of a column. `remember`
-//! makes that for a range, `summary` reads it, and `put` exchanges one cell's part in that of its block, or drops it
-//! where there is a fault in the block, or the number that goes is its least or its greatest. No contract above mentions
-//! it: that what is remembered is that of the cells as they are now is the table's own invariant.
+//! For SUM, MIN, MAX and COUNT a table remembers what they need to know of blocks of 57 rows of a column, of which the
+//! last has 55. `remember` makes that for a range, `summary` reads it, and `put` exchanges one cell's part in that of
+//! its block, or drops it where there was a fault in the block, or the number that goes was its least or its greatest.
+//! No contract above mentions it: that what is remembered is that of the cells as they are now is the table's own
+//! invariant.
 //!
 //! Cost: a table takes room of 2 MB once, of which as much is written as lies before the last cell that was put, and so
 //! does its twin, which remembers nothing yet. No other call takes memory, and each is constant but for that and for

@@ -1,5 +1,5 @@
 //! What each cell shows.
-ghost use Rattle.std.specs.Prelude.{◌≡◌, ◌+◌, ◌%◌, ◌<◌, ◌≤◌, ℕ, length, slice_index_or, vec_capacity, IfOk, IfErr};
+ghost use Rattle.std.specs.Prelude.{◌≡◌, ◌<◌, ◌≤◌, ℕ, length, slice_index_or, vec_capacity, IfOk, IfErr};
 ghost use Rattle.ps_grid.specs.declared.size.TheConstants.{CELLS as ALL};
 ghost use Rattle.ps_grid.specs.Rectangle.{LiesInGrid};
 ghost use Rattle.ps_grid.specs.declared.refusal.Refusal.TheVariants.{Memory};
@@ -7,7 +7,7 @@ ghost use Rattle.ps_value.specs.declared.value.Value.TheVariants.{Empty as Nothi
 ghost use Rattle.ps_value.specs.Operand.{operand_of};
 ghost use Rattle.ps_shown.specs.declared.kept.Kept.TheVariants.{Empty};
 ghost use Rattle.ps_shown.specs.Kept.{value_of};
-ghost use Rattle.ps_shown.specs.Shown.{place_of, shown_at, with_value};
+ghost use Rattle.ps_shown.specs.Shown.{LieBelow, place_of, shown_at, with_value};
 ghost use Rattle.ps_shown.specs.Sums.{column_items, items_by_columns};
 ghost use Rattle.ps_eval.specs.Summarized.{Summarizes};
 ghost use Rattle.ps_eval.specs.Items.{range_items};
@@ -74,20 +74,17 @@ fn place(cell: Cell) -> usize
     index % COLUMNS * STRIDE + index / COLUMNS
 }
 
-/// The end of the places of some rows of a column. Where they reach the bottom row it is the end of the column, so that
-/// its last block is whole: no cell lies at the places between.
-#[inline]
-fn end_of(top: usize, height: usize) -> usize
-    requires { top + height ≤ PLACES }
-    ensures order { top + height ≤ result }
-    ensures within { result ≤ PLACES }
-    ensures past { (p : ℕ) → top + height ≤ p → p < result → ROWS ≤ p % STRIDE }
+/// How many places more than its rows a range takes of each of its columns. Where it reaches the bottom row they are
+/// those up to the column's end, so that its last block is whole: no cell lies there. Else there are none.
+fn places_below(rect: Rect) -> usize
+    ensures { LieBelow rect result }
 {
-    let end = top + height;
-    if end % STRIDE == ROWS {
-        end + (STRIDE - ROWS)
+    // for the fact that the range lies in the grid
+    let _ = rect.area();
+    if rect.bottom_right().index() >= (ROWS - 1) * COLUMNS {
+        STRIDE - ROWS
     } else {
-        end
+        0
     }
 }
 
@@ -157,16 +154,16 @@ impl Shown {
 
     /// What SUM, MIN, MAX and COUNT need to know of the items of a range.
     ///
-    /// Cost: column after column a step for each block that lies in the range whole and is remembered, and one for each
-    /// other cell; and the cells row by row, too, where there is a fault among those of several columns, for the first
-    /// one counts.
+    /// Cost: column after column a step for each block that is remembered and has all its rows in the range, which are
+    /// 55 of a column's last block and 57 of each other, and one for each other cell; and the cells row by row, too,
+    /// where there is a fault among those of several columns, for the first one counts.
     pub fn summary(&self, rect: Rect) -> Summary
         ensures { Summarizes (range_items (shown_at self.now) rect) result }
     {
         // for the fact that the range lies in the grid
         let _ = rect.area();
         if rect.width() == 1 {
-            return self.column(rect, 0);
+            return self.column(rect, 0, places_below(rect));
         }
         if rect.height() < FEW_ROWS {
             return self.summary_by_cells(rect);
@@ -186,25 +183,27 @@ impl Shown {
     {
         // for the fact that the range lies in the grid
         let _ = rect.area();
+        let below = places_below(rect);
         let mut summary = Summary::new();
         for across in 0..rect.width() {
-            summary.join(&self.column(rect, across));
+            summary.join(&self.column(rect, across, below));
         }
         summary
     }
 
-    /// What is known of the items of one column of a range.
-    fn column(&self, rect: Rect, across: usize) -> Summary
-        requires { across < rect.width }
+    /// What is known of the items of one column of a range, which takes so many places below its rows too.
+    fn column(&self, rect: Rect, across: usize, below: usize) -> Summary
+        requires across { across < rect.width }
+        requires below { LieBelow rect below }
         ensures { Summarizes (column_items (shown_at self.now) rect across) result }
     {
         // for the fact that the range lies in the grid
         let _ = rect.area();
         let top = place(rect.at(across, 0));
-        summary_between(&self.kept, &self.sums, top, end_of(top, rect.height()))
+        summary_between(&self.kept, &self.sums, top, top + rect.height() + below)
     }
 
-    /// Remembers what SUM, MIN, MAX and COUNT need to know of each block of 57 rows that lies in the range, so that
+    /// Remembers what SUM, MIN, MAX and COUNT need to know of each block that has all its rows in the range, so that
     /// `summary` doesn't walk those cells again before `put` drops what is remembered of the block. What the cells show
     /// stays.
     ///
@@ -213,21 +212,23 @@ impl Shown {
     pub fn remember(&mut self, rect: Rect)
         ensures { self.new ≡ self.old }
     {
+        let below = places_below(rect);
         for column in 0..rect.width() {
-            self.remember_column(rect, column);
+            self.remember_column(rect, column, below);
         }
     }
 
-    /// The same of one column of the range.
-    fn remember_column(&mut self, rect: Rect, across: usize)
-        requires { across < rect.width }
+    /// The same of one column of the range, which takes so many places below its rows too.
+    fn remember_column(&mut self, rect: Rect, across: usize, below: usize)
+        requires across { across < rect.width }
+        requires below { LieBelow rect below }
         ensures { self.new ≡ self.old }
     {
         // for the fact that the range lies in the grid
         let _ = rect.area();
         let top = place(rect.at(across, 0));
         let first = top.div_ceil(BLOCK);
-        let end = end_of(top, rect.height()) / BLOCK;
+        let end = (top + rect.height() + below) / BLOCK;
         let column = top / STRIDE;
         let from = self.runs.past(column, first);
         if from < end {
@@ -238,10 +239,11 @@ impl Shown {
 
     /// Puts what a cell shows from now on, and returns what was kept of it. It takes no memory.
     ///
-    /// Cost: constant, and what is remembered of the cell's block follows, or is dropped where there is a fault among
-    /// the block's cells, or the number that goes is the least or the greatest of them; but the first that lies further
-    /// on in the table than all before writes what is between, so that all calls together write the table once more at
-    /// most.
+    /// Cost: constant, but a cell that lies further on in the table than all that were put before has what is between
+    /// written, so that all calls together write the table once more at most. What is remembered of the cell's block
+    /// follows. It is dropped where there was a fault among the block's cells, even if it is this one that goes, or
+    /// where the number that goes was the least or the greatest of them, even if the same number comes: then the next
+    /// `remember` walks the block.
     #[inline(always)]
     pub fn put(&mut self, cell: Cell, kept: Kept) -> Kept
         ensures shown { shown_at self.new ≡ with_value (shown_at self.old) cell (value_of kept) }

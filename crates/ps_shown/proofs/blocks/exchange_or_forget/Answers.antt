@@ -6,8 +6,8 @@ use Rattle.ps_shown.proofs.BlockLemmas.{remembered_known, remembered_new, rememb
 use Rattle.ps_shown.proofs.blocks.exchange_or_forget.Goals as goal
 
 pub returns-then-block-len-clause-remembered : goal.returns-then-block-len-clause-remembered
-returns-then-block-len-clause-remembered c =
-    remembered_past c.args.kept.now c.args.sums.now.items c.args.place c.args.put.now c.requires.remembered
+returns-then-block-len-clause-remembered c = λ put is.
+    remembered_past c.args.kept.now c.args.sums.now.items c.args.place put c.requires.remembered
     (omega (arith, c.if-block-len.true, c.len.ensures, c.args.sums.now.ok.0))
 
 pub exchange-requires-clause-among : goal.exchange-requires-clause-among
@@ -34,12 +34,12 @@ exchange-requires-clause-room c =
     omega (arith, known.counted, few_between c.args.kept.now (b * BLOCK) (b * BLOCK + BLOCK))
 
 pub returns-then-not-exchange-clause-remembered : goal.returns-then-not-exchange-clause-remembered
-returns-then-not-exchange-clause-remembered c =
-    remembered_not c.args.kept.now c.args.sums.now.items c.args.place c.args.put.now (Some c.exchange.new.self)
+returns-then-not-exchange-clause-remembered c = λ put is.
+    remembered_not c.args.kept.now c.args.sums.now.items c.args.place put (Some c.exchange.new.self)
     c.requires.remembered (omega (arith, c.if-block-len.false, c.len.ensures, c.args.sums.now.ok.0))
 
 pub returns-else-not-exchange-clause-remembered : goal.returns-else-not-exchange-clause-remembered
-returns-else-not-exchange-clause-remembered c =
+returns-else-not-exchange-clause-remembered c = λ put is.
     let within : c.args.place / BLOCK < length c.args.sums.now.items =
     omega (arith, c.if-block-len.false, c.len.ensures, c.args.sums.now.ok.0) in
     let known = known_there c.args.kept.now c.args.sums.now.items (c.args.place / BLOCK) c.index_mut.result.now
@@ -50,12 +50,12 @@ returns-else-not-exchange-clause-remembered c =
     let back = items_between kept (place + 1) (place / BLOCK * BLOCK + BLOCK) in
     let among = block_among kept place c.index-kept-place.result c.operand.result c.in-Some.known c.requires.reached
     c.index-kept-place.is c.operand.ensures known in
-    remembered_known kept c.args.sums.now.items place c.args.put.now c.exchange.new.self c.requires.remembered within
-    (block_follows kept place c.args.put.now c.operand-in-Some.result c.exchange.new.self c.requires.reached
-    c.operand-in-Some.ensures (c.if-not-exchange.ensures.items refl front back among))
+    remembered_known kept c.args.sums.now.items place put c.exchange.new.self c.requires.remembered within
+    (block_follows kept place put c.args.operand c.exchange.new.self c.requires.reached is
+    (c.if-not-exchange.ensures.items refl front back among))
 
 pub returns-in_default-clause-remembered : goal.returns-in_default-clause-remembered
-returns-in_default-clause-remembered c =
-    remembered_new c.args.kept.now c.args.sums.now.items c.args.place c.args.put.now c.index_mut.result.now
+returns-in_default-clause-remembered c = λ put is.
+    remembered_new c.args.kept.now c.args.sums.now.items c.args.place put c.index_mut.result.now
     c.requires.remembered (omega (arith, c.if-block-len.false, c.len.ensures, c.args.sums.now.ok.0))
-    (λ s is. absurd (c.in_default.not-Some s is))
+    (λ s some. absurd (c.in_default.not-Some s some))
