@@ -1,5 +1,6 @@
 //! Sheets as people use them: edits as they are typed, and deltas of other replicas made by hand.
 
+mod changed;
 mod cycles;
 mod edits;
 mod gates;

@@ -1,8 +1,8 @@
 -- The list of the cells that show another value than before.
 use Rattle.std.proofs.Common.{◌≡◌, ◌≢◌, ℕ, ◌+◌, ◌<◌, ◌≤◌, true, false, List, []}
-use Rattle.std.proofs.Common.{◌∷◌, ◌++◌, length, map, take, get_or}
+use Rattle.std.proofs.Common.{◌∷◌, ◌++◌, inr, length, map, take, get_or}
 use Rattle.std.proofs.Common.{refl, sym, ap, ◌∙◌, arith, ⊎_elim, eqb, ne_eqb, nat_cmp, subst}
-use Rattle.std.specs.Prelude.{if◌then◌else◌}
+use Rattle.std.specs.Prelude.{if◌then◌else◌, IfSome, Option, Some, None}
 use Rattle.std.specs.List.{All, IsDistinct, list_any}
 use Rattle.std.specs.List.Sorted.{IsPermutation, IsSorted, IsStrictlyIncreasing}
 use Rattle.std.proofs.lemmas.Bool.{cases_eq}
@@ -111,6 +111,22 @@ module _ (ps : List (ℕ × Kept)) (e : ℕ × Kept) (w : Assignment) (absent : 
         (λ same. subst (λ xs. Differ w (put_back (ps ++ e ∷ []) w) xs) (sym same.1) (same_more same.0))
         (λ other. subst (λ xs. Differ w (put_back (ps ++ e ∷ []) w) xs) (sym other.1) (other_more other.0))
         step
+
+-- of one old value the cell differs, where it shows another one
+pub changed_one : (e : ℕ × Kept) (w : Assignment) → ¬ (w e.0 ≡ value_kept e.1)
+    → IsChanged (put_back (e ∷ []) w) w (e.0 ∷ [])
+changed_one e w differs =
+    let differ = listed_more [] e w (λ i. absurd (let f : false ≡ true = i in cc)) [] (differ_none w) (e.0 ∷ [])
+    (inr (differs, refl)) in
+    record { ascending = λ k lt. absurd (omega (arith, lt)); exact = differ.exact }
+
+pub changed_by_one : (olds : List (ℕ × Kept)) (e : ℕ × Kept) (w : Assignment) (r : Option ℕ) → e ∷ [] ≡ olds
+    → IfSome r (λ c. (c ≡ e.0) × (¬ (w e.0 ≡ value_kept e.1)))
+    → IfSome r (λ c. IsChanged (put_back olds w) w (c ∷ []))
+changed_by_one olds e w None one other = tt
+changed_by_one olds e w (Some c) one other =
+    subst (λ (xs : List (ℕ × Kept)). IsChanged (put_back xs w) w (c ∷ [])) one
+    (subst (λ q. IsChanged (put_back (e ∷ []) w) w (q ∷ [])) (sym other.0) (changed_one e w other.1))
 
 pub few_more : (e : ℕ × Kept) (w : Assignment) (cells cells2 : List ℕ) (n : ℕ) → ListsDiffering e w cells cells2
     → length cells ≤ n → length cells2 ≤ n + 1

@@ -31,10 +31,10 @@ In-only : (x c : ℕ) → In (x ∷ []) c → c ≡ x
 In-only x c i =
     ⊎_elim (λ before. absurd (let f : false ≡ true = before in cc)) (λ same. same) (In-pushed_cases [] x c i)
 
--- a list with one place has just the cell of that place
-pub sole : (xs : List ℕ) (x : ℕ) → 1 ≤ length xs → length xs < 2 → x ≡ get_or xs 0 x → x ∷ [] ≡ xs
+-- a list with one place has just what is at that place
+pub sole : {X : Type 0} (xs : List X) (x : X) → 1 ≤ length xs → length xs < 2 → x ≡ get_or xs 0 x → x ∷ [] ≡ xs
 sole [] x some few at = absurd (omega (arith, some))
-sole (y ∷ []) x some few at = ap (λ (q : ℕ). q ∷ []) at
+sole {X} (y ∷ []) x some few at = ap (λ (q : X). q ∷ []) at
 sole (y ∷ z ∷ xs) x some few at = absurd (omega (arith, few))
 
 -- the first i of the cells are shown

@@ -1,6 +1,7 @@
 //! What the cells of one replica hold and show, where at most one change is staged.
 
-ghost use Rattle.std.specs.Prelude.{◌≡◌, ◌+◌, ◌<◌, ◌≤◌, [], true, is_some, map, None, IfOk, IfErr, OnOk, OnErr};
+ghost use Rattle.std.specs.Prelude.{◌≡◌, ◌+◌, ◌<◌, ◌≤◌, [], ◌∷◌, true, is_some, map, None};
+ghost use Rattle.std.specs.Prelude.{IfOk, IfErr, IfSome, OnOk, OnErr};
 ghost use Rattle.ps_grid.specs.declared.parties.TheConstants.{WORKERS};
 ghost use Rattle.ps_delta.specs.State.{IsInGrid, empty_state, joined_state};
 ghost use Rattle.ps_delta.specs.Deltas.{state_of};
@@ -150,6 +151,17 @@ impl Cells {
             × (self.new.workers ≡ self.old.workers) }
     {
         self.tables.shown.list_changed();
+    }
+
+    /// The cell that alone shows another value than before the staged change, where the change put no other. None also
+    /// where no cell shows another value or several were put; then [`Cells::list_changed`] tells.
+    ///
+    /// Cost: constant.
+    #[inline]
+    pub fn one_changed(&self) -> Option<Cell>
+        ensures changed { IfSome result (λ c. IsChanged (shown_before self.now) (shown_now self.now) (c ∷ [])) }
+    {
+        self.tables.shown.one_changed()
     }
 
     /// Lists what the cells show that were listed last, for a change that is handed out with its values (`Prepared`).

@@ -1,7 +1,7 @@
 //! What the cells show, and what those that a change put showed before it.
 
-ghost use Rattle.std.specs.Prelude.{◌≡◌, ◌<◌, ◌≤◌, [], ℕ, true, false, length, slice_set};
-ghost use Rattle.std.specs.Prelude.{vec_capacity, IfOk, IfErr, map, nat_eq};
+ghost use Rattle.std.specs.Prelude.{◌≡◌, ◌<◌, ◌≤◌, [], ◌∷◌, ℕ, true, false, length, slice_set};
+ghost use Rattle.std.specs.Prelude.{vec_capacity, IfOk, IfErr, IfSome, map, nat_eq};
 ghost use Rattle.std.specs.List.{IsDistinct};
 ghost use Rattle.ps_grid.specs.Chains.{In};
 ghost use Rattle.ps_value.specs.Operand.{operand_of};
@@ -202,6 +202,15 @@ impl Screen {
         self.cells.sort_unstable();
     }
 
+    /// The cell that alone shows another value than before, where it is the only one that was put. None also where no
+    /// cell shows another value or several were put; then the list tells.
+    #[inline]
+    pub(crate) fn one_changed(&self) -> Option<Cell>
+        ensures changed { IfSome result (λ c. IsChanged (before_of self.now) (shown_at self.now.kept) (c ∷ [])) }
+    {
+        one_differing(&self.olds, &self.shown)
+    }
+
     /// Lists the cells that were listed, with what they show.
     pub(crate) fn list_values(&mut self)
         ensures kept { self.new.kept ≡ self.old.kept }
@@ -294,6 +303,30 @@ fn list_one(old: &(Cell, Kept), shown: &Shown, cells: &mut Vec<Cell>)
     if !old.1.is_same(shown.kept(old.0)) {
         cells.push_reserved(old.0);
     }
+}
+
+/// The cell of the only old value, where it shows another one now.
+#[inline]
+fn one_differing(olds: &[(Cell, Kept)], shown: &Shown) -> Option<Cell>
+    ensures changed { IfSome result
+        (λ c. IsChanged (put_back olds.now (shown_at shown.now)) (shown_at shown.now) (c ∷ [])) }
+{
+    if let [old] = olds {
+        return other(old, shown);
+    }
+    None
+}
+
+/// The cell of an old value, where it shows another one now.
+#[inline]
+fn other(old: &(Cell, Kept), shown: &Shown) -> Option<Cell>
+    ensures other { IfSome result
+        (λ c. (c ≡ old.now.0) × (¬ (shown_at shown.now old.now.0 ≡ value_kept old.now.1))) }
+{
+    if old.1.is_same(shown.kept(old.0)) {
+        return None;
+    }
+    Some(old.0)
 }
 
 /// Lists cells with what they show.

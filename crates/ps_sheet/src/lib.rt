@@ -24,8 +24,8 @@
 //!
 //! A [`Staging`] is for whoever makes one change after another so, and can't give the sheet away meanwhile:
 //! [`Staging::stage`] works a change out in place, [`Staging::list_changed`] lists the cells that show another value,
-//! and [`Staging::commit`] or [`Staging::cancel`] ends it. An edit and a receipt are a change that is staged and
-//! committed.
+//! which [`Staging::one_changed`] tells without a list where the change put one cell alone, and [`Staging::commit`] or
+//! [`Staging::cancel`] ends it. An edit and a receipt are a change that is staged and committed.
 //!
 //! Say replica 1 gives A1 the number 5 and B1 the formula `=[.A1]*2`: two edits, so `version` is 2 and B1 shows 10.
 //! Then a delta of replica 2 comes that gives A1 the number 7 at time 1, as replica 1 did. The greater replica wins: A1

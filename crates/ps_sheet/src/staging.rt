@@ -1,7 +1,7 @@
 //! A sheet in which at most one change is staged.
 
-ghost use Rattle.std.specs.Prelude.{◌≡◌, ◌+◌, ◌≤◌, ◌⊎◌, ◌↔◌, [], true, false, is_some, length, map};
-ghost use Rattle.std.specs.Prelude.{None, IfOk, IfErr, IsSomeAnd, IsTrue, OnOk, OnErr};
+ghost use Rattle.std.specs.Prelude.{◌≡◌, ◌+◌, ◌≤◌, ◌⊎◌, ◌↔◌, [], ◌∷◌, true, false, is_some, length, map};
+ghost use Rattle.std.specs.Prelude.{None, IfOk, IfErr, IfSome, IsSomeAnd, IsTrue, OnOk, OnErr};
 ghost use Rattle.std.specs.Option.{option_copied, option_map};
 ghost use Rattle.ps_grid.specs.declared.parties.TheConstants.{WORKERS};
 ghost use Rattle.ps_shown.specs.Shown.{shown_at};
@@ -299,9 +299,12 @@ impl Staging {
         report
     }
 
-    /// Makes the staged change, whose report is known. It takes no memory.
+    /// Makes the staged change, as [`Staging::commit`] does, for who needs no report of it, or has read it. Who wants
+    /// the report calls [`Staging::commit`]. It takes no memory.
+    ///
+    /// Cost: the touched cells with their references, and the cells that were put.
     #[inline(always)]
-    pub(crate) fn make(&mut self)
+    pub fn make(&mut self)
         requires staged { is_some self.old.staged ≡ true }
         ensures of { IsSomeAnd self.old.staged (λ p. IsOf (sheet_of self.new) self.old.replica
             (history_after (prepared_of self.old p)) (shown_at self.old.shown)) }
@@ -347,6 +350,19 @@ impl Staging {
         ensures same { IsListed self.old self.new }
     {
         self.cells.list_changed();
+    }
+
+    /// The cell whose shown value alone the staged change makes another one, where the change put no other. None also
+    /// where no cell shows another value or several were put; then [`Staging::list_changed`] tells.
+    ///
+    /// Cost: constant.
+    #[inline]
+    pub fn one_changed(&self) -> Option<Cell>
+        requires staged { is_some self.now.staged ≡ true }
+        ensures changed { IsSomeAnd self.now.staged (λ p. IfSome result (λ c.
+            IsChanged (shown_before (prepared_of self.now p)) (shown_at self.now.shown) (c ∷ []))) }
+    {
+        self.cells.one_changed()
     }
 
     /// Lists what the listed cells show, for [`Staging::changes`].

@@ -3,13 +3,14 @@
 ghost use Rattle.std.specs.Prelude.{◌≤◌};
 ghost use Rattle.ps_grid.specs.declared.parties.TheConstants.{WORKERS};
 
+use crate::sheet::changed::{Look, look_at_all};
 use crate::sheet::gates::{Counts, count_all};
 use crate::sheet::orders::take_in_order;
 use crate::sheet::prepared::stay_alike;
 use crate::sheet::refused::{Tries, try_all};
 use crate::sheet::rounds::{change_often, give_up_often};
 use crate::sheet::script::{Step, go_on};
-use Job::{Alike, Count, GiveUps, Order, Random, Steps, Try};
+use Job::{Alike, Count, GiveUps, Order, Random, Stage, Steps, Try};
 use ps_grid::Refusal;
 use ps_sheet::Sheet;
 use std::alloc::Global;
@@ -31,6 +32,8 @@ pub(crate) enum Job {
     Count(&'static Counts, u64),
     /// A change that is given up and made beside a twin.
     Alike,
+    /// Changes that are staged, of which each is given up once and then made.
+    Stage(&'static [Look]),
     /// Changes of which a growth may be refused.
     Try(&'static Tries),
 }
@@ -51,6 +54,7 @@ fn do_job<R: Abort + Threads + Sync>(
         GiveUps => give_up_often(rt, alloc, slot),
         Count(counts, workers) => count_all(rt, alloc, slot, counts, workers.max(1)),
         Alike => stay_alike(rt, alloc, slot),
+        Stage(looks) => look_at_all(rt, alloc, slot, looks),
         Try(tries) => try_all(rt, alloc, slot, tries),
     }
 }

@@ -84,7 +84,8 @@ fn check_noted(rt: &impl Abort, sheet: &Sheet, noted: &Noted) {
     }
 }
 
-fn change_of(rt: &impl Abort, alloc: Global, tried: &Tried) -> Result<Change, Refusal> {
+/// The change that is tried.
+pub(crate) fn change_of(rt: &impl Abort, alloc: Global, tried: &Tried) -> Result<Change, Refusal> {
     match tried {
         One(name, asked) => Ok(Change::Edit(edit_of(alloc, cell(rt, name), asked)?)),
         Batched(entries) => Ok(Change::Edit(Edit::SetAll(batch_of(rt, alloc, entries)?))),
