@@ -17,8 +17,8 @@ TESTS = {
         "delta::refused::refused_joined", "index::refused_set", "wire::refused_decode", "wire::refused_encode",
     ),
     "checks_sheet": (
-        "csv::refused_import", "face::refused_append", "sheet::refused::refused_edit", "sheet::refused::refused_open",
-        "sheet::refused::refused_prepare", "sheet::refused::refused_receive",
+        "csv::refused_import", "face::refused_append", "face::waiting::refused_post", "sheet::refused::refused_edit",
+        "sheet::refused::refused_open", "sheet::refused::refused_prepare", "sheet::refused::refused_receive",
     ),
     "checks_sessions": (
         "desk::memory::refused_edit", "desk::memory::refused_open", "desk::memory::refused_pull",

@@ -54,6 +54,47 @@ class Sessions(ProgramTest):
             second.leave()
             self.assertEqual(server.ended(), Ended(0, lines("closed 2")))
 
+    def test_what_a_reply_tells_is_there_for_others(self):
+        # changes that are sent at once are shown to others together, but none later than its reply
+        for count in (1, 2, 3, 63, 64, 65, 66, 130, 20_000):
+            with self.subTest(count=count), serving(2) as server:
+                writer, reader = server.client(), server.client()
+                writer.send("".join(f"set A1 {number}\n" for number in range(1, count + 1)).encode())
+                writer.stop_sending()
+                for number in range(1, count + 1):
+                    self.assertEqual(writer.reply(), f"ok {number}")
+                    if number < 70 or number % 1_000 == 0 or number == count:
+                        self.assertGreaterEqual(int(reader.ask("get A1").removeprefix("val ")), number)
+                self.assertEqual((writer.leave(), reader.leave()), (b"", b""))
+                self.assertEqual(server.ended(), Ended(0, lines(f"closed {count}")))
+
+    def test_a_session_sees_each_of_its_changes(self):
+        with serving(1) as server:
+            client = server.client()
+            client.send(lines(
+                "set A1 1", "set A1 2", "set A1 3", "get A1", "set A1 4", "set A1 5", "rows A1:A1", "set A1 6",
+                "set A1 7", "entry A1", "get A1", "set A1 8", "set A1 9", "add A1 1", "get A1", "set A1 10",
+                "set A1 11", "pull 10 1", "get A1",
+            ))
+            self.assertEqual(client.leave(), lines(
+                "ok 1", "ok 2", "ok 3", "val 3", "ok 4", "ok 5", "rows 1", "5", "ok 6", "ok 7", "entry 7", "val 7",
+                "ok 8", "ok 9", "err 5 not-tally", "val 9", "ok 10", "ok 11", 'delta 11 [["A1",[11,1,"11"],[],[]]]',
+                "val 11",
+            ))
+            self.assertEqual(server.ended(), Ended(0, lines("closed 11")))
+
+    def test_the_last_changes_of_a_session_are_shown(self):
+        for end in (b"", b"\n", b"\nwalk\n"):
+            with self.subTest(end=end), serving(2) as server:
+                writer, reader = server.client(), server.client()
+                writer.send(b"set A1 1\nset A1 2\nset A1 3" + end)
+                # it doesn't wait for its replies
+                writer.stop_sending()
+                writer.close()
+                self.assertTrue(comes_to(lambda: reader.ask("get A1") == "val 3"))
+                reader.leave()
+                self.assertEqual(server.ended(), Ended(0, lines("closed 3")))
+
     def test_the_most_sessions_at_once(self):
         with serving(16) as server:
             clients = [server.client() for _ in range(16)]

@@ -3,29 +3,22 @@ ghost use Rattle.std.specs.Prelude.{◌≡◌};
 ghost use Rattle.ps_grid.specs.Blanks.{IsBlankOf};
 ghost use Rattle.ps_desk.specs.Opening.{IsNamed};
 
-use ps_commands::{DeskSeat, attend_lines};
+use ps_commands::{Counts, DeskSeat, attend_lines};
 use ps_desk::{Desk, DeskName, Parts};
-use ps_device::{MemorySink, Reading};
+use ps_device::{Reading, Writing};
 use ps_eval::Meter;
 use ps_grid::Refusal;
+use ps_session::HeldOutput;
 use ps_sheet::Sheet;
 use std::alloc::Global;
 use std::marker::Brand;
 use std::sync::Wait;
-use std::sync::ledger::{Blank, Ledger};
+use std::sync::ledger::Ledger;
 use std::test::Fail;
 use std::thread::Threads;
 
-/// What counts the failures of a source and of a sink, and a session's evaluations.
-#[derive(Drop)]
-struct Counts {
-    input: Blank,
-    output: Blank,
-    evaluations: Blank,
-}
-
 /// What the session of a desk's last seat writes, where these are its lines, and how many lines it answered.
-fn answered<L: DeskName, R: Threads + Wait + Sync, I: Ledger, O: Ledger, M: Ledger>(
+fn answered<L: DeskName, R: Threads + Wait + Sync, I: Ledger, O: Ledger, N: Ledger, M: Ledger>(
     rt: &R,
     alloc: Global,
     parts: Parts,
@@ -35,6 +28,7 @@ fn answered<L: DeskName, R: Threads + Wait + Sync, I: Ledger, O: Ledger, M: Ledg
     requires named { IsNamed L.name L.parts L.book L.opening L.replica parts }
     requires input { IsBlankOf counts.input I.name I.parts }
     requires output { IsBlankOf counts.output O.name O.parts }
+    requires held { IsBlankOf counts.held N.name N.parts }
     requires evaluations { IsBlankOf counts.evaluations M.name M.parts }
 {
     let Ok((desk, mut passes)) = Desk::<L, &R>::open(rt, alloc, parts) else {
@@ -44,13 +38,14 @@ fn answered<L: DeskName, R: Threads + Wait + Sync, I: Ledger, O: Ledger, M: Ledg
         return Err(Refusal::Seat);
     };
     let mut source = Reading::<&[u8], I>::new(lines, counts.input);
-    let mut sink = MemorySink::<O>::new(alloc, counts.output);
+    let mut written = Vec::new(alloc);
+    let writing = Writing::<&mut Vec<u8>, O>::new(&mut written, counts.output);
+    let mut sink = HeldOutput::<Writing<&mut Vec<u8>, O>, N>::new(alloc, writing, counts.held);
     let mut meter = Meter::<M>::new(counts.evaluations);
     let at = DeskSeat { desk: &desk, pass };
     let attended = attend_lines(rt, alloc, &mut source, &mut sink, at, &mut meter);
-    let MemorySink { bytes, failed } = sink;
-    drop(failed);
-    Ok((bytes, attended.ended.ok()))
+    drop(sink);
+    Ok((written, attended.ended.ok()))
 }
 
 /// .. of a desk of two seats over an empty sheet.
@@ -60,12 +55,7 @@ fn replies<R: Threads + Wait + Sync>(
     lines: &[u8],
 ) -> Result<(Vec<u8>, Option<u64>), Refusal> {
     let parts = Parts::new(Sheet::open(alloc, 3, 1)?, 2);
-    let counts = Counts {
-        input: Blank::new(1),
-        output: Blank::new(1),
-        evaluations: Blank::new(1),
-    };
-    answered::<Brand, R, Brand, Brand, Brand>(rt, alloc, parts, counts, lines)
+    answered::<Brand, R, Brand, Brand, Brand, Brand>(rt, alloc, parts, Counts::new(), lines)
 }
 
 /// Each line of a session at a desk is answered, an empty one isn't, and the last one wants no line feed.

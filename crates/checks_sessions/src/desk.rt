@@ -3,5 +3,6 @@
 mod desks;
 mod memory;
 mod refused;
+mod shown;
 mod threads;
 mod turns;

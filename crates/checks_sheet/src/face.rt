@@ -3,6 +3,7 @@
 ghost use Rattle.std.specs.Prelude.{◌≡◌, []};
 
 mod published;
+mod waiting;
 
 use crate::face::published::Published;
 use ps_content::{Content, read_entry};

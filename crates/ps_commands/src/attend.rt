@@ -6,7 +6,7 @@ use crate::connection::{DeskSeat, KeptSeat, attend_kept, attend_lines};
 use crate::counts::Counts;
 use crate::shared::SharedState;
 use ps_desk::{Desk, DeskName, Pass};
-use ps_device::{ConsoleOutput, Reading, Writing};
+use ps_device::{PIECE_BYTES, Reading, Writing};
 use ps_eval::Meter;
 use ps_keep::Device;
 use ps_session::{HeldOutput, RunFault};
@@ -17,8 +17,12 @@ use std::sync::Wait;
 use std::sync::ledger::Ledger;
 use std::thread::Threads;
 
-/// Answers each line of a connection at a seat of a desk, to the end of its input, and gives the pass back. Where the
-/// sessions have a keeper nothing is handed on but what is kept.
+/// For how many bytes of replies a session has room from its beginning: as many as are held back, and a reply that is
+/// no longer.
+const ROOM: usize = 2 * PIECE_BYTES;
+
+/// Answers each line of a connection at a seat of a desk, to the end of its input, and gives the pass back. Nothing is
+/// handed on but what is shown to all, and where the sessions have a keeper nothing but what is kept as well.
 ///
 /// A failure of the connection ends it early, and so does a lack of memory before the first line, which then isn't
 /// read. Where what the session has seen can't be kept it stops all sessions.
@@ -66,20 +70,18 @@ fn attend_counted<
     // (without it a reply may only come later)
     let _ = stream.set_nodelay(true);
     let mut source = Reading::<&TcpStream, I>::new(stream, counts.input);
+    let writing = Writing::<&TcpStream, O>::new(stream, counts.output);
+    let Ok(mut sink) = HeldOutput::<_, N>::with_room(alloc, writing, counts.held, ROOM) else {
+        let _ = stream.shutdown(Shutdown::Both);
+        return pass;
+    };
     let mut meter = Meter::<M>::new(counts.evaluations);
+    let seat = DeskSeat { desk, pass };
     let Some(keeper) = shared.keeper() else {
-        let mut sink = match ConsoleOutput::<&TcpStream, O>::new(alloc, stream, counts.output) {
-            Ok(sink) => sink,
-            Err(_) => return pass,
-        };
-        let at = DeskSeat { desk, pass };
-        let attended = attend_lines(rt, alloc, &mut source, &mut sink, at, &mut meter);
+        let attended = attend_lines(rt, alloc, &mut source, &mut sink, seat, &mut meter);
         return attended.pass;
     };
-    let writing = Writing::<&TcpStream, O>::new(stream, counts.output);
-    let mut sink = HeldOutput::<_, N>::new(alloc, writing, counts.held);
     let mut marker = shared.marker();
-    let seat = DeskSeat { desk, pass };
     let at = KeptSeat { seat, keeper };
     let attended = attend_kept(
         rt,

@@ -1,9 +1,9 @@
 //! One session at a desk, over any source and sink.
-ghost use Rattle.std.specs.Prelude.{◌≡◌, ◌<◌, ℕ, List, [], Err, IfOk, OnOk};
+ghost use Rattle.std.specs.Prelude.{◌≡◌, ◌≢◌, ◌⊎◌, ◌<◌, ℕ, List, [], Err, IfOk, OnOk, ⊤};
 ghost use Rattle.std.specs.Io.KnownBytes.{Consumes, IsAtEnd};
 ghost use mathlib.Core.List.{IsPrefix};
-ghost use Rattle.ps_session.specs.HeldOutputs.{held_contents, held_waiting};
-ghost use Rattle.ps_session.specs.Keeping.{IsCovered};
+ghost use Rattle.ps_session.specs.HeldOutputs.{held_contents, held_failures, held_waiting};
+ghost use Rattle.ps_session.specs.Keeping.{Halted, IsCovered};
 ghost use Rattle.ps_session.specs.Transcript.{Answered, Stopped, Transcribed};
 ghost use Rattle.ps_desk.specs.Seats.{SeatLines};
 ghost use Rattle.ps_commands.specs.Sessions.{IsAttended};
@@ -13,7 +13,7 @@ use ps_device::{Sink, Source};
 use ps_eval::Meter;
 use ps_keep::Device;
 use ps_kept_desk::{DeskKeeper, KeptPlace, SeatKeeper};
-use ps_session::{HeldOutput, Resources, RunFault, Watcher, talk, talk_kept};
+use ps_session::{HeldOutput, Resources, RunFault, Unkept, Unwatched, Watcher, talk_kept};
 use std::alloc::Global;
 use std::sync::Wait;
 use std::sync::ledger::Ledger;
@@ -39,53 +39,65 @@ pub struct DeskSeat<'a, L: DeskName, W: Wait + Drop> {
     pub pass: Pass<L>,
 }
 
-/// Answers each line of a source on a sink by a seat at a desk, to the end of the input.
+/// Answers each line of a source on an output by a seat at a desk, to the end of the input. All who look are shown what
+/// the session changed before any reply is handed on.
 ///
 /// What was read and written is the transcript of a session at the desk, as far as the two devices tell their bytes.
-/// After a fault it is that of the lines that were carried out.
+/// After a fault it is that of the lines that were carried out, of whose replies a beginning was handed on.
 ///
-/// Cost: that of [`talk`].
+/// Cost: that of [`talk_kept`] with nobody who keeps anything.
 pub fn attend_lines<
     L: DeskName,
     W: Wait + Drop,
     R: Threads + Wait + Sync,
     S: Source,
-    K: Sink,
+    K: Sink + Drop,
+    N: Ledger,
     M: Ledger,
 >(
     rt: &R,
     alloc: Global,
     source: &mut S,
-    sink: &mut K,
+    sink: &mut HeldOutput<K, N>,
     at: DeskSeat<'_, L, W>,
     meter: &mut Meter<M>,
 ) -> Attended<L>
     ensures transcribed { IfOk result.ended (λ answered. (read : List ℕ)
         × Consumes (S.remaining source.old) (S.remaining source.new) read
         × IsAtEnd (S.remaining source.new)
-        × Transcribed (SeatLines L.replica L.opening) at.entry.pass (K.contents sink.old) read
-        result.pass (K.contents sink.new) answered) }
+        × Transcribed (SeatLines L.replica L.opening) at.entry.pass (held_contents K.contents sink.old) read
+        result.pass (held_contents K.contents sink.new) answered) }
     ensures sink { result.ended ≡ Err RunFault.Sink
         → (read : List ℕ) × Consumes (S.remaining source.old) (S.remaining source.new) read
-        × Stopped (SeatLines L.replica L.opening) (IsAtEnd (S.remaining source.new))
-        at.entry.pass (K.contents sink.old) read result.pass (K.contents sink.new) }
+        × (Stopped (SeatLines L.replica L.opening) (IsAtEnd (S.remaining source.new))
+        at.entry.pass (held_contents K.contents sink.old) read result.pass (held_contents K.contents sink.new)
+        ⊎ Halted (SeatLines L.replica L.opening) (IsAtEnd (S.remaining source.new))
+        at.entry.pass (held_contents K.contents sink.old) read result.pass (held_contents K.contents sink.new)) }
     ensures source { result.ended ≡ Err RunFault.Source
         → (read : List ℕ) × Consumes (S.remaining source.old) (S.remaining source.new) read
-        × Answered (SeatLines L.replica L.opening) at.entry.pass (K.contents sink.old) read
-        result.pass (K.contents sink.new) }
+        × Answered (SeatLines L.replica L.opening) at.entry.pass (held_contents K.contents sink.old) read
+        result.pass (held_contents K.contents sink.new) }
+    ensures handed { (read : List ℕ) × Consumes (S.remaining source.old) (S.remaining source.new) read
+        × IsCovered (SeatLines L.replica L.opening) (λ seen. ⊤) (IsAtEnd (S.remaining source.new))
+        at.entry.pass (held_contents K.contents sink.old) read
+        result.pass (held_contents K.contents sink.new) (held_waiting K.waiting sink.new) }
+    ensures keep { result.ended ≢ Err RunFault.Keep }
     ensures memory { result.ended ≡ Err RunFault.Memory
         → (source.new ≡ source.old) × (sink.new ≡ sink.old) × (result.pass ≡ at.entry.pass) }
-    ensures flushed { OnOk result.ended (K.waiting sink.new ≡ []) }
-    ensures source_flushed { result.ended ≡ Err RunFault.Source → K.waiting sink.new ≡ [] }
+    ensures flushed { OnOk result.ended (held_waiting K.waiting sink.new ≡ []) }
+    ensures source_flushed { result.ended ≡ Err RunFault.Source → held_waiting K.waiting sink.new ≡ [] }
     ensures calm { OnOk result.ended ((S.failures source.new ≡ S.failures source.old)
-        × (K.failures sink.new ≡ K.failures sink.old)) }
-    ensures sink_failed { result.ended ≡ Err RunFault.Sink → K.failures sink.old < K.failures sink.new }
+        × (held_failures sink.new ≡ held_failures sink.old)) }
+    ensures sink_failed { result.ended ≡ Err RunFault.Sink → held_failures sink.old < held_failures sink.new }
     ensures source_failed { result.ended ≡ Err RunFault.Source → S.failures source.old < S.failures source.new }
     ensures attended { IsAttended L.replica L.opening at.entry.pass result.pass }
 {
     let DeskSeat { desk, pass } = at;
     let mut seat = Seat::new(desk, rt, pass);
-    let ended = talk(rt, alloc, source, sink, &mut seat, meter);
+    let resources = Resources { threads: rt, alloc };
+    let watcher = &mut Unwatched;
+    let keeper = &mut Unkept;
+    let ended = talk_kept(resources, source, sink, &mut seat, meter, watcher, keeper);
     Attended {
         pass: seat.leave(),
         kept: (),

@@ -22,31 +22,30 @@ history_push h xs n =
 
 module _ (r : ℕ) (h : List Entries) (x : StagingView) (old : Published) (n : ℕ)
     (lock : IsUnderLock r h x.replica x.history old n) where
-  -- a sheet with the same replica and history
-  pub same_locked : (own : ℕ) (history : List Entries) → own ≡ x.replica → history ≡ x.history
-      → IsUnderLock r h own history old n
-  same_locked own history replica same = record {
+  -- a sheet with the same replica and history, and copies with the same list
+  pub same_locked : (own : ℕ) (history : List Entries) (new : Published) → own ≡ x.replica → history ≡ x.history
+      → new.list ≡ old.list → new.pending ≡ old.pending → IsUnderLock r h own history new n
+  same_locked own history new replica same list pending = record {
     replica = replica ∙ lock.replica;
-    history = same ∙ lock.history;
-    none = lock.none;
-    total = lock.total;
+    history = same ∙ lock.history ∙ ap (history_of h) (sym list);
+    none = pending ∙ lock.none;
+    total = lock.total ∙ ap length (sym list);
   }
 
   -- a sheet in which the fresh change is made, that y has staged as well, once its patch is published and counted
-  pub appended_locked : (y : StagingView) (z : SheetView) (v : Assignment) (new : Published) (m seat : ℕ)
-      → KeepsChange x y → (change_in x).fresh ≡ true
+  pub appended_locked : (y : StagingView) (z : SheetView) (v : Assignment) (new : Published) (cells : List ℕ)
+      (m seat : ℕ) → KeepsChange x y → (change_in x).fresh ≡ true
       → IsOf z y.replica (history_after (change_in y)) v
-      → new ≡ record { list = old.list ++ note_of y seat ∷ []; pending = [] } → m ≡ n + 1
+      → new.list ≡ old.list ++ note_of y cells seat ∷ [] → new.pending ≡ [] → m ≡ n + 1
       → IsUnderLock r h z.replica z.history new m
-  appended_locked y z v new m seat keeps fresh of published more =
-      let note : Note = note_of y seat in
-      let last : new.list ≡ old.list ++ note ∷ [] = ap (λ (p : Published). p.list) published in
+  appended_locked y z v new cells m seat keeps fresh of last none more =
+      let note : Note = note_of y cells seat in
       record {
         replica = of.replica ∙ keeps.replica ∙ lock.replica;
         history = of.history ∙ after_fresh (change_in y) (staged_in y).delta (keeps.fresh ∙ fresh) refl
             ∙ ap (λ (ds : List Entries). ds ++ (staged_in y).delta ∷ []) (keeps.history ∙ lock.history)
             ∙ sym (history_push h old.list note) ∙ ap (history_of h) (sym last);
-        none = ap (λ (p : Published). p.pending) published;
+        none = none;
         total = omega (arith, lock.total, more, ap length last, length-append old.list (note ∷ []));
       }
 

@@ -13,7 +13,7 @@ use Rattle.ps_sheet.specs.Staging.{IsListed, IsSameChange, IsStagedAs, IsStaging
 use Rattle.ps_sheet.specs.Staging.{StagedView, StagingView, prepared_of}
 use Rattle.ps_face.specs.Legal.{Follows}
 use Rattle.ps_face.proofs.Noted.{prepared_follows}
-use Rattle.ps_desk.specs.Patches.{KeepsChange, change_in, no_change, note_of, shown_of, staged_in}
+use Rattle.ps_desk.specs.Patches.{KeepsChange, change_in, no_change, note_of, shown_of}
 
 -- what is said of the change that is there is said of `staged_in`
 pub at_staged : (P : StagedView → Type 0) (o : Option StagedView) → IsSomeAnd o P → P (unwrap_or o no_change)
@@ -51,6 +51,16 @@ keeps_listed x y is =
       report = same.0.report;
     }
 
+pub keeps_itself : (x : StagingView) → is_some x.staged ≡ true → KeepsChange x x
+keeps_itself x there = record {
+  staged = there;
+  replica = refl;
+  history = refl;
+  delta = refl;
+  fresh = refl;
+  report = refl;
+}
+
 -- cells with what they show are the changes of the cells
 firsts_of : (w : Assignment) (cells : List ℕ) → map (λ (e : ℕ × Value). e.0) (map (shown_of w) cells) ≡ cells
 firsts_of w [] = refl
@@ -73,19 +83,19 @@ changes_of v w cells is =
       values = values_of w cells;
     }
 
--- the patch of a fresh change whose cells are listed follows the history of the sheet
-pub staged_follows : (x : StagingView) (seat : ℕ) → IsWorkedOut (change_in x) → (change_in x).fresh ≡ true
-    → IsChanged (shown_before (change_in x)) (shown_after (change_in x)) (staged_in x).changed
-    → Follows x.history (note_of x seat)
-staged_follows x seat is fresh listed =
-    let changes = (note_of x seat).changes in
+-- the patch of a fresh change whose cells were found follows the history of the sheet
+pub staged_follows : (x : StagingView) (cells : List ℕ) (seat : ℕ) → IsWorkedOut (change_in x)
+    → (change_in x).fresh ≡ true → IsChanged (shown_before (change_in x)) (shown_after (change_in x)) cells
+    → Follows x.history (note_of x cells seat)
+staged_follows x cells seat is fresh found =
+    let changes = (note_of x cells seat).changes in
     let p : PreparedView = record (change_in x) { changes = changes } in
-    prepared_follows p (note_of x seat) (record {
+    prepared_follows p (note_of x cells seat) (record {
       takes = is.takes;
       fresh = is.fresh;
       before = is.before;
       after = is.after;
       version = is.version;
       report = is.report;
-      changes = changes_of (shown_before (change_in x)) (shown_after (change_in x)) (staged_in x).changed listed;
+      changes = changes_of (shown_before (change_in x)) (shown_after (change_in x)) cells found;
     }) fresh refl refl refl

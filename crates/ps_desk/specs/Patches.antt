@@ -1,5 +1,5 @@
 -- The change that is staged in a sheet, and its patch.
-use Rattle.std.specs.Prelude.{◌≡◌, ℕ, true, false, List, [], ◌∷◌, ◌++◌, is_some, map, unwrap_or}
+use Rattle.std.specs.Prelude.{◌≡◌, ℕ, true, false, List, [], ◌∷◌, ◌++◌, Option, Some, None, is_some, map, unwrap_or}
 use Rattle.ps_value.specs.declared.value.Value.{Value}
 use Rattle.ps_eval.specs.Items.{Assignment}
 use Rattle.ps_shown.specs.Shown.{shown_at}
@@ -30,12 +30,17 @@ change_in x = prepared_of x (staged_in x)
 abbrev pub shown_of : Assignment → ℕ → ℕ × Value
 shown_of v c = (c, v c)
 
--- the patch of the change that is staged, with the cells that are listed, made by the call of a seat
-abbrev pub note_of : StagingView → ℕ → Note
-note_of x seat = record {
+-- the cells that the change makes show another value, as they were found: one alone, or those that are listed
+abbrev pub found_in : StagingView → Option ℕ → List ℕ
+found_in x (Some c) = c ∷ []
+found_in x None = (staged_in x).changed
+
+-- the patch of the change that is staged, which makes these cells show what they show then, made by the call of a seat
+abbrev pub note_of : StagingView → List ℕ → ℕ → Note
+note_of x cells seat = record {
   number = (staged_in x).report.version;
   delta = (staged_in x).delta;
-  changes = map (shown_of (shown_at x.shown)) (staged_in x).changed;
+  changes = map (shown_of (shown_at x.shown)) cells;
   owner = seat;
 }
 

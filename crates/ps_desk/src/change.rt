@@ -1,6 +1,6 @@
 //! A staged change is told to those who read, and made; or it is given up.
 
-ghost use Rattle.std.specs.Prelude.{◌≡◌, ◌+◌, true, None, if◌then◌else◌, is_some};
+ghost use Rattle.std.specs.Prelude.{◌≡◌, ◌+◌, ◌<◌, ◌^◌, ◌++◌, ◌∷◌, [], true, None, if◌then◌else◌, is_some};
 ghost use Rattle.std.specs.Prelude.{IfOk, IfErr, OnOk, OnErr};
 ghost use mathlib.Core.List.{IsPrefix};
 ghost use Rattle.ps_grid.specs.declared.refusal.Refusal.TheVariants.{Memory};
@@ -10,24 +10,40 @@ ghost use Rattle.ps_delta.specs.Deltas.{joined_history, state_of};
 ghost use Rattle.ps_cells.specs.ChangedCells.{IsChanged};
 ghost use Rattle.ps_sheet.specs.Prepared.{shown_before};
 ghost use Rattle.ps_sheet.specs.Staging.{IsWorkedOut};
+ghost use Rattle.ps_face.specs.Legal.{history_of};
 ghost use Rattle.ps_desk.specs.UnderLock.{IsUnderLock};
-ghost use Rattle.ps_desk.specs.Patches.{IsNoted, KeepsChange, change_in, staged_in};
+ghost use Rattle.ps_desk.specs.Patches.{IsNoted, KeepsChange, change_in, found_in, note_of};
 ghost use Rattle.ps_desk.specs.Receipts.{IsReceipt, with_delta};
+ghost use Rattle.ps_desk.specs.declared.showing.Showing.TheVariants.{AtOnce};
 
 use crate::name::DeskName;
 use crate::pass::Pass;
 use crate::patch::patch_of;
 use crate::receipt::Standing;
+use crate::showing::Showing;
 use ps_delta::Delta;
 use ps_face::FaceWriter;
-use ps_grid::{Refusal, Twin};
+use ps_grid::{Cell, Refusal, Twin};
 use ps_sheet::Staging;
 use std::alloc::Global;
 use std::sync::Wait;
 use std::sync::ledger::Book;
 
-/// Makes the change that is staged, and shows it to all who read, or gives it up where there is no memory to tell of
-/// it. Then nothing is staged any more.
+/// Shows all that waits to those who look, where the next change is shown at once.
+#[inline(always)]
+pub(crate) fn make_way<L: DeskName, W: Wait + Drop>(copies: &mut FaceWriter<L, W>, showing: Showing)
+    ensures list { copies.new.list ≡ copies.old.list }
+    ensures pending { copies.new.pending ≡ copies.old.pending }
+    ensures shown { showing ≡ AtOnce → copies.new.shown ≡ copies.new.list }
+{
+    match showing {
+        Showing::AtOnce => copies.show(),
+        Showing::Later => {}
+    }
+}
+
+/// Makes the change that is staged, and publishes it, or gives it up where there is no memory to tell of it. Then
+/// nothing is staged any more.
 #[inline(always)]
 pub(crate) fn finish<L: DeskName, W: Wait + Drop, V: Wait>(
     wait: &V,
@@ -36,16 +52,19 @@ pub(crate) fn finish<L: DeskName, W: Wait + Drop, V: Wait>(
     copies: &mut FaceWriter<L, W>,
     book: &mut Book<L>,
     pass: &mut Pass<L>,
+    showing: Showing,
 ) -> Result<Standing, Refusal>
     requires staged { is_some sheet.old.staged ≡ true }
     requires under_lock { IsUnderLock L.replica L.opening sheet.old.replica sheet.old.history copies.old
         book.old.total }
     requires seen { pass.old.list ≡ copies.old.list }
+    requires shown { showing ≡ AtOnce → copies.old.shown ≡ copies.old.list }
     ensures idle { sheet.new.staged ≡ None }
     ensures under_lock { IsUnderLock L.replica L.opening sheet.new.replica sheet.new.history copies.new
         book.new.total }
     ensures later { IsPrefix pass.old.list pass.new.list }
     ensures all { pass.new.list ≡ copies.new.list }
+    ensures shown { showing ≡ AtOnce → copies.new.shown ≡ copies.new.list }
     ensures receipt { IfOk result (λ r. IsReceipt (λ s d. (s ≡ joined_history sheet.old.history)
         × (d ≡ (change_in sheet.old).delta)) L.opening pass.old.list pass.new.list pass.old.seat
         (with_delta r (change_in sheet.old).delta)) }
@@ -57,14 +76,14 @@ pub(crate) fn finish<L: DeskName, W: Wait + Drop, V: Wait>(
     ensures seat { (pass.new.seat ≡ pass.old.seat) × (pass.new.enters ≡ pass.old.enters) }
 {
     if sheet.fresh() {
-        let number = append(wait, alloc, sheet, copies, book, pass)?;
+        let number = append(wait, alloc, sheet, copies, book, pass, showing)?;
         return Ok(Standing {
             number,
             fresh: true,
         });
     }
     let number = sheet.report().version;
-    sheet.commit();
+    sheet.make();
     Ok(Standing {
         number,
         fresh: false,
@@ -81,6 +100,7 @@ fn append<L: DeskName, W: Wait + Drop, V: Wait>(
     copies: &mut FaceWriter<L, W>,
     book: &mut Book<L>,
     pass: &mut Pass<L>,
+    showing: Showing,
 ) -> Result<u64, Refusal>
     requires staged { is_some sheet.old.staged ≡ true }
     requires worked_out { IsWorkedOut (change_in sheet.old) }
@@ -88,10 +108,12 @@ fn append<L: DeskName, W: Wait + Drop, V: Wait>(
     requires under_lock { IsUnderLock L.replica L.opening sheet.old.replica sheet.old.history copies.old
         book.old.total }
     requires seen { pass.old.list ≡ copies.old.list }
+    requires shown { showing ≡ AtOnce → copies.old.shown ≡ copies.old.list }
     ensures idle { sheet.new.staged ≡ None }
     ensures under_lock { IsUnderLock L.replica L.opening sheet.new.replica sheet.new.history copies.new
         book.new.total }
     ensures all { pass.new.list ≡ copies.new.list }
+    ensures shown { showing ≡ AtOnce → copies.new.shown ≡ copies.new.list }
     ensures published { OnOk result (IsNoted (change_in sheet.old) pass.old.seat pass.old.list pass.new.list) }
     ensures told { IfOk result (λ number. number ≡ (change_in sheet.old).report.version) }
     ensures memory { IfErr result (λ e. e ≡ Memory) }
@@ -99,16 +121,14 @@ fn append<L: DeskName, W: Wait + Drop, V: Wait>(
     ensures counted { OnOk result (pass.new.appended ≡ pass.old.appended + 1) }
     ensures seat { (pass.new.seat ≡ pass.old.seat) × (pass.new.enters ≡ pass.old.enters) }
 {
-    list(sheet);
-    match patch_of(alloc, sheet, pass.seat()) {
-        Ok(patch) => {
+    let one = find_changed(sheet);
+    match tell(alloc, sheet, copies, one, pass.seat(), showing) {
+        Ok(number) => {
             // for the fact that the pass has seen what it appended
             let _ = pass.appended();
-            let number = patch.number();
-            copies.publish_patch(patch);
             pass.catch_up(wait, copies.front());
             pass.count(book);
-            sheet.commit();
+            sheet.make();
             Ok(number)
         }
         Err(refusal) => {
@@ -118,15 +138,54 @@ fn append<L: DeskName, W: Wait + Drop, V: Wait>(
     }
 }
 
-/// Lists the cells that the staged change makes show another value.
+/// Finds the cells that the staged change makes show another value: one alone, or else they are listed.
 #[inline(always)]
-fn list(sheet: &mut Staging)
+fn find_changed(sheet: &mut Staging) -> Option<Cell>
     requires staged { is_some sheet.old.staged ≡ true }
     ensures same { KeepsChange sheet.old sheet.new }
-    ensures listed { IsChanged (shown_before (change_in sheet.new)) (shown_at sheet.new.shown)
-        (staged_in sheet.new).changed }
+    ensures found { IsChanged (shown_before (change_in sheet.new)) (shown_at sheet.new.shown)
+        (found_in sheet.new result) }
 {
+    if let Some(cell) = sheet.one_changed() {
+        return Some(cell);
+    }
     sheet.list_changed();
+    None
+}
+
+/// Adds the patch of the fresh change that is staged, made by the call of a seat, to the published list, and shows it
+/// to those who look, at once or later. Returns its number. Refused only when out of memory, and then nothing is told.
+#[inline(always)]
+fn tell<L: DeskName, W: Wait + Drop>(
+    alloc: Global,
+    sheet: &Staging,
+    copies: &mut FaceWriter<L, W>,
+    one: Option<Cell>,
+    owner: u64,
+    showing: Showing,
+) -> Result<u64, Refusal>
+    requires staged { is_some sheet.now.staged ≡ true }
+    requires fresh { (change_in sheet.now).fresh ≡ true }
+    requires found { IsChanged (shown_before (change_in sheet.now)) (shown_at sheet.now.shown)
+        (found_in sheet.now one) }
+    requires history { sheet.now.history ≡ history_of L.opening copies.old.list }
+    requires none { copies.old.pending ≡ [] }
+    ensures list { OnOk result (copies.new.list
+        ≡ copies.old.list ++ note_of sheet.now (found_in sheet.now one) owner ∷ []) }
+    ensures number { IfOk result (λ n. n ≡ (change_in sheet.now).report.version) }
+    ensures bound { IfOk result (λ n. n < 2 ^ 64) }
+    ensures shown { OnOk result (showing ≡ AtOnce → copies.new.shown ≡ copies.new.list) }
+    ensures none { OnOk result (copies.new.pending ≡ []) }
+    ensures kept { OnErr result (copies.new ≡ copies.old) }
+    ensures memory { IfErr result (λ e. e ≡ Memory) }
+{
+    let patch = patch_of(alloc, sheet, one, owner)?;
+    let number = patch.number();
+    match showing {
+        Showing::AtOnce => copies.publish_patch(patch),
+        Showing::Later => copies.post_patch(patch)?,
+    }
+    Ok(number)
 }
 
 /// One more owner of a delta. It tries again where what the delta shares has as many owners as can be counted.

@@ -20,6 +20,7 @@ use crate::name::DeskName;
 use crate::pass::Pass;
 use crate::place::Place;
 use crate::receipt::{Receipt, Standing};
+use crate::showing::Showing;
 use crate::state::DeskState;
 use ps_delta::Delta;
 use ps_eval::Meter;
@@ -127,7 +128,8 @@ impl<L: DeskName, W: Wait + Drop> Desk<L, W> {
         ensures seat { (pass.new.seat ≡ pass.old.seat) × (pass.new.enters ≡ pass.old.enters) }
     {
         let mut state = self.state.lock(wait);
-        let standing = state.make(rt, wait, alloc, pass, Change::Edit(edit), meter)?;
+        let change = Change::Edit(edit);
+        let standing = state.make(rt, wait, alloc, pass, change, meter, Showing::AtOnce)?;
         // for the fact that an edit's delta is never below the state
         edits_are_fresh();
         let delta = state.delta_at(wait, alloc, standing.number);
@@ -162,12 +164,13 @@ impl<L: DeskName, W: Wait + Drop> Desk<L, W> {
         ensures seat { (pass.new.seat ≡ pass.old.seat) × (pass.new.enters ≡ pass.old.enters) }
     {
         let told = share(wait, alloc, &delta);
-        let mut state = self.state.lock(wait);
-        let standing = state.make(rt, wait, alloc, pass, Change::Delta(delta), meter)?;
+        let change = Change::Delta(delta);
+        let standing = self.change(rt, wait, alloc, pass, change, meter, Showing::AtOnce)?;
         Ok(standing.with_delta(told))
     }
 
-    /// Makes a change as [`Desk::edit`] and [`Desk::receive`] do, and tells where it stands, without the delta.
+    /// Makes a change as [`Desk::edit`] and [`Desk::receive`] do, and tells where it stands, without the delta. It is
+    /// shown to those who look at once, or later.
     #[inline(always)]
     pub(crate) fn change<R: Threads + Sync, V: Wait, M: Ledger>(
         &self,
@@ -177,6 +180,7 @@ impl<L: DeskName, W: Wait + Drop> Desk<L, W> {
         pass: &mut Pass<L>,
         change: Change,
         meter: &mut Meter<M>,
+        showing: Showing,
     ) -> Result<Standing, Refusal>
         ensures later { IsPrefix pass.old.list pass.new.list }
         ensures legal { IsLegal L.opening pass.new.list }
@@ -192,7 +196,20 @@ impl<L: DeskName, W: Wait + Drop> Desk<L, W> {
         ensures seat { (pass.new.seat ≡ pass.old.seat) × (pass.new.enters ≡ pass.old.enters) }
     {
         let mut state = self.state.lock(wait);
-        state.make(rt, wait, alloc, pass, change, meter)
+        state.make(rt, wait, alloc, pass, change, meter, showing)
+    }
+
+    /// Shows to those who look all changes that wait for it, of whichever session. They wait where they were made at a
+    /// [`crate::Seat`], each directly after another one, and the session has neither looked since nor handed its
+    /// replies on; every other call of a desk that brings a pass to the end of the list shows them as well.
+    ///
+    /// It may wait for other calls, and for those that still read what was shown before. No clause says what others are
+    /// shown: each knows it by what its pass sees.
+    ///
+    /// Cost: that of publishing, which is a constant for each seat; constant where nothing waits.
+    pub fn show<V: Wait>(&self, wait: &V) {
+        let mut state = self.state.lock(wait);
+        state.show();
     }
 
     /// The deltas of the history after the number `from`, in order, at most so many. The pass has then seen all that is
@@ -221,7 +238,8 @@ impl<L: DeskName, W: Wait + Drop> Desk<L, W> {
         ensures same { (pass.new.appended ≡ pass.old.appended) × (pass.new.seat ≡ pass.old.seat)
             × (pass.new.enters ≡ pass.old.enters) }
     {
-        let state = self.state.lock(wait);
+        let mut state = self.state.lock(wait);
+        state.show();
         pass.catch_up(wait, state.front());
         state.deltas_after(alloc, from, at_most)
     }
@@ -248,7 +266,8 @@ impl<L: DeskName, W: Wait + Drop> Desk<L, W> {
             ⊎ ((e ≡ Version) × (length (history_of L.opening place.new) < from))) }
         ensures asked { IfErr result (λ e. e ≡ Memory → from < length (history_of L.opening place.new)) }
     {
-        let state = self.state.lock(wait);
+        let mut state = self.state.lock(wait);
+        state.show();
         place.catch_up(wait, state.front());
         state.deltas_after(alloc, from, usize::MAX)
     }
@@ -285,7 +304,8 @@ impl<L: DeskName, W: Wait + Drop> Desk<L, W> {
         ensures same { (pass.new.appended ≡ pass.old.appended) × (pass.new.seat ≡ pass.old.seat)
             × (pass.new.enters ≡ pass.old.enters) }
     {
-        let state = self.state.lock(wait);
+        let mut state = self.state.lock(wait);
+        state.show();
         let front = state.front();
         pass.catch_up(wait, front);
         state.entry(alloc, cell)
@@ -312,7 +332,8 @@ impl<L: DeskName, W: Wait + Drop> Desk<L, W> {
         ensures same { (pass.new.appended ≡ pass.old.appended) × (pass.new.seat ≡ pass.old.seat)
             × (pass.new.enters ≡ pass.old.enters) }
     {
-        let state = self.state.lock(wait);
+        let mut state = self.state.lock(wait);
+        state.show();
         let front = state.front();
         pass.catch_up(wait, front);
         state.entries(alloc, rect)

@@ -51,6 +51,7 @@ mod place;
 mod receipt;
 mod seat;
 mod shot;
+mod showing;
 mod state;
 mod threads;
 

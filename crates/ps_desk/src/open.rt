@@ -68,7 +68,7 @@ fn open_copies<L: DeskName, W: Wait + Drop>(
     requires seats { (1 ≤ seats) × (seats ≤ MOST) }
     requires parts { all.parts ≡ seats }
     requires amount { all.amount ≡ 0 }
-    ensures copies { IfOk result (λ r. r.0 ≡ record { list = []; pending = [] }) }
+    ensures copies { IfOk result (λ r. r.0 ≡ record { list = []; shown = []; pending = [] }) }
     ensures passes { IfOk result (λ r. r.1.items ≡ new_passes seats) }
     ensures refused { IfErr result (λ e. (e ≡ Memory) ⊎ (e ≡ Seat)) }
 {

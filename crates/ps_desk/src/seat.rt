@@ -6,6 +6,7 @@ use crate::desk::Desk;
 use crate::name::DeskName;
 use crate::pass::Pass;
 use crate::place::Place;
+use crate::showing::Recent;
 use ps_delta::Delta;
 use ps_eval::Meter;
 use ps_grid::{Cell, Rect, Refusal};
@@ -25,6 +26,7 @@ pub struct Seat<'a, L: DeskName, W: Wait + Drop, V: Wait> {
     /// by which it waits for the desk's lock
     wait: &'a V,
     pass: Pass<L>,
+    recent: Recent,
 }
 
 impl<'a, L: DeskName, W: Wait + Drop, V: Wait> Model for Seat<'a, L, W, V> {
@@ -46,7 +48,12 @@ impl<'a, L: DeskName, W: Wait + Drop, V: Wait> Seat<'a, L, W, V> {
     pub fn new(desk: &'a Desk<L, W>, wait: &'a V, pass: Pass<L>) -> Seat<'a, L, W, V>
         ensures { result ≡ pass }
     {
-        Seat { desk, wait, pass }
+        Seat {
+            desk,
+            wait,
+            pass,
+            recent: Recent::Shown,
+        }
     }
 
     /// The place in the list up to which the session has seen it.
@@ -58,14 +65,26 @@ impl<'a, L: DeskName, W: Wait + Drop, V: Wait> Seat<'a, L, W, V> {
         self.pass.place()
     }
 
-    /// Gives the pass back.
+    /// Gives the pass back, once all that the session changed is shown.
     ///
-    /// Cost: constant.
-    pub fn leave(self) -> Pass<L>
+    /// Cost: constant, or that of [`Desk::show`] where changes wait.
+    pub fn leave(mut self) -> Pass<L>
         ensures { result ≡ self.entry }
     {
+        self.show_waiting();
         let Seat { pass, .. } = self;
         pass
+    }
+
+    /// Shows to those who look what the session changed and isn't shown.
+    #[inline(always)]
+    fn show_waiting(&mut self)
+        ensures same { self.new ≡ self.old }
+    {
+        if matches!(self.recent, Recent::Waiting) {
+            self.desk.show(self.wait);
+        }
+        self.recent = Recent::Shown;
     }
 }
 
@@ -83,7 +102,8 @@ impl<L: DeskName, W: Wait + Drop, V: Wait, M: Ledger> Board<Meter<M>> for Seat<'
     ) -> Result<u64, Refusal> {
         let change = Change::Edit(edit);
         let desk = self.desk;
-        let made = desk.change(rt, self.wait, alloc, &mut self.pass, change, meter)?;
+        let showing = self.recent.next();
+        let made = desk.change(rt, self.wait, alloc, &mut self.pass, change, meter, showing)?;
         // for the fact that an edit's delta is never below the state
         edits_are_fresh();
         Ok(made.number)
@@ -102,11 +122,13 @@ impl<L: DeskName, W: Wait + Drop, V: Wait, M: Ledger> Board<Meter<M>> for Seat<'
     ) -> Result<u64, Refusal> {
         let change = Change::Delta(delta);
         let desk = self.desk;
-        let taken = desk.change(rt, self.wait, alloc, &mut self.pass, change, meter)?;
+        let showing = self.recent.next();
+        let taken = desk.change(rt, self.wait, alloc, &mut self.pass, change, meter, showing)?;
         Ok(taken.number)
     }
 
     fn value(&mut self, cell: Cell) -> Result<Value, Refusal> {
+        self.show_waiting();
         match self.pass.read(cell) {
             Some(shot) => Ok(shot.value),
             None => Err(Refusal::Seat),
@@ -114,24 +136,32 @@ impl<L: DeskName, W: Wait + Drop, V: Wait, M: Ledger> Board<Meter<M>> for Seat<'
     }
 
     fn table(&mut self, alloc: Global, rect: Rect) -> Result<Vec<u8>, Refusal> {
+        self.show_waiting();
         // for the fact that it lies in the grid
         let _ = rect.area();
         self.pass.table(alloc, rect)
     }
 
     fn entry(&mut self, alloc: Global, cell: Cell) -> Result<Vec<u8>, Refusal> {
+        self.recent = Recent::Shown;
         self.desk.entry(self.wait, alloc, &mut self.pass, cell)
     }
 
     fn entries(&mut self, alloc: Global, rect: Rect) -> Result<Vec<u8>, Refusal> {
+        self.recent = Recent::Shown;
         self.desk.entries(self.wait, alloc, &mut self.pass, rect)
     }
 
     fn pull(&mut self, alloc: Global, from: u64, most: usize) -> Result<Vec<Delta>, Refusal> {
+        self.recent = Recent::Shown;
         self.desk.pull(self.wait, alloc, &mut self.pass, from, most)
     }
 
     fn replica(&mut self) -> u8 {
         self.desk.replica()
+    }
+
+    fn show(&mut self) {
+        self.show_waiting();
     }
 }

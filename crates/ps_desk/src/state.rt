@@ -11,11 +11,13 @@ ghost use Rattle.ps_sheet.specs.Own.{has_own};
 ghost use Rattle.ps_sheet.specs.Sheet.{IsSheet};
 ghost use Rattle.ps_face.specs.Legal.{IsLegal, history_of};
 ghost use Rattle.ps_desk.specs.Receipts.{Stands};
+ghost use Rattle.ps_desk.specs.declared.showing.Showing.TheVariants.{AtOnce};
 
-use crate::change::{finish, share};
+use crate::change::{finish, make_way, share};
 use crate::name::DeskName;
 use crate::pass::Pass;
 use crate::receipt::Standing;
+use crate::showing::Showing;
 use ps_content::Content;
 use ps_csv::{Holds, entries_text, entry_of};
 use ps_delta::Delta;
@@ -31,8 +33,8 @@ use std::sync::Wait;
 use std::sync::ledger::{Book, Ledger, Share};
 use std::thread::Threads;
 
-/// The sheet, the writer of its published copies, and the book of what was appended. A contract sees it as the
-/// published list. Nothing is staged in the sheet between two calls.
+/// The sheet, the writer of its published copies, and the book of what was appended. A contract sees it as that writer.
+/// Nothing is staged in the sheet between two calls.
 #[derive(Drop)]
 pub(crate) struct DeskState<L: DeskName, W: Wait + Drop> {
     sheet: Staging,
@@ -41,17 +43,17 @@ pub(crate) struct DeskState<L: DeskName, W: Wait + Drop> {
 }
 
 impl<L: DeskName, W: Wait + Drop> Model for DeskState<L, W> {
-    ghost use Rattle.std.specs.Prelude.{◌≡◌, List, None};
+    ghost use Rattle.std.specs.Prelude.{◌≡◌, None};
     ghost use Rattle.std.specs.Coded.{codes};
-    ghost use Rattle.ps_face.specs.declared.patch.Note.{Note};
     ghost use Rattle.ps_face.specs.contracts.patch.Note as note;
+    ghost use Rattle.ps_face.specs.Published.{Published};
     ghost use Rattle.ps_desk.specs.UnderLock.{IsUnderLock};
 
-    ghost Value = { List Note };
+    ghost Value = { Published };
 
     ghost coded = { Prim.hlevel (codes, note.the_row.coded) };
 
-    ghost view = { λ d. d.copies.list };
+    ghost view = { λ d. d.copies };
 
     ghost invariant = { λ d. (d.sheet.staged ≡ None)
         × IsUnderLock L.replica L.opening d.sheet.replica d.sheet.history d.copies d.book.total };
@@ -62,9 +64,9 @@ impl<L: DeskName, W: Wait + Drop> DeskState<L, W> {
     pub(crate) fn new(sheet: Sheet, copies: FaceWriter<L, W>, book: Book<L>) -> DeskState<L, W>
         requires replica { sheet.replica ≡ L.replica }
         requires history { sheet.history ≡ L.opening }
-        requires copies { copies ≡ record { list = []; pending = [] } }
+        requires copies { copies ≡ record { list = []; shown = []; pending = [] } }
         requires book { book.total ≡ 0 }
-        ensures { result ≡ [] }
+        ensures { result ≡ record { list = []; shown = []; pending = [] } }
     {
         DeskState {
             sheet: Staging::new(sheet),
@@ -75,18 +77,25 @@ impl<L: DeskName, W: Wait + Drop> DeskState<L, W> {
 
     /// The published list.
     pub(crate) fn front(&self) -> &BookPrefix
-        ensures front { result.now ≡ record { book = L.book; list = self.now } }
-        ensures legal { IsLegal L.opening self.now }
+        ensures front { result.now ≡ record { book = L.book; list = self.now.list } }
+        ensures legal { IsLegal L.opening self.now.list }
     {
         self.copies.front()
+    }
+
+    /// Shows all of the published list to those who look.
+    pub(crate) fn show(&mut self)
+        ensures { self.new ≡ record self.old { shown = self.old.list } }
+    {
+        self.copies.show();
     }
 
     /// Ends it, where the shares of all passes are gathered.
     pub(crate) fn end(self, all: &mut Share<L>) -> Sheet
         requires all { all.old.parts ≡ L.parts }
         ensures replica { result.replica ≡ L.replica }
-        ensures history { result.history ≡ history_of L.opening self }
-        ensures grown { length self ≡ all.old.amount }
+        ensures history { result.history ≡ history_of L.opening self.list }
+        ensures grown { length self.list ≡ all.old.amount }
         ensures sheet { IsSheet result }
     {
         let DeskState {
@@ -98,7 +107,8 @@ impl<L: DeskName, W: Wait + Drop> DeskState<L, W> {
         sheet.into_sheet()
     }
 
-    /// Makes a change for the session of a pass, which has then seen all that is published.
+    /// Makes a change for the session of a pass, which has then seen all that is published. Where the change is shown
+    /// at once, so is all else.
     ///
     /// Refused as the sheet refuses the change, and when out of memory, where the change was to be appended; then
     /// nothing is published.
@@ -111,9 +121,11 @@ impl<L: DeskName, W: Wait + Drop> DeskState<L, W> {
         pass: &mut Pass<L>,
         change: Change,
         meter: &mut Meter<M>,
+        showing: Showing,
     ) -> Result<Standing, Refusal>
         ensures later { IsPrefix pass.old.list pass.new.list }
-        ensures all { pass.new.list ≡ self.new }
+        ensures all { pass.new.list ≡ self.new.list }
+        ensures shown { showing ≡ AtOnce → self.new.shown ≡ self.new.list }
         ensures legal { IsLegal L.opening pass.new.list }
         ensures stands { IfOk result (Stands (λ s d. IsDeltaOf L.replica s change d) L.opening pass.old.list
             pass.new.list pass.old.seat) }
@@ -121,7 +133,7 @@ impl<L: DeskName, W: Wait + Drop> DeskState<L, W> {
             ⊎ IsRefusedBy L.replica (joined_history (history_of L.opening pass.new.list)) change e) }
         ensures asked { IfErr result (λ e. e ≡ Memory
             → IsToAppend L.replica (joined_history (history_of L.opening pass.new.list)) change) }
-        ensures kept { OnErr result (self.new ≡ self.old) }
+        ensures kept { OnErr result (self.new.list ≡ self.old.list) }
         ensures counted { IfOk result (λ r. pass.new.appended
             ≡ pass.old.appended + (if r.fresh then 1 else 0)) }
         ensures uncounted { OnErr result (pass.new.appended ≡ pass.old.appended) }
@@ -132,11 +144,12 @@ impl<L: DeskName, W: Wait + Drop> DeskState<L, W> {
             copies,
             book,
         } = self;
+        make_way(copies, showing);
         pass.catch_up(wait, copies.front());
         let _report = sheet.stage(rt, &Open, alloc, change, meter)?;
         // for the fact that it is a delta
         let _ = sheet.delta().parts();
-        let standing = finish(wait, alloc, sheet, copies, book, pass);
+        let standing = finish(wait, alloc, sheet, copies, book, pass, showing);
         // for the fact that the list is legal
         let _ = copies.front();
         standing
@@ -145,8 +158,8 @@ impl<L: DeskName, W: Wait + Drop> DeskState<L, W> {
     /// The delta that has this number in the history, with one owner more.
     pub(crate) fn delta_at<V: Wait>(&self, wait: &V, alloc: Global, number: u64) -> Delta
         requires some { 1 ≤ number }
-        requires there { number ≤ length (history_of L.opening self.now) }
-        ensures { result ≡ get_or (history_of L.opening self.now) (number - 1) [] }
+        requires there { number ≤ length (history_of L.opening self.now.list) }
+        ensures { result ≡ get_or (history_of L.opening self.now.list) (number - 1) [] }
     {
         share(wait, alloc, &self.sheet.history()[number as usize - 1])
     }
@@ -160,11 +173,12 @@ impl<L: DeskName, W: Wait + Drop> DeskState<L, W> {
         from: u64,
         at_most: usize,
     ) -> Result<Vec<Delta>, Refusal>
-        ensures deltas { IfOk result (λ ds. ds.items ≡ take at_most (drop from (history_of L.opening self.now))) }
-        ensures above { (result ≡ Err Version) ↔ (length (history_of L.opening self.now) < from) }
+        ensures deltas { IfOk result (λ ds. ds.items
+            ≡ take at_most (drop from (history_of L.opening self.now.list))) }
+        ensures above { (result ≡ Err Version) ↔ (length (history_of L.opening self.now.list) < from) }
         ensures other { IfErr result (λ e. (e ≡ Version) ⊎ (e ≡ Memory)) }
-        ensures asked { result ≡ Err Memory → from < length (history_of L.opening self.now) }
-        ensures bound { length (history_of L.opening self.now) < 2 ^ 64 }
+        ensures asked { result ≡ Err Memory → from < length (history_of L.opening self.now.list) }
+        ensures bound { length (history_of L.opening self.now.list) < 2 ^ 64 }
     {
         // for the fact that a number counts the history
         let _ = self.sheet.version();
@@ -175,8 +189,8 @@ impl<L: DeskName, W: Wait + Drop> DeskState<L, W> {
 impl<L: DeskName, W: Wait + Drop> DeskState<L, W> {
     /// Whether the sheet has all of a delta that its own replica made.
     pub(crate) fn has_own(&self, delta: &Delta) -> bool
-        ensures own { result ≡ has_own L.replica (joined_history (history_of L.opening self.now)) delta.now }
-        ensures legal { IsLegal L.opening self.now }
+        ensures own { result ≡ has_own L.replica (joined_history (history_of L.opening self.now.list)) delta.now }
+        ensures legal { IsLegal L.opening self.now.list }
     {
         // for the fact that the list is legal
         let _ = self.front();
@@ -185,7 +199,8 @@ impl<L: DeskName, W: Wait + Drop> DeskState<L, W> {
 
     /// The entry of a cell. Refused only when out of memory.
     pub(crate) fn entry(&self, alloc: Global, cell: Cell) -> Result<Vec<u8>, Refusal>
-        ensures text { IfOk result (λ t. t.items ≡ entry_text (held_in (history_of L.opening self.now)) cell) }
+        ensures text { IfOk result (λ t. t.items
+            ≡ entry_text (held_in (history_of L.opening self.now.list)) cell) }
         ensures memory { IfErr result (λ e. e ≡ Memory) }
     {
         entry_of(alloc, self, cell)
@@ -194,7 +209,7 @@ impl<L: DeskName, W: Wait + Drop> DeskState<L, W> {
     /// The entries of a rectangle, as the text of a table. Refused only when out of memory.
     pub(crate) fn entries(&self, alloc: Global, rect: Rect) -> Result<Vec<u8>, Refusal>
         ensures text { IfOk result (λ t. t.items
-            ≡ exported_entries (held_in (history_of L.opening self.now)) rect) }
+            ≡ exported_entries (held_in (history_of L.opening self.now.list)) rect) }
         ensures memory { IfErr result (λ e. e ≡ Memory) }
     {
         entries_text(alloc, self, rect)
@@ -205,7 +220,7 @@ impl<L: DeskName, W: Wait + Drop> Holds for DeskState<L, W> {
     ghost use Rattle.ps_csv.specs.Exports.{held_in};
     ghost use Rattle.ps_face.specs.Legal.{history_of};
 
-    ghost held_at = { λ d. held_in (history_of L.opening d) };
+    ghost held_at = { λ d. held_in (history_of L.opening d.list) };
 
     fn held(&self, cell: Cell) -> Option<&Content> {
         self.sheet.content(cell)

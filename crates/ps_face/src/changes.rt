@@ -1,6 +1,6 @@
 //! What a patch changes, and how a table takes it in.
 
-ghost use Rattle.std.specs.Prelude.{◌≡◌, ◌≤◌, [], length, map, vec_capacity, IfOk, IfErr, MatchResult};
+ghost use Rattle.std.specs.Prelude.{◌≡◌, ◌+◌, ◌≤◌, ◌++◌, [], length, map, vec_capacity, IfOk, IfErr, MatchResult};
 ghost use Rattle.ps_grid.specs.declared.refusal.Refusal.TheVariants.{Memory};
 ghost use Rattle.ps_shown.specs.Shown.{shown_at};
 ghost use Rattle.ps_face.specs.CellChanges.{entries_of};
@@ -28,6 +28,18 @@ impl CellChanges {
         match self {
             CellChanges::One(change) => slice::from_ref(change),
             CellChanges::Several(changes) => changes,
+        }
+    }
+
+    /// Adds the changes at the end of a list that has room for them.
+    #[inline(always)]
+    pub(crate) fn gather(self, list: &mut Vec<(Cell, Kept)>)
+        requires room { length list.old.items + length (entries_of self) ≤ vec_capacity list.old }
+        ensures { list.new.items ≡ list.old.items ++ entries_of self }
+    {
+        match self {
+            CellChanges::One(change) => list.push_reserved(change),
+            CellChanges::Several(changes) => gather_all(changes, list),
         }
     }
 
@@ -70,6 +82,17 @@ impl CellChanges {
                 Ok(())
             }
         }
+    }
+}
+
+/// Adds changes at the end of a list that has room for them.
+fn gather_all(changes: Vec<(Cell, Kept)>, list: &mut Vec<(Cell, Kept)>)
+    requires room { length list.old.items + length changes.items ≤ vec_capacity list.old }
+    ensures { list.new.items ≡ list.old.items ++ changes.items }
+{
+    let mut changes = changes;
+    if list.append(&mut changes).is_err() {
+        unreachable!();
     }
 }
 

@@ -51,13 +51,13 @@ impl Model for Face {
     ghost invariant = { λ f. CELLS ≤ vec_capacity f.room };
 }
 
-/// What a patch does to a copy, with the beginning of the list that ends with the patch. It changes no more cells than
-/// there are.
+/// What patches that follow each other do to a copy, with the beginning of the list that ends with the last of them. It
+/// has no more changes than there are cells.
 #[derive(Drop)]
 pub struct Operation {
-    version: u64,
-    changes: CellChanges,
-    front: BookPrefix,
+    pub(crate) version: u64,
+    pub(crate) changes: CellChanges,
+    pub(crate) front: BookPrefix,
 }
 
 impl Model for Operation {
@@ -84,7 +84,7 @@ impl Model for Operation {
 }
 
 impl Operation {
-    /// What a patch with this number and these changes does, which ends the list of the front.
+    /// What patches with these changes do, of which the last has this number and ends the list of the front.
     pub(crate) fn new(version: u64, changes: CellChanges, front: BookPrefix) -> Operation
         requires few { length (entries_of changes) ≤ CELLS }
         ensures { result ≡ record {

@@ -27,8 +27,8 @@ pub struct Note {
     pub owner: u64,
 }
 
-/// A delta, its number in the history, and each cell whose shown value it changes, with what it shows then. The delta is
-/// lent, since the copies take in the changes alone.
+/// A delta, its number in the history, and each cell whose shown value it changes, with what it shows then. The delta
+/// is lent, since the copies take in the changes alone.
 #[derive(Drop)]
 pub struct Patch<'a> {
     pub(crate) number: u64,
@@ -132,7 +132,7 @@ impl<'a> Patch<'a> {
         self.changes.as_slice()
     }
 
-    /// The patch with a delta of its own. Refused only when out of memory.
+    /// The patch with one more owner of its delta. Refused only when out of memory.
     pub(crate) fn keep(self, alloc: Global) -> Result<KeptPatch, Refusal>
         ensures kept { IfOk result (λ p. p ≡ self.entry) }
         ensures memory { IfErr result (λ e. e ≡ Memory) }
@@ -152,7 +152,7 @@ impl<'a> Patch<'a> {
     }
 }
 
-/// A patch with a delta of its own, until it is published.
+/// A patch with one more owner of its delta, until it is published.
 #[derive(Drop)]
 pub(crate) struct KeptPatch {
     pub(crate) number: u64,

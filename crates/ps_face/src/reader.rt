@@ -41,8 +41,8 @@ impl<L: Named> Model for FaceReader<L> {
 
 /// A reader with the copy that it reads, which doesn't change. End it by `leave`.
 ///
-/// A contract sees it as the list that was published when it entered, how often the reader has entered, and the values
-/// of all cells in order.
+/// A contract sees it as the list that was shown when it entered, how often the reader has entered, and the values of
+/// all cells in order.
 pub struct Seen<L: Named> {
     reading: Reading<Face, View, Law<L>>,
 }
@@ -90,7 +90,7 @@ impl<L: Named> FaceReader<L> {
     }
 
     /// Is told of a beginning of the published list, and takes it where it is as long as what this reader has seen or
-    /// longer. It is no step on the copies.
+    /// longer. It is no step on the copies. While a patch of it waits to be shown, this reader can't enter.
     ///
     /// Cost: constant, no memory.
     pub fn learn(&mut self, front: &BookPrefix) -> bool
@@ -107,7 +107,9 @@ impl<L: Named> FaceReader<L> {
         true
     }
 
-    /// Takes the copy that is published now, in one step. The reader comes back where the writer is gone.
+    /// Takes the copy that is shown now, in one step. The reader comes back where the writer is gone, and where the
+    /// copy is older than what the reader has seen or been told of; so it is while a patch that it has been told of
+    /// still waits to be shown.
     ///
     /// What it then shows are the settled values of a history that a legal list of patches stands for, all cells at
     /// one version, and the list begins with all that this reader had seen.
@@ -125,7 +127,7 @@ impl<L: Named> FaceReader<L> {
             Ok(reading) => reading,
             Err(reader) => return Err(FaceReader { reader, front }),
         };
-        // A copy is never older than what its writer told of.
+        // A copy is older than what its writer told of only while some of that waits to be shown.
         if !front.begins(reading.get().front()) {
             return Err(FaceReader {
                 reader: reading.leave(),

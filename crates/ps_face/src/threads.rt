@@ -10,6 +10,7 @@ use crate::face::{Face, Operation};
 use crate::name::Named;
 use crate::patch::KeptPatch;
 use crate::rule::{Law, View};
+use crate::waiting::Waiting;
 use left_right::writer::Writer;
 use ps_delta::CellState;
 use std::sync::Wait;
@@ -45,4 +46,5 @@ pub fn writer_is_send<L: Named, R: Wait + Drop + Send>()
     is_send::<Head>();
     is_send::<BookPrefix>();
     is_send::<Vec<KeptPatch>>();
+    is_send::<Waiting>();
 }

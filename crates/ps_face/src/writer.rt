@@ -10,7 +10,7 @@ ghost use Rattle.ps_shown.specs.Shown.{shown_at};
 ghost use Rattle.ps_cells.specs.Settled.{IsSettled};
 ghost use Rattle.ps_face.specs.Legal.{Follows, IsLegal, delta_of, history_of};
 ghost use Rattle.ps_face.specs.Rules.{newcomer};
-ghost use Rattle.ps_face.specs.Seen.{CopyStands, turned};
+ghost use Rattle.ps_face.specs.Seen.{Copy, CopyStands, turned};
 ghost use Rattle.ps_face.specs.Published.{MayShow};
 
 use crate::book::{BookPrefix, Head, NewBook};
@@ -19,6 +19,7 @@ use crate::name::Named;
 use crate::patch::{KeptPatch, Patch};
 use crate::reader::FaceReader;
 use crate::rule::{Law, Publish, View};
+use crate::waiting::{MOST_WAITING, Waiting};
 use core::mem::replace_with;
 use left_right::writer::Writer;
 use ps_delta::Delta;
@@ -28,15 +29,20 @@ use std::alloc::{AllocError, Global};
 use std::marker::Model;
 use std::sync::Wait;
 
+/// So many operations lie in the queue of the copies at most: what waited and a patch, which were shown last and one of
+/// the copies has yet to take in, and then as many that are to be shown.
+const MOST_QUEUED: usize = 4;
+
 type Copies<L> = Writer<Face, Operation, View, Law<L>>;
 
-/// The writer of two published copies. A contract sees it as the published list, and what is appended and not yet
-/// published.
+/// The writer of two published copies. A contract sees it as the published list, the beginning of it that readers are
+/// shown, and what is appended and not yet published.
 pub struct FaceWriter<L: Named, R: Wait + Drop> {
     copies: Copies<L>,
     head: Head,
     front: BookPrefix,
     staged: Vec<KeptPatch>,
+    waiting: Waiting,
     /// the drop of the copies waits for those that read
     rt: R,
 }
@@ -51,10 +57,14 @@ impl<L: Named, R: Wait + Drop> Model for FaceWriter<L, R> {
 
     ghost coded = { Prim.hlevel (codes, note.the_row.coded) };
 
-    ghost view = { λ w. record { list = w.front.list; pending = w.staged.items } };
+    ghost view = { λ w. record {
+      list = w.front.list;
+      shown = w.copies.desk.shown.value.list;
+      pending = w.staged.items;
+    } };
 
     ghost invariant = { λ w. WriterStands L.opening L.book w.copies.desk.shown.value w.front w.head
-        (drop w.copies.behind w.copies.log.items) w.staged.items };
+        (drop w.copies.behind w.copies.log.items) w.waiting w.staged.items };
 }
 
 impl<L: Named, R: Wait + Drop> FaceWriter<L, R> {
@@ -76,13 +86,14 @@ impl<L: Named, R: Wait + Drop> FaceWriter<L, R> {
         requires settled { IsSettled (joined_history L.opening) (shown_at shown.now) }
         requires in_grid { IsInGrid (joined_history L.opening) }
         requires readers { (1 ≤ readers) × (readers ≤ MOST) }
-        ensures writer { IfOk result (λ r. r.0 ≡ record { list = []; pending = [] }) }
+        ensures writer { IfOk result (λ r. r.0 ≡ record { list = []; shown = []; pending = [] }) }
         ensures count { IfOk result (λ r. vec_len r.1 ≡ readers) }
         ensures readers { IfOk result (λ r. All (λ v. v ≡ newcomer) r.1.items) }
         ensures refused { IfErr result (λ e. (e ≡ Memory) ⊎ (e ≡ Seat)) }
     {
         let (head, front) = opened.split();
         let copies = open_copies::<L, R>(&rt, alloc, shown, version, &front, readers)?;
+        let waiting = Waiting::none(alloc, front.again());
         match make_readers(alloc, &copies, &front, readers) {
             Ok(readers) => {
                 let writer = FaceWriter {
@@ -90,6 +101,7 @@ impl<L: Named, R: Wait + Drop> FaceWriter<L, R> {
                     head,
                     front,
                     staged: Vec::new(alloc),
+                    waiting,
                     rt,
                 };
                 Ok((writer, readers))
@@ -101,8 +113,8 @@ impl<L: Named, R: Wait + Drop> FaceWriter<L, R> {
         }
     }
 
-    /// Takes a patch that may come next, and its delta once more. Refused only when out of memory, and then nothing has
-    /// changed.
+    /// Keeps a patch that may come next, with one more owner of its delta. Refused only when out of memory, and then
+    /// nothing has changed.
     ///
     /// Nothing in the program calls it: [`FaceWriter::publish_patch`] does this and [`FaceWriter::publish`] in one. It
     /// is part of the public interface, for who has something to do between the two, as a test that looks at the copies
@@ -122,15 +134,19 @@ impl<L: Named, R: Wait + Drop> FaceWriter<L, R> {
         Ok(())
     }
 
-    /// Shows readers the patch that is pending, all of it at one step, and gives its delta back. It waits for those
-    /// that still read what was published before the last patch.
+    /// Shows readers the patch that is pending, and all that waits, at one step, and gives the delta back. It waits for
+    /// those that still read what was shown before the last time.
     ///
     /// Nothing in the program calls it. It is part of the public interface, as [`FaceWriter::append`] is.
     ///
     /// Cost: twice the changes of the patch; no memory.
     pub fn publish(&mut self) -> Delta
         requires one { length self.old.pending ≡ 1 }
-        ensures list { self.new ≡ record { list = self.old.list ++ self.old.pending; pending = [] } }
+        ensures list { self.new ≡ record {
+          list = self.old.list ++ self.old.pending;
+          shown = self.old.list ++ self.old.pending;
+          pending = [];
+        } }
         ensures delta { map delta_of self.old.pending ≡ result ∷ [] }
     {
         let KeptPatch {
@@ -148,34 +164,81 @@ impl<L: Named, R: Wait + Drop> FaceWriter<L, R> {
         delta
     }
 
-    /// Shows readers a patch that may come next, as [`FaceWriter::append`] and then [`FaceWriter::publish`] do. The
-    /// program publishes so. It waits for those that still read what was published before the last patch.
+    /// Shows readers a patch that may come next, and with it all that waits, at one step. It waits for those that still
+    /// read what was shown before the last time.
     ///
-    /// Cost: twice the changes of the patch; no memory.
+    /// Cost: twice the changes of the patch, and a constant for each reader; what waits has been paid for. No memory.
     pub fn publish_patch(&mut self, patch: Patch<'_>)
         requires none { self.old.pending ≡ [] }
         requires legal { Follows (history_of L.opening self.old.list) patch }
-        ensures list { self.new ≡ record self.old { list = self.old.list ++ patch.entry ∷ [] } }
+        ensures list { self.new ≡ record self.old {
+          list = self.old.list ++ patch.entry ∷ [];
+          shown = self.old.list ++ patch.entry ∷ [];
+        } }
     {
         let FaceWriter {
             copies,
             head,
             front,
+            waiting,
             rt,
             ..
         } = self;
-        // for the fact that its cells are in the grid
-        let _ = patch.delta();
-        add_to(rt, head, front, &patch);
-        let Patch {
-            number,
-            delta: _,
-            changes,
-            owner: _,
-        } = patch;
-        let operation = Operation::new(number, changes, front.again());
-        // it isn't refused, since it may not be
-        let _ = turn_over(rt, copies, operation, false);
+        let next = add_patch::<L, R>(rt, head, front, patch);
+        show_with(rt, copies, waiting, next);
+    }
+
+    /// Adds a patch that may come next to the list. Readers are shown it only by the next [`FaceWriter::show`] or
+    /// [`FaceWriter::publish_patch`]. But where [`MOST_WAITING`] patches then wait, or would wait with more changes
+    /// than that, all are shown at once. Refused only when out of memory, and then nothing has changed.
+    ///
+    /// Cost: its changes, three times, of which twice once they are shown; until then no look at the readers. The first
+    /// that waits takes memory for [`MOST_WAITING`] changes.
+    #[inline(always)]
+    pub fn post_patch(&mut self, patch: Patch<'_>) -> Result<(), Refusal>
+        requires none { self.old.pending ≡ [] }
+        requires legal { Follows (history_of L.opening self.old.list) patch }
+        ensures list { OnOk result (self.new.list ≡ self.old.list ++ patch.entry ∷ []) }
+        ensures pending { OnOk result (self.new.pending ≡ self.old.pending) }
+        ensures shown { OnOk result ((self.new.shown ≡ self.old.shown) ⊎ (self.new.shown ≡ self.new.list)) }
+        ensures kept { OnErr result (self.new ≡ self.old) }
+        ensures memory { IfErr result (λ e. e ≡ Memory) }
+    {
+        let FaceWriter {
+            copies,
+            head,
+            front,
+            waiting,
+            rt,
+            ..
+        } = self;
+        waiting.reserve()?;
+        let operation = add_patch::<L, R>(rt, head, front, patch);
+        if let Err(operation) = waiting.gather(operation) {
+            show_with(rt, copies, waiting, operation);
+            return Ok(());
+        }
+        if waiting.patches() < MOST_WAITING {
+            return Ok(());
+        }
+        show_waiting(rt, copies, waiting);
+        Ok(())
+    }
+
+    /// Shows readers all that waits, at one step; or does nothing where nothing waits. It waits for those that still
+    /// read what was shown before the last time.
+    ///
+    /// Cost: a constant for each reader, for what waits has been paid for; constant where nothing waits. No memory.
+    pub fn show(&mut self)
+        ensures shown { self.new ≡ record self.old { shown = self.old.list } }
+    {
+        let FaceWriter {
+            copies,
+            waiting,
+            rt,
+            ..
+        } = self;
+        show_waiting(rt, copies, waiting);
     }
 
     /// The published list.
@@ -196,6 +259,7 @@ impl<L: Named, R: Wait + Drop> Drop for FaceWriter<L, R> {
             head: _,
             front: _,
             staged: _,
+            waiting: _,
             rt,
         } = self;
         copies.take(&rt);
@@ -224,12 +288,37 @@ fn open_copies<L: Named, R: Wait>(
     let first = Face::new(alloc, version, shown, front.again())?;
     let second = Face::new(alloc, version, shown, front.again())?;
     let mut copies: Copies<L> = Writer::new(alloc, first, second, readers)?;
-    let idle = Operation::idle(alloc, version, front.again());
-    if let Err(refusal) = turn_over(rt, &mut copies, idle, true) {
+    if let Err(refusal) = fill_queue(alloc, &mut copies, version, front) {
         copies.take(rt);
         return Err(refusal);
     }
+    show_all(rt, &mut copies);
     Ok(copies)
+}
+
+/// Fills the queue of the copies with operations that change nothing, so that it has room for all that ever lie in it.
+fn fill_queue<L: Named>(
+    alloc: Global,
+    copies: &mut Copies<L>,
+    version: u64,
+    front: &BookPrefix,
+) -> Result<(), Refusal>
+    requires none { drop copies.old.behind copies.old.log.items ≡ [] }
+    requires copy { turned copies.old.desk.shown.value
+        (record { book = front.now.book; list = front.now.list; version = version; changes = [] })
+        ≡ copies.old.desk.shown.value }
+    ensures desk { copies.new.desk ≡ copies.old.desk }
+    ensures idle { fold turned copies.old.desk.shown.value (drop copies.new.behind copies.new.log.items)
+        ≡ copies.old.desk.shown.value }
+    ensures memory { IfErr result (λ e. e ≡ Memory) }
+{
+    'fills: for _i in 0..MOST_QUEUED {
+        let idle = Operation::idle(alloc, version, front.again());
+        if copies.append(idle).is_err() {
+            return Err(Refusal::Memory);
+        }
+    }
+    Ok(())
 }
 
 /// Makes so many readers.
@@ -254,7 +343,36 @@ fn make_readers<L: Named>(
     Ok(made)
 }
 
-/// Adds the patch to the book, of which this is the one writer.
+/// Adds a patch that may come next to the book, of which this is the one writer, and gives what it does to a copy.
+#[inline(always)]
+fn add_patch<L: Named, R: Wait>(
+    rt: &R,
+    head: &Head,
+    front: &mut BookPrefix,
+    patch: Patch<'_>,
+) -> Operation
+    requires head { head.now ≡ front.old.book }
+    requires book { front.old.book ≡ L.book }
+    requires in_grid { IsInGrid (joined_history (history_of L.opening front.old.list)) }
+    requires legal { Follows (history_of L.opening front.old.list) patch }
+    ensures front { front.new ≡ record front.old { list = front.old.list ++ patch.entry ∷ [] } }
+    ensures list { result.list ≡ front.new.list }
+    ensures turn { (x : Copy) → CopyStands L.opening L.book x → x.list ≡ front.old.list
+        → MayShow L.opening L.book x (result ∷ []) }
+{
+    // for the fact that its cells are in the grid
+    let _ = patch.delta();
+    add_to(rt, head, front, &patch);
+    let Patch {
+        number,
+        delta: _,
+        changes,
+        owner: _,
+    } = patch;
+    Operation::new(number, changes, front.again())
+}
+
+/// Adds the patch to the book.
 fn add_to<R: Wait>(rt: &R, head: &Head, front: &mut BookPrefix, patch: &Patch<'_>)
     requires book { head.now ≡ front.old.book }
     ensures { front.new ≡ record front.old { list = front.old.list ++ patch.now ∷ [] } }
@@ -265,44 +383,109 @@ fn add_to<R: Wait>(rt: &R, head: &Head, front: &mut BookPrefix, patch: &Patch<'_
     }
 }
 
-/// Shows readers a copy that has taken in the operation. Where the queue of the copies has no room and no memory for
-/// it, that is refused, if it may be; else it tries again. The queue has room once it has taken one. It tries again,
-/// too, where a text has as many owners as can be counted.
-fn turn_over<L: Named, R: Wait>(
+/// Shows readers a copy that has taken in all that waits, or does nothing where nothing waits.
+#[inline(never)]
+fn show_waiting<L: Named, R: Wait>(rt: &R, copies: &mut Copies<L>, waiting: &mut Waiting)
+    requires stands { CopyStands L.opening L.book copies.old.desk.shown.value }
+    requires none { drop copies.old.behind copies.old.log.items ≡ [] }
+    requires waits { MayShow L.opening L.book copies.old.desk.shown.value waiting.old.turns }
+    ensures shown { copies.new.desk.shown.value ≡ fold turned copies.old.desk.shown.value waiting.old.turns }
+    ensures queue { drop copies.new.behind copies.new.log.items ≡ [] }
+    ensures none { waiting.new ≡ record { patches = 0; turns = [] } }
+{
+    if let Some(operation) = waiting.take() {
+        turn_over(rt, copies, operation);
+    }
+}
+
+/// Shows readers a copy that has taken in all that waits, and then the operation.
+#[inline(never)]
+fn show_with<L: Named, R: Wait>(
     rt: &R,
     copies: &mut Copies<L>,
+    waiting: &mut Waiting,
     operation: Operation,
-    refusable: bool,
-) -> Result<(), Refusal>
-    requires queue { drop copies.old.behind copies.old.log.items ≡ [] }
-    requires turn { MayShow L.opening L.book copies.old.desk.shown.value (operation ∷ []) }
-    ensures shown { OnOk result (copies.new.desk.shown.value ≡ turned copies.old.desk.shown.value operation) }
-    ensures stands { OnOk result (CopyStands L.opening L.book copies.new.desk.shown.value) }
-    ensures queue { OnOk result (drop copies.new.behind copies.new.log.items ≡ []) }
-    ensures made { refusable ≡ false → IsOk result }
-    ensures memory { IfErr result (λ e. e ≡ Memory) }
+)
+    requires stands { CopyStands L.opening L.book copies.old.desk.shown.value }
+    requires none { drop copies.old.behind copies.old.log.items ≡ [] }
+    requires waits { MayShow L.opening L.book copies.old.desk.shown.value waiting.old.turns }
+    requires turn { MayShow L.opening L.book (fold turned copies.old.desk.shown.value waiting.old.turns)
+        (operation ∷ []) }
+    ensures shown { copies.new.desk.shown.value
+        ≡ turned (fold turned copies.old.desk.shown.value waiting.old.turns) operation }
+    ensures queue { drop copies.new.behind copies.new.log.items ≡ [] }
+    ensures none { waiting.new ≡ record { patches = 0; turns = [] } }
+{
+    if let Some(waits) = waiting.take() {
+        queue(rt, copies, waits);
+    }
+    turn_over(rt, copies, operation);
+}
+
+/// Shows readers a copy that has taken in all that lies in the queue of the copies, and then the operation.
+fn turn_over<L: Named, R: Wait>(rt: &R, copies: &mut Copies<L>, operation: Operation)
+    requires waits { MayShow L.opening L.book copies.old.desk.shown.value
+        (drop copies.old.behind copies.old.log.items) }
+    requires turn { MayShow L.opening L.book
+        (fold turned copies.old.desk.shown.value (drop copies.old.behind copies.old.log.items)) (operation ∷ []) }
+    ensures shown { copies.new.desk.shown.value
+        ≡ turned (fold turned copies.old.desk.shown.value (drop copies.old.behind copies.old.log.items)) operation }
+    ensures queue { drop copies.new.behind copies.new.log.items ≡ [] }
+{
+    queue(rt, copies, operation);
+    show_all(rt, copies);
+}
+
+/// Puts the operation at the end of the queue of the copies. Where that has no room and no memory for it, what lies in
+/// it is shown before; it had room for it at the opening.
+#[inline(always)]
+fn queue<L: Named, R: Wait>(rt: &R, copies: &mut Copies<L>, operation: Operation)
+    requires waits { MayShow L.opening L.book copies.old.desk.shown.value
+        (drop copies.old.behind copies.old.log.items) }
+    requires turn { MayShow L.opening L.book
+        (fold turned copies.old.desk.shown.value (drop copies.old.behind copies.old.log.items)) (operation ∷ []) }
+    ensures waits { MayShow L.opening L.book copies.new.desk.shown.value
+        (drop copies.new.behind copies.new.log.items) }
+    ensures all { fold turned copies.new.desk.shown.value (drop copies.new.behind copies.new.log.items)
+        ≡ turned (fold turned copies.old.desk.shown.value (drop copies.old.behind copies.old.log.items)) operation }
 {
     let mut operation = operation;
     let mut tries = rt.forever();
     'fills: while let Err(back) = copies.append(operation) {
-        if refusable {
-            let_go(back);
-            return Err(Refusal::Memory);
-        }
         operation = back;
+        make_room(rt, copies);
         tries.next();
     }
+}
+
+/// Makes room in the queue of the copies, by what it has taken and one of the copies lacks: shows readers what waits,
+/// or does nothing that they see.
+#[cold]
+#[inline(never)]
+fn make_room<L: Named, R: Wait>(rt: &R, copies: &mut Copies<L>)
+    requires { MayShow L.opening L.book copies.old.desk.shown.value
+        (drop copies.old.behind copies.old.log.items) }
+    ensures waits { MayShow L.opening L.book copies.new.desk.shown.value
+        (drop copies.new.behind copies.new.log.items) }
+    ensures same { fold turned copies.new.desk.shown.value (drop copies.new.behind copies.new.log.items)
+        ≡ fold turned copies.old.desk.shown.value (drop copies.old.behind copies.old.log.items) }
+{
+    let _ = replace_with(copies, rt, show_once::<L, R>);
+}
+
+/// Shows readers a copy that has taken in all. It tries again where a text has as many owners as can be counted.
+fn show_all<L: Named, R: Wait>(rt: &R, copies: &mut Copies<L>)
+    requires { MayShow L.opening L.book copies.old.desk.shown.value
+        (drop copies.old.behind copies.old.log.items) }
+    ensures shown { copies.new.desk.shown.value
+        ≡ fold turned copies.old.desk.shown.value (drop copies.old.behind copies.old.log.items) }
+    ensures queue { drop copies.new.behind copies.new.log.items ≡ [] }
+{
+    let mut tries = rt.forever();
     'shows: while replace_with(copies, rt, show_once::<L, R>).is_err() {
         tries.next();
     }
-    Ok(())
 }
-
-/// Lets go of an operation that found no room. It isn't inlined: so no part of an operation is looked at on its way
-/// into the queue, and it goes there whole.
-#[cold]
-#[inline(never)]
-fn let_go(_operation: Operation) {}
 
 /// Shows readers a copy that has taken in all, or nothing new where a text has as many owners as can be counted.
 fn show_once<L: Named, R: Wait>(copies: Copies<L>, rt: &R) -> (Copies<L>, Result<(), AllocError>)

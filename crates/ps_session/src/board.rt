@@ -1,5 +1,5 @@
 //! What answers the commands of a session.
-ghost use Rattle.std.specs.Prelude.{◌+◌, ◌<◌, ◌^◌, IfOk, length};
+ghost use Rattle.std.specs.Prelude.{◌≡◌, ◌+◌, ◌<◌, ◌^◌, IfOk, length};
 ghost use Rattle.std.specs.Thread.{IsSync};
 ghost use Rattle.ps_session.specs.Boards.{Calls};
 ghost use Rattle.ps_session.specs.Commands.{with_part};
@@ -86,4 +86,12 @@ pub trait Board<M> {
     /// Cost: constant, and no memory.
     fn replica(&mut self) -> u8
         ensures told { calls.replica self.old result self.new };
+
+    /// Shows all who look what the board changed. A session calls it before it hands replies on, so that what a reply
+    /// tells of is there for others before the reply is. No contract says what others are shown, for no clause knows of
+    /// them.
+    ///
+    /// Cost: constant where nothing waits to be shown.
+    fn show(&mut self)
+        ensures same { self.new ≡ self.old };
 }

@@ -1,9 +1,11 @@
 //! An output that holds back all that is put until it is flushed.
-ghost use Rattle.std.specs.Prelude.{◌≡◌, ◌≤◌, [], ℕ, OnOk, drop, length};
+ghost use Rattle.std.specs.Prelude.{◌≡◌, ◌≤◌, [], ℕ, IfErr, IfOk, OnOk, drop, length};
 ghost use Rattle.std.specs.Io.KnownBytes.{Keeps, append_known};
 ghost use Rattle.ps_grid.specs.Blanks.{IsBlankOf};
+ghost use Rattle.ps_grid.specs.declared.refusal.Refusal.TheVariants.{Memory};
 
 use ps_device::{Failed, MemorySink, Sink};
+use ps_grid::Refusal;
 use std::alloc::Global;
 use std::sync::ledger::{Blank, Ledger};
 
@@ -40,6 +42,27 @@ impl<K: Sink + Drop, L: Ledger> HeldOutput<K, L> {
             room: MemorySink::new(alloc, blank),
             sent: 0,
         }
+    }
+
+    /// The same, with room for so many bytes that it holds back. Refused only when out of memory.
+    ///
+    /// Cost: O(1), and the memory.
+    pub fn with_room(
+        alloc: Global,
+        sink: K,
+        blank: Blank,
+        room: usize,
+    ) -> Result<HeldOutput<K, L>, Refusal>
+        requires { IsBlankOf blank L.name L.parts }
+        ensures sink { IfOk result (λ output. sink_of output ≡ sink) }
+        ensures contents { IfOk result (λ output. Keeps (K.contents sink) (held_contents K.contents output)) }
+        ensures waiting { IfOk result (λ output. held_waiting K.waiting output ≡ K.waiting sink) }
+        ensures calm { IfOk result (λ output. held_failures output ≡ 0) }
+        ensures memory { IfErr result (λ e. e ≡ Memory) }
+    {
+        let mut output = HeldOutput::new(alloc, sink, blank);
+        output.room.bytes.reserve(room)?;
+        Ok(output)
     }
 
     /// Gives the sink what waits, and flushes it.

@@ -5,7 +5,8 @@
 //! [`talk`] is the whole way from a source of bytes to a sink: it reads the source to its end, obeys each line and
 //! writes its reply, in order. A sheet is a board, and [`run`] is the talk of a sheet. A [`Watcher`] may look on, by
 //! [`talk_watched`] and [`run_watched`]. A [`Keeper`] has all kept that a session has seen before its replies are
-//! handed on, by [`talk_kept`] and [`run_kept`], whose replies a [`HeldOutput`] holds back until then.
+//! handed on, by [`talk_kept`] and [`run_kept`], whose replies a [`HeldOutput`] holds back until then. What a board
+//! changed and others don't see yet is shown to them before that.
 //!
 //! It is not a connection: it opens no device. What a sheet does with an edit or a delta, it leaves to the sheet.
 //!

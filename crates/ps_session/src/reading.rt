@@ -1,4 +1,5 @@
-//! Reads a source to its end, and has what a session has seen kept before replies are handed on.
+//! Reads a source to its end, and has what a session changed shown to all, and what it has seen kept, before replies
+//! are handed on.
 ghost use Rattle.std.specs.Prelude.{◌≡◌, ◌≢◌, ◌⊎◌, [], ◌<◌, ◌≤◌, ◌++◌, ◌+◌, ◌-◌, ◌^◌, ℕ, List, Option, Result, Some};
 ghost use Rattle.std.specs.Prelude.{Ok, Err, IfOk, IsErr, OnOk, OnErr, length, take};
 ghost use Rattle.std.specs.Io.KnownBytes.{Consumes, IsAtEnd, Keeps};
@@ -20,16 +21,18 @@ use ps_wire::Decoder;
 use std::alloc::{AllocError, Global};
 use std::thread::Threads;
 
-/// Has all kept that the board has, and then hands on what waits.
-fn release<B, K, D: Delivery<K>, Q: Keeper<B>>(
+/// Has all shown that the board changed, then has all kept that it has, and then hands on what waits. So what a reply
+/// tells of is there for others, and is kept, before the reply is out.
+fn release<B: Board<M>, M, K, D: Delivery<K>, Q: Keeper<B>>(
     alloc: Global,
     keeper: &mut Q,
-    board: &B,
+    board: &mut B,
     sink: &mut K,
 ) -> Result<(), RunFault>
-    requires fits { Q.fits keeper.old board.now }
-    ensures fits { OnOk result (Q.fits keeper.new board.now) }
-    ensures covered { result ≢ Err RunFault.Keep → Q.covers keeper.new board.now }
+    requires fits { Q.fits keeper.old board.old }
+    ensures same_board { board.new ≡ board.old }
+    ensures fits { OnOk result (Q.fits keeper.new board.new) }
+    ensures covered { result ≢ Err RunFault.Keep → Q.covers keeper.new board.new }
     ensures stays { (state : B) → Q.covers keeper.old state → Q.covers keeper.new state }
     ensures flushed { OnOk result (D.waiting sink.new ≡ []) }
     ensures same { Keeps (D.contents sink.old) (D.contents sink.new) }
@@ -38,6 +41,7 @@ fn release<B, K, D: Delivery<K>, Q: Keeper<B>>(
     ensures sink_failed { result ≡ Err RunFault.Sink → D.failures sink.old < D.failures sink.new }
     ensures faults { (result ≢ Err RunFault.Memory) × (result ≢ Err RunFault.Source) }
 {
+    board.show();
     match keeper.sync(alloc, board) {
         Ok(()) => {}
         Err(_) => return Err(RunFault::Keep),
@@ -94,7 +98,7 @@ fn read_piece<R: Threads + Sync, B: Board<M>, M, W: Watcher, K, D: Delivery<K>, 
             Ok(taken) => start += taken,
             Err(_) => return Err(RunFault::Sink),
         }
-        release::<B, K, D, Q>(conversation.tools.resources.alloc, keeper, board, sink)?;
+        release::<B, M, K, D, Q>(conversation.tools.resources.alloc, keeper, board, sink)?;
     }
     Ok(())
 }
@@ -149,7 +153,7 @@ fn read_on<
     ensures sink_failed { result ≡ Err RunFault.Sink → D.failures sink.old < D.failures sink.new }
     ensures source_failed { result ≡ Err RunFault.Source → S.failures source.old < S.failures source.new }
 {
-    release::<B, K, D, Q>(conversation.tools.resources.alloc, keeper, board, sink)?;
+    release::<B, M, K, D, Q>(conversation.tools.resources.alloc, keeper, board, sink)?;
     let mut piece = [0u8; PIECE_BYTES];
     'pieces: loop {
         let count = match source.take(&mut piece) {
@@ -250,6 +254,6 @@ pub(crate) fn converse<
         Ok(()) => {}
         Err(_) => return Err(RunFault::Sink),
     }
-    release::<B, K, D, Q>(resources.alloc, keeper, board, sink)?;
+    release::<B, M, K, D, Q>(resources.alloc, keeper, board, sink)?;
     Ok(conversation.answered)
 }

@@ -74,6 +74,9 @@ impl<L: Ledger> Board<Meter<L>> for Sheet {
     fn replica(&mut self) -> u8 {
         Sheet::replica(self)
     }
+
+    /// Does nothing, as nobody else looks at the sheet.
+    fn show(&mut self) {}
 }
 
 /// The deltas of a history after the number `from`, in order, at most so many.

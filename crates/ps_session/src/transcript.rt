@@ -350,7 +350,8 @@ pub fn talk_watched<R: Threads + Sync, S: Source, B: Board<M>, M, K: Sink, W: Wa
 /// stands for more.
 ///
 /// The input is read in pieces of at most `PIECE_BYTES` bytes, and where a line is cut doesn't matter. Before each
-/// read, and at the end, all replies are handed on.
+/// read, and at the end, what the board changed is shown to others, and all replies are handed on. A sink may have
+/// handed on some before; by [`talk_kept`] none is.
 ///
 /// Cost: O(n) in the n bytes of the input and the replies, what the board takes for each line, and the room of one
 /// line.
@@ -391,8 +392,9 @@ pub fn talk<R: Threads + Sync, S: Source, B: Board<M>, M, K: Sink>(
 /// before any reply is handed on.
 ///
 /// Replies are held back, and released before each read, where there are `PIECE_BYTES` bytes of them, and at the end:
-/// then the keeper is synced, and what waits is handed on. Where that fails, nothing more is handed on. So at any end
-/// the keeper covers a state of the board that is the one after all that was shown or acknowledged.
+/// then what the board changed is shown to others, the keeper is synced, and what waits is handed on. Where that
+/// fails, nothing more is handed on. So at any end the keeper covers a state of the board that is the one after all
+/// that was shown or acknowledged.
 ///
 /// Cost: that of [`talk_watched`], the room for the replies that wait, and as many syncs as there are releases.
 pub fn talk_kept<

@@ -20,6 +20,15 @@ use std::sync::Wait;
 use std::sync::ledger::{Blank, Ledger};
 use std::thread::Threads;
 
+/// When a patch is shown.
+#[derive(Clone, Copy)]
+pub(crate) enum Telling {
+    /// It waits to be shown.
+    Posted,
+    /// It is shown at once, with all that waits.
+    Published,
+}
+
 /// A sheet, the writer of its copies, and one of their readers.
 #[derive(Drop)]
 pub(crate) struct Published<L: Named, R: Wait + Drop> {
@@ -117,7 +126,29 @@ fn append<L: Named, R: Wait + Drop>(
     writer.append(patch)
 }
 
-/// The same, by a second call where the first one is refused: that is `Memory`, and a reader then sees what it saw.
+/// Posts or publishes the patch of a change that is prepared over the published history.
+fn tell<L: Named, R: Wait + Drop>(
+    rt: &impl Abort,
+    alloc: Global,
+    writer: &mut FaceWriter<L, R>,
+    prepared: &Prepared,
+    telling: Telling,
+) -> Result<(), Refusal>
+    requires none { writer.old.pending ≡ [] }
+    requires history { prepared.now.history ≡ history_of L.opening writer.old.list }
+    ensures none { OnOk result (writer.new.pending ≡ []) }
+    ensures after { OnOk result (history_after prepared.now ≡ history_of L.opening writer.new.list) }
+{
+    let patch = patch_of(rt, alloc, prepared)?;
+    match telling {
+        Telling::Posted => writer.post_patch(patch)?,
+        Telling::Published => writer.publish_patch(patch),
+    }
+    Ok(())
+}
+
+/// The same as `append`, by a second call where the first one is refused: that is `Memory`, and a reader then sees what
+/// it saw.
 fn append_again<L: Named, R: Wait + Drop>(
     rt: &impl Abort,
     alloc: Global,
@@ -183,6 +214,40 @@ impl<L: Named, R: Wait + Drop> Published<L, R> {
             reader,
         };
         Ok((published, readers))
+    }
+
+    /// Makes an edit, and posts or publishes its patch.
+    pub(crate) fn tell<T: Abort + Threads + Sync>(
+        self,
+        rt: &T,
+        alloc: Global,
+        edit: Edit,
+        telling: Telling,
+    ) -> Result<Published<L, R>, Refusal> {
+        let Published {
+            sheet,
+            mut writer,
+            reader,
+        } = self;
+        let prepared = match prepared::<T, Brand>(rt, Blank::new(1), alloc, sheet, edit) {
+            Ok(prepared) => prepared,
+            Err((_, refusal)) => return Err(refusal),
+        };
+        if let Err(refusal) = tell(rt, alloc, &mut writer, &prepared, telling) {
+            prepared.cancel();
+            return Err(refusal);
+        }
+        let (sheet, _) = prepared.commit();
+        Ok(Published {
+            sheet,
+            writer,
+            reader,
+        })
+    }
+
+    /// Shows readers all that waits.
+    pub(crate) fn show(&mut self) {
+        self.writer.show();
     }
 
     /// Makes an edit. It tells what the reader sees of a cell, with the version, once the patch is appended, and once

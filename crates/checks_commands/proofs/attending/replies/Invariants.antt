@@ -15,5 +15,8 @@ ghosts-answered-I-Ledger g a = record { name = a.counts.input.name; parts = a.co
 abbrev pub ghosts-answered-O-Ledger : goal.ghosts-answered-O-Ledger
 ghosts-answered-O-Ledger g a = record { name = a.counts.output.name; parts = a.counts.output.parts }
 
+abbrev pub ghosts-answered-N-Ledger : goal.ghosts-answered-N-Ledger
+ghosts-answered-N-Ledger g a = record { name = a.counts.held.name; parts = a.counts.held.parts }
+
 abbrev pub ghosts-answered-M-Ledger : goal.ghosts-answered-M-Ledger
 ghosts-answered-M-Ledger g a = record { name = a.counts.evaluations.name; parts = a.counts.evaluations.parts }

@@ -20,14 +20,14 @@ append-requires-clause-worked_out g c = worked_out c.args.sheet.now c.requires.s
 pub returns-clause-under_lock : goal.returns-clause-under_lock
 returns-clause-under_lock g c =
     let x : StagingView = c.args.sheet.now in
-    let new : StagingView = c.commit.new.self in
+    let new : StagingView = c.make.new.self in
     let idle = sym (at_staged (λ (p : StagedView). c.fresh.result ≡ p.fresh) x.staged c.fresh.ensures.fresh)
     ∙ c.if-fresh.false in
     let of = at_staged (λ (p : StagedView). IsOf (sheet_of new) x.replica (history_after (prepared_of x p))
     (shown_at x.shown)) x.staged
-    c.commit.ensures.of in
+    c.make.ensures.of in
     same_locked g.L.DeskName.replica g.L.Named.opening x c.args.copies.now c.args.book.now.total c.requires.under_lock
-    new.replica new.history of.replica (of.history ∙ history_kept (change_in x) idle)
+    new.replica new.history c.args.copies.now of.replica (of.history ∙ history_kept (change_in x) idle) refl refl
 
 pub returns-clause-receipt : goal.returns-clause-receipt
 returns-clause-receipt g c =

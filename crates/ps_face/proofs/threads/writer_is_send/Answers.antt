@@ -11,6 +11,7 @@ use Rattle.std.specs.contracts.impls.GlobalAllocator.TheImpl.{ghosts}
 use Rattle.ps_face.specs.contracts.book.BookPrefix as front
 use Rattle.ps_face.specs.contracts.book.Head as head
 use Rattle.ps_face.specs.contracts.patch.KeptPatch as patch
+use Rattle.ps_face.specs.contracts.waiting.Waiting as waiting
 use Rattle.ps_face.specs.contracts.writer.FaceWriter.TheInside as inside
 use Rattle.ps_face.proofs.threads.writer_is_send.Goals as goal
 
@@ -25,6 +26,7 @@ returns g c =
     let f : IsSend front.the_row = record { owned = c.is_send-4.ensures.owned; leaving = λ k x w. tt } in
     let s : IsSend patches =
     record { owned = c.is_send-5.ensures.owned; leaving = λ k. c.is_send-5.ensures.leaving yes } in
+    let w : IsSend waiting.the_row = record { owned = c.is_send-6.ensures.owned; leaving = λ k x w. tt } in
     let whole : IsSend (S.row (inside.the_type g.row.L R g.L.Named g.L.Ledger)) =
     declared_send (inside.the_type g.row.L R g.L.Named g.L.Ledger) (
       record { owned = c.is_send-2.ensures.owned; leaving = λ k. c.is_send-2.ensures.leaving yes },
@@ -34,7 +36,7 @@ returns g c =
           as_row_send front.the_field f,
           (
             as_row_send (Vec.the_field patch.the_row Global.the_row ghosts) s,
-            (as_row_send (row_field R) c.type_bounds.send-R, tt),
+            (as_row_send waiting.the_field w, (as_row_send (row_field R) c.type_bounds.send-R, tt)),
           ),
         ),
       ),

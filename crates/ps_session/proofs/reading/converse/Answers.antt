@@ -68,7 +68,7 @@ release-requires g c =
 
 pub returns-in_err-release-clause-sink : goal.returns-in_err-release-clause-sink
 returns-in_err-release-clause-sink g c = λ is.
-    let r = c.in_ok-read_on.ensures.read in (
+    let r = c.in_ok-read_on.ensures.read in rw c.in_err-release.ensures.same_board (
       r.0,
       r.1,
       inl (inr (inr (
@@ -88,8 +88,9 @@ returns-in_err-release-clause-keep g c = λ is.
       failed.0,
       r.0,
       r.1,
-      end_halted _ _ c.args.board.now _ r.0 _ _ _ _ r.2 c.in_err-release.ensures.same
-          (c.in-Ok-finish.ensures.transcribed c.args.board.now _ r.0 r.3),
+      rw c.in_err-release.ensures.same_board
+          (end_halted _ _ c.args.board.now _ r.0 _ _ _ _ r.2 c.in_err-release.ensures.same
+          (c.in-Ok-finish.ensures.transcribed c.args.board.now _ r.0 r.3)),
     )
 
 pub returns-in_err-release-clause-covered : goal.returns-in_err-release-clause-covered
@@ -100,22 +101,24 @@ returns-in_err-release-clause-covered g c = λ holds.
     let ended = IsAtEnd (g.S.Source.remaining c.read_on.new.source) in (
       r.0,
       r.1,
-      elim (keep_or_other c.in_err-release.field-0.0) [
-        | inl kept ↦ subst
-            (λ sink. IsCovered lines covers ended c.args.board.now (g.D.Delivery.contents c.args.sink.now) r.0
-            c.finish.new.board (g.D.Delivery.contents sink) (g.D.Delivery.waiting sink))
-            (sym (c.in_err-release.ensures.keep (ap Err kept)).1)
-            (covered_last lines ended c.args.board.now _ covers _ 0 r.0 _ _ _ _
-            (c.in_err-release.ensures.stays _ c.in_ok-read_on.ensures.kept.1) r.3 _ _
-            (subst (λ w. HoldsBack (g.D.Delivery.contents c.read_on.new.sink)
-            (g.D.Delivery.contents c.finish.new.sink) w
-            (g.D.Delivery.waiting c.finish.new.sink)) c.in_ok-read_on.ensures.kept.2
-            (c.in-Ok-finish.ensures.held holds)) r.2
-            (c.in-Ok-finish.ensures.ran r.3.rest r.3.held))
-        | inr other ↦ covered_end lines ended c.args.board.now _ covers _ r.0 _ _ _ _ r.2
-            (c.in_err-release.ensures.covered (λ same. other cc)) c.in_err-release.ensures.same
-            (c.in-Ok-finish.ensures.transcribed c.args.board.now _ r.0 r.3)
-      ],
+      rw c.in_err-release.ensures.same_board
+          elim (keep_or_other c.in_err-release.field-0.0) [
+            | inl kept ↦ subst
+                (λ sink. IsCovered lines covers ended c.args.board.now (g.D.Delivery.contents c.args.sink.now) r.0
+                c.finish.new.board (g.D.Delivery.contents sink) (g.D.Delivery.waiting sink))
+                (sym (c.in_err-release.ensures.keep (ap Err kept)).1)
+                (covered_last lines ended c.args.board.now _ covers _ 0 r.0 _ _ _ _
+                (c.in_err-release.ensures.stays _ c.in_ok-read_on.ensures.kept.1) r.3 _ _
+                (subst (λ w. HoldsBack (g.D.Delivery.contents c.read_on.new.sink)
+                (g.D.Delivery.contents c.finish.new.sink) w
+                (g.D.Delivery.waiting c.finish.new.sink)) c.in_ok-read_on.ensures.kept.2
+                (c.in-Ok-finish.ensures.held holds)) r.2
+                (c.in-Ok-finish.ensures.ran r.3.rest r.3.held))
+            | inr other ↦ covered_end lines ended c.args.board.now _ covers _ r.0 _ _ _ _ r.2
+                (rw c.in_err-release.ensures.same_board at c.in_err-release.ensures.covered (λ same. other cc))
+                c.in_err-release.ensures.same
+                (c.in-Ok-finish.ensures.transcribed c.args.board.now _ r.0 r.3)
+          ],
     )
 
 pub returns-clause-transcribed : goal.returns-clause-transcribed
@@ -124,8 +127,9 @@ returns-clause-transcribed g c =
       r.0,
       r.1,
       r.2,
-      transcribed_flushed _ c.args.board.now _ 0 r.0 _ _ _ _ c.in_ok-release.ensures.same
-          (c.in-Ok-finish.ensures.transcribed c.args.board.now _ r.0 r.3),
+      rw c.in_ok-release.ensures.same_board
+          (transcribed_flushed _ c.args.board.now _ 0 r.0 _ _ _ _ c.in_ok-release.ensures.same
+          (c.in-Ok-finish.ensures.transcribed c.args.board.now _ r.0 r.3)),
     )
 
 pub returns-clause-covered : goal.returns-clause-covered
@@ -133,7 +137,9 @@ returns-clause-covered g c = λ holds.
     let r = c.in_ok-read_on.ensures.read in (
       r.0,
       r.1,
-      covered_end _ _ c.args.board.now _ (g.Q.Keeper.covers c.release.new.keeper) _ r.0 _ _ _ _ r.2
-          (c.in_ok-release.ensures.covered (λ is. cc)) c.in_ok-release.ensures.same
-          (c.in-Ok-finish.ensures.transcribed c.args.board.now _ r.0 r.3),
+      rw c.in_ok-release.ensures.same_board
+          (covered_end _ _ c.args.board.now _ (g.Q.Keeper.covers c.release.new.keeper) _ r.0 _ _ _ _ r.2
+          (rw c.in_ok-release.ensures.same_board at c.in_ok-release.ensures.covered (λ is. cc))
+          c.in_ok-release.ensures.same
+          (c.in-Ok-finish.ensures.transcribed c.args.board.now _ r.0 r.3)),
     )

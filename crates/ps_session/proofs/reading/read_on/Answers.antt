@@ -12,8 +12,9 @@ pub returns-in_err-release-clause-sink : goal.returns-in_err-release-clause-sink
 returns-in_err-release-clause-sink g c = λ is. (
   [],
   Consumes-nil _,
-  inr (inl (stands_answered _ c.args.board.now _ 0 [] _ _ _ _
-      (stands_begun _ c.args.board.now _ _ _ _ c.requires.fresh.0 c.requires.fresh.1 c.in_err-release.ensures.same))),
+  inr (inl (rw c.in_err-release.ensures.same_board (stands_answered _ c.args.board.now _ 0 [] _ _ _ _
+      (stands_begun _ c.args.board.now _ _ _ _ c.requires.fresh.0 c.requires.fresh.1
+      c.in_err-release.ensures.same)))),
 )
 
 pub returns-in_err-release-clause-keep : goal.returns-in_err-release-clause-keep
@@ -23,23 +24,26 @@ returns-in_err-release-clause-keep g c = λ is.
       failed.0,
       [],
       Consumes-nil _,
-      stands_halted _ ⊥ c.args.board.now _ 0 [] [] _ _ _ _
+      rw c.in_err-release.ensures.same_board (stands_halted _ ⊥ c.args.board.now _ 0 [] [] _ _ _ _
           (stands_begun _ c.args.board.now _ _ _ _ c.requires.fresh.0 c.requires.fresh.1
-          c.in_err-release.ensures.same),
+          c.in_err-release.ensures.same)),
     )
 
 pub returns-in_err-release-clause-covered : goal.returns-in_err-release-clause-covered
 returns-in_err-release-clause-covered g c = λ is holds. (
   [],
   Consumes-nil _,
-  covered_none _ ⊥ c.args.board.now _ (g.Q.Keeper.covers c.release.new.keeper) _ _ c.in_err-release.ensures.same,
+  rw c.in_err-release.ensures.same_board
+      (covered_none _ ⊥ c.args.board.now _ (g.Q.Keeper.covers c.release.new.keeper) _ _
+      c.in_err-release.ensures.same),
 )
 
 pub pieces-init : goal.pieces-init
 pieces-init g c = record {
   read = [];
   consumed = Consumes-nil _;
-  stands = stands_begun _ c.args.board.now _ _ _ _ c.requires.fresh.0 c.requires.fresh.1 c.in_ok-release.ensures.same;
+  stands = rw c.in_ok-release.ensures.same_board
+      (stands_begun _ c.args.board.now _ _ _ _ c.requires.fresh.0 c.requires.fresh.1 c.in_ok-release.ensures.same);
   fits = c.in_ok-release.ensures.fits;
   covers = c.in_ok-release.ensures.covered (λ is. cc);
   flushed = c.in_ok-release.ensures.flushed;

@@ -30,9 +30,10 @@ release-requires g c = record {
 pub parts-preserved : goal.parts-preserved
 parts-preserved g c = record {
   within = turn_within c.args.piece.now c.parts.start c.in-Ok.taken c.parts-test.true c.in-Ok.ensures.within.1;
-  stands = λ first written base read s. stands_flushed _ first written base _ _ _ _ _ _ c.in_ok-release.ensures.same
+  stands = λ first written base read s. rw c.in_ok-release.ensures.same_board
+      (stands_flushed _ first written base _ _ _ _ _ _ c.in_ok-release.ensures.same
       (stands_more _ first written base read c.args.piece.now c.parts.start c.in-Ok.taken _ _ _ _
-      (c.in-Ok.ensures.stands first written base _ (c.parts.invariant.stands first written base read s)));
+      (c.in-Ok.ensures.stands first written base _ (c.parts.invariant.stands first written base read s))));
   fits = c.in_ok-release.ensures.fits;
   covers = c.in_ok-release.ensures.covered (λ is. cc);
   flushed = c.in_ok-release.ensures.flushed;
@@ -40,20 +41,21 @@ parts-preserved g c = record {
 }
 
 pub returns-in_err-release-clause-sink : goal.returns-in_err-release-clause-sink
-returns-in_err-release-clause-sink g c = λ is first written read s.
-    part_breaks _ first written read c.args.piece.now c.parts.start c.in-Ok.taken _ _ _ _ _
+returns-in_err-release-clause-sink g c = λ is first written read s. rw c.in_err-release.ensures.same_board
+    (part_breaks _ first written read c.args.piece.now c.parts.start c.in-Ok.taken _ _ _ _ _
     c.in_err-release.ensures.same
     (c.in-Ok.ensures.stands first written 0 _ (c.parts.invariant.stands first written 0 read s))
-    g.D.Delivery.holds_back c.in-Ok.ensures.part
+    g.D.Delivery.holds_back c.in-Ok.ensures.part)
 
 pub returns-in_err-release-clause-keep : goal.returns-in_err-release-clause-keep
 returns-in_err-release-clause-keep g c = λ is.
     let p = err_from_is_err_and c.from_residual.result c.from_residual.ensures.1 in
     let failed = c.in_err-release.ensures.keep (same_fault c.from_residual.result p.0 _ _ p.1 p.2 is) in (
       failed.0,
-      λ first written read s. part_halts _ first written read c.args.piece.now c.parts.start c.in-Ok.taken _ _ _ _ _
+      λ first written read s. rw c.in_err-release.ensures.same_board
+          (part_halts _ first written read c.args.piece.now c.parts.start c.in-Ok.taken _ _ _ _ _
           c.in_err-release.ensures.same
-          (c.in-Ok.ensures.stands first written 0 _ (c.parts.invariant.stands first written 0 read s)),
+          (c.in-Ok.ensures.stands first written 0 _ (c.parts.invariant.stands first written 0 read s))),
     )
 
 pub returns-in_err-release-clause-covered : goal.returns-in_err-release-clause-covered
@@ -61,6 +63,7 @@ returns-in_err-release-clause-covered g c = λ is holds first written read s.
     let lines = BoardLines g.B.Board.calls in
     let covers = g.Q.Keeper.covers c.release.new.keeper in
     let stands = c.parts.invariant.stands first written 0 read s in
+    rw c.in_err-release.ensures.same_board
     elim (keep_or_other c.in_err-release.field-0.0) [
       | inl kept ↦ subst
           (λ sink. IsCovered lines covers ⊥ first written (read ++ c.args.piece.now) c.serve.new.board
@@ -71,5 +74,5 @@ returns-in_err-release-clause-covered g c = λ is holds first written read s.
           (c.in-Ok.ensures.held holds) c.in-Ok.taken _ _ c.in-Ok.ensures.stands)
       | inr other ↦ part_covered lines first written read c.args.piece.now c.parts.start c.in-Ok.taken _ _ _ _ _
           c.in_err-release.ensures.same (c.in-Ok.ensures.stands first written 0 _ stands) covers _
-          (c.in_err-release.ensures.covered (λ same. other cc))
+          (rw c.in_err-release.ensures.same_board at c.in_err-release.ensures.covered (λ same. other cc))
     ]

@@ -11,7 +11,7 @@ use Rattle.ps_desk.proofs.desk.Desk.close_at.Goals as goal
 pub returns-clause-begins : goal.returns-clause-begins
 returns-clause-begins g c =
     let h : List Entries = g.L.Named.opening in
-    let list : List Note = c.into_state-state.result in
+    let list : List Note = c.into_state-state.result.list in
     let passes : List PassView = c.args.passes.items in
     subst (λ (history : List Entries). HistoryBegins h history passes) (sym c.end.ensures.history)
     (all_begin h list passes (list_begins list passes
@@ -19,7 +19,7 @@ returns-clause-begins g c =
 
 pub returns-clause-one : goal.returns-clause-one
 returns-clause-one g c =
-    let list : List Note = c.into_state-state.result in
+    let list : List Note = c.into_state-state.result.list in
     let passes : List PassView = c.args.passes.items in
     let ends : All (EndsAt list) passes =
     subst (λ (t : Told). All (EndsAt t.list) passes) c.front.ensures.front c.gather-all.ensures.ends in

@@ -3,6 +3,7 @@ use Rattle.std.proofs.lemmas.List.{length-drop, take_all}
 use Rattle.std.specs.Prelude.{IfOk}
 use Rattle.ps_delta.specs.Deltas.{Entries}
 use Rattle.ps_face.specs.Legal.{history_of}
+use Rattle.ps_face.specs.Published.{Published}
 use Rattle.ps_face.specs.Seen.{Told}
 use Rattle.ps_face.specs.declared.patch.Note.{Note}
 use Rattle.ps_desk.proofs.desk.Desk.later.Goals as goal
@@ -13,7 +14,8 @@ returns-clause-deltas g c =
     let from = c.args.from in
     let is = c.catch_up.ensures.all ∙ ap (λ (t : Told). t.list) c.front.ensures.front in
     subst (λ (z : List Entries). IfOk c.deltas_after.result (λ ds. ds.items ≡ z))
-    (take_all (2 ^ 64 - 1) (drop from (history_of h c.deref-2.result.now))
-    (omega (arith, length-drop from (history_of h c.deref-2.result.now), c.deltas_after.ensures.bound))
-    ∙ ap (λ (l : List Note). drop from (history_of h l)) (c.deref-2.ensures ∙ sym c.deref.ensures ∙ sym is))
+    (take_all (2 ^ 64 - 1) (drop from (history_of h c.deref-2.result.now.list))
+    (omega (arith, length-drop from (history_of h c.deref-2.result.now.list), c.deltas_after.ensures.bound))
+    ∙ ap (λ (p : Published). drop from (history_of h p.list)) (c.deref-2.ensures ∙ sym c.deref.ensures)
+    ∙ ap (λ (l : List Note). drop from (history_of h l)) (sym is))
     c.deltas_after.ensures.deltas

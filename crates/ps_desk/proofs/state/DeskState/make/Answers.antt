@@ -18,8 +18,8 @@ pub finish-standing-requires-clause-under_lock : goal.finish-standing-requires-c
 finish-standing-requires-clause-under_lock g c =
     let x = c.self.inside in
     same_locked g.L.DeskName.replica g.L.Named.opening x.sheet x.copies x.book.total c.self.invariant.1
-    c.stage.new.self.replica c.stage.new.self.history c.in_ok-_report.ensures.staged.replica
-    c.in_ok-_report.ensures.staged.history
+    c.stage.new.self.replica c.stage.new.self.history c.make_way.new.copies c.in_ok-_report.ensures.staged.replica
+    c.in_ok-_report.ensures.staged.history c.make_way.ensures.list c.make_way.ensures.pending
 
 pub returns-clause-later : goal.returns-clause-later
 returns-clause-later g c =

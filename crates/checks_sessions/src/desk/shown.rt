@@ -1,0 +1,207 @@
+//! When others are shown what a session changes at its seat.
+
+ghost use Rattle.ps_grid.specs.Blanks.{IsBlankOf};
+ghost use Rattle.ps_desk.specs.Opening.{IsNamed};
+
+use crate::desk::desks::{cell, close, entered, open, sheet_of};
+use Act::{Enter, Look, Pull, Refuse, Show};
+use ps_desk::{Desk, DeskName, Parts, Pass, Seat};
+use ps_eval::Meter;
+use ps_grid::Refusal;
+use ps_session::Board;
+use ps_sheet::Edit;
+use ps_value::Value;
+use std::alloc::Global;
+use std::marker::Brand;
+use std::process::Abort;
+use std::sync::Wait;
+use std::sync::ledger::{Blank, Ledger};
+use std::thread::Threads;
+
+/// What a session does at its seat.
+#[derive(Clone, Copy)]
+enum Act {
+    /// It enters this number into A1, and is told this number.
+    Enter(&'static str, u64),
+    /// It adds to A1, which has no counter, and is refused.
+    Refuse,
+    /// It looks at A1, which shows this number.
+    Look(i64),
+    /// It pulls all deltas, which are so many.
+    Pull(usize),
+    /// It is about to hand its replies on.
+    Show,
+}
+
+/// Does what a session does, and tells whether it is answered what it is to be.
+fn is_answered<B: Board<Meter<M>>, M: Ledger, T: Abort + Threads + Sync>(
+    rt: &T,
+    alloc: Global,
+    board: &mut B,
+    meter: &mut Meter<M>,
+    act: Act,
+) -> bool {
+    match act {
+        Enter(number, told) => {
+            let edit = entered(rt, alloc, "A1", number);
+            board.apply_edit(rt, alloc, edit, meter).ok() == Some(told)
+        }
+        Refuse => {
+            let edit = Edit::Add(cell(rt, "A1"), 1);
+            board.apply_edit(rt, alloc, edit, meter).err() == Some(Refusal::NotTally)
+        }
+        Look(number) => board.value(cell(rt, "A1")).ok() == Some(Value::Num(number)),
+        Pull(count) => match board.pull(alloc, 0, usize::MAX) {
+            Ok(deltas) => deltas.len() == count,
+            Err(_) => false,
+        },
+        Show => {
+            board.show();
+            true
+        }
+    }
+}
+
+/// Does what two sessions do at their seats by turns, the first one leaves, and then what the second one does.
+fn take_turns<'d, L: DeskName, W: Wait + Drop, T: Abort + Threads + Wait + Sync, M: Ledger>(
+    rt: &'d T,
+    blank: Blank,
+    alloc: Global,
+    desk: &'d Desk<L, W>,
+    mut passes: Vec<Pass<L>>,
+    acts: &[(usize, Act)],
+    last: Act,
+) -> Vec<Pass<L>>
+    requires { IsBlankOf blank M.name M.parts }
+{
+    let mut meter = Meter::<M>::new(blank);
+    let pass = passes.pop().expect(rt, "a second pass");
+    let mut second = Seat::new(desk, rt, pass);
+    let pass = passes.pop().expect(rt, "a pass");
+    let mut first = Seat::new(desk, rt, pass);
+    for (at, (seat, act)) in acts.iter().enumerate() {
+        let is_due = if *seat == 0 {
+            is_answered(rt, alloc, &mut first, &mut meter, *act)
+        } else {
+            is_answered(rt, alloc, &mut second, &mut meter, *act)
+        };
+        assert!(rt; is_due, "at step {at}");
+    }
+    passes.push(first.leave()).ok().expect(rt, "room");
+    assert!(rt; is_answered(rt, alloc, &mut second, &mut meter, last));
+    passes.push(second.leave()).ok().expect(rt, "room");
+    passes
+}
+
+/// Opens a desk for two sessions over a sheet, has them take turns, and closes it.
+fn life<L: DeskName, T: Abort + Threads + Wait + Sync>(
+    rt: &T,
+    alloc: Global,
+    parts: Parts,
+    acts: &[(usize, Act)],
+    last: Act,
+)
+    requires named { IsNamed L.name L.parts L.book L.opening L.replica parts }
+{
+    let (desk, passes) = open::<L, T>(rt, alloc, parts);
+    let passes = take_turns::<L, &T, T, Brand>(rt, Blank::new(1), alloc, &desk, passes, acts, last);
+    drop(close(rt, desk, passes));
+}
+
+/// Does what two sessions do at a desk of an empty sheet.
+fn at_a_desk<T: Abort + Threads + Wait + Sync>(
+    rt: &T,
+    alloc: Global,
+    acts: &[(usize, Act)],
+    last: Act,
+) {
+    let parts = Parts::new(sheet_of(rt, alloc, 1, &[]), 2);
+    life::<Brand, T>(rt, alloc, parts, acts, last);
+}
+
+/// A change is shown at once. One that directly follows it is shown before the replies are handed on, and the next one
+/// after that at once again.
+#[test]
+fn changes_that_follow_are_shown_with_the_replies(rt: HostRuntime) {
+    let acts = [
+        (0, Enter("1", 1)),
+        (1, Look(1)),
+        (0, Enter("2", 2)),
+        (0, Enter("3", 3)),
+        (1, Look(1)),
+        (0, Show),
+        (1, Look(3)),
+        (0, Enter("4", 4)),
+        (1, Look(4)),
+    ];
+    at_a_desk(&rt, rt.alloc(), &acts, Look(4));
+}
+
+/// A session sees all that it changed, and then the others do.
+#[test]
+fn a_look_shows_what_waits(rt: HostRuntime) {
+    let acts = [
+        (0, Enter("1", 1)),
+        (0, Enter("2", 2)),
+        (0, Look(2)),
+        (1, Look(2)),
+        (0, Enter("3", 3)),
+        (1, Look(3)),
+        (0, Enter("4", 4)),
+        (0, Pull(4)),
+        (1, Look(4)),
+    ];
+    at_a_desk(&rt, rt.alloc(), &acts, Look(4));
+}
+
+/// Who is told of another session's changes, by a pull or by the number of a change of its own, sees them.
+#[test]
+fn who_is_told_of_changes_sees_them(rt: HostRuntime) {
+    let acts = [
+        (0, Enter("1", 1)),
+        (0, Enter("2", 2)),
+        (1, Pull(2)),
+        (1, Look(2)),
+        (0, Enter("3", 3)),
+        (1, Enter("4", 4)),
+        (1, Look(4)),
+        (1, Enter("5", 5)),
+        (0, Enter("6", 6)),
+        (1, Enter("7", 7)),
+        (1, Look(7)),
+        (0, Look(7)),
+    ];
+    at_a_desk(&rt, rt.alloc(), &acts, Look(7));
+}
+
+/// After a change that was refused a session sees all that came before it.
+#[test]
+fn a_refused_change_hides_nothing(rt: HostRuntime) {
+    let acts = [
+        (0, Enter("1", 1)),
+        (0, Enter("2", 2)),
+        (1, Refuse),
+        (1, Look(2)),
+        (0, Enter("3", 3)),
+        (0, Refuse),
+        (0, Look(3)),
+        (0, Refuse),
+        (0, Enter("4", 4)),
+        (1, Refuse),
+        (1, Refuse),
+        (1, Look(4)),
+    ];
+    at_a_desk(&rt, rt.alloc(), &acts, Look(4));
+}
+
+/// A session that leaves shows what waits.
+#[test]
+fn who_leaves_shows_what_waits(rt: HostRuntime) {
+    let acts = [
+        (0, Enter("1", 1)),
+        (0, Enter("2", 2)),
+        (0, Enter("3", 3)),
+        (1, Look(1)),
+    ];
+    at_a_desk(&rt, rt.alloc(), &acts, Look(3));
+}

@@ -1,0 +1,132 @@
+//! What waits to be shown.
+
+ghost use Rattle.std.specs.Prelude.{◌≡◌, ◌+◌, ◌<◌, ◌∷◌, [], fold, IfErr, OnOk, MatchOption};
+ghost use Rattle.ps_grid.specs.declared.refusal.Refusal.TheVariants.{Memory};
+ghost use Rattle.ps_face.specs.Seen.{Copy, turned};
+ghost use Rattle.ps_face.specs.declared.waiting.TheConstants.{MOST_WAITING};
+
+use crate::book::BookPrefix;
+use crate::changes::CellChanges;
+use crate::face::Operation;
+use core::mem;
+use ps_grid::{Cell, Refusal};
+use ps_shown::Kept;
+use std::alloc::Global;
+use std::marker::Model;
+
+/// With so many patches that wait all are shown at once, so fewer than this wait. Together they change no more cells
+/// than this either. So readers are never further behind, and what waits takes little memory.
+pub const MOST_WAITING: usize = 64;
+
+/// The patches of the list that wait to be shown, gathered as one operation on a copy. A contract sees them as how many
+/// there are, and as what a copy takes in with them.
+#[derive(Drop)]
+pub(crate) struct Waiting {
+    /// how many there are
+    patches: usize,
+    /// the version that the last of them leads to
+    version: u64,
+    /// what they change, one after another; there is room for as many changes as patches, or none at all
+    changes: Vec<(Cell, Kept)>,
+    /// the beginning of the list that ends with the last of them
+    front: BookPrefix,
+}
+
+impl Model for Waiting {
+    ghost use Rattle.std.specs.Prelude.{◌≡◌, ◌≤◌, [], length, map};
+    ghost use Rattle.std.specs.Coded.{codes};
+    ghost use Rattle.ps_face.specs.contracts.patch.Note as note;
+    ghost use Rattle.ps_face.specs.Published.{Gathered, gathered};
+    ghost use Rattle.ps_face.specs.Values.{valued};
+    ghost use Rattle.ps_face.specs.declared.waiting.TheConstants.{MOST_WAITING};
+
+    ghost Value = { Gathered };
+
+    ghost coded = { Prim.hlevel (codes, note.the_row.coded) };
+
+    ghost view = { λ w. record {
+      patches = w.patches;
+      turns = gathered w.patches (record {
+        book = w.front.book;
+        list = w.front.list;
+        version = w.version;
+        changes = map valued w.changes.items;
+      });
+    } };
+
+    ghost invariant = { λ w. (length w.changes.items ≤ MOST_WAITING) × (w.patches ≡ 0 → w.changes.items ≡ []) };
+}
+
+impl Waiting {
+    /// Nothing waits.
+    pub(crate) fn none(alloc: Global, front: BookPrefix) -> Waiting
+        ensures { result ≡ record { patches = 0; turns = [] } }
+    {
+        Waiting {
+            patches: 0,
+            version: 0,
+            changes: Vec::new(alloc),
+            front,
+        }
+    }
+
+    /// How many patches wait.
+    #[inline(always)]
+    pub(crate) fn patches(&self) -> usize
+        ensures { result ≡ self.now.patches }
+    {
+        self.patches
+    }
+
+    /// Makes room for a patch that is to wait. Refused only when out of memory.
+    #[inline(always)]
+    pub(crate) fn reserve(&mut self) -> Result<(), Refusal>
+        ensures same { self.new ≡ self.old }
+        ensures memory { IfErr result (λ e. e ≡ Memory) }
+    {
+        if self.changes.capacity() == 0 {
+            self.changes = Vec::with_capacity(*self.changes.allocator(), MOST_WAITING)?;
+        }
+        Ok(())
+    }
+
+    /// Lets one patch more wait, after the others. It comes back where there is no room for its changes.
+    #[inline(always)]
+    pub(crate) fn gather(&mut self, next: Operation) -> Result<(), Operation>
+        requires few { self.old.patches < MOST_WAITING }
+        ensures count { OnOk result (self.new.patches ≡ self.old.patches + 1) }
+        ensures turns { (x : Copy) → OnOk result
+            (fold turned x self.new.turns ≡ turned (fold turned x self.old.turns) next) }
+        ensures back { IfErr result (λ o. (o ≡ next) × (self.new ≡ self.old)) }
+    {
+        let room = self.changes.capacity().min(MOST_WAITING) - self.changes.len();
+        if next.changes.as_slice().len() > room {
+            return Err(next);
+        }
+        let Operation {
+            version,
+            changes,
+            front,
+        } = next;
+        changes.gather(&mut self.changes);
+        self.version = version;
+        self.front = front;
+        self.patches += 1;
+        Ok(())
+    }
+
+    /// What a copy takes in with all that wait, of which then none waits. Where none waited there is nothing.
+    #[inline(always)]
+    pub(crate) fn take(&mut self) -> Option<Operation>
+        ensures turns { MatchOption result (self.old.turns ≡ []) (λ t. self.old.turns ≡ t ∷ []) }
+        ensures none { self.new ≡ record { patches = 0; turns = [] } }
+    {
+        if self.patches == 0 {
+            return None;
+        }
+        self.patches = 0;
+        let none = Vec::new(*self.changes.allocator());
+        let changes = CellChanges::Several(mem::replace(&mut self.changes, none));
+        Some(Operation::new(self.version, changes, self.front.again()))
+    }
+}
