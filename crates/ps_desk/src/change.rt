@@ -10,19 +10,19 @@ ghost use Rattle.ps_delta.specs.Deltas.{joined_history, state_of};
 ghost use Rattle.ps_cells.specs.ChangedCells.{IsChanged};
 ghost use Rattle.ps_sheet.specs.Prepared.{shown_before};
 ghost use Rattle.ps_sheet.specs.Staging.{IsWorkedOut};
-ghost use Rattle.ps_face.specs.Legal.{history_of};
+ghost use Rattle.ps_face.specs.Legal.{Follows, history_of};
 ghost use Rattle.ps_desk.specs.UnderLock.{IsUnderLock};
-ghost use Rattle.ps_desk.specs.Patches.{IsNoted, KeepsChange, change_in, found_in, note_of};
+ghost use Rattle.ps_desk.specs.Patches.{IsNoted, KeepsChange, change_in, found_in, note_of, staged_in};
 ghost use Rattle.ps_desk.specs.Receipts.{IsReceipt, with_delta};
 ghost use Rattle.ps_desk.specs.declared.showing.Showing.TheVariants.{AtOnce};
 
 use crate::name::DeskName;
 use crate::pass::Pass;
-use crate::patch::patch_of;
+use crate::patch::{patch_of_listed, patch_of_one};
 use crate::receipt::Standing;
 use crate::showing::Showing;
 use ps_delta::Delta;
-use ps_face::FaceWriter;
+use ps_face::{FaceWriter, Patch};
 use ps_grid::{Cell, Refusal, Twin};
 use ps_sheet::Staging;
 use std::alloc::Global;
@@ -179,13 +179,71 @@ fn tell<L: DeskName, W: Wait + Drop>(
     ensures kept { OnErr result (copies.new ≡ copies.old) }
     ensures memory { IfErr result (λ e. e ≡ Memory) }
 {
-    let patch = patch_of(alloc, sheet, one, owner)?;
-    let number = patch.number();
-    match showing {
-        Showing::AtOnce => copies.publish_patch(patch),
-        Showing::Later => copies.post_patch(patch)?,
+    match one {
+        Some(cell) => {
+            let kept = sheet.all_shown().kept(cell).twin(alloc)?;
+            let patch = patch_of_one(sheet, cell, kept, owner);
+            let number = patch.number();
+            publish(copies, patch, showing)?;
+            Ok(number)
+        }
+        None => tell_listed(alloc, sheet, copies, owner, showing),
     }
+}
+
+/// The same of a change whose changed cells are listed.
+#[inline(never)]
+fn tell_listed<L: DeskName, W: Wait + Drop>(
+    alloc: Global,
+    sheet: &Staging,
+    copies: &mut FaceWriter<L, W>,
+    owner: u64,
+    showing: Showing,
+) -> Result<u64, Refusal>
+    requires staged { is_some sheet.now.staged ≡ true }
+    requires fresh { (change_in sheet.now).fresh ≡ true }
+    requires found { IsChanged (shown_before (change_in sheet.now)) (shown_at sheet.now.shown)
+        (staged_in sheet.now).changed }
+    requires history { sheet.now.history ≡ history_of L.opening copies.old.list }
+    requires none { copies.old.pending ≡ [] }
+    ensures list { OnOk result (copies.new.list
+        ≡ copies.old.list ++ note_of sheet.now (staged_in sheet.now).changed owner ∷ []) }
+    ensures number { IfOk result (λ n. n ≡ (change_in sheet.now).report.version) }
+    ensures bound { IfOk result (λ n. n < 2 ^ 64) }
+    ensures shown { OnOk result (showing ≡ AtOnce → copies.new.shown ≡ copies.new.list) }
+    ensures none { OnOk result (copies.new.pending ≡ []) }
+    ensures kept { OnErr result (copies.new ≡ copies.old) }
+    ensures memory { IfErr result (λ e. e ≡ Memory) }
+{
+    let patch = patch_of_listed(alloc, sheet, owner)?;
+    let number = patch.number();
+    publish(copies, patch, showing)?;
     Ok(number)
+}
+
+/// Adds a patch to the published list, and shows it to those who look, at once or later. Refused only when out of
+/// memory, and then nothing is told.
+#[inline(always)]
+fn publish<L: DeskName, W: Wait + Drop>(
+    copies: &mut FaceWriter<L, W>,
+    patch: Patch<'_>,
+    showing: Showing,
+) -> Result<(), Refusal>
+    requires none { copies.old.pending ≡ [] }
+    requires legal { Follows (history_of L.opening copies.old.list) patch }
+    ensures list { OnOk result (copies.new.list ≡ copies.old.list ++ patch.entry ∷ []) }
+    ensures shown { OnOk result (showing ≡ AtOnce → copies.new.shown ≡ copies.new.list) }
+    ensures none { OnOk result (copies.new.pending ≡ []) }
+    ensures kept { OnErr result (copies.new ≡ copies.old) }
+    ensures memory { IfErr result (λ e. e ≡ Memory) }
+{
+    match showing {
+        Showing::AtOnce => {
+            copies.publish_patch(patch);
+            Ok(())
+        }
+        Showing::Later => copies.post_patch(patch),
+    }
 }
 
 /// One more owner of a delta. It tries again where what the delta shares has as many owners as can be counted.

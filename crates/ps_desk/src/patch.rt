@@ -6,8 +6,9 @@ ghost use Rattle.ps_shown.specs.Shown.{shown_at};
 ghost use Rattle.ps_cells.specs.ChangedCells.{IsChanged};
 ghost use Rattle.ps_sheet.specs.Prepared.{shown_before};
 ghost use Rattle.ps_face.specs.Legal.{Follows};
+ghost use Rattle.ps_shown.specs.Kept.{value_of};
 ghost use Rattle.ps_face.specs.Values.{valued};
-ghost use Rattle.ps_desk.specs.Patches.{change_in, found_in, note_of, shown_of};
+ghost use Rattle.ps_desk.specs.Patches.{change_in, note_of, shown_of, staged_in};
 
 use ps_delta::Delta;
 use ps_face::Patch;
@@ -16,51 +17,44 @@ use ps_sheet::Staging;
 use ps_shown::{Kept, Shown};
 use std::alloc::Global;
 
-/// The patch of the fresh change that is staged, made by the call of a seat: of the one cell that it changes, or of
-/// those that are listed. It may come next after the sheet's history. Refused only when out of memory.
+/// The patch of the fresh change that is staged, which makes this cell alone show another value, and that is kept; made
+/// by the call of a seat. It may come next after the sheet's history.
 #[inline(always)]
-pub(crate) fn patch_of(
+pub(crate) fn patch_of_one(sheet: &Staging, cell: Cell, kept: Kept, owner: u64) -> Patch<'_>
+    requires staged { is_some sheet.now.staged ≡ true }
+    requires fresh { (change_in sheet.now).fresh ≡ true }
+    requires found { IsChanged (shown_before (change_in sheet.now)) (shown_at sheet.now.shown) (cell ∷ []) }
+    requires kept { value_of kept ≡ shown_at sheet.now.shown cell }
+    ensures patch { result ≡ note_of sheet.now (cell ∷ []) owner }
+    ensures follows { Follows sheet.now.history result }
+{
+    Patch::of_one(sheet.report().version, sheet.delta(), (cell, kept), owner)
+}
+
+/// The patch of the fresh change that is staged, which makes the cells that are listed show other values; made by the
+/// call of a seat. It may come next after the sheet's history. Refused only when out of memory.
+pub(crate) fn patch_of_listed(
     alloc: Global,
     sheet: &Staging,
-    one: Option<Cell>,
     owner: u64,
 ) -> Result<Patch<'_>, Refusal>
     requires staged { is_some sheet.now.staged ≡ true }
     requires fresh { (change_in sheet.now).fresh ≡ true }
     requires found { IsChanged (shown_before (change_in sheet.now)) (shown_at sheet.now.shown)
-        (found_in sheet.now one) }
-    ensures patch { IfOk result (λ p. p ≡ note_of sheet.now (found_in sheet.now one) owner) }
+        (staged_in sheet.now).changed }
+    ensures patch { IfOk result (λ p. p ≡ note_of sheet.now (staged_in sheet.now).changed owner) }
     ensures follows { IfOk result (Follows sheet.now.history) }
     ensures memory { IfErr result (λ e. e ≡ Memory) }
 {
     let number = sheet.report().version;
-    let (delta, shown) = (sheet.delta(), sheet.all_shown());
-    match one {
-        Some(cell) => patch_of_one(alloc, number, delta, cell, shown, owner),
-        None => patch_over(alloc, number, delta, sheet.changed(), shown, owner),
-    }
-}
-
-/// The patch of a delta that makes one cell show what a table has.
-#[inline(always)]
-fn patch_of_one<'a>(
-    alloc: Global,
-    number: u64,
-    delta: &'a Delta,
-    cell: Cell,
-    shown: &Shown,
-    owner: u64,
-) -> Result<Patch<'a>, Refusal>
-    ensures patch { IfOk result (λ p. p ≡ record {
-      number = number;
-      delta = delta.now;
-      changes = shown_of (shown_at shown.now) cell ∷ [];
-      owner = owner;
-    }) }
-    ensures memory { IfErr result (λ e. e ≡ Memory) }
-{
-    let kept = shown.kept(cell).twin(alloc)?;
-    Ok(Patch::of_one(number, delta, (cell, kept), owner))
+    patch_over(
+        alloc,
+        number,
+        sheet.delta(),
+        sheet.changed(),
+        sheet.all_shown(),
+        owner,
+    )
 }
 
 /// The patch of a delta that makes these cells show what a table has. That of one cell takes no memory.
@@ -81,7 +75,8 @@ fn patch_over<'a>(
     ensures memory { IfErr result (λ e. e ≡ Memory) }
 {
     if let [cell] = cells {
-        return patch_of_one(alloc, number, delta, *cell, shown, owner);
+        let kept = shown.kept(*cell).twin(alloc)?;
+        return Ok(Patch::of_one(number, delta, (*cell, kept), owner));
     }
     let changes = copy_shown(alloc, cells, shown)?;
     Ok(Patch::new(number, delta, changes, owner))

@@ -3,10 +3,7 @@ use Rattle.ps_delta.specs.Deltas.{Entries}
 use Rattle.ps_face.specs.Legal.{Follows}
 use Rattle.ps_desk.proofs.change.tell.Goals as goal
 
-pub publish_patch-requires-clause-legal : goal.publish_patch-requires-clause-legal
-publish_patch-requires-clause-legal g c =
-    subst (λ (h : List Entries). Follows h c.in_ok-patch.patch) c.requires.history c.in_ok-patch.ensures.follows
-
-pub post_patch-requires-clause-legal : goal.post_patch-requires-clause-legal
-post_patch-requires-clause-legal g c =
-    subst (λ (h : List Entries). Follows h c.in_ok-patch.patch) c.requires.history c.in_ok-patch.ensures.follows
+pub publish-requires-clause-legal : goal.publish-requires-clause-legal
+publish-requires-clause-legal g c =
+    subst (λ (h : List Entries). Follows h c.patch_of_one-patch.result) c.requires.history
+    c.patch_of_one-patch.ensures.follows
