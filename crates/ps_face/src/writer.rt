@@ -168,6 +168,7 @@ impl<L: Named, R: Wait + Drop> FaceWriter<L, R> {
     /// read what was shown before the last time.
     ///
     /// Cost: twice the changes of the patch, and a constant for each reader; what waits has been paid for. No memory.
+    #[inline(always)]
     pub fn publish_patch(&mut self, patch: Patch<'_>)
         requires none { self.old.pending ≡ [] }
         requires legal { Follows (history_of L.opening self.old.list) patch }
@@ -373,6 +374,7 @@ fn add_patch<L: Named, R: Wait>(
 }
 
 /// Adds the patch to the book.
+#[inline(always)]
 fn add_to<R: Wait>(rt: &R, head: &Head, front: &mut BookPrefix, patch: &Patch<'_>)
     requires book { head.now ≡ front.old.book }
     ensures { front.new ≡ record front.old { list = front.old.list ++ patch.now ∷ [] } }
@@ -399,7 +401,7 @@ fn show_waiting<L: Named, R: Wait>(rt: &R, copies: &mut Copies<L>, waiting: &mut
 }
 
 /// Shows readers a copy that has taken in all that waits, and then the operation.
-#[inline(never)]
+#[inline(always)]
 fn show_with<L: Named, R: Wait>(
     rt: &R,
     copies: &mut Copies<L>,
@@ -423,6 +425,7 @@ fn show_with<L: Named, R: Wait>(
 }
 
 /// Shows readers a copy that has taken in all that lies in the queue of the copies, and then the operation.
+#[inline(always)]
 fn turn_over<L: Named, R: Wait>(rt: &R, copies: &mut Copies<L>, operation: Operation)
     requires waits { MayShow L.opening L.book copies.old.desk.shown.value
         (drop copies.old.behind copies.old.log.items) }

@@ -356,7 +356,7 @@ impl Staging {
     /// where no cell shows another value or several were put; then [`Staging::list_changed`] tells.
     ///
     /// Cost: constant.
-    #[inline]
+    #[inline(always)]
     pub fn one_changed(&self) -> Option<Cell>
         requires staged { is_some self.now.staged ≡ true }
         ensures changed { IsSomeAnd self.now.staged (λ p. IfSome result (λ c.
