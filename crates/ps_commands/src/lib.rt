@@ -48,6 +48,7 @@ mod shared;
 mod squash;
 mod sync;
 mod table;
+mod unfreed;
 
 pub use connection::{Attended, DeskSeat, KeptSeat, attend_kept, attend_lines};
 pub use counts::Counts;
@@ -65,3 +66,4 @@ pub use serving::{Entrance, Serving};
 pub use squash::squash_on;
 pub use sync::sync_on;
 pub use table::table_on;
+pub use unfreed::leave_unfreed;

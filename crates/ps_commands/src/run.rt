@@ -11,6 +11,7 @@ ghost use Rattle.ps_commands.specs.Commands.{IsOpened};
 ghost use Rattle.ps_commands.specs.declared.fault.ProgramFault.TheVariants.{Refused};
 
 use crate::fault::ProgramFault;
+use crate::unfreed::leave_unfreed;
 use ps_device::{Sink, Source};
 use ps_eval::Meter;
 use ps_grid::Refusal;
@@ -20,7 +21,6 @@ use ps_session::{HeldOutput, Resources, Watcher, run_kept, run_watched};
 use ps_sheet::Sheet;
 use ps_words::SheetOptions;
 use std::alloc::Global;
-use std::mem;
 use std::sync::ledger::Ledger;
 use std::thread::Threads;
 
@@ -133,10 +133,4 @@ pub fn answer_kept<
     leave_unfreed(sheet);
     done?;
     Ok(())
-}
-
-/// Leaves a sheet as it is: the program ends next, and the system takes back at once what would be freed piece by
-/// piece.
-pub(crate) fn leave_unfreed(sheet: Sheet) {
-    mem::forget(sheet);
 }

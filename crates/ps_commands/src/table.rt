@@ -7,7 +7,7 @@ ghost use Rattle.ps_commands.specs.Commands.{IsCauseOf, IsTableOf, cells_text, f
 ghost use Rattle.ps_commands.specs.declared.fault.ProgramFault.TheVariants.{Refused};
 
 use crate::fault::{ProgramFault, fault_of_import};
-use crate::run::leave_unfreed;
+use crate::unfreed::leave_unfreed;
 use ps_csv::{Imported, TableWatcher, export, export_entries, import_watched};
 use ps_device::{Failed, Sink, Source, hand_on};
 use ps_eval::Meter;

@@ -23,9 +23,9 @@ ghost use Rattle.ps_grid.specs.Blanks.{IsBlankOf};
 use clap::Error;
 use clap::error::ErrorKind;
 use ps_commands::{
-    Counts, KeptOnlooker, Onlooker, ProgramFault, answer_kept, answer_lines, follow_on,
-    open_kept_sheet, open_page, port_fault, serve, serve_kept, squash_on, status_of, sync_on,
-    table_on, tell_opened,
+    Closed, Counts, KeptOnlooker, Onlooker, ProgramFault, answer_kept, answer_lines, follow_on,
+    leave_unfreed, open_kept_sheet, open_page, port_fault, serve, serve_kept, squash_on, status_of,
+    sync_on, table_on, tell_opened,
 };
 use ps_device::{ConsoleOutput, Reading, Sink, Writing};
 use ps_eval::Meter;
@@ -290,10 +290,14 @@ fn serve_sessions<
 ) -> Result<(), ProgramFault> {
     match options.keep {
         Some(path) => {
-            serve_kept(threads, rt.alloc(), options, path, out, rt.stderr(), meter)?;
+            let closed = serve_kept(threads, rt.alloc(), options, path, out, rt.stderr(), meter)?;
+            let Closed { sheet, .. } = closed;
+            leave_unfreed(sheet);
         }
         None => {
-            serve(threads, rt.alloc(), options, out)?;
+            let closed = serve(threads, rt.alloc(), options, out)?;
+            let Closed { sheet, .. } = closed;
+            leave_unfreed(sheet);
         }
     }
     Ok(())
