@@ -47,18 +47,14 @@ fn tell<L: Named, T: Abort + Threads + Sync, R: Wait + Drop>(
 
 /// Goes through the steps, of which one shows something. One reader enters after each; another one enters before the
 /// first, and still sees an empty sheet after the last; then it leaves, and sees what the first one saw.
-fn go_through<L: Named, T: Abort + Threads + Wait + Sync>(
+fn go_through<L: Named, T: Abort + Threads + Sync, R: Wait + Drop>(
     rt: &T,
     alloc: Global,
-    opened: NewBook,
+    mut published: Published<L, R>,
+    mut reader: FaceReader<L>,
+    early: FaceReader<L>,
     steps: &[Step],
-) -> Result<(), Refusal>
-    requires book { opened ≡ L.book }
-    requires opening { L.opening ≡ [] }
-{
-    let (mut published, mut readers) = Published::<L, &T>::open(rt, rt, alloc, opened, 3)?;
-    let mut reader = readers.pop().expect(rt, "a reader");
-    let early = readers.pop().expect(rt, "a reader");
+) -> Result<(), Refusal> {
     let early = early.enter().ok().expect(rt, "a writer");
     let mut last = (0, Value::Empty, Value::Empty);
     for step in steps {
@@ -89,41 +85,48 @@ const FIVE: Value = Value::Num(5);
 
 const SEVEN: Value = Value::Num(7);
 
-/// Goes through the steps over copies of an empty sheet.
-fn go_anew<T: Abort + Threads + Wait + Sync>(
-    rt: &T,
-    alloc: Global,
-    opened: NewBook,
-    steps: &[Step],
-) -> Result<(), Refusal> {
-    go_through::<Brand, T>(rt, alloc, opened, steps)
+/// What is done with the copies of an empty sheet.
+#[derive(Clone, Copy)]
+enum Trial<'a> {
+    /// These steps are gone through.
+    Steps(&'a [Step]),
+    /// Patches are posted until all are shown.
+    Fill,
+    /// Patches of many changes are posted.
+    Widen,
+    /// Some patches are posted.
+    Post,
 }
 
-/// Fills up copies of an empty sheet.
-fn fill_anew<T: Abort + Threads + Wait + Sync>(
+/// Does this with copies of an empty sheet.
+fn try_anew<T: Abort + Threads + Wait + Sync>(
     rt: &T,
     alloc: Global,
     opened: NewBook,
+    trial: Trial<'_>,
 ) -> Result<(), Refusal> {
-    fill_up::<Brand, T>(rt, alloc, opened)
+    try_on::<Brand, T>(rt, alloc, opened, trial)
 }
 
-/// Posts patches of many changes to copies of an empty sheet.
-fn widen_anew<T: Abort + Threads + Wait + Sync>(
+/// Does this with copies of an empty sheet, of this name.
+fn try_on<L: Named, T: Abort + Threads + Wait + Sync>(
     rt: &T,
     alloc: Global,
     opened: NewBook,
-) -> Result<(), Refusal> {
-    post_wide::<Brand, T>(rt, alloc, opened)
-}
-
-/// Posts some patches to copies of an empty sheet.
-fn post_anew<T: Abort + Threads + Wait + Sync>(
-    rt: &T,
-    alloc: Global,
-    opened: NewBook,
-) -> Result<(), Refusal> {
-    post_some::<Brand, T>(rt, alloc, opened)
+    trial: Trial<'_>,
+) -> Result<(), Refusal>
+    requires book { opened ≡ L.book }
+    requires opening { L.opening ≡ [] }
+{
+    let (published, mut readers) = Published::<L, &T>::open(rt, rt, alloc, opened, 3)?;
+    let reader = readers.pop().expect(rt, "a reader");
+    let early = readers.pop().expect(rt, "a reader");
+    match trial {
+        Trial::Steps(steps) => go_through(rt, alloc, published, reader, early, steps),
+        Trial::Fill => fill_up(rt, alloc, published, reader),
+        Trial::Widen => post_wide(rt, alloc, published, reader),
+        Trial::Post => post_some(rt, alloc, published, reader),
+    }
 }
 
 /// After two patches are posted a reader that enters sees an empty sheet, and after `show` both. One that entered
@@ -136,7 +139,7 @@ fn posted_patches_wait_until_they_are_shown(rt: HostRuntime) {
         Step::Show((2, FIVE, text(&rt, "text"))),
         Step::Show((2, FIVE, text(&rt, "text"))),
     ];
-    let ended = go_anew(&rt, rt.alloc(), NewBook::new(), &steps);
+    let ended = try_anew(&rt, rt.alloc(), NewBook::new(), Trial::Steps(&steps));
     assert!(rt; ended.is_ok());
 }
 
@@ -147,7 +150,7 @@ fn a_published_patch_shows_what_waits(rt: HostRuntime) {
         Step::Tell(Telling::Posted, "A1", "=[.B1]", (0, EMPTY, EMPTY)),
         Step::Tell(Telling::Published, "B1", "7", (2, SEVEN, SEVEN)),
     ];
-    let ended = go_anew(&rt, rt.alloc(), NewBook::new(), &steps);
+    let ended = try_anew(&rt, rt.alloc(), NewBook::new(), Trial::Steps(&steps));
     assert!(rt; ended.is_ok());
 }
 
@@ -167,16 +170,12 @@ fn count<L: Named, T: Abort + Threads + Sync, R: Wait + Drop>(
 }
 
 /// Posts as many patches as are shown at once, and one more, which waits until it is shown.
-fn fill_up<L: Named, T: Abort + Threads + Wait + Sync>(
+fn fill_up<L: Named, T: Abort + Threads + Sync, R: Wait + Drop>(
     rt: &T,
     alloc: Global,
-    opened: NewBook,
-) -> Result<(), Refusal>
-    requires book { opened ≡ L.book }
-    requires opening { L.opening ≡ [] }
-{
-    let (mut published, mut readers) = Published::<L, &T>::open(rt, rt, alloc, opened, 2)?;
-    let mut reader = readers.pop().expect(rt, "a reader");
+    mut published: Published<L, R>,
+    mut reader: FaceReader<L>,
+) -> Result<(), Refusal> {
     for number in 1..MOST_WAITING {
         let (gone_on, back, seen) = count(rt, alloc, published, reader, number)?;
         published = gone_on;
@@ -197,22 +196,18 @@ fn fill_up<L: Named, T: Abort + Threads + Wait + Sync>(
 /// Of patches that are posted 63 wait, and with the next one all are shown.
 #[test]
 fn the_64th_patch_that_waits_shows_all(rt: HostRuntime) {
-    let ended = fill_anew(&rt, rt.alloc(), NewBook::new());
+    let ended = try_anew(&rt, rt.alloc(), NewBook::new(), Trial::Fill);
     assert!(rt; MOST_WAITING == 64 && ended.is_ok());
 }
 
 /// Posts formulas on A1 to 40 cells, and shows them. Of two numbers that are then posted in A1 the first waits, with
 /// what the formulas show; with the second too many changes would wait, so both are shown.
-fn post_wide<L: Named, T: Abort + Threads + Wait + Sync>(
+fn post_wide<L: Named, T: Abort + Threads + Sync, R: Wait + Drop>(
     rt: &T,
     alloc: Global,
-    opened: NewBook,
-) -> Result<(), Refusal>
-    requires book { opened ≡ L.book }
-    requires opening { L.opening ≡ [] }
-{
-    let (mut published, mut readers) = Published::<L, &T>::open(rt, rt, alloc, opened, 2)?;
-    let reader = readers.pop().expect(rt, "a reader");
+    mut published: Published<L, R>,
+    reader: FaceReader<L>,
+) -> Result<(), Refusal> {
     for index in 1..41 {
         let place = Cell::from_index(index).expect(rt, "a cell");
         let formula = read_entry(alloc, b"=[.A1]")?;
@@ -229,21 +224,17 @@ fn post_wide<L: Named, T: Abort + Threads + Wait + Sync>(
 /// Patches that would change more than 64 cells together don't wait.
 #[test]
 fn too_many_changes_are_shown_at_once(rt: HostRuntime) {
-    let ended = widen_anew(&rt, rt.alloc(), NewBook::new());
+    let ended = try_anew(&rt, rt.alloc(), NewBook::new(), Trial::Widen);
     assert!(rt; ended.is_ok());
 }
 
 /// Posts six patches, and shows what waits. Before that a reader sees a version, and what A1 shows at it.
-fn post_some<L: Named, T: Abort + Threads + Wait + Sync>(
+fn post_some<L: Named, T: Abort + Threads + Sync, R: Wait + Drop>(
     rt: &T,
     alloc: Global,
-    opened: NewBook,
-) -> Result<(), Refusal>
-    requires book { opened ≡ L.book }
-    requires opening { L.opening ≡ [] }
-{
-    let (mut published, mut readers) = Published::<L, &T>::open(rt, rt, alloc, opened, 2)?;
-    let mut reader = readers.pop().expect(rt, "a reader");
+    mut published: Published<L, R>,
+    mut reader: FaceReader<L>,
+) -> Result<(), Refusal> {
     for number in 1..7 {
         let (gone_on, back, (version, value, _)) = count(rt, alloc, published, reader, number)?;
         published = gone_on;
@@ -259,9 +250,9 @@ fn post_some<L: Named, T: Abort + Threads + Wait + Sync>(
 /// Where memory is refused, as for the patches that wait, all goes well at the next try.
 #[test]
 fn refused_post(rt: HostRuntime) {
-    let mut ended = post_anew(&rt, rt.alloc(), NewBook::new());
+    let mut ended = try_anew(&rt, rt.alloc(), NewBook::new(), Trial::Post);
     if ended == Err(Refusal::Memory) {
-        ended = post_anew(&rt, rt.alloc(), NewBook::new());
+        ended = try_anew(&rt, rt.alloc(), NewBook::new(), Trial::Post);
     }
     assert!(rt; ended.is_ok());
 }
