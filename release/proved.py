@@ -5,6 +5,8 @@ import sys
 from pathlib import Path
 
 import crates
+import tools
+from tools import Fault
 
 BEGUN = re.compile(r"\w+: chose --jobs \d+ for (.+)\n?")
 # The libraries side by side, and then what is left: the program, with what the first wouldn't build.
@@ -45,3 +47,18 @@ def run(words, folder, out, shown):
             out.flush()
             shown.read(line)
     return ran.returncode == 0
+
+
+def object_of(top):
+    """Returns the bytes of the object that the proved program is linked of, which `rt` is made to compile once more.
+
+    What lies there already may be of an earlier build: the gate keeps no object.
+    """
+    out = top / "crates" / crates.PROGRAM / "out"
+    made = out / f"{crates.PROGRAM}.o"
+    made.unlink(missing_ok=True)
+    # (with a flag, rt compiles what it has compiled before)
+    tools.call(["rt", "run", "--backend", "llvm", "--", "--help"], cwd=out.parent)
+    if not made.is_file():
+        raise Fault("rt run left no object")
+    return made.read_bytes()

@@ -1,10 +1,8 @@
-"""The kit whose `rt` is on `PATH`: where it lies, what it is, and how it compiles and links."""
+"""The kit whose `rt` is on `PATH`: where it lies, what it is, and how its tools are called."""
 import os
 import shutil
 import subprocess
 from pathlib import Path
-
-TRIPLE = "x86_64-unknown-linux-gnu"
 
 
 class Fault(Exception):
@@ -24,11 +22,6 @@ def identity(kit):
     return call([kit / "bin/rt", "version"]).decode(errors="replace").strip()
 
 
-def logic(identity):
-    """Returns what a kit proves by, of the line that it calls itself by. Kits of one logic prove the same."""
-    return identity.partition(" logic ")[2] or identity
-
-
 def call(words, **how):
     """Runs a tool of the kit and returns what it writes, or stops with the last line that it said."""
     how = {"stdin": subprocess.DEVNULL, "stdout": subprocess.PIPE, "stderr": subprocess.PIPE, **how}
@@ -42,8 +35,3 @@ def call(words, **how):
         raise Fault(f"{name} ended with status {ran.returncode}{''.join(f': {line}' for line in said[-1:])}")
     return ran.stdout
 
-
-def link(kit, made, program):
-    """Links an object as `rt run` does."""
-    words = ["--target", TRIPLE, "--toolchain", kit / "toolchain", "-o", program, made]
-    call([kit / "bin/rattle-link", *words, kit / "c/libos_c.a", kit / "c/liblibc_c.a"])

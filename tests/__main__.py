@@ -1,12 +1,14 @@
-"""The whole test of the repository: the merge gate, the wrong bodies, the released code, and the tests of the program.
+"""The whole test of the repository: the merge gate, the wrong bodies, the released object, and the tests of the program.
 
 `./test` has all of it, `./test --program` the latter alone, and `./test --program TEXT` those whose name has the text.
+The latter needs no kit: it tests the program that `./sheet` links of the released object.
 `./test --wrong` tries the wrong bodies alone, and `./test --wrong CRATE` those of a crate, over what is proved already.
 The last line is `N passed, M failed` over everything that ran, and the exit status is 0 only where nothing failed.
 Tests that want a browser are left out where there is none, and by `./test --program` those that want the tests of the
 crates, which `rt ci` builds: then `, K skipped` follows.
 `./test --hunt MINUTES` looks for trouble by chance (`hunt/`, `docs/HUNT.md`), and ends in the same way.
 """
+import os
 import re
 import subprocess
 import sys
@@ -19,6 +21,8 @@ import wrong
 from program import NO_BROWSER, NO_TESTS, TOP
 from wrong import Fault
 
+# The tests of worked rows and of starts, which are also run on the program that the kit links.
+ROWS = ("test_start", "test_transcripts")
 USAGE = (
     "usage: ./test, or ./test --program [TEXT], or ./test --wrong [CRATE], or ./test --hunt MINUTES [--seed NUMBER]"
 )
@@ -120,13 +124,37 @@ def gate():
     return tally
 
 
+def is_built(*words):
+    """Whether there is a program, the proved one where the word `--prove` asks for it."""
+    how = {"stdin": subprocess.DEVNULL, "stdout": subprocess.DEVNULL}
+    return subprocess.run([TOP / "build", *words], **how).returncode == 0
+
+
 def released():
-    """Compares the released code with the build that the gate has proved."""
+    """Compares the released object with that of the build that the gate has proved."""
+    if not is_built("--prove"):
+        return failed("the proved program isn't built, so it wasn't compared")
     why = compared.difference(TOP)
     if why is not None:
         return failed(why)
-    print("test: the released code is that of the proved build", flush=True)
+    print("test: the released object is that of the proved build", flush=True)
     return Tally(1, 0)
+
+
+def rows_of_proved():
+    """Runs the tests of worked rows and of starts on the program that the kit has linked."""
+    tally = Tally(0, 0)
+    for text in ROWS:
+        print(f"test: {text} on the program that the kit links", flush=True)
+        words = [sys.executable, "-B", TOP / "tests", "--program", text]
+        environment = {**os.environ, "SHEET_PROGRAM": str(TOP / "crates/sheet/out/sheet")}
+        ran = subprocess.run(words, stdin=subprocess.DEVNULL, stdout=subprocess.PIPE, text=True, env=environment)
+        # (all but its last line, which has its counts)
+        print(*ran.stdout.splitlines()[:-1], sep="\n", flush=True)
+        counts = re.search(r"(\d+) passed, (\d+) failed(?:, (\d+) skipped)?\n$", ran.stdout)
+        ended = failed(f"{text} ended with status {ran.returncode}") if counts is None else Tally(*map(int, counts.groups("0")))
+        tally = tally.and_also(ended)
+    return tally
 
 
 def refused(crate=""):
@@ -139,10 +167,8 @@ def refused(crate=""):
 
 
 def program(text, reasons):
-    """Has the program proved where it isn't, and runs the tests of this folder whose names have the text. A test may be
-    left out for these reasons."""
-    build = [TOP / "build", "--prove"]
-    if subprocess.run(build, stdin=subprocess.DEVNULL, stdout=subprocess.DEVNULL).returncode != 0:
+    """Runs the tests of this folder whose names have the text. A test may be left out for these reasons."""
+    if not is_built():
         return failed("the program isn't built, so it wasn't tested")
     loader = unittest.TestLoader()
     loader.testNamePatterns = [f"*{text}*"]
@@ -160,6 +186,9 @@ def program(text, reasons):
 def main(words):
     """Runs what the words ask for, and returns the exit status."""
     if words[:1] == ["--hunt"]:
+        if not is_built():
+            print(failed("the program isn't built, so there is no hunt"))
+            return 1
         # (read only here, since this file's own test has no hunt beside it)
         from hunt import command
         return command.main(words)
@@ -175,6 +204,8 @@ def main(words):
         # (the gate has built the tests of the crates)
         reasons = (NO_BROWSER, NO_TESTS) if words else (NO_BROWSER,)
         tally = tally.and_also(program("".join(words[1:]), reasons))
+    if not words:
+        tally = tally.and_also(rows_of_proved())
     print(tally)
     return 1 if tally.failed else 0
 

@@ -1,34 +1,24 @@
-"""Whether the released code of `release/` is that of the build that the gate has proved."""
+"""Whether the released object of `release/` is that of the build that the gate has proved."""
+import lzma
+import subprocess
 import sys
-import tempfile
-from pathlib import Path
 
 from program import TOP
 
 sys.path.insert(0, str(TOP / "release"))
-import tools
-from released import Released
+import proved
 from tools import Fault
 
 
 def difference(top):
-    """Why the released code in this folder isn't that of the proved build there, or None where it is.
-
-    Programs are compared, since the gate keeps no object of a program that an earlier run on the machine has proved.
-    """
-    proved = top / "crates/sheet/out/sheet"
-    if not proved.is_file():
-        return "there is no proved build to compare with"
+    """Why the released object in this folder isn't, byte for byte, that of the proved build there, or None where it is."""
     try:
-        kit, released = tools.folder(), Released(top)
-        others = released.differs(tools.identity(kit))
-        if others:
-            return f"the released code was made of another {', '.join(others)}: run release/make"
-        with tempfile.TemporaryDirectory(prefix="sheet-compared-") as room:
-            made, program = Path(room) / "released.o", Path(room) / "released"
-            released.compile(kit, made)
-            tools.link(kit, made, program)
-            is_same = program.read_bytes() == proved.read_bytes()
-        return None if is_same else "the released code makes another program than the proved build"
-    except Fault as fault:
-        return f"the released code is of no use: {fault}"
+        changed = subprocess.run([top / "release/changed"], stdout=subprocess.PIPE, check=True, text=True).stdout.strip()
+        if changed:
+            return f"the released program was made of other sources ({changed}): run release/make"
+        if not (top / "crates/sheet/out/sheet").is_file():
+            return "there is no proved build to compare with"
+        is_same = lzma.decompress((top / "release/sheet.o.xz").read_bytes()) == proved.object_of(top)
+    except (OSError, lzma.LZMAError, subprocess.SubprocessError, Fault) as fault:
+        return f"the released object can't be compared: {fault}"
+    return None if is_same else "the released object isn't that of the proved build"

@@ -1,11 +1,12 @@
 """Libraries that are loaded before the program, and stand in for the C library's calls."""
 import os
 import subprocess
+from pathlib import Path
 
 from program import LIMIT, TOP
 
-# Started without the launcher, whose own calls aren't meant; `./test` has it built.
-PROGRAM = TOP / "crates/sheet/out/sheet"
+# The program that the launcher starts, without the launcher, whose own calls aren't meant.
+PROGRAM = Path(subprocess.run([TOP / "build"], stdout=subprocess.PIPE, check=True, text=True).stdout.strip())
 
 
 def build(source, library):

@@ -9,7 +9,8 @@ from pathlib import Path
 from typing import NamedTuple
 
 TOP = Path(__file__).resolve().parent.parent
-SHEET = str(TOP / "sheet")
+# What is tested: the launcher, or where this names another program, that one.
+SHEET = os.environ.get("SHEET_PROGRAM", str(TOP / "sheet"))
 # The longest wait for anything, in seconds.
 LIMIT = 60
 DEVICE_FAILED = b"err 20 device\n"

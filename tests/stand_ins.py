@@ -1,4 +1,4 @@
-"""A small repository of four crates, with stand-ins for the tools of the kit that prove, compile and link."""
+"""A small repository of four crates, with stand-ins for the tool that proves and builds and for the C compiler."""
 import os
 import shutil
 import stat
@@ -13,7 +13,7 @@ aside: low
 middle tests_may=Threads: itoa low
 sheet: clap middle low
 """
-# The program's source is the code that clang is given, the object that it makes of it, and the program.
+# The program's source is also the object that is made of it, and the program that is linked of that.
 SOURCE = """\
 #!/bin/sh
 echo "words: $*"
@@ -28,11 +28,10 @@ for crate in low middle sheet; do
     echo "rt: chose --jobs 2 for $crate" >&2
     echo "fn $crate::first: proved"
 done
-kit=$(dirname "$(dirname "$(readlink -f "$0")")")
 mkdir -p out
-cp src/main.rt out/module.bc
-env -i "PATH=$PATH" "$kit/toolchain/bin/clang" "--sysroot=$kit/toolchain" -c -x ir out/module.bc -o out/sheet.o -fast &&
-    "$kit/bin/rattle-link" -o out/sheet out/sheet.o
+cp src/main.rt out/sheet.o
+cp out/sheet.o out/sheet
+chmod +x out/sheet
 """
 FAILS = """\
 #!/bin/sh
@@ -42,19 +41,9 @@ echo "rt: chose --jobs 2 for middle" >&2
 echo "fn middle::first: not proved"
 exit 1
 """
-CLANG = """\
+COMPILER = """\
 #!/bin/sh
-echo "clang: $*" >> {top}/calls
-while [ $# != 0 ]; do
-    [ "$1" = ir ] && code=$2
-    [ "$1" = -o ] && made=$2
-    shift
-done
-cat "$code" > "$made"
-"""
-LINK = """\
-#!/bin/sh
-echo "link: $*" >> {top}/calls
+echo "cc: $*" >> {top}/calls
 while [ $# != 0 ]; do
     [ "$1" = -o ] && program=$2
     case $1 in *.o) made=$1 ;; esac
@@ -70,6 +59,8 @@ BREAKS = """\
 echo "it is too hot" >&2
 exit 7
 """
+# Where the proved program and the one that is linked lie.
+PROVED, RELEASED = "crates/sheet/out/sheet", "release/out/sheet"
 
 
 class StandIns(ProgramTest):
@@ -84,14 +75,12 @@ class StandIns(ProgramTest):
         self.write("crates/sheet/src/main.rt", SOURCE)
         for script in ("build", "sheet"):
             shutil.copy(TOP / script, self.top)
-        ours = ["make", *(file.name for file in (TOP / "release").glob("*.py"))]
+        ours = ["make", "link", "changed", "sources", "host.c", *(file.name for file in (TOP / "release").glob("*.py"))]
         (self.top / "release").mkdir()
         for name in ours:
             shutil.copy(TOP / "release" / name, self.top / "release")
-        (self.top / "kit/c").mkdir(parents=True)
         self.use(BUILDS)
-        self.use(CLANG, "toolchain/bin/clang")
-        self.use(LINK, "bin/rattle-link")
+        self.use(COMPILER, "bin/cc")
 
     def write(self, name, text):
         """Writes this file of the repository."""
@@ -119,7 +108,7 @@ class StandIns(ProgramTest):
         return self.run_script("sheet", *before, "two", "words")
 
     def release(self):
-        """Makes the released code, as of a fresh clone in which nothing is built."""
+        """Makes the released program, as of a fresh clone in which nothing is built."""
         ended = self.run_script("release/make")
         self.assertEqual(ended.status, 0, ended)
         shutil.rmtree(self.top / "crates/sheet/out")
@@ -131,6 +120,6 @@ class StandIns(ProgramTest):
         return [line for line in file.read_text().splitlines() if line.startswith(begin)] if file.is_file() else []
 
     def make_newer(self, name, program):
-        """Makes a file newer than a program of `out/`."""
-        newer = (self.top / "crates/sheet/out" / program).stat().st_mtime_ns + 1_000_000_000
+        """Makes a file newer than a program."""
+        newer = (self.top / program).stat().st_mtime_ns + 1_000_000_000
         os.utime(self.top / name, ns=(newer, newer))

@@ -1,19 +1,36 @@
-"""The script `build` and the launcher, where there is no released code, with stand-ins for the tools."""
+"""The script `build` and the launcher, with stand-ins for the tools."""
 import fcntl
+import lzma
 import os
+import shutil
 import subprocess
 from concurrent.futures import ThreadPoolExecutor
 
 from program import LIMIT, Ended, lines
-from stand_ins import BREAKS, BUILDS, FAILS, StandIns
+from stand_ins import BREAKS, BUILDS, FAILS, PROVED, RELEASED, StandIns
 
 BEGINS = b"sheet: building, which proves what changed; the first time this takes about half an hour\n"
 EACH = lines("1 of 3 low", "2 of 3 middle", "3 of 3 sheet")
 WORDS = lines("words: two words")
+LINKED = lines("sheet: linked the released program; ./test proves it and compares")
 FAILED_LOG = lines("rt: chose --jobs 2 for low", "rt: chose --jobs 2 for middle", "fn middle::first: not proved")
+NEEDS_KIT = (
+    "a proof needs the Rattle kit, the compiler and prover of the language, with its rt on PATH;"
+    " only a change of the sources needs it"
+)
 
 
-class Build(StandIns):
+def other(*crates):
+    """Why a program is proved where these crates have other sources than the released one."""
+    return lines(f"sheet: the released program was made of other sources ({' '.join(crates)})")
+
+
+class Proved(StandIns):
+    """Where the word `--prove` asks for a proof."""
+
+    def prove(self):
+        return self.start("--prove")
+
     def builds(self):
         """How often the program was proved and built."""
         return len(self.calls("built: run -- --help"))
@@ -22,252 +39,229 @@ class Build(StandIns):
         """Changes a file, which is newer than the program then."""
         file = self.top / name
         file.write_text(f"{file.read_text() if file.is_file() else ''}\n# more\n")
-        self.make_newer(name, "sheet")
+        self.make_newer(name, PROVED)
 
     def test_each_crate_that_is_worked_on_has_a_line(self):
-        self.assertEqual(self.start(), Ended(3, WORDS, BEGINS + EACH))
+        self.assertEqual(self.prove(), Ended(3, WORDS, BEGINS + EACH))
 
     def test_the_whole_log_is_kept(self):
-        self.start()
+        self.prove()
         log = (self.top / "crates/sheet/out/build.log").read_text()
         self.assertIn("rt: chose --jobs 2 for middle\nfn middle::first: proved\n", log)
 
     def test_what_is_built_is_not_built_again(self):
-        self.start()
-        self.assertEqual(self.start(), Ended(3, WORDS))
+        self.prove()
+        self.assertEqual(self.prove(), Ended(3, WORDS))
         self.assertEqual(self.builds(), 1)
 
     def test_it_is_built_again_where_a_source_is_changed(self):
-        self.start()
+        self.prove()
         files = ["crates/low/src/lib.rt", "crates/middle/specs/Low.antt", "crates/middle/proofs/a/b/Answers.antt"]
         for count, file in enumerate([*files, "crates/sheet/src/main.rt"], 2):
             with self.subTest(file=file):
                 (self.top / file).parent.mkdir(parents=True, exist_ok=True)
                 self.change(file)
-                self.start()
+                self.prove()
                 self.assertEqual(self.builds(), count)
                 os.utime(self.top / file, ns=(0, 0))
 
     def test_it_is_built_again_where_a_crate_below_has_another_row(self):
-        self.start()
+        self.prove()
         file = self.top / "crates.txt"
         file.write_text(file.read_text().replace("low:", "low: itoa"))
-        self.make_newer("crates.txt", "sheet")
-        self.assertEqual(self.start(), Ended(3, WORDS, BEGINS + EACH))
+        self.make_newer("crates.txt", PROVED)
+        self.assertEqual(self.prove(), Ended(3, WORDS, BEGINS + EACH))
 
     def test_it_is_not_built_again_for_a_crate_that_it_does_not_stand_on(self):
-        self.start()
+        self.prove()
         self.change("crates/aside/src/lib.rt")
-        self.assertEqual(self.start(), Ended(3, WORDS))
+        self.assertEqual(self.prove(), Ended(3, WORDS))
         self.assertEqual(self.builds(), 1)
 
     def test_it_is_built_again_where_another_was_made_meanwhile(self):
-        self.start()
-        program = self.top / "crates/sheet/out/sheet"
+        self.prove()
+        program = self.top / PROVED
         program.write_text("#!/bin/sh\necho another\n")
         os.utime(program, ns=(0, 0))
-        self.assertEqual(self.start(), Ended(3, WORDS, BEGINS + EACH))
+        self.assertEqual(self.prove(), Ended(3, WORDS, BEGINS + EACH))
 
     def test_a_build_that_fails_ends_with_status_4_and_names_its_log(self):
         self.use(FAILS)
         log = self.top / "crates/sheet/out/build.log"
         said = FAILED_LOG + lines(f"sheet: the build failed; all that it said is in {log}")
-        self.assertEqual(self.start(), Ended(4, b"", BEGINS + lines("1 of 3 low", "2 of 3 middle") + said))
+        self.assertEqual(self.prove(), Ended(4, b"", BEGINS + lines("1 of 3 low", "2 of 3 middle") + said))
         self.assertEqual(log.read_bytes(), FAILED_LOG)
 
     def test_an_older_program_is_not_run_where_its_build_fails(self):
-        self.start()
+        self.prove()
         self.use(FAILS)
         self.change("crates/low/src/lib.rt")
-        ended = self.start()
+        ended = self.prove()
         self.assertEqual((ended.status, ended.output), (4, b""))
 
     def test_to_prove_alone_says_nothing_more(self):
         self.assertEqual(self.run_script("sheet", "--prove"), Ended(0, b"", BEGINS + EACH))
         self.assertEqual(self.run_script("sheet", "--prove"), Ended(0))
 
+    def test_one_that_waits_for_another_says_so(self):
+        held = os.open(self.top / "release", os.O_RDONLY)
+        fcntl.flock(held, fcntl.LOCK_EX)
+        how = {"env": self.environment(), "stderr": subprocess.PIPE, "stdout": subprocess.PIPE}
+        with subprocess.Popen([self.top / "sheet", "--prove", "two", "words"], **how) as start:
+            waits = lines("sheet: waiting for another start, which builds the program")
+            self.assertEqual(start.stderr.readline(), waits)
+            os.close(held)
+            self.assertEqual(start.communicate(timeout=LIMIT), (WORDS, BEGINS + EACH))
 
-class FromRelease(StandIns):
-    SHOWN = lines("sheet: compiled the released code; ./test proves it and compares")
+    def test_without_the_kit_it_says_what_that_is(self):
+        (self.top / "kit/bin/rt").unlink()
+        ended = self.run_script("sheet", "--prove", environment={"PATH": "/usr/bin:/bin"})
+        self.assertEqual(ended, Ended(4, b"", lines(f"sheet: {NEEDS_KIT}")))
+
+
+class Released(StandIns):
+    """Where there is a released program."""
 
     def setUp(self):
         super().setUp()
         self.release()
 
-    def assert_proved(self, ended, words=WORDS, why=b""):
-        """It was proved and run."""
-        self.assertEqual(ended, Ended(3, words, why + BEGINS + EACH))
-        self.assertFalse((self.top / "crates/sheet/out/released").exists())
+    def forget(self):
+        """Removes all that was built."""
+        for folder in ("crates/sheet/out", "release/out"):
+            shutil.rmtree(self.top / folder, ignore_errors=True)
 
-    def test_the_released_code_is_compiled_and_linked(self):
-        self.assertEqual(self.start(), Ended(3, WORDS, self.SHOWN))
+    def assert_fails(self, said):
+        """It ends with status 4 and this last line."""
+        ended = self.start()
+        self.assertEqual((ended.status, ended.output, ended.error.splitlines(True)[-1:]), (4, b"", [said]))
+
+    def test_it_is_linked(self):
+        self.assertEqual(self.start(), Ended(3, WORDS, LINKED))
         self.assertEqual(self.calls("built"), [])
-        [compiled], [linked] = self.calls("clang"), self.calls("link")
-        kit = f"{self.top}/kit"
-        self.assertRegex(compiled, rf"clang: --sysroot={kit}/toolchain -c -x ir /\S+ -o /\S+\.o -fast")
-        words = rf"--target x86_64-unknown-linux-gnu --toolchain {kit}/toolchain -o /\S+ /\S+\.o"
-        self.assertRegex(linked, rf"link: {words} {kit}/c/libos_c.a {kit}/c/liblibc_c.a")
+        [linked] = self.calls("cc")
+        self.assertRegex(linked, rf"cc: -O2 -Wl,--gc-sections -o /\S+/sheet {self.top}/release/host\.c /\S+/sheet\.o")
 
-    def test_it_is_not_compiled_again(self):
+    def test_it_is_linked_without_the_kit(self):
+        (self.top / "kit/bin/rt").unlink()
+        self.assertEqual(self.start(), Ended(3, WORDS, LINKED))
+
+    def test_it_is_not_linked_again(self):
         self.start()
         self.assertEqual(self.start(), Ended(3, WORDS))
+        self.assertEqual(len(self.calls("cc")), 1)
+
+    def test_it_is_linked_again_where_sources_are_newer_and_the_same(self):
+        self.start()
         (self.top / "crates/low/src").touch()
-        self.make_newer("crates/low/src", "released")
-        self.assertEqual(self.start(), Ended(3, WORDS))
-        self.assertEqual(len(self.calls("clang")), 1)
+        self.make_newer("crates/low/src", RELEASED)
+        self.assertEqual(self.start(), Ended(3, WORDS, LINKED))
 
     def test_a_changed_source_is_proved(self):
         files = ["low/src/more.rt", "middle/specs/More.antt", "sheet/proofs/more/Answers.antt"]
-        for is_compiled in (False, True):
+        for is_linked in (False, True):
             for file in files:
-                with self.subTest(is_compiled=is_compiled, file=file):
-                    if is_compiled:
-                        self.assertEqual(self.start().error, self.SHOWN)
+                with self.subTest(is_linked=is_linked, file=file):
+                    if is_linked:
+                        self.assertEqual(self.start().error, LINKED)
                     self.write(f"crates/{file}", "more\n")
-                    if is_compiled:
-                        self.make_newer(f"crates/{file}", "released")
-                    self.assert_proved(self.start())
+                    if is_linked:
+                        self.make_newer(f"crates/{file}", RELEASED)
+                    why = other(file.partition("/")[0])
+                    self.assertEqual(self.start(), Ended(3, WORDS, why + BEGINS + EACH))
+                    if not is_linked:
+                        # .. once
+                        self.assertEqual(self.start(), Ended(3, WORDS))
                     (self.top / "crates" / file).unlink()
                     self.forget()
-
-    def forget(self):
-        """Removes all that was built."""
-        for file in (self.top / "crates/sheet/out").iterdir():
-            file.unlink()
 
     def test_the_changed_program_is_run(self):
         self.start()
         file = self.top / "crates/sheet/src/main.rt"
         file.write_text(file.read_text().replace("words", "changed"))
-        self.make_newer("crates/sheet/src/main.rt", "released")
-        self.assert_proved(self.start(), lines("changed: two words"))
+        self.make_newer("crates/sheet/src/main.rt", RELEASED)
+        self.assertEqual(self.start(), Ended(3, lines("changed: two words"), other("sheet") + BEGINS + EACH))
 
     def test_a_changed_row_is_proved(self):
         file = self.top / "crates.txt"
         rows = file.read_text()
         file.write_text(rows.replace("low:", "low: itoa"))
-        self.assert_proved(self.start())
+        self.assertEqual(self.start(), Ended(3, WORDS, other("low") + BEGINS + EACH))
         self.forget()
         file.write_text(rows.replace("aside: low", "aside:"))
-        self.assertEqual(self.start(), Ended(3, WORDS, self.SHOWN))
+        self.assertEqual(self.start(), Ended(3, WORDS, LINKED))
 
-    def test_a_kit_of_another_logic_is_proved(self):
-        self.use(BUILDS.replace("logic 5a", "logic 5b"))
-        self.assert_proved(self.start())
+    def test_changed_sources_without_the_kit(self):
+        (self.top / "kit/bin/rt").unlink()
+        self.write("crates/low/src/more.rt", "more\n")
+        self.write("crates/sheet/src/more.rt", "more\n")
+        ended = self.run_script("sheet", environment={"PATH": "/usr/bin:/bin"})
+        why = other("low", "sheet").decode().rstrip("\n")
+        self.assertEqual(ended, Ended(4, b"", lines(f"{why}; {NEEDS_KIT}")))
 
-    def test_another_kit_of_the_same_logic_compiles(self):
-        self.use(BUILDS.replace("kit-1", "kit-2"))
-        self.assertEqual(self.start(), Ended(3, WORDS, self.SHOWN))
-        self.assertEqual(self.calls("built"), [])
-
-    def test_no_released_code_is_proved(self):
-        for name in ("sums", "flags", "sheet.ll.xz"):
-            (self.top / "release" / name).unlink()
-        self.assert_proved(self.start())
-
-    def assert_no_use(self, why):
-        """The released code is of no use, for this reason, and the program is proved."""
-        self.assert_proved(self.start(), why=lines(f"sheet: the released code is of no use here, since {why}"))
-
-    def test_a_release_that_lacks_a_file_is_proved(self):
-        (self.top / "release/flags").unlink()
-        self.assert_no_use("release/flags can't be read: No such file or directory")
-
-    def test_a_broken_release_is_proved(self):
-        file = self.top / "release/sheet.ll.xz"
+    def test_a_broken_object(self):
+        file = self.top / "release/sheet.o.xz"
         packed = file.read_bytes()
         for broken in (b"", packed[:20], packed[:40] + b"xxxx" + packed[44:], b"no archive"):
             with self.subTest(broken=broken):
                 file.write_bytes(broken)
                 ended = self.start()
-                self.assertIn(b"sheet: the released code is of no use here, since release/sheet.ll.xz", ended.error)
-                self.assertEqual((ended.status, ended.output, len(self.calls("built"))), (3, WORDS, 1))
-                self.forget()
-                (self.top / "calls").unlink()
+                self.assertIn(b"sheet: release/sheet.o.xz ", ended.error)
+                self.assertEqual((ended.status, ended.output, self.calls("cc")), (4, b"", []))
 
-    def test_other_flags_are_not_taken_for_the_release(self):
-        self.use(CLANG_WITH_FLAGS, "toolchain/bin/clang")
-        self.run_script("release/make")
-        self.forget()
-        file = self.top / "release/flags"
-        file.write_text(file.read_text().replace("-fast", "-slow"))
-        self.assert_no_use("clang makes another object of it than release/sums tells")
+    def test_another_object(self):
+        (self.top / "release/sheet.o.xz").write_bytes(lzma.compress(b"#!/bin/sh\necho another\n"))
+        self.assert_fails(lines("sheet: release/sheet.o.xz isn't the object that release/sums tells of"))
+        self.assertEqual(self.calls("cc"), [])
 
-    def test_a_failing_clang_is_told_and_proved(self):
-        self.use(BREAKS, "toolchain/bin/clang")
-        ended = self.start()
-        begin = "sheet: the released code is of no use here, since clang ended with status 7: it is too hot"
-        self.assertEqual((ended.status, ended.output), (4, b""))
-        self.assertTrue(ended.error.startswith(lines(begin) + BEGINS + EACH))
+    def test_a_compiler_that_fails(self):
+        self.use(BREAKS, "bin/cc")
+        self.assert_fails(lines("sheet: cc can't link the released program; on Debian it needs libc6-dev, too"))
+        self.assertIn(b"it is too hot\n", self.start().error)
 
-    def test_a_failing_linker_is_told(self):
-        self.use(BREAKS, "bin/rattle-link")
-        ended = self.start()
-        self.assertEqual((ended.status, ended.output), (4, b""))
-        self.assertIn(b"since rattle-link ended with status 7: it is too hot\n", ended.error)
+    def without(self, *tools):
+        """An environment in which these tools are not to be had."""
+        place = self.folder()
+        for folder in ("/usr/bin", "/bin"):
+            for file in os.scandir(folder):
+                if file.name not in tools and not (place / file.name).exists():
+                    (place / file.name).symlink_to(file.path)
+        return {"PATH": str(place)}
 
-    def test_to_prove_takes_no_released_code(self):
-        for is_compiled in (False, True):
-            with self.subTest(is_compiled=is_compiled):
-                if is_compiled:
-                    self.assertEqual(self.start().error, self.SHOWN)
-                self.assert_proved(self.start("--prove"))
-                self.forget()
+    def test_a_tool_that_is_missing_is_named_with_its_package(self):
+        compilers = {file.name for file in os.scandir("/usr/bin") if file.name in ("cc", "gcc", "clang")}
+        for tools, said in (
+            (compilers, "the released program is linked by a C compiler, and there is none: apt-get install gcc"),
+            ({"xz"}, "the released program is linked by xz, which isn't here: apt-get install xz-utils"),
+        ):
+            with self.subTest(tools=tools):
+                ended = self.run_script("sheet", environment=self.without(*tools))
+                self.assertEqual(ended, Ended(4, b"", lines(f"sheet: {said}")))
 
-    def test_a_proved_build_takes_its_place(self):
+    def test_to_prove_takes_no_released_program(self):
         self.start()
-        self.run_script("sheet", "--prove")
+        self.assertEqual(self.start("--prove"), Ended(3, WORDS, BEGINS + EACH))
+        # .. and a start without that word takes it again
         self.assertEqual(self.start(), Ended(3, WORDS))
-        out = {file.name for file in (self.top / "crates/sheet/out").iterdir()}
-        self.assertFalse({"released", "released.sums"} & out)
+        self.assertEqual(self.run_script("build").output, lines(str(self.top / RELEASED)))
 
-    def test_a_proved_build_needs_no_released_code(self):
-        self.run_script("sheet", "--prove")
-        (self.top / "crates/low/src").touch()
-        self.make_newer("crates/low/src", "sheet")
-        self.assertEqual(self.start(), Ended(3, WORDS))
-        self.assertEqual(len(self.calls("clang")), 1)
-
-    def test_two_that_are_started_at_once_compile_once(self):
+    def test_two_that_are_started_at_once(self):
         with ThreadPoolExecutor(2) as pool:
             starts = [pool.submit(self.start) for _ in range(2)]
             ended = [start.result() for start in starts]
         self.assertEqual([(it.status, it.output) for it in ended], [(3, WORDS)] * 2)
-        self.assertEqual(len(self.calls("clang")), 1)
+        self.assertEqual([file.name for file in (self.top / "release/out").iterdir()], ["sheet"])
 
-    def test_one_that_waits_for_another_says_so(self):
-        held = os.open(self.top / "release", os.O_RDONLY)
-        fcntl.flock(held, fcntl.LOCK_EX)
-        how = {"env": self.environment(), "stderr": subprocess.PIPE, "stdout": subprocess.PIPE}
-        with subprocess.Popen([self.top / "sheet", "two", "words"], **how) as start:
-            waits = lines("sheet: waiting for another start, which builds the program")
-            self.assertEqual(start.stderr.readline(), waits)
-            os.close(held)
-            self.assertEqual(start.communicate(timeout=LIMIT), (WORDS, self.SHOWN))
-
-    def test_what_is_newly_released_is_compiled(self):
+    def test_what_is_newly_released_is_linked(self):
         self.start()
         file = self.top / "crates/sheet/src/main.rt"
         file.write_text(file.read_text().replace("words", "changed"))
-        self.make_newer("crates/sheet/src/main.rt", "released")
+        self.make_newer("crates/sheet/src/main.rt", RELEASED)
         self.release()
-        self.assertEqual(self.start(), Ended(3, lines("changed: two words"), self.SHOWN))
+        self.assertEqual(self.start(), Ended(3, lines("changed: two words"), LINKED))
 
-    def test_without_the_tool_it_ends_with_status_4(self):
-        (self.top / "kit/bin/rt").unlink()
-        how = {"PATH": "/usr/bin:/bin"}
-        ended = self.run_script("sheet", environment=how)
-        self.assertEqual(ended, Ended(4, b"", lines("sheet: the program can't be built: there is no rt on PATH")))
-
-
-# The object shows the flags too.
-CLANG_WITH_FLAGS = """\
-#!/bin/sh
-for word in "$@"; do
-    [ "$before" = ir ] && code=$word
-    [ "$before" = -o ] && made=$word
-    case $word in -fast | -slow) flag=$word ;; esac
-    before=$word
-done
-(cat "$code"; [ -z "$flag" ] || echo "# $flag") > "$made"
-"""
+    def test_what_is_edited_while_it_is_linked_is_newer(self):
+        edits = '#!/bin/sh\necho "echo more" >> {top}/crates/sheet/src/main.rt\n'
+        self.use(edits + (self.top / "kit/bin/cc").read_text().partition("\n")[2], "bin/cc")
+        self.assertEqual(self.start(), Ended(3, WORDS, LINKED))
+        self.assertEqual(self.start().error, other("sheet") + BEGINS + EACH)

@@ -70,7 +70,7 @@ class SideBySide(StandIns):
 
     def test_libraries_are_built_before_the_program(self):
         self.use_kit(f"OLD = BAD = []\n{OF_KIT}")
-        ended = self.start()
+        ended = self.start("--prove")
         rows = ended.error.decode().splitlines()[1:]
         self.assertEqual((ended.status, ended.output), (3, lines("words: two words")))
         self.assertEqual(sorted(rows[:2]) + rows[2:], ["1 of 4 low", "2 of 4 other", "3 of 4 middle", "4 of 4 sheet"])
@@ -80,13 +80,13 @@ class SideBySide(StandIns):
     def test_what_is_built_has_no_line(self):
         self.use_kit(f"OLD, BAD = ['low'], []\n{OF_KIT}")
         self.use(BUILDS_ALONE)
-        self.assertEqual(self.start().error, BEGINS + lines("2 of 4 other", "3 of 4 middle", "4 of 4 sheet"))
+        self.assertEqual(self.start("--prove").error, BEGINS + lines("2 of 4 other", "3 of 4 middle", "4 of 4 sheet"))
         self.assertEqual(self.built(), ["other", "middle"])
 
     def test_a_library_that_is_not_proved_ends_the_build(self):
         self.use_kit(f"OLD, BAD = ['low'], ['other']\n{OF_KIT}")
         log = self.top / "crates/sheet/out/build.log"
-        ended = self.start()
+        ended = self.start("--prove")
         self.assertEqual((ended.status, ended.output), (4, b""))
         self.assertTrue(ended.error.startswith(BEGINS + lines("2 of 4 other")), ended)
         self.assertTrue(ended.error.endswith(lines("build: other was not built", FAILED.format(log))))
@@ -94,7 +94,7 @@ class SideBySide(StandIns):
 
     def test_with_a_kit_of_another_form_they_are_built_in_turn(self):
         self.use_kit("def lock():\n    pass\n")
-        self.assertEqual(self.start().status, 3)
+        self.assertEqual(self.start("--prove").status, 3)
         self.assertIn("so the libraries are built in turn", (self.top / "crates/sheet/out/build.log").read_text())
 
 

@@ -14,8 +14,12 @@ class Stand(unittest.TestCase):
     def test_in(self):
         {}
 """
-SAME = "test: the released code is that of the proved build\n"
-PASSED = "test_stand.Stand.test_in: ok\n"
+SAME = "test: the released object is that of the proved build\n"
+NAMES = ("test_start", "test_transcripts")
+PASSED = "".join(f"{name}.Stand.test_in: ok\n" for name in NAMES)
+SKIPPED = PASSED.replace("ok", "skipped")
+# the tests that are run again on the program that the kit links
+AGAIN = "".join(f"test: {name} on the program that the kit links\n{name}.Stand.test_in: ok\n" for name in NAMES)
 
 
 class Whole(ProgramTest):
@@ -48,7 +52,8 @@ class Whole(ProgramTest):
 
     def use_test(self, statement):
         """Has this statement be the one test of the program."""
-        (self.top / "tests/test_stand.py").write_text(TESTS.format(statement))
+        for file in ("test_start.py", "test_transcripts.py"):
+            (self.top / "tests" / file).write_text(TESTS.format(statement))
 
     def start(self, *words):
         """Runs the whole test, or what these words ask for, to its end."""
@@ -63,34 +68,34 @@ class Whole(ProgramTest):
         self.assertEqual((ended.status, ended.output.splitlines()[-1]), (1, last))
 
     def test_all_passes(self):
-        shown = f"gate ci\n7 passed, 0 failed\nwrong \n{SAME}{PASSED}12 passed, 0 failed\n"
+        shown = f"gate ci\n7 passed, 0 failed\nwrong \n{SAME}{PASSED}{AGAIN}15 passed, 0 failed\n"
         self.assertEqual(self.start(), Ended(0, shown, ""))
 
     def test_the_program_alone(self):
-        self.assertEqual(self.start("--program"), Ended(0, f"{PASSED}1 passed, 0 failed\n", ""))
-        self.assertEqual(self.start("--program", "Stand"), Ended(0, f"{PASSED}1 passed, 0 failed\n", ""))
+        self.assertEqual(self.start("--program"), Ended(0, f"{PASSED}2 passed, 0 failed\n", ""))
+        self.assertEqual(self.start("--program", "Stand"), Ended(0, f"{PASSED}2 passed, 0 failed\n", ""))
 
     def test_what_the_gate_counts_as_failed_is_counted(self):
         self.use("rt", "echo 7 passed, 2 failed", "exit 1")
-        self.assert_fails("12 passed, 2 failed")
+        self.assert_fails("15 passed, 2 failed")
 
     def test_a_gate_without_counts_is_a_failure(self):
         self.use("rt", "echo 7 passed, 0 failed", "echo and more")
-        self.assert_fails("5 passed, 1 failed")
+        self.assert_fails("8 passed, 1 failed")
         self.use("rt")
-        self.assert_fails("5 passed, 1 failed")
+        self.assert_fails("8 passed, 1 failed")
 
     def test_a_gate_that_ends_badly_is_a_failure(self):
         self.use("rt", "echo 7 passed, 0 failed", "exit 3")
-        self.assert_fails("12 passed, 1 failed")
+        self.assert_fails("15 passed, 1 failed")
 
     def test_other_released_code_is_a_failure(self):
         self.use_comparison("'it is another'")
-        self.assert_fails("11 passed, 1 failed")
+        self.assert_fails("14 passed, 1 failed")
 
     def test_wrong_bodies_that_are_not_refused_are_failures(self):
         self.use_wrong("1, 2")
-        self.assert_fails("10 passed, 2 failed")
+        self.assert_fails("13 passed, 2 failed")
 
     def test_the_wrong_bodies_of_a_crate_alone(self):
         self.assertEqual(self.start("--wrong", "low"), Ended(0, "wrong low\n3 passed, 0 failed\n", ""))
@@ -99,13 +104,13 @@ class Whole(ProgramTest):
         self.use_wrong("0, 0")
         self.assert_fails("0 passed, 1 failed", "--wrong", "nonsense")
 
-    def test_only_a_proved_program_is_tested(self):
-        self.use("build", "test \"$*\" = --prove")
-        self.assertEqual(self.start("--program"), Ended(0, f"{PASSED}1 passed, 0 failed\n", ""))
+    def test_the_tests_of_the_program_need_no_proof(self):
+        self.use("build", "test \"$*\" != --prove")
+        self.assertEqual(self.start("--program"), Ended(0, f"{PASSED}2 passed, 0 failed\n", ""))
 
     def test_a_program_that_is_not_built_is_a_failure(self):
         self.use("build", "exit 4")
-        self.assert_fails("11 passed, 1 failed")
+        self.assert_fails("10 passed, 4 failed")
 
     def test_a_test_of_the_program_that_fails_is_a_failure(self):
         for statement in (
@@ -117,26 +122,24 @@ class Whole(ProgramTest):
         ):
             with self.subTest(statement=statement):
                 self.use_test(statement)
-                self.assert_fails("11 passed, 1 failed")
+                self.assert_fails("11 passed, 4 failed")
 
     def test_a_test_without_its_browser_is_skipped(self):
         self.use_test(f"self.skipTest({NO_BROWSER!r})")
-        shown = "test_stand.Stand.test_in: skipped\n"
-        shown += f"test: 1 tests were skipped, since {NO_BROWSER}\n0 passed, 0 failed, 1 skipped\n"
+        shown = f"{SKIPPED}test: 2 tests were skipped, since {NO_BROWSER}\n0 passed, 0 failed, 2 skipped\n"
         self.assertEqual(self.start("--program"), Ended(0, shown, ""))
         self.use_test(f"self.skipTest({NO_BROWSER!r} + '?')")
-        self.assert_fails("0 passed, 1 failed", "--program")
+        self.assert_fails("0 passed, 2 failed", "--program")
 
     def test_only_the_tests_of_the_program_alone_leave_out_what_wants_those_of_the_crates(self):
         self.use_test(f"self.skipTest({NO_TESTS!r})")
-        shown = "test_stand.Stand.test_in: skipped\n"
-        shown += f"test: 1 tests were skipped, since {NO_TESTS}\n0 passed, 0 failed, 1 skipped\n"
+        shown = f"{SKIPPED}test: 2 tests were skipped, since {NO_TESTS}\n0 passed, 0 failed, 2 skipped\n"
         self.assertEqual(self.start("--program"), Ended(0, shown, ""))
-        self.assert_fails("11 passed, 1 failed")
+        self.assert_fails("11 passed, 2 failed, 2 skipped")
 
     def test_a_file_of_tests_that_cannot_be_read_is_a_failure(self):
-        (self.top / "tests/test_stand.py").write_text("class\n")
-        self.assert_fails("0 passed, 1 failed", "--program")
+        (self.top / "tests/test_start.py").write_text("class\n")
+        self.assert_fails("1 passed, 1 failed", "--program")
 
     def test_no_test_of_that_name_is_a_failure(self):
         self.assert_fails("0 passed, 1 failed", "--program", "nonsense")

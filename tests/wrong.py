@@ -42,7 +42,7 @@ class Checked(NamedTuple):
 def below(known, crate):
     """Returns the repository's libraries that a crate stands on, at any distance."""
     found = {}
-    for library in known[crate][1]:
+    for library in known[crate]:
         if library in known:
             found |= {library: None} | dict.fromkeys(below(known, library))
     return list(found)
@@ -50,11 +50,11 @@ def below(known, crate):
 
 def words(top, kit, crate):
     """Returns the words of a check of a crate over the libraries that are built below this folder."""
-    known = crates.rows(top)
+    known = crates.uses(top)
     rlib = {name: top / "crates" / name / "out/rlib" for name in below(known, crate)}
     root = "main" if (top / "crates" / crate / "src/main.rt").is_file() else "lib"
     found = ["--crate-name", crate, f"src/{root}.rt", "--extern", f"std={kit}/rlibs/std.rlib", "-L", f"dependency={kit}/rlibs"]
-    for library in known[crate][1]:
+    for library in known[crate]:
         folder = rlib.get(library, kit / "rlibs")
         found += ["--extern", f"{library}={folder}/{library}.rlib"]
     for folder in rlib.values():
@@ -137,7 +137,7 @@ def all_tried(top, only=""):
     kit = tools.folder()
     chosen = {name: bodies for name, bodies in edits.of_crates(top).items() if bodies and only in ("", name)}
     # the crates that stand on most take longest
-    known = crates.rows(top)
+    known = crates.uses(top)
     order = sorted(chosen, key=lambda name: -len(below(known, name)))
     lanes = max(1, min(len(os.sched_getaffinity(0)), libraries.free_memory() // MEMORY))
     with ThreadPoolExecutor(lanes) as pool:

@@ -1,11 +1,9 @@
 """The command `./test --hunt MINUTES [--seed NUMBER] [--only PART]`, and `./test --hunt --replay FILE`."""
 import argparse
 import random
-import subprocess
 import tempfile
 import time
 
-from program import TOP
 
 from . import finds, runs
 from .finds import Hunt
@@ -83,12 +81,6 @@ def replayed(file):
 def main(words):
     """Hunts as the words ask, and returns the exit status."""
     ask = asked(words)
-    built = subprocess.run([TOP / "build"], stdin=subprocess.DEVNULL, stdout=subprocess.PIPE, text=True)
-    if built.returncode != 0:
-        print("hunt: the program isn't built\n0 passed, 1 failed")
-        return 1
-    # (the program that there is, which may be that of the released code)
-    runs.PROGRAM = built.stdout.strip()
     if ask.replay is not None:
         count = replayed(ask.replay)
         print(f"{1 - count} passed, {count} failed")

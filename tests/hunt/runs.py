@@ -3,13 +3,11 @@ import os
 import random
 import subprocess
 
-from program import LIMIT, TOP, Ended, started
+from preloaded import PROGRAM
+from program import LIMIT, Ended, started
 
 from . import session, tables
 from .model import Sheet
-
-# The program itself and not `./sheet`, which looks at each source before it starts it.
-PROGRAM = str(TOP / "crates/sheet/out/sheet")
 
 
 def option(script, name, default):
