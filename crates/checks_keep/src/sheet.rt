@@ -7,12 +7,13 @@ ghost use Rattle.ps_kept.specs.Kept.{IsNoted};
 
 use crate::lent::{LentDevice, LentFile, no_device};
 use ps_content::read_entry;
+use ps_delta::{Change, Edit};
 use ps_eval::Meter;
 use ps_grid::{Cell, Refusal};
 use ps_keep::{MemoryDevice, MemoryFile, first_line};
 use ps_kept::{KeepFault, SheetKeeper, longer_histories_fit, open_kept};
 use ps_session::Keeper;
-use ps_sheet::{Change, Edit, Sheet};
+use ps_sheet::Sheet;
 use ps_value::Value;
 use ps_wire::decode;
 use std::alloc::Global;

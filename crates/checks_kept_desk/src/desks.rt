@@ -7,12 +7,13 @@ ghost use Rattle.ps_keep.specs.Lines.{whole_lines};
 ghost use Rattle.ps_kept.specs.Kept.{TellHistory};
 
 use ps_content::Content;
+use ps_delta::Edit;
 use ps_desk::{DeskName, Seat};
 use ps_eval::Meter;
 use ps_grid::Cell;
 use ps_keep::{Found, Journal, first_line, open};
 use ps_session::Board;
-use ps_sheet::{Edit, Sheet};
+use ps_sheet::Sheet;
 use std::alloc::{AllocError, Global};
 use std::marker::Brand;
 use std::process::Abort;

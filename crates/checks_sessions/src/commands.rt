@@ -1,6 +1,6 @@
+use ps_delta::Edit;
 use ps_grid::Refusal;
 use ps_session::Command;
-use ps_sheet::Edit;
 use ps_wire::Decoder;
 use std::alloc::Global;
 use std::test::Fail;

@@ -7,9 +7,9 @@ mod waiting;
 
 use crate::face::published::Published;
 use ps_content::{Content, read_entry};
+use ps_delta::{Batch, Edit};
 use ps_face::{FaceReader, Named, NewBook};
 use ps_grid::{Cell, Refusal};
-use ps_sheet::{Batch, Edit};
 use ps_value::{Fault, Label, Value};
 use std::alloc::Global;
 use std::marker::Brand;

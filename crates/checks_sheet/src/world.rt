@@ -4,11 +4,11 @@ ghost use Rattle.std.specs.Prelude.{◌≡◌, ◌<◌};
 ghost use Rattle.ps_grid.specs.Blanks.{IsBlankOf};
 
 use ps_content::{Content, read_entry};
-use ps_delta::{CellState, Delta};
+use ps_delta::{CellState, Delta, Edit};
 use ps_eval::Meter;
 use ps_grid::{Cell, Refusal};
 use ps_lattice::{Assignment, Choice, Register, Tally};
-use ps_sheet::{Edit, Sheet};
+use ps_sheet::Sheet;
 use ps_value::{Label, Value};
 use ps_world::{Event, World, play};
 use std::alloc::Global;

@@ -18,9 +18,9 @@ use Rattle.ps_delta.specs.Order.{Under}
 use Rattle.ps_delta.proofs.EntryLemmas.{state_of-under}
 use Rattle.ps_delta.proofs.HistoryLemmas.{joined_history-push}
 use Rattle.ps_delta.proofs.StateLemmas.{joined_state-at}
-use Rattle.ps_sheet.specs.Batches.{IsBatch}
+use Rattle.ps_delta.specs.Batches.{IsBatch}
 use Rattle.ps_sheet.specs.Edits.{assigned, delta_of_edit, is_clock_full, refused_if}
-use Rattle.ps_sheet.specs.declared.edit.Edit.TheVariants.{SetAll}
+use Rattle.ps_delta.specs.declared.edit.Edit.TheVariants.{SetAll}
 use Rattle.ps_csv.specs.Imports.{Assigned}
 use Rattle.ps_csv.specs.Records.{Cells, FieldsSay, Record, RecordsSay, place}
 use Rattle.ps_csv.specs.Inside.{cells_of_each}

@@ -5,7 +5,7 @@ use Rattle.ps_grid.specs.declared.size.TheConstants.{COLUMNS, ROWS}
 use Rattle.ps_delta.specs.Deltas.{Entries, joined_history}
 use Rattle.ps_sheet.specs.Sheet.{SheetView}
 use Rattle.ps_sheet.specs.Edits.{delta_of_edit}
-use Rattle.ps_sheet.specs.declared.edit.Edit.TheVariants.{SetAll}
+use Rattle.ps_delta.specs.declared.edit.Edit.TheVariants.{SetAll}
 use Rattle.ps_csv.specs.declared.bytes.TheConstants.{LONGEST_TABLE}
 use Rattle.ps_csv.specs.Records.{Cells, IsTable, Record, RecordsSay, most_fields}
 

@@ -1,3 +1,4 @@
+pub mod Batches
 pub mod CellLaws
 pub mod Changes
 pub mod Deltas

@@ -26,6 +26,7 @@ mod block;
 mod cell_state;
 mod delta;
 mod delta_cells;
+mod edit;
 mod grid;
 mod joining;
 mod laws;
@@ -34,6 +35,7 @@ mod touched;
 
 pub use cell_state::CellState;
 pub use delta::Delta;
+pub use edit::{Batch, Change, Edit};
 pub use grid::Grid;
 pub use laws::{
     covered_changes_nothing, grids_are_shared, groups_join, history_is_a_set, states_join,

@@ -7,8 +7,8 @@ use mathlib.Core.List.{IsPrefix}
 use Rattle.ps_grid.specs.declared.refusal.Refusal.{Refusal}
 use Rattle.ps_delta.specs.State.{State, IsBelow}
 use Rattle.ps_delta.specs.Deltas.{Entries, IsDelta, joined_history, state_of}
-use Rattle.ps_sheet.specs.declared.edit.Change.{Change}
-use Rattle.ps_sheet.specs.declared.edit.Edit.{Edit}
+use Rattle.ps_delta.specs.declared.edit.Change.{Change}
+use Rattle.ps_delta.specs.declared.edit.Edit.{Edit}
 use Rattle.ps_sheet.specs.Edits.{EditsAreFresh, delta_of_edit}
 use Rattle.ps_sheet.specs.Prepared.{IsDeltaOf, PreparedView, history_after}
 use Rattle.ps_sheet.specs.Staging.{IsWorkedOut}

@@ -5,8 +5,8 @@ use mathlib.Core.List.{IsPrefix}
 use Rattle.ps_grid.specs.declared.refusal.Refusal.{Refusal}
 use Rattle.ps_grid.specs.declared.refusal.Refusal.TheVariants as refusals
 use Rattle.ps_delta.specs.Deltas.{Entries, joined_history}
-use Rattle.ps_sheet.specs.declared.edit.Change.TheVariants as changes
-use Rattle.ps_sheet.specs.declared.edit.Edit.{Edit}
+use Rattle.ps_delta.specs.declared.edit.Change.TheVariants as changes
+use Rattle.ps_delta.specs.declared.edit.Edit.{Edit}
 use Rattle.ps_sheet.specs.Edits.{EditsAreFresh, delta_of_edit}
 use Rattle.ps_sheet.specs.Prepared.{IsRefusedBy, IsToAppend}
 use Rattle.ps_face.specs.Legal.{IsLegal, history_of}

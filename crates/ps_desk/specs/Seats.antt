@@ -11,7 +11,7 @@ use Rattle.ps_eval.specs.Items.{Assignment}
 use Rattle.ps_delta.specs.Deltas.{Entries, joined_history}
 use Rattle.ps_cells.specs.Settled.{IsSettled}
 use Rattle.ps_sheet.specs.Edits.{delta_of_edit}
-use Rattle.ps_sheet.specs.declared.edit.Edit.{Edit as SheetEdit}
+use Rattle.ps_delta.specs.declared.edit.Edit.{Edit as SheetEdit}
 use Rattle.ps_csv.specs.Exports.{Holdings, entry_text, exported, exported_entries, held_in}
 use Rattle.ps_face.specs.Legal.{IsLegal, history_of}
 use Rattle.ps_session.specs.Answers.{TakesMemory}

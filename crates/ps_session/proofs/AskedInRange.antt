@@ -11,8 +11,8 @@ use Rattle.ps_delta.specs.declared.cell_state.CellState.{CellState}
 use Rattle.ps_delta.specs.State.{State}
 use Rattle.ps_delta.specs.Deltas.{Entries}
 use Rattle.ps_wire.proofs.ShorterLemmas.{decoded_fit}
-use Rattle.ps_sheet.specs.declared.edit.Edit.{Edit}
-use Rattle.ps_sheet.specs.declared.edit.Edit.TheVariants as edits
+use Rattle.ps_delta.specs.declared.edit.Edit.{Edit}
+use Rattle.ps_delta.specs.declared.edit.Edit.TheVariants as edits
 use Rattle.ps_sheet.specs.Edits.{assigned, delta_of_edit}
 use Rattle.ps_session.specs.Commands.{AsksOfCell, AsksOfRectangle, AtNumber, Read, ReadsChange, ReadsLine, ReadsPair}
 use Rattle.ps_session.specs.Commands.{ReadsPull, ReadsPush, ReadsReplica, ReadsSet, ReadsVerb, group_size}

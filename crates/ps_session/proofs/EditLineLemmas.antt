@@ -37,9 +37,9 @@ use Rattle.ps_delta.specs.Deltas.{Entries, joined_history}
 use Rattle.ps_wire.specs.Value.{IsLawful, IsState}
 use Rattle.ps_wire.specs.Fits.{FitsLine, HasRegisterAlone}
 use Rattle.ps_wire.proofs.LawLemmas.{batches_fit, edits_fit}
-use Rattle.ps_sheet.specs.Batches.{IsBatch}
-use Rattle.ps_sheet.specs.declared.edit.Edit.{Edit}
-use Rattle.ps_sheet.specs.declared.edit.Edit.TheVariants as edits
+use Rattle.ps_delta.specs.Batches.{IsBatch}
+use Rattle.ps_delta.specs.declared.edit.Edit.{Edit}
+use Rattle.ps_delta.specs.declared.edit.Edit.TheVariants as edits
 use Rattle.ps_sheet.specs.Edits.{assigned, counted, delta_of_batch, delta_of_edit, holds_choice, holds_tally}
 use Rattle.ps_sheet.specs.Edits.{is_clock_full, paired, refused_if}
 use Rattle.ps_cells.specs.Settled.{content_of}

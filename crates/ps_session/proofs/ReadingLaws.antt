@@ -10,7 +10,7 @@ use Rattle.ps_content.specs.Entry.{Kind, Reads, ReadsFormula, ReadsText, kind_of
 use Rattle.ps_content.specs.Entry.Kind.{too_long, empty, formula, tally, choice, number, text}
 use Rattle.ps_content.specs.declared.content.Content.{Content}
 use Rattle.ps_content.specs.declared.content.Content.TheVariants as contents
-use Rattle.ps_sheet.specs.declared.edit.Edit.{Edit}
+use Rattle.ps_delta.specs.declared.edit.Edit.{Edit}
 use Rattle.ps_session.specs.Commands.{group_size, AsksOfCell, AsksOfRectangle, AtCell, AtNumber, Assigns, NamesCell}
 use Rattle.ps_session.specs.Commands.{Read, ReadsChange, ReadsCorners, ReadsDelta, ReadsLine, ReadsOneCell, ReadsPair}
 use Rattle.ps_session.specs.Commands.{ReadsPull, ReadsPush, ReadsRectangle, ReadsReplica, ReadsSet, ReadsVerb}

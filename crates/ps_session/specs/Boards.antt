@@ -4,7 +4,7 @@ use Rattle.ps_grid.specs.Rectangle.{Area, spanned}
 use Rattle.ps_grid.specs.declared.refusal.Refusal.TheVariants as refusals
 use Rattle.ps_value.specs.declared.value.Value.{Value}
 use Rattle.ps_delta.specs.Deltas.{Entries}
-use Rattle.ps_sheet.specs.declared.edit.Edit.{Edit as SheetEdit}
+use Rattle.ps_delta.specs.declared.edit.Edit.{Edit as SheetEdit}
 use Rattle.ps_session.specs.Commands.{Read, ReadsLine}
 use Rattle.ps_session.specs.PullReplies.{HandsGroup}
 use Rattle.ps_session.specs.Replies.{done_text, end_text, entries_reply, entry_reply, refusal_text, replica_text}

@@ -8,10 +8,10 @@ use Rattle.ps_delta.specs.State.{State}
 use Rattle.ps_delta.specs.Deltas.{Entries, joined_history}
 use Rattle.ps_wire.specs.Value.{IsLawful}
 use Rattle.ps_wire.specs.Fits.{FitsLine}
-use Rattle.ps_sheet.specs.Batches.{IsBatch}
+use Rattle.ps_delta.specs.Batches.{IsBatch}
 use Rattle.ps_sheet.specs.Edits.{delta_of_edit}
-use Rattle.ps_sheet.specs.declared.edit.Edit.{Edit}
-use Rattle.ps_sheet.specs.declared.edit.Edit.TheVariants.{Set, SetAll, Add, Sub, Choose, Unchoose}
+use Rattle.ps_delta.specs.declared.edit.Edit.{Edit}
+use Rattle.ps_delta.specs.declared.edit.Edit.TheVariants.{Set, SetAll, Add, Sub, Choose, Unchoose}
 use Rattle.ps_session.specs.PullReplies.{HandsOut, IsGreatest}
 use Rattle.ps_session.specs.Replies.{handed_text}
 

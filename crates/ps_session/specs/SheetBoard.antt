@@ -8,7 +8,7 @@ use Rattle.ps_delta.specs.Deltas.{Entries, joined_history}
 use Rattle.ps_cells.specs.Settled.{IsSettled}
 use Rattle.ps_sheet.specs.Edits.{delta_of_edit}
 use Rattle.ps_sheet.specs.Sheet.{SheetView, Takes}
-use Rattle.ps_sheet.specs.declared.edit.Edit.{Edit}
+use Rattle.ps_delta.specs.declared.edit.Edit.{Edit}
 use Rattle.ps_csv.specs.Exports.{entry_text, exported, exported_entries, held_in}
 use Rattle.ps_session.specs.Boards.{Calls}
 use Rattle.ps_session.specs.Commands.{Read}

@@ -4,9 +4,8 @@ ghost use Rattle.std.specs.Thread.{IsSync};
 ghost use Rattle.ps_session.specs.Boards.{Calls};
 ghost use Rattle.ps_session.specs.Commands.{with_part};
 
-use ps_delta::Delta;
+use ps_delta::{Delta, Edit};
 use ps_grid::{Cell, Rect, Refusal};
-use ps_sheet::Edit;
 use ps_value::Value;
 use std::alloc::Global;
 use std::thread::Threads;

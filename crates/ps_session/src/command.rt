@@ -9,9 +9,8 @@ ghost use Rattle.ps_session.specs.Commands.{TakesMemoryToRead, group_size, repli
 use crate::verb::Verb;
 use crate::words::{read_whole, split_part, split_word};
 use ps_content::read_entry;
-use ps_delta::Delta;
+use ps_delta::{Delta, Edit};
 use ps_grid::{Cell, REPLICAS, Refusal};
-use ps_sheet::Edit;
 use ps_wire::Decoder;
 use std::alloc::Global;
 

@@ -3,10 +3,10 @@ ghost use Rattle.std.specs.Prelude.{◌≡◌, ◌⊎◌, ◌↔◌, ◌<◌, Er
 
 use crate::board::Board;
 use ps_csv::{entries_text, entry_of, exported_text};
-use ps_delta::Delta;
+use ps_delta::{Delta, Edit};
 use ps_eval::Meter;
 use ps_grid::{Cell, Rect, Refusal, Twin};
-use ps_sheet::{Edit, Sheet};
+use ps_sheet::Sheet;
 use ps_value::Value;
 use std::alloc::Global;
 use std::sync::ledger::Ledger;

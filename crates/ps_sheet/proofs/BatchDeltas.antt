@@ -21,7 +21,7 @@ use Rattle.ps_delta.specs.declared.cell_state.CellState.{CellState}
 use Rattle.ps_delta.specs.State.{State, IsBelow, empty_cell}
 use Rattle.ps_delta.specs.Deltas.{IsDelta, state_of}
 use Rattle.ps_delta.proofs.EntryLemmas.{state_of-here}
-use Rattle.ps_sheet.specs.Batches.{IsBatch}
+use Rattle.ps_delta.specs.Batches.{IsBatch}
 use Rattle.ps_sheet.specs.Edits.{assigned, is_clock_full, delta_of_batch, refused_if}
 use Rattle.ps_sheet.proofs.FreshCells.{new_at, new_register}
 

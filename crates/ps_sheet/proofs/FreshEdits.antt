@@ -15,8 +15,8 @@ use Rattle.ps_content.specs.declared.content.Content.{Content}
 use Rattle.ps_delta.specs.declared.cell_state.CellState.{CellState}
 use Rattle.ps_delta.specs.State.{State, IsBelow, joined_cell}
 use Rattle.ps_delta.specs.Deltas.{Entries, IsDelta, state_of}
-use Rattle.ps_sheet.specs.declared.edit.Edit.{Edit}
-use Rattle.ps_sheet.specs.declared.edit.Edit.TheVariants.{Set, SetAll, Add, Sub, Choose, Unchoose}
+use Rattle.ps_delta.specs.declared.edit.Edit.{Edit}
+use Rattle.ps_delta.specs.declared.edit.Edit.TheVariants.{Set, SetAll, Add, Sub, Choose, Unchoose}
 use Rattle.ps_sheet.specs.Edits.{assigned, delta_of_batch, is_clock_full, delta_of_edit, refused_if}
 use Rattle.ps_sheet.specs.Edits.{EditsAreFresh}
 use Rattle.ps_sheet.proofs.FreshCells.{new_one, new_tally, new_choice}

@@ -19,9 +19,9 @@ use Rattle.ps_sheet.specs.Sheet.{IsSheet, SheetView, Takes}
 use Rattle.ps_sheet.specs.Staging.{IsIdle, IsSameChange, IsStagedAs, IsStaging, IsWorkedOut, StagedView, StagingView}
 use Rattle.ps_sheet.specs.Staging.{prepared_of, sheet_of}
 use Rattle.ps_sheet.specs.Inside.Kept.{Makes}
-use Rattle.ps_sheet.specs.declared.edit.Edit.{Edit}
-use Rattle.ps_sheet.specs.declared.edit.Change.{Change}
-use Rattle.ps_sheet.specs.declared.edit.Change.TheVariants.{Edit as ByEdit}
+use Rattle.ps_delta.specs.declared.edit.Edit.{Edit}
+use Rattle.ps_delta.specs.declared.edit.Change.{Change}
+use Rattle.ps_delta.specs.declared.edit.Change.TheVariants.{Edit as ByEdit}
 use Rattle.ps_sheet.specs.declared.sheet.Report.{Report}
 
 -- a sheet in which nothing is staged

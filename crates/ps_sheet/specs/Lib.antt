@@ -1,4 +1,3 @@
-pub mod Batches
 pub mod Edits
 pub mod Inside
 pub mod Own

@@ -14,8 +14,8 @@ use Rattle.ps_cells.specs.ChangedCells.{put_back, IsChanges}
 use Rattle.ps_cells.specs.Settled.{IsSettled}
 use Rattle.ps_sheet.specs.Sheet.{SheetView, Takes}
 use Rattle.ps_sheet.specs.declared.sheet.Report.{Report}
-use Rattle.ps_sheet.specs.declared.edit.Change.{Change}
-use Rattle.ps_sheet.specs.declared.edit.Change.TheVariants.{Edit, Delta}
+use Rattle.ps_delta.specs.declared.edit.Change.{Change}
+use Rattle.ps_delta.specs.declared.edit.Change.TheVariants.{Edit, Delta}
 
 -- the sheet's replica and history before the change, the change's delta, whether it is to be appended, what each cell
 -- shows after the change, with what some showed before it, which cells show another value, the report, and the number

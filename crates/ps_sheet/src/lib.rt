@@ -43,7 +43,6 @@
 #![tactic(auto)]
 
 mod contents;
-mod edit;
 mod edit_delta;
 mod laws;
 mod own;
@@ -52,13 +51,13 @@ mod sheet;
 mod staging;
 mod threads;
 
-pub use edit::{Batch, Change, Edit};
 pub use laws::{
     accepted_deltas_join, cells_outside_show_the_same, edits_are_fresh, quiet_cells_show_the_same,
     same_deltas_show_the_same, same_join_shows_the_same, settled_at_least_once,
     settled_at_most_once,
 };
 pub use prepared::Prepared;
+pub use ps_delta::{Batch, Change, Edit};
 pub use sheet::{Report, Sheet};
 pub use staging::Staging;
 pub use threads::staging_is_send;

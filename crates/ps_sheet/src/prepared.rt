@@ -9,10 +9,9 @@ ghost use Rattle.ps_sheet.specs.Prepared.{history_after, shown_after, shown_befo
 ghost use Rattle.ps_sheet.specs.Staging.{IsWorkedOut, prepared_of};
 ghost use Rattle.ps_sheet.specs.Inside.Kept.{Prepares};
 
-use crate::edit::Change;
 use crate::sheet::{Report, Sheet};
 use crate::staging::Staging;
-use ps_delta::Delta;
+use ps_delta::{Change, Delta};
 use ps_eval::Meter;
 use ps_grid::{Cell, Refusal};
 use ps_shown::Shown;

@@ -14,11 +14,10 @@ ghost use Rattle.ps_sheet.specs.Own.{has_own};
 ghost use Rattle.ps_sheet.specs.Prepared.{IsRefusedBy, IsToAppend};
 ghost use Rattle.ps_sheet.specs.Inside.Kept.{Makes};
 
-use crate::edit::{Change, Edit};
 use crate::staging::Staging;
 use ps_cells::Work;
 use ps_content::Content;
-use ps_delta::Delta;
+use ps_delta::{Change, Delta, Edit};
 use ps_eval::{Look, Meter};
 use ps_grid::{Cell, REPLICAS, Refusal};
 use ps_shown::Shown;

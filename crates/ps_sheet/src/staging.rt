@@ -16,13 +16,12 @@ ghost use Rattle.ps_sheet.specs.Sheet.{IsSheet};
 ghost use Rattle.ps_sheet.specs.Staging.{IsIdle, IsListed, IsStaging, Stages};
 ghost use Rattle.ps_sheet.specs.Staging.{prepared_of, sheet_of, staging_of};
 
-use crate::edit::{Change, Edit};
 use crate::edit_delta::delta_of;
 use crate::sheet::{Report, Sheet};
 use crate::{contents, own};
 use ps_cells::{Cells, Work, content};
 use ps_content::Content;
-use ps_delta::Delta;
+use ps_delta::{Change, Delta, Edit};
 use ps_eval::Meter;
 use ps_grid::{Cell, REPLICAS, Refusal};
 use ps_shown::Shown;

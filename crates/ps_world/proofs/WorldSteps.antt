@@ -21,7 +21,7 @@ use Rattle.ps_world.specs.World.{Numbers, WorldState, empty_world, picked, joine
 use Rattle.ps_world.specs.World.{is_up_to, after, after_edit}
 use Rattle.ps_world.specs.declared.event.Event.{Event}
 use Rattle.ps_world.specs.declared.event.Event.TheVariants.{Edit, Deliver}
-use Rattle.ps_sheet.specs.declared.edit.Edit.{Edit as Change}
+use Rattle.ps_delta.specs.declared.edit.Edit.{Edit as Change}
 use Rattle.ps_sheet.specs.Edits.{delta_of_edit}
 use Rattle.std.proofs.lemmas.Option.{slice_get_within}
 use Rattle.std.proofs.Math.ListN.{length-set}

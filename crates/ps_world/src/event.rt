@@ -1,7 +1,6 @@
 //! What happens in a world.
 
-use ps_delta::Delta;
-use ps_sheet::Edit;
+use ps_delta::{Delta, Edit};
 
 /// One step of a world. Replicas and deltas are counted from 1, deltas in the order in which they were made or added.
 #[derive(Drop)]

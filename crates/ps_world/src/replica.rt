@@ -8,10 +8,10 @@ ghost use Rattle.ps_grid.specs.declared.refusal.Refusal.{Refusal};
 ghost use Rattle.ps_delta.specs.State.{joined_state};
 ghost use Rattle.ps_delta.specs.Deltas.{joined_history, state_of};
 
-use ps_delta::Delta;
+use ps_delta::{Delta, Edit};
 use ps_eval::Meter;
 use ps_grid::{REPLICAS, Refusal, Twin};
-use ps_sheet::{Edit, Sheet};
+use ps_sheet::Sheet;
 use std::alloc::Global;
 use std::collections::BTreeSet;
 use std::marker::Model;

@@ -9,10 +9,10 @@ ghost use Rattle.ps_world.specs.World.{played};
 
 use crate::event::Event;
 use crate::replica::Replica;
-use ps_delta::Delta;
+use ps_delta::{Delta, Edit};
 use ps_eval::Meter;
 use ps_grid::{REPLICAS, Refusal, Twin};
-use ps_sheet::{Edit, Sheet};
+use ps_sheet::Sheet;
 use std::alloc::Global;
 use std::collections::BTreeSet;
 use std::marker::Model;

@@ -4,11 +4,11 @@ ghost use Rattle.ps_grid.specs.Blanks.{IsBlankOf};
 ghost use Rattle.ps_desk.specs.Opening.{IsNamed};
 
 use ps_content::read_entry;
-use ps_delta::Delta;
+use ps_delta::{Change, Delta, Edit};
 use ps_desk::{Desk, DeskName, Parts, Pass, Receipt};
 use ps_eval::Meter;
 use ps_grid::{Cell, Refusal, Twin};
-use ps_sheet::{Change, Edit, Sheet};
+use ps_sheet::Sheet;
 use std::alloc::Global;
 use std::marker::Brand;
 use std::process::Abort;

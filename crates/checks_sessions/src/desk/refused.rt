@@ -4,11 +4,11 @@ ghost use Rattle.ps_desk.specs.Opening.{IsNamed};
 
 use crate::desk::desks::{answer, cell, close, entered, make, open, sheet_of};
 use Asked::{Add, Choose, Enter, Sub, Unchoose};
-use ps_delta::Delta;
+use ps_delta::{Change, Delta, Edit};
 use ps_desk::{Desk, DeskName, Parts, Pass};
 use ps_grid::Refusal;
 use ps_lattice::{COUNT_LIMIT, LAST_TIME};
-use ps_sheet::{Change, Edit, Sheet};
+use ps_sheet::Sheet;
 use ps_value::Value;
 use ps_wire::decode;
 use std::alloc::Global;

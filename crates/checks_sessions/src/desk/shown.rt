@@ -5,11 +5,11 @@ ghost use Rattle.ps_desk.specs.Opening.{IsNamed};
 
 use crate::desk::desks::{cell, close, entered, open, sheet_of};
 use Act::{Enter, Look, Pull, Refuse, Show};
+use ps_delta::Edit;
 use ps_desk::{Desk, DeskName, Parts, Pass, Seat};
 use ps_eval::Meter;
 use ps_grid::Refusal;
 use ps_session::Board;
-use ps_sheet::Edit;
 use ps_value::Value;
 use std::alloc::Global;
 use std::marker::Brand;

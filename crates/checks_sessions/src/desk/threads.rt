@@ -4,10 +4,10 @@ ghost use Rattle.ps_desk.specs.Opening.{IsNamed};
 
 use crate::desk::desks::{close, make, open, sheet_of};
 use ps_content::Content;
-use ps_delta::Delta;
+use ps_delta::{Change, Delta, Edit};
 use ps_desk::{Desk, DeskName, Parts, Pass, desk_is_sync};
 use ps_grid::{CELLS, Cell, SEATS};
-use ps_sheet::{Change, Edit, Sheet};
+use ps_sheet::Sheet;
 use ps_value::Value;
 use std::alloc::Global;
 use std::marker::Brand;

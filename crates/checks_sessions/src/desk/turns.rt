@@ -4,10 +4,10 @@ ghost use Rattle.ps_desk.specs.Opening.{IsNamed};
 
 use crate::desk::desks::{cell, close, entered, last, make, open, sheet_of};
 use Asked::{Count, Enter, Pull, Read, ReadAll, Receive};
-use ps_delta::Delta;
+use ps_delta::{Change, Delta};
 use ps_desk::{Desk, DeskName, Parts, Pass, Receipt};
 use ps_grid::{CELLS, Refusal, Twin};
-use ps_sheet::{Change, Sheet};
+use ps_sheet::Sheet;
 use ps_value::Value;
 use std::alloc::Global;
 use std::marker::Brand;

@@ -7,10 +7,11 @@ ghost use Rattle.ps_sheet.specs.Prepared.{IsPrepared, history_after};
 ghost use Rattle.ps_face.specs.Legal.{Follows, history_of};
 ghost use Rattle.ps_face.specs.Values.{valued};
 
+use ps_delta::{Change, Edit};
 use ps_eval::Meter;
 use ps_face::{FaceReader, FaceWriter, Named, NewBook, Patch};
 use ps_grid::{Cell, Refusal};
-use ps_sheet::{Change, Edit, Prepared, Sheet};
+use ps_sheet::{Prepared, Sheet};
 use ps_shown::Kept;
 use ps_value::{SharedLabel, Value};
 use std::alloc::Global;

@@ -6,9 +6,10 @@ use crate::sheet::script::Seen::{Num, Options};
 use crate::sheet::script::Step::{self, Ask, Get, GetAll, Show, Type};
 use crate::sheet::script::{cell, play};
 use ps_content::Content;
+use ps_delta::Batch;
 use ps_grid::{Cell, Refusal};
 use ps_lattice::{COUNT_LIMIT, LAST_TIME};
-use ps_sheet::{Batch, Sheet};
+use ps_sheet::Sheet;
 use std::alloc::Global;
 use std::process::Abort;
 

@@ -10,8 +10,9 @@ use crate::sheet::script::Step::{self, Alike, Chain, Enter, Fan, Put, Sequence, 
 use crate::sheet::script::{CYCLE, Figures, apply, check_figures, check_place, play, read_pieces};
 use Many::{Halves, SecondRow, Wide};
 use ps_content::Content;
+use ps_delta::{Batch, Edit};
 use ps_grid::{CELLS, COLUMNS, Cell, NAME_BYTES, Refusal};
-use ps_sheet::{Batch, Edit, Report, Sheet};
+use ps_sheet::{Report, Sheet};
 use ps_value::Value;
 use ps_workers::workers_worth;
 use std::alloc::Global;

@@ -11,9 +11,9 @@ use crate::sheet::script::{
     get_all, go_on, value,
 };
 use crate::sheet::slots::{TWO_CYCLES, cancel, commit, ready};
-use ps_delta::Delta;
+use ps_delta::{Change, Delta};
 use ps_grid::{CELLS, Cell, Refusal};
-use ps_sheet::{Change, Prepared, Report, Sheet};
+use ps_sheet::{Prepared, Report, Sheet};
 use ps_value::{Fault, Value};
 use ps_workers::Open;
 use std::alloc::Global;

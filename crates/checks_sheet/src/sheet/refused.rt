@@ -15,8 +15,9 @@ use crate::sheet::script::{
 use crate::sheet::slots::{commit, prepare, put_back, taken};
 use Tried::{Batched, One, Received};
 use Way::{Made, Prepared};
+use ps_delta::{Change, Edit};
 use ps_grid::{CELLS, Refusal};
-use ps_sheet::{Change, Edit, Report, Sheet};
+use ps_sheet::{Report, Sheet};
 use ps_value::Value;
 use ps_workers::Open;
 use std::alloc::Global;

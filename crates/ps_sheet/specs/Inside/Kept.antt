@@ -9,7 +9,7 @@ use Rattle.ps_cells.specs.Cells.{CellsView, state_before, state_now}
 use Rattle.ps_sheet.specs.Prepared.{PreparedView, IsDeltaOf, IsPrepared, IsToAppend, history_after}
 use Rattle.ps_sheet.specs.Sheet.{SheetView, IsFresh, Takes}
 use Rattle.ps_sheet.specs.Staging.{StagedView, StagingView, IsIdle, IsStaging, prepared_of}
-use Rattle.ps_sheet.specs.declared.edit.Change.{Change}
+use Rattle.ps_delta.specs.declared.edit.Change.{Change}
 use Rattle.ps_sheet.specs.declared.sheet.Report.{Report}
 use Rattle.ps_sheet.specs.declared.staging.Staged.{Staged}
 use Rattle.ps_sheet.specs.declared.staging.Staging.TheInside.{Inside}

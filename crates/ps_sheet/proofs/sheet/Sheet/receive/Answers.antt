@@ -1,7 +1,7 @@
 use Rattle.std.proofs.Common.{◌≡◌}
 use Rattle.ps_delta.specs.State.{joined_state}
 use Rattle.ps_delta.specs.Deltas.{Entries, joined_history, state_of}
-use Rattle.ps_sheet.specs.declared.edit.Change.TheVariants.{Delta}
+use Rattle.ps_delta.specs.declared.edit.Change.TheVariants.{Delta}
 use Rattle.ps_sheet.specs.Sheet.{Takes}
 use Rattle.ps_sheet.proofs.AcceptedRuns.{taken_joins}
 use Rattle.ps_sheet.proofs.MadeChanges.{below_idle, below_made, delta_made}

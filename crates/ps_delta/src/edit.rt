@@ -3,8 +3,8 @@
 ghost use Rattle.std.specs.Prelude.{◌≡◌};
 ghost use Rattle.std.specs.Option.{SomeIff};
 
+use crate::delta::Delta;
 use ps_content::Content;
-use ps_delta::Delta;
 use ps_grid::Cell;
 use ps_lattice::is_ascending;
 use std::marker::Model;
@@ -51,7 +51,7 @@ impl Model for Batch {
 
     ghost coded = { Prim.hlevel (codes, content.the_row.coded) };
 
-    ghost use Rattle.ps_sheet.specs.Batches.{IsBatch};
+    ghost use Rattle.ps_delta.specs.Batches.{IsBatch};
 
     ghost view = { λ b. b.cells.items };
 
@@ -59,7 +59,7 @@ impl Model for Batch {
 }
 
 impl Batch {
-    ghost use Rattle.ps_sheet.specs.Batches.{IsBatch};
+    ghost use Rattle.ps_delta.specs.Batches.{IsBatch};
 
     /// The batch of these cells; none where there is no cell, or where they aren't ascending and distinct.
     ///

@@ -4,9 +4,9 @@ use Rattle.std.specs.Ordering.{nat_cmp}
 use Rattle.std.proofs.lemmas.Grind.{common_steps}
 use Rattle.ps_delta.proofs.CellLists.{rising_from_sorted, sorted_from_rising, rising_from_increasing}
 use Rattle.ps_delta.proofs.CellLists.{increasing_from_rising}
-use Rattle.ps_sheet.proofs.edit.Batch.new.Goals as goal
-use Rattle.ps_sheet.proofs.edit.Batch.new.Goals.{then-is_empty-via-then-is_empty}
-use Rattle.ps_sheet.proofs.edit.Batch.new.Goals.{then-is_empty-via-else-is_empty+then-not-is_ascending}
+use Rattle.ps_delta.proofs.edit.Batch.new.Goals as goal
+use Rattle.ps_delta.proofs.edit.Batch.new.Goals.{then-is_empty-via-then-is_empty}
+use Rattle.ps_delta.proofs.edit.Batch.new.Goals.{then-is_empty-via-else-is_empty+then-not-is_ascending}
 
 pub returns-then-is_empty : goal.returns-then-is_empty
 returns-then-is_empty c batch =
