@@ -30,11 +30,11 @@ class Statuses(ProgramTest):
 
     def test_2_without_a_command(self):
         said = ("error: 'sheet' requires a subcommand but one was not provided\n"
-                "  [subcommands: run, table, serve, sync, follow, page, squash, help]")
+                "  [subcommands: run, table, serve, sync, follow, talk, page, squash, help]")
         self.assert_no_command_line([], said, USAGE)
 
     def test_2_for_an_unknown_command(self):
-        self.assert_no_command_line(["walk"], "error: unrecognized subcommand 'walk'", USAGE)
+        self.assert_no_command_line(["fly"], "error: unrecognized subcommand 'fly'", USAGE)
 
     def test_2_for_an_unknown_option(self):
         said = "error: unexpected argument '--colour' found"

@@ -135,7 +135,7 @@ class Rings(Following):
                 time.sleep(0.05)
 
     def hand_on(self, stack, source, target):
-        """Follows one server, and hands each line to another, as `follow | nc` does."""
+        """Follows one server, and hands each line to another, as `follow | talk` does."""
         connection = stack.enter_context(socket.create_connection((HERE, target.port)))
         stack.enter_context(started("follow", "--from", str(source.port), "--every", "5",
                                     stdin=subprocess.DEVNULL, stdout=connection.fileno()))

@@ -5,7 +5,6 @@ import os
 import re
 import socket
 import subprocess
-import sys
 
 from program import LIMIT, SHEET, TOP, Ended, ProgramTest, lines, run, started
 from servers import HERE, free_port
@@ -17,27 +16,6 @@ FUNCTIONS = BLOCKS[0].removeprefix("bash\n")
 RECIPES = list(zip(BLOCKS[1::2], BLOCKS[2::2]))
 # How long recipes wait for what goes on beside them, and how long they wait when they are tried again.
 PAUSE, LONGER = "sleep 2 &&\n", "sleep 15 &&\n"
-# What the recipes ask of `nc -N`: to send its input as it comes, and to show what comes back, to the end. It stands in
-# for `nc`, which not every machine has.
-NC = f"""#!{sys.executable}
-import os
-import socket
-import sys
-import threading
-
-_, option, host, port = sys.argv
-assert option == "-N"
-with socket.create_connection((host, int(port))) as connection:
-    def send():
-        while piece := os.read(0, 65536):
-            connection.sendall(piece)
-        connection.shutdown(socket.SHUT_WR)
-
-    threading.Thread(target=send, daemon=True).start()
-    while piece := connection.recv(65536):
-        sys.stdout.buffer.write(piece)
-        sys.stdout.buffer.flush()
-"""
 
 
 class Pasting(ProgramTest):
@@ -46,14 +24,10 @@ class Pasting(ProgramTest):
     def setUp(self):
         self.place = self.folder()
         os.symlink(SHEET, self.place / "sheet")
-        (self.place / "bin").mkdir()
-        (self.place / "bin/nc").write_text(NC)
-        (self.place / "bin/nc").chmod(0o755)
 
     def paste(self, commands):
         """How these commands end after the functions of the page."""
-        environment = {**os.environ, "PATH": f"{self.place / 'bin'}:{os.environ['PATH']}"}
-        how = {"cwd": self.place, "env": environment, "stdin": subprocess.DEVNULL, "stdout": subprocess.PIPE}
+        how = {"cwd": self.place, "stdin": subprocess.DEVNULL, "stdout": subprocess.PIPE}
         with started("-c", FUNCTIONS + commands, program="bash", **how) as shell:
             output, error = shell.communicate(timeout=LIMIT)
             return Ended(shell.returncode, output, error)
@@ -111,7 +85,7 @@ class Keeping(Pasting):
         port = free_port()
         self.assertEqual(self.paste(f"""
             start log ./sheet serve --port {port} --sessions 2 &&
-            nc -N {HERE} {port} < given > replies &&
+            ./sheet talk --to {port} < given > replies &&
             ./sheet follow --from {port} --until-now > kept &&
             wait
         """), Ended(0))
@@ -196,7 +170,7 @@ class Failing(Pasting):
     def test_a_session_that_ends_early(self):
         self.assert_fails("keep true < /dev/null", b"keep: stopped by the end of the session")
         self.assert_fails("keep printf 'ok 1\\ndelta 1 [[' < /dev/null", b"keep: stopped by delta 1 [[\n")
-        self.assert_fails(f"keep nc -N {HERE} {free_port()} < /dev/null", b"keep: stopped by the end of the session")
+        self.assert_fails(f"keep ./sheet talk --to {free_port()} < /dev/null", b"keep: stopped by the end of the session")
 
     def test_an_input_that_cannot_be_read(self):
         self.assert_fails("keep ./sheet run < .", b"keep: stopped by err 16 command\n")

@@ -8,25 +8,27 @@ from program import LIMIT, SHEET, TOP, Ended, ProgramTest, lines, run
 FIRST_EXAMPLE = r"printf 'set A1 5\nset B1 =[.A1]*2\nget B1\n' | ./sheet run"
 TWO_REPLICAS = r"""
 ask() { awk '{ print } END { while (n < NR) print "pull " n++ }'; }
-printf 'set A1 apples\nset B1 @tally\nadd B1 3\n' | ask | ./sheet run --replica 1 > one
-printf 'set A1 pears\nset B1 @tally\nadd B1 4\n' | ask | ./sheet run --replica 2 > two
-sed -n 's/^delta [0-9]* /push /p' one two > lines
-(cat lines; printf 'get A1\nget B1\n') | ./sheet run --replica 1 | tail -n 2
-(tac lines; cat lines; printf 'get A1\nget B1\n') | ./sheet run --replica 2 | tail -n 2
+here=$(mktemp -d)
+printf 'set A1 apples\nset B1 @tally\nadd B1 3\n' | ask | ./sheet run --replica 1 > $here/one
+printf 'set A1 pears\nset B1 @tally\nadd B1 4\n' | ask | ./sheet run --replica 2 > $here/two
+sed -n 's/^delta [0-9]* /push /p' $here/one $here/two > $here/lines
+(cat $here/lines; printf 'get A1\nget B1\n') | ./sheet run --replica 1 | tail -n 2
+(tac $here/lines; cat $here/lines; printf 'get A1\nget B1\n') | ./sheet run --replica 2 | tail -n 2
 """
 # The commands and the options, each with a word of what the help says of it; of an option by its command, where that
 # makes a difference.
 COMMANDS = {
     "run": "each line of standard input", "table": "CSV", "serve": "several sessions",
-    "sync": "one replica has to another", "follow": "lines to push", "page": "browser", "squash": "few push lines",
+    "sync": "one replica has to another", "follow": "lines to push", "talk": "asks a server", "page": "browser",
+    "squash": "few push lines",
 }
 WITHOUT_NUMBER = ("--keep", "--explain", "--strict", "--entries", "--until-now")
-WHY_NO_PORT = dict.fromkeys(("serve", "sync", "follow", "page"), "why a port")
+WHY_NO_PORT = dict.fromkeys(("serve", "sync", "follow", "talk", "page"), "why a port")
 OPTIONS = {
     "--workers": "threads", "--replica": "of this replica", "--strict": "status 3", "--keep": "kept in",
     "--entries": "entries", "--port": "listen", "--sessions": "before it ends", "--seats": "to serve at a time",
     "--wait": "wait for a seat", "--idle": "sends nothing", "--until-now": "ends once", "--every": "milliseconds",
-    "--browsers": "browsers", "--to": "takes them in",
+    "--browsers": "browsers", "--to": {"sync": "takes them in", "talk": "is asked"},
     "--from": {"sync": "are pulled", "follow": "is followed", "page": "is shown"},
     "--explain": {"run": "with a hint", "table": "with a hint", **WHY_NO_PORT},
 }
@@ -53,9 +55,12 @@ class Examples(ProgramTest):
         # the first block of the page, and what the block after it shows
         command, shown = (TOP / "README.md").read_text().split("```")[1:4:2]
         self.assertEqual((command, shown[:5]), (f"sh{TWO_REPLICAS}", "text\n"))
-        folder = self.folder()
+        folder, elsewhere = self.folder(), self.folder()
         os.symlink(SHEET, folder / "sheet")
-        self.assertEqual(shell(TWO_REPLICAS, folder), Ended(0, shown.removeprefix("text\n").encode()))
+        ended = shell(TWO_REPLICAS, folder, {**os.environ, "TMPDIR": str(elsewhere)})
+        self.assertEqual(ended, Ended(0, shown.removeprefix("text\n").encode()))
+        # nothing is written into the folder of the program
+        self.assertEqual([file.name for file in folder.iterdir()], ["sheet"])
 
     def test_each_command_of_the_page_on_replicas_writes_the_block_after_it(self):
         blocks = (TOP / "docs/REPLICAS.md").read_text().split("```")[1::2]

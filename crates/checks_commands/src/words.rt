@@ -13,8 +13,9 @@ fn words(alloc: Global, line: &str) -> Result<Vec<String>, AllocError> {
     Ok(words)
 }
 
-/// Two numbers of `run`, `sync` or `serve`, or that of `table` and 0, or of `follow` the port and the pause, which is 0
-/// here where it isn't until now, or of `page` the port and the browsers; or the exit status that `clap` gives.
+/// Two numbers of `run`, `sync` or `serve`, or that of `table` or `talk` and 0, or of `follow` the port and the pause,
+/// which is 0 here where it isn't until now, or of `page` the port and the browsers; or the exit status that `clap`
+/// gives.
 fn numbers(alloc: Global, line: &str) -> Result<Result<(u16, u16), i32>, AllocError> {
     let words = words(alloc, line)?;
     Ok(match read_words(alloc, words.as_slice()) {
@@ -27,6 +28,7 @@ fn numbers(alloc: Global, line: &str) -> Result<Result<(u16, u16), i32>, AllocEr
         Ok(Options::Sync(options)) => Ok((options.from, options.to)),
         Ok(Options::Follow(options)) if options.until_now => Ok((options.from, options.every)),
         Ok(Options::Follow(options)) => Ok((options.from, 0)),
+        Ok(Options::Talk(options)) => Ok((options.to, 0)),
         Ok(Options::Page(options)) => Ok((options.port, u16::from(options.browsers))),
         Ok(Options::Squash) => Ok((0, 0)),
         Err(error) => Err(error.exit_code()),
@@ -46,6 +48,7 @@ fn options_are_read(rt: HostRuntime) -> Result<(), Fail> {
         ("sheet page --from=1 --port 65535", (65535, 8)),
         ("sheet page --browsers 16 --port=8080 --from=1", (8080, 16)),
         ("sheet squash", (0, 0)),
+        ("sheet talk --to=7001", (7001, 0)),
         ("sheet follow --from 7001", (7001, 0)),
         ("sheet follow --from 7001 --until-now", (7001, 50)),
         (
@@ -67,6 +70,7 @@ fn flags(alloc: Global, line: &str) -> Result<[bool; 3], AllocError> {
         Ok(Options::Serve(options)) => [options.explain, false, false],
         Ok(Options::Sync(options)) => [options.explain, false, false],
         Ok(Options::Follow(options)) => [options.explain, false, false],
+        Ok(Options::Talk(options)) => [options.explain, false, false],
         Ok(Options::Page(options)) => [options.explain, false, false],
         _ => [true, true, true],
     })
@@ -88,6 +92,8 @@ fn flags_are_read(rt: HostRuntime) -> Result<(), Fail> {
         ("sheet sync --explain --from 1 --to 2", [true, false, false]),
         ("sheet follow --from 1 --until-now", [false, false, false]),
         ("sheet follow --from 1 --explain", [true, false, false]),
+        ("sheet talk --to 1", [false, false, false]),
+        ("sheet talk --explain --to 1", [true, false, false]),
         ("sheet page --from 1 --port 2", [false, false, false]),
         (
             "sheet page --from 1 --explain --port 2",
@@ -193,6 +199,8 @@ sheet follow --from=0
 sheet follow --from=1 --every=0
 sheet follow --from=1 --every=60001
 sheet follow --from=1 --until-now=yes
+sheet talk --explain
+sheet talk --to=0
 sheet page --from=1
 sheet page --from=1 --port=2 --browsers=17
 sheet squash plan.lines

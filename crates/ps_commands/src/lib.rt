@@ -1,5 +1,5 @@
-//! The commands of the program `sheet`, over any source and sink: sessions, tables, `serve`, `sync`, `follow`, `page`,
-//! `squash`, and how each ends.
+//! The commands of the program `sheet`, over any source and sink: sessions, tables, `serve`, `sync`, `follow`, `talk`,
+//! `page`, `squash`, and how each ends.
 //!
 //! It is not the program: it knows no standard input or output, and whoever calls it gives it what the words ask for.
 //! It keeps nothing from one call to the next but in the file of a kept sheet: the lines `pull` and `push` carry
@@ -9,10 +9,10 @@
 //! [`table_on`] what was written the table of what an empty sheet has or shows once it has taken the table in.
 //! [`serve_on`] returns the sheet that it was given, grown by what its seats' passes appended through all their
 //! sessions, once it has written its version, and [`attend_lines`] makes what a session reads and writes the transcript
-//! of a seat at the desk. [`sync_on`] and [`follow_on`] do what `ps_session` says of `sync` and `follow`, with the
-//! replicas that listen on ports, and [`squash_on`] what `ps_squash` says of lines. A [`ProgramFault`] is what ends
-//! the program early, and [`status_of`] its exit status: 1 where a device failed, 3 for any other refusal.
-//! [`port_fault`] says of a port that can't be had why.
+//! of a seat at the desk. [`sync_on`], [`follow_on`] and [`talk_on`] do what `ps_session` says of `sync`, `follow` and
+//! `ask_lines`, with the replicas that listen on ports, and [`squash_on`] what `ps_squash` says of lines. A
+//! [`ProgramFault`] is what ends the program early, and [`status_of`] its exit status: 1 where a device failed, 3 for
+//! any other refusal. [`port_fault`] says of a port that can't be had why.
 //!
 //! A sheet that is kept in a file begins with [`open_kept_sheet`], which reads what the file has by [`keep_sheet`].
 //! [`answer_kept`] and [`attend_kept`] hand nothing on but what is on the disk, whatever they come to (`IsCovered`, of
@@ -48,6 +48,7 @@ mod shared;
 mod squash;
 mod sync;
 mod table;
+mod talk;
 mod unfreed;
 
 pub use connection::{Attended, DeskSeat, KeptSeat, attend_kept, attend_lines};
@@ -66,4 +67,5 @@ pub use serving::{Entrance, Serving};
 pub use squash::squash_on;
 pub use sync::sync_on;
 pub use table::table_on;
+pub use talk::talk_on;
 pub use unfreed::leave_unfreed;

@@ -1,6 +1,6 @@
 -- What the reader of a source's lines takes of them.
 use Rattle.std.proofs.Common.{◌≡◌, ◌≢◌, ◌+◌, ◌-◌, ◌<◌, ◌≤◌, ℕ, List, [], ◌∷◌, ◌++◌, take, drop, Option, Some, None, sym}
-use Rattle.std.proofs.Common.{◌∙◌, ap, arith, append_assoc, append-nil, inl, inr, refl, subst}
+use Rattle.std.proofs.Common.{◌∙◌, ap, arith, false, rules, append_assoc, append-nil, inl, inr, refl, subst}
 use Rattle.std.specs.Io.KnownBytes.{Consumes, Keeps, prepend_known}
 use Rattle.std.proofs.lemmas.List.{drop-drop, drop-take, take-append-drop}
 use Rattle.std.proofs.lemmas.List.Elements.{All-append}
@@ -8,7 +8,7 @@ use Rattle.ps_device.specs.declared.device.Source.{Ghosts}
 use Rattle.ps_session.specs.declared.incoming.Incoming.{Incoming}
 use Rattle.ps_session.specs.declared.line_reader.Line.TheVariants as lines
 use Rattle.ps_session.specs.Feeding.{EndsLine, Feeds, HasNoFeed, Reading, kept, kept_after}
-use Rattle.ps_session.specs.Inside.Incomings.{IsReading, due, lines_left}
+use Rattle.ps_session.specs.Inside.Incomings.{IsNextLine, IsReading, due, lines_left}
 use Rattle.ps_session.specs.Peers.{TakesLine}
 use Rattle.ps_session.proofs.HoldsLemmas.{fits_kept}
 use Rattle.ps_session.proofs.InputReadToEnd.{nothing_kept}
@@ -118,6 +118,22 @@ module _ {S : Type 0} {G : Ghosts S} (remaining : S → Option (List ℕ)) (left
       let w = whole bytes None taken fed.0 in
       record { part = w.0; feed = 10 ∷ []; one = w.1; ends = inr refl; taken = w.3 }
 
+  -- .. as the next line
+  pub reading_next : (bytes : List ℕ) → Consumes (due remaining mid) (due remaining new) bytes
+      → Feeds mid.lines new.lines bytes lines.Full
+      → IsNextLine (due remaining old) (due remaining new) new.lines.line
+      (record { line = lines.Full; is_last = false })
+  reading_next bytes taken fed =
+      let w = whole bytes (Some new.lines.line) taken fed.0 in
+      record { raw = w.0; one = w.1; read = w.3; ended = λ e. search (rules, e); held = w.2 }
+
+  pub reading_next_long : (bytes : List ℕ) → Consumes (due remaining mid) (due remaining new) bytes
+      → Feeds mid.lines new.lines bytes lines.TooLong → (line : List ℕ)
+      → IsNextLine (due remaining old) (due remaining new) line (record { line = lines.TooLong; is_last = false })
+  reading_next_long bytes taken fed line =
+      let w = whole bytes None taken fed.0 in
+      record { raw = w.0; one = w.1; read = w.3; ended = λ e. search (rules, e); held = w.2 }
+
 -- one turn: more was read where nothing waited, and some of it was taken in
 module _ {S : Type 0} {G : Ghosts S} (remaining : S → Option (List ℕ)) (left failures : S → ℕ)
     (old mid full new : Incoming S G) (r : IsReading remaining left failures old mid)
@@ -142,4 +158,19 @@ module _ {S : Type 0} {G : Ghosts S} (remaining : S → Option (List ℕ)) (left
       × Feeds full.lines new.lines bytes lines.TooLong) → TakesLine (due remaining old) (due remaining new)
   turn_long fed =
       reading_long remaining left failures old full new
+      (reading_kept remaining left failures old mid full r keeps same calm falls) fed.0 fed.1 fed.2
+
+  pub turn_next : (fed : (bytes : List ℕ) × Consumes (due remaining full) (due remaining new) bytes
+      × Feeds full.lines new.lines bytes lines.Full)
+      → IsNextLine (due remaining old) (due remaining new) new.lines.line
+      (record { line = lines.Full; is_last = false })
+  turn_next fed =
+      reading_next remaining left failures old full new
+      (reading_kept remaining left failures old mid full r keeps same calm falls) fed.0 fed.1 fed.2
+
+  pub turn_next_long : (fed : (bytes : List ℕ) × Consumes (due remaining full) (due remaining new) bytes
+      × Feeds full.lines new.lines bytes lines.TooLong) → (line : List ℕ)
+      → IsNextLine (due remaining old) (due remaining new) line (record { line = lines.TooLong; is_last = false })
+  turn_next_long fed =
+      reading_next_long remaining left failures old full new
       (reading_kept remaining left failures old mid full r keeps same calm falls) fed.0 fed.1 fed.2

@@ -10,6 +10,7 @@ mod ReadLemmas
 mod PartLemmas
 mod IncomingLemmas
 mod ExchangeLemmas
+mod AskingLemmas
 pub mod Runs
 pub mod AnswerLemmas
 mod ReplicaAndLinesStay

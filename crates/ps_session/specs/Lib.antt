@@ -5,6 +5,7 @@ pub mod Inside
 pub mod Peers
 pub mod PushLine
 pub mod Exchange
+pub mod Asking
 pub mod ReplicaLine
 pub mod KeptLines
 pub mod Words

@@ -24,6 +24,14 @@ pub record IsReplied (question : List ℕ) (old new : PeerView) : Type 0 where
   pub calm : new.failures ≡ old.failures
   pub falls : new.left < old.left
 
+-- READ ON: one line more was read, which is the reply's next one
+pub record IsReadOn (old new : PeerView) : Type 0 where
+  pub unasked : new.asked ≡ old.asked
+  pub one : HasNoFeed new.line
+  pub read : Consumes old.to_come new.to_come (new.line ++ 10 ∷ [])
+  pub calm : new.failures ≡ old.failures
+  pub falls : new.left < old.left
+
 -- CLOSED: these bytes were put whole, and then the input ended, with nothing after the line that was read last
 pub record IsClosed (question : List ℕ) (old new : PeerView) : Type 0 where
   pub asked : Appends old.asked new.asked question

@@ -1,5 +1,5 @@
 //! The lines that a source holds, one after another.
-ghost use Rattle.std.specs.Prelude.{◌≡◌, ◌≤◌, length};
+ghost use Rattle.std.specs.Prelude.{◌≡◌, ◌≤◌, false, length};
 ghost use Rattle.ps_device.specs.declared.TheConstants.{PIECE_BYTES};
 
 use crate::line_reader::{Line, Session};
@@ -17,6 +17,15 @@ pub(crate) enum LineFault {
     Broken,
 }
 
+/// What a reader of lines came to: the end of a line, or that of its source.
+#[derive(Clone, Copy, PartialEq, Eq)]
+pub(crate) struct NextLine {
+    /// What ended; `Line::None` only at the end of the source.
+    pub(crate) line: Line,
+    /// Whether the source has ended.
+    pub(crate) is_last: bool,
+}
+
 /// The reader of the lines of a source.
 #[derive(Drop)]
 pub(crate) struct Incoming<S: Source + Drop> {
@@ -32,12 +41,25 @@ pub(crate) struct Incoming<S: Source + Drop> {
     ghost room: { length piece.items ≡ PIECE_BYTES },
 }
 
+impl NextLine {
+    /// A line that a line feed ended.
+    fn inside(line: Line) -> NextLine
+        ensures { result ≡ record { line = line; is_last = false } }
+    {
+        NextLine {
+            line,
+            is_last: false,
+        }
+    }
+}
+
 impl<S: Source + Drop> Incoming<S> {
     ghost use Rattle.std.specs.Prelude.{◌≢◌, ◌<◌, ◌++◌, ◌∷◌, ℕ, List, [], Err, IfOk, OnErr, OnOk, Some, None};
     ghost use Rattle.std.specs.Prelude.{false, true};
     ghost use Rattle.std.specs.Io.KnownBytes.{Consumes, IsAtEnd, Keeps};
     ghost use Rattle.ps_session.specs.Feeding.{Feeds, HasNoFeed, without_return};
     ghost use Rattle.ps_session.specs.Inside.Incomings.{due, lines_left};
+    ghost use Rattle.ps_session.specs.Inside.Incomings.{IsNextLine};
     ghost use Rattle.ps_session.specs.Peers.{TakesLine};
 
     /// The reader of the lines of this source, of which nothing was read yet. Refused out of memory.
@@ -94,6 +116,40 @@ impl<S: Source + Drop> Incoming<S> {
                 Line::None => {}
                 Line::Full => return Ok(()),
                 Line::TooLong => return Err(LineFault::Broken),
+            }
+        }
+    }
+
+    /// Reads on to the end of a line, or to that of the source, after which what remains is a line too.
+    ///
+    /// Cost: linear in the bytes of the line, but for the time that the source takes.
+    pub(crate) fn next_line(&mut self) -> Result<NextLine, Failed>
+        requires ready { self.old.lines.pending ≡ Some [] }
+        ensures ready { OnOk result (self.new.lines.pending ≡ Some []) }
+        ensures next { IfOk result (IsNextLine (due S.remaining self.old) (due S.remaining self.new)
+            self.new.lines.line) }
+        ensures falls { IfOk result (λ next. next.is_last ≡ false
+            → lines_left S.left self.new < lines_left S.left self.old) }
+        ensures taken { OnErr result (TakesLine (due S.remaining self.old) (due S.remaining self.new)) }
+        ensures calm { OnOk result (S.failures self.new.source ≡ S.failures self.old.source) }
+        ensures failed { OnErr result (S.failures self.old.source < S.failures self.new.source) }
+    {
+        'pieces: loop {
+            let more = match self.fill() {
+                Ok(more) => more,
+                Err(failed) => return Err(failed),
+            };
+            if !more {
+                let line = self.lines.end();
+                return Ok(NextLine {
+                    line,
+                    is_last: true,
+                });
+            }
+            match self.take_in() {
+                Line::None => {}
+                Line::Full => return Ok(NextLine::inside(Line::Full)),
+                Line::TooLong => return Ok(NextLine::inside(Line::TooLong)),
             }
         }
     }

@@ -6,7 +6,8 @@
 //! writes its reply, in order. A sheet is a board, and [`run`] is the talk of a sheet. A [`Watcher`] may look on, by
 //! [`talk_watched`] and [`run_watched`]. A [`Keeper`] has all kept that a session has seen before its replies are
 //! handed on, by [`talk_kept`] and [`run_kept`], whose replies a [`HeldOutput`] holds back until then. What a board
-//! changed and others don't see yet is shown to them before that.
+//! changed and others don't see yet is shown to them before that. A [`Peer`] is a session at the other end of a
+//! connection: [`sync`] and [`follow`] hand on what it has, and [`ask_lines`] asks it the lines of an input.
 //!
 //! It is not a connection: it opens no device. What a sheet does with an edit or a delta, it leaves to the sheet.
 //!
@@ -24,6 +25,7 @@
 //! more; a line costs its bytes and what its board takes.
 #![tactic(auto)]
 
+mod asking;
 mod board;
 mod command;
 mod delivery;
@@ -55,6 +57,7 @@ mod verb;
 mod watcher;
 mod words;
 
+pub use asking::ask_lines;
 pub use board::Board;
 pub use command::{Command, LARGEST_GROUP};
 pub use follower::{Following, follow};

@@ -1,7 +1,7 @@
-//! A peer that replies to each request by a line.
+//! A peer that replies to each request by a line, or by several.
 ghost use Rattle.std.specs.Prelude.{◌≡◌, ◌<◌, ◌≤◌, ◌+◌, [], Err, IfOk, OnErr, OnOk, flat_map, length};
 ghost use Rattle.std.specs.Io.KnownBytes.{Appends};
-ghost use Rattle.ps_session.specs.Peers.{IsClosed, IsReplied, PutsSome, TakesLine};
+ghost use Rattle.ps_session.specs.Peers.{IsClosed, IsReadOn, IsReplied, PutsSome, TakesLine};
 ghost use Rattle.ps_session.specs.Feeding.{without_return};
 
 use crate::incoming::{Incoming, LineFault};
@@ -17,7 +17,7 @@ pub enum PeerFault {
     Device,
     /// The replies ended, with nothing after the reply before.
     Closed,
-    /// The replies ended in the middle of one, or a reply is too long for a line.
+    /// The replies ended in the middle of one, or a line of a reply is too long.
     Line,
 }
 
@@ -110,7 +110,30 @@ impl<S: Source + Drop, K: Sink + Drop> Peer<S, K> {
         }
     }
 
-    /// The reply that was read last, without its line feed, and without a carriage return before that.
+    /// Waits for one more line of the reply that was read last, which [`Peer::reply`] lends then.
+    ///
+    /// Cost: linear in the bytes of the line, but for the time that the peer takes.
+    pub fn read_more(&mut self) -> Result<(), PeerFault>
+        ensures more { OnOk result (IsReadOn self.old self.new) }
+        ensures unasked { self.new.asked ≡ self.old.asked }
+        ensures taken { OnErr result (TakesLine self.old.to_come self.new.to_come) }
+        ensures failed { result ≡ Err PeerFault.Device → self.old.failures < self.new.failures }
+    {
+        if !self.is_ready {
+            return Err(PeerFault::Line);
+        }
+        self.is_ready = false;
+        match self.incoming.read_line() {
+            Ok(()) => {
+                self.is_ready = true;
+                Ok(())
+            }
+            Err(LineFault::Failed) => Err(PeerFault::Device),
+            Err(LineFault::Ended | LineFault::Broken) => Err(PeerFault::Line),
+        }
+    }
+
+    /// The line of a reply that was read last, without its line feed, and without a carriage return before that.
     ///
     /// Cost: constant.
     pub fn reply(&self) -> &[u8]

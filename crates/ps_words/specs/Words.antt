@@ -12,7 +12,7 @@ use Rattle.ps_grid.specs.declared.parties.TheConstants.{REPLICAS, SEATS, WORKERS
 use Rattle.ps_words.specs.declared.options.TheConstants.{LONGEST_IDLE, LONGEST_PAUSE, LONGEST_WAIT, MOST_SESSIONS}
 use Rattle.ps_words.specs.declared.arguments.TheConstants.{LAST_PORT}
 use Rattle.ps_words.specs.declared.options.Options.{Options}
-use Rattle.ps_words.specs.declared.options.Options.TheVariants.{Follow, Page, Run, Serve, Squash, Sync, Table}
+use Rattle.ps_words.specs.declared.options.Options.TheVariants.{Follow, Page, Run, Serve, Squash, Sync, Table, Talk}
 
 -- an option with a number from least to most, which may be left out ..
 abbrev pub ranged_option : Text → ℕ → ℕ → Rule
@@ -76,6 +76,10 @@ follow_app = with_rule (with_rule (with_rule (with_rule (new_app (codes "follow"
     (flag_option (codes "until-now"))) (usual_option (codes "every") 1 LONGEST_PAUSE (codes "50")))
     (flag_option (codes "explain"))
 
+abbrev pub talk_app : App
+talk_app = with_rule (with_rule (new_app (codes "talk")) (needed_option (codes "to") LAST_PORT))
+    (flag_option (codes "explain"))
+
 abbrev pub page_app : App
 page_app = with_rule (with_rule (with_rule (with_rule (new_app (codes "page")) (needed_option (codes "from") LAST_PORT))
     (needed_option (codes "port") LAST_PORT)) (usual_option (codes "browsers") 1 SEATS (codes "8")))
@@ -87,11 +91,11 @@ squash_app = new_app (codes "squash")
 -- the program has one of the commands, and a version
 abbrev pub sheet_app : App
 sheet_app = with_subcommand (with_subcommand (with_subcommand (with_subcommand (with_subcommand (with_subcommand
-    (with_subcommand (on_top (λ s. record s {
+    (with_subcommand (with_subcommand (on_top (λ s. record s {
       subcommand_required = true;
       has_version = true;
-    }) (new_app (codes "sheet"))) run_app.top) table_app.top) serve_app.top) sync_app.top) follow_app.top) page_app.top)
-    squash_app.top
+    }) (new_app (codes "sheet"))) run_app.top) table_app.top) serve_app.top) sync_app.top) follow_app.top) talk_app.top)
+    page_app.top) squash_app.top
 
 -- among a command's matches the option has this number
 abbrev pub GivesNumber : List Row → Text → ℕ → Type 0
@@ -119,6 +123,7 @@ name_of (Table o) = codes "table"
 name_of (Serve o) = codes "serve"
 name_of (Sync o) = codes "sync"
 name_of (Follow o) = codes "follow"
+name_of (Talk o) = codes "talk"
 name_of (Page o) = codes "page"
 name_of Squash = codes "squash"
 
@@ -139,6 +144,7 @@ GivesNumbers rows (Sync o) = GivesNumber rows (codes "from") o.from × GivesNumb
     × GivesFlag rows (codes "explain") o.explain
 GivesNumbers rows (Follow o) = GivesNumber rows (codes "from") o.from × GivesFlag rows (codes "until-now") o.until_now
     × GivesNumber rows (codes "every") o.every × GivesFlag rows (codes "explain") o.explain
+GivesNumbers rows (Talk o) = GivesNumber rows (codes "to") o.to × GivesFlag rows (codes "explain") o.explain
 GivesNumbers rows (Page o) = GivesNumber rows (codes "from") o.from × GivesNumber rows (codes "port") o.port
     × GivesNumber rows (codes "browsers") o.browsers × GivesFlag rows (codes "explain") o.explain
 GivesNumbers rows Squash = ⊤

@@ -11,6 +11,7 @@ ghost use Rattle.ps_words.specs.Words.{
   squash_app,
   sync_app,
   table_app,
+  talk_app,
 };
 
 use crate::arguments::{
@@ -21,7 +22,8 @@ use crate::help::{
     BROWSERS_HELP, ENTRIES_HELP, EVERY_HELP, EXPLAIN_HELP, FOLLOW_HELP, FOLLOWED_HELP, FROM_HELP,
     IDLE_HELP, KEEP_HELP, PAGE_HELP, PORT_EXPLAIN_HELP, PORT_HELP, RUN_HELP, SEATS_HELP,
     SERVE_HELP, SERVER_HELP, SESSIONS_HELP, SHEET_HELP, SQUASH_HELP, STRICT_HELP, SYNC_HELP,
-    TABLE_HELP, TO_HELP, UNTIL_NOW_HELP, WAIT_HELP, WORKERS_HELP,
+    TABLE_HELP, TALK_EXPLAIN_HELP, TALK_HELP, TALKED_HELP, TO_HELP, UNTIL_NOW_HELP, WAIT_HELP,
+    WORKERS_HELP,
 };
 use crate::options::{LONGEST_IDLE, LONGEST_PAUSE, LONGEST_WAIT, MOST_SESSIONS};
 use clap::Command;
@@ -119,6 +121,18 @@ fn follow_command<'a>(alloc: Global) -> Result<Command<'a>, AllocError>
     with_option(command, explain)
 }
 
+/// The command `talk`.
+fn talk_command<'a>(alloc: Global) -> Result<Command<'a>, AllocError>
+    ensures app { IfOk result (λ command. app_of command ≡ talk_app) }
+    ensures local { IfOk result (λ command. (fields_of command).has_globals ≡ false) }
+{
+    let about = "asks a server each line of standard input";
+    let to = needed_option(alloc, "to", LAST_PORT, TALKED_HELP);
+    let command = with_option(new_command(alloc, "talk", about, TALK_HELP), to)?;
+    let explain = flag_option(alloc, "explain", TALK_EXPLAIN_HELP);
+    with_option(command, explain)
+}
+
 /// The command `page`.
 fn page_command<'a>(alloc: Global) -> Result<Command<'a>, AllocError>
     ensures app { IfOk result (λ command. app_of command ≡ page_app) }
@@ -158,6 +172,7 @@ pub(crate) fn sheet_command<'a>(alloc: Global) -> Result<Command<'a>, AllocError
         .subcommand(serve_command(alloc)?)?
         .subcommand(sync_command(alloc)?)?
         .subcommand(follow_command(alloc)?)?
+        .subcommand(talk_command(alloc)?)?
         .subcommand(page_command(alloc)?)?
         .subcommand(squash_command(alloc))
 }

@@ -43,6 +43,9 @@ pub const UNTIL_NOW_HELP: &str = "ends once all that the replica has is written"
 /// What `--every` means, with the range 1 to `LONGEST_PAUSE`.
 pub const EVERY_HELP: &str = "how many milliseconds to wait before it asks for more, 1 to 60000";
 
+/// What `--to` of `talk` means.
+pub const TALKED_HELP: &str = "the port of the server that is asked, 1 to 65535";
+
 /// What `--from` of `page` means.
 pub const SERVER_HELP: &str = "the port of the server whose sheet is shown, 1 to 65535";
 
@@ -55,6 +58,10 @@ pub const EXPLAIN_HELP: &str =
 
 /// What `--explain` of a command with a port means.
 pub const PORT_EXPLAIN_HELP: &str = "tells on standard error why a port can't be had";
+
+/// What `--explain` of `talk` means.
+pub const TALK_EXPLAIN_HELP: &str =
+    "tells on standard error what is refused or looks like a number, and why a port can't be had";
 
 /// What `--strict` means.
 pub const STRICT_HELP: &str = "ends with status 3 where a line was refused";
@@ -71,6 +78,7 @@ Examples:
   sheet serve --port 7001
   sheet sync --from 7001 --to 7002
   sheet follow --from 7001 --until-now > plan.lines
+  sheet talk --to 7001 < my.lines
   sheet page --from 7001 --port 8080
   sheet squash < plan.lines > small
   sheet help serve
@@ -100,8 +108,8 @@ What is refused changes nothing, and is told by `err`, a number and a name:
   20 device      see to the input, the output, the port or the connection
   21 seat        come again once a session has ended
 
-`run --explain` and `table --explain` tell each refusal's line or cell, with a hint,
-and the other commands with `--explain` why a port can't be had.";
+`run`, `table` and `talk` with `--explain` tell each refusal's line or cell, with a
+hint, and the commands that have a port tell with it why that can't be had.";
 
 /// What stands below the options of `sheet run --help`.
 pub const RUN_HELP: &str = "\
@@ -220,7 +228,7 @@ a replica that closes before that is refused as `err 15 line`.
 Examples:
 
   sheet follow --from 7001 --until-now > all.lines
-  sheet follow --from 7001 | nc 127.0.0.1 7002 > replies
+  sheet follow --from 7001 | sheet talk --to 7002 > replies
   sheet follow --from 7001 --every 1000 --explain
 
 The first keeps a replica as a file, the second hands each change of one replica
@@ -228,6 +236,31 @@ to another as it comes, and the third asks for more but once a second. A line is
 such as
 
   push [[\"A1\",[1,1,\"5\"],[],[]]]";
+
+/// What stands below the options of `sheet talk --help`.
+pub const TALK_HELP: &str = "\
+The server listens on this machine, 127.0.0.1. Each line of standard input is asked
+there, and its reply is written on standard output, whole, before the next line is
+read: what `run` does with a sheet of its own, on the sheet that all sessions of the
+server share. A refused line has its reply too, and the session goes on. It ends with
+the input; and early, with a word on standard error, where the server has no seat
+(`err 21 seat`), closes amid it or gives a reply that isn't due (`err 15 line`), or
+where the connection fails (`err 20 device`).
+
+Examples:
+
+  printf 'set A1 5\\nget A1\\n' | sheet talk --to 7001
+
+writes
+
+  ok 1
+  val 5
+
+  sheet talk --to 7001
+  sheet talk --to 7001 --explain < my.lines > replies
+  sheet follow --from 7001 | sheet talk --to 7002 > replies
+
+At a terminal, as in the second one, type a line and read its reply; Ctrl-D ends it.";
 
 /// What stands below the options of `sheet page --help`.
 pub const PAGE_HELP: &str = "\

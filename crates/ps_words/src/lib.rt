@@ -23,6 +23,6 @@ pub use help::{
 };
 pub use options::{
     FollowOptions, LONGEST_IDLE, LONGEST_PAUSE, LONGEST_WAIT, MOST_SESSIONS, Options, PageOptions,
-    RunOptions, ServeOptions, SheetOptions, SyncOptions, TableOptions,
+    RunOptions, ServeOptions, SheetOptions, SyncOptions, TableOptions, TalkOptions,
 };
 pub use words::read_words;

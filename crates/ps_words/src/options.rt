@@ -107,6 +107,16 @@ pub struct FollowOptions {
     ghost every_in_range: { (1 ≤ every) × (every ≤ LONGEST_PAUSE) },
 }
 
+/// What `sheet talk` is asked for.
+#[derive(Clone, Copy, PartialEq, Eq)]
+pub struct TalkOptions {
+    /// The port of the server whose session it is, 1 or more.
+    pub to: u16,
+    /// Whether standard error is told of lines, with hints, and why a port can't be had.
+    pub explain: bool,
+    ghost to_in_range: { 1 ≤ to },
+}
+
 /// What `sheet page` is asked for.
 #[derive(Clone, Copy, PartialEq, Eq)]
 pub struct PageOptions {
@@ -136,6 +146,8 @@ pub enum Options<'a> {
     Sync(SyncOptions),
     /// Writes what a replica has and gets as lines to push.
     Follow(FollowOptions),
+    /// Asks a server each line of standard input.
+    Talk(TalkOptions),
     /// Shows the sheet of a server in a browser.
     Page(PageOptions),
     /// Makes few push lines of many delta lines.

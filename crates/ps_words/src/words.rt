@@ -7,7 +7,7 @@ ghost use Rattle.ps_words.specs.Words.{name_of, sheet_app};
 use crate::commands::sheet_command;
 use crate::options::{
     FollowOptions, LONGEST_IDLE, LONGEST_PAUSE, LONGEST_WAIT, MOST_SESSIONS, Options, PageOptions,
-    RunOptions, ServeOptions, SheetOptions, SyncOptions, TableOptions,
+    RunOptions, ServeOptions, SheetOptions, SyncOptions, TableOptions, TalkOptions,
 };
 use clap::{ArgMatches, Error};
 use ps_grid::{REPLICAS, SEATS, WORKERS};
@@ -176,6 +176,16 @@ fn follow_options<'a>(matches: &ArgMatches<'a>) -> Option<Options<'a>>
     }))
 }
 
+/// The port of `talk`, and its flag.
+fn talk_options<'a>(matches: &ArgMatches<'a>) -> Option<Options<'a>>
+    ensures { IfSome result (λ options. (name_of options ≡ codes "talk")
+        × GivesNumbers (rows_of (found_of matches.now)) options) }
+{
+    let to = port_of(matches, "to")?;
+    let explain = flag_of(matches, "explain");
+    Some(Options::Talk(TalkOptions { to, explain }))
+}
+
 /// The numbers of `page`, and its flag.
 fn page_options<'a>(matches: &ArgMatches<'a>) -> Option<Options<'a>>
     ensures { IfSome result (λ options. (name_of options ≡ codes "page")
@@ -204,6 +214,7 @@ fn options_of<'a>(name: &str, matches: &ArgMatches<'a>) -> Option<Options<'a>>
         "serve" => serve_options(matches),
         "sync" => sync_options(matches),
         "follow" => follow_options(matches),
+        "talk" => talk_options(matches),
         "page" => page_options(matches),
         "squash" => Some(Options::Squash),
         _ => None,

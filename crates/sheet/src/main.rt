@@ -3,9 +3,9 @@
 //! `sheet run` opens an empty sheet and answers each line of standard input on standard output; `sheet table` reads a
 //! table of CSV and writes the table of its settled values. `sheet serve` answers the lines of several connections,
 //! side by side and on one sheet, and `sheet sync` hands what one replica has to another, both of which listen on
-//! this machine. `sheet follow` writes what such a replica has and gets, as lines to push, `sheet page` shows it in a
-//! browser, and `sheet squash` makes few delta lines of many. It keeps nothing from one start to the next but in the
-//! file that `--keep` of `run` or `serve` names.
+//! this machine. `sheet follow` writes what such a replica has and gets, as lines to push, `sheet talk` is a session at
+//! it, `sheet page` shows it in a browser, and `sheet squash` makes few delta lines of many. It keeps nothing from one
+//! start to the next but in the file that `--keep` of `run` or `serve` names.
 //!
 //! It ties the commands of `ps_commands`, whose contracts say what each does, to the words, to standard input, output
 //! and error, and to the exit status: 0 where all went well, 1 where a device failed, 2 for a command line that is
@@ -25,13 +25,13 @@ use clap::error::ErrorKind;
 use ps_commands::{
     Closed, Counts, KeptOnlooker, Onlooker, ProgramFault, answer_kept, answer_lines, follow_on,
     leave_unfreed, open_kept_sheet, open_page, port_fault, serve, serve_kept, squash_on, status_of,
-    sync_on, table_on, tell_opened,
+    sync_on, table_on, talk_on, tell_opened,
 };
 use ps_device::{ConsoleOutput, Reading, Sink, Writing};
 use ps_eval::Meter;
 use ps_grid::Refusal;
 use ps_session::{HeldOutput, Resources};
-use ps_words::{Options, RunOptions, ServeOptions, TableOptions, read_words};
+use ps_words::{Options, RunOptions, ServeOptions, TableOptions, TalkOptions, read_words};
 use std::fs::File;
 use std::io;
 use std::io::{IsTerminal, Stdout, Write};
@@ -120,6 +120,7 @@ fn wants_words(options: Options<'_>) -> bool {
         Options::Serve(options) => options.explain,
         Options::Sync(options) => options.explain,
         Options::Follow(options) => options.explain,
+        Options::Talk(options) => options.explain,
         Options::Page(options) => options.explain,
         Options::Run(_) | Options::Table(_) | Options::Squash => false,
     }
@@ -176,6 +177,7 @@ fn on_standard<
             let mut sink = console::<O>(rt, counts.output)?;
             follow_on(threads, rt, rt.alloc(), options, &mut sink)
         }
+        Options::Talk(options) => talk_lines::<R, I, O>(rt, threads, counts, options),
         Options::Page(options) => {
             let mut sink = console::<O>(rt, counts.output)?;
             open_page(threads, rt.alloc(), options, &mut sink)
@@ -301,6 +303,30 @@ fn serve_sessions<
         }
     }
     Ok(())
+}
+
+/// Asks a server the lines of standard input, and writes its replies on standard output, with hints on standard error.
+fn talk_lines<R: Net<Stream = TcpStream>, I: Ledger, O: Ledger>(
+    rt: &HostRuntime,
+    threads: &R,
+    counts: Counts,
+    options: TalkOptions,
+) -> Result<(), ProgramFault>
+    requires input { IsBlankOf counts.input I.name I.parts }
+    requires output { IsBlankOf counts.output O.name O.parts }
+{
+    let source = Reading::<_, I>::new(rt.reader(), counts.input);
+    let mut sink = console::<O>(rt, counts.output)?;
+    let told = is_explained(rt, options.explain).then_some(rt.stderr());
+    let mut onlooker = Onlooker::new(rt.alloc(), told);
+    talk_on(
+        threads,
+        rt.alloc(),
+        options,
+        source,
+        &mut sink,
+        &mut onlooker,
+    )
 }
 
 /// Takes in the table of standard input, and writes that of its sheet on standard output; then hints on standard error.

@@ -1,0 +1,68 @@
+//! The command `talk`: a session at a server, for whoever types lines or has a file of them.
+ghost use Rattle.std.specs.Prelude.{◌≡◌, ◌⊎◌, ◌<◌, ℕ, List, [], Option, OnErr, OnOk};
+ghost use Rattle.ps_grid.specs.Blanks.{IsBlankOf};
+ghost use Rattle.ps_session.specs.Asking.{IsConversed, IsInterrupted};
+ghost use Rattle.ps_session.specs.Peers.{PeerView};
+
+use crate::fault::ProgramFault;
+use crate::peers::{PeerStream, peer_of};
+use crate::port::connect;
+use ps_device::{Sink, Source};
+use ps_session::{Watcher, ask_lines};
+use ps_words::TalkOptions;
+use std::alloc::Global;
+use std::marker::Brand;
+use std::net::{Net, TcpStream};
+use std::sync::ledger::Ledger;
+
+/// Connects to a port of this machine, asks the server there each line of the input, to its end, and writes the
+/// replies, each whole before the next line is read, while a watcher looks on.
+///
+/// A port that can't be connected to is a fault of its own. Refused as `Device` where the input, the connection or
+/// `out` fails; else as [`ask_lines`] is.
+///
+/// Cost: that of [`ask_lines`], and 0.4 MB of memory.
+pub fn talk_on<R: Net<Stream = TcpStream>, I: Source + Drop, K: Sink, W: Watcher>(
+    rt: &R,
+    alloc: Global,
+    options: TalkOptions,
+    input: I,
+    out: &mut K,
+    watcher: &mut W,
+) -> Result<(), ProgramFault>
+    ensures all { OnOk result ((first : PeerView) × (last : PeerView) × (left : Option (List ℕ))
+        × IsConversed first last (K.contents out.old) (K.contents out.new) (I.remaining input) left) }
+    ensures interrupted { OnErr result ((out.new ≡ out.old)
+        ⊎ ((first : PeerView) × (last : PeerView) × (left : Option (List ℕ))
+        × IsInterrupted first last (K.contents out.old) (K.contents out.new) (I.remaining input) left)) }
+    ensures flushed { K.waiting out.old ≡ []
+        → (K.waiting out.new ≡ []) ⊎ (K.failures out.old < K.failures out.new) }
+    ensures calm { OnOk result (K.failures out.new ≡ K.failures out.old) }
+{
+    let stream = connect(rt, options.to)?;
+    talk_stream::<I, K, W, Brand, Brand>(alloc, PeerStream::new(&stream), input, out, watcher)
+}
+
+/// Asks the server at the other end of a connection.
+fn talk_stream<I: Source + Drop, K: Sink, W: Watcher, J: Ledger, O: Ledger>(
+    alloc: Global,
+    stream: PeerStream<'_>,
+    input: I,
+    out: &mut K,
+    watcher: &mut W,
+) -> Result<(), ProgramFault>
+    requires input { IsBlankOf stream.input J.name J.parts }
+    requires output { IsBlankOf stream.output O.name O.parts }
+    ensures all { OnOk result ((first : PeerView) × (last : PeerView) × (left : Option (List ℕ))
+        × IsConversed first last (K.contents out.old) (K.contents out.new) (I.remaining input) left) }
+    ensures interrupted { OnErr result ((out.new ≡ out.old)
+        ⊎ ((first : PeerView) × (last : PeerView) × (left : Option (List ℕ))
+        × IsInterrupted first last (K.contents out.old) (K.contents out.new) (I.remaining input) left)) }
+    ensures flushed { K.waiting out.old ≡ []
+        → (K.waiting out.new ≡ []) ⊎ (K.failures out.old < K.failures out.new) }
+    ensures calm { OnOk result (K.failures out.new ≡ K.failures out.old) }
+{
+    let mut peer = peer_of::<J, O>(alloc, stream)?;
+    ask_lines(alloc, input, &mut peer, out, watcher)?;
+    Ok(())
+}
