@@ -6,7 +6,7 @@ use ps_commands::{Counts, Onlooker, ProgramFault, table_on};
 use ps_device::{MemorySink, Reading};
 use ps_eval::Meter;
 use ps_grid::Refusal;
-use ps_session::{Outcome, Watcher};
+use ps_lines::{Outcome, Watcher};
 use ps_words::TableOptions;
 use std::alloc::Global;
 use std::marker::Brand;

@@ -1,7 +1,7 @@
 //! The sizes that the help spells out, compared with the constants.
 
 use ps_grid::{CELLS, Cell, NAME_BYTES, REPLICAS, SEATS, WORKERS};
-use ps_session::LARGEST_GROUP;
+use ps_lines::LARGEST_GROUP;
 use ps_words::{
     IDLE_HELP, LONGEST_IDLE, LONGEST_WAIT, MOST_SESSIONS, REPLICA_HELP, RUN_HELP, SEATS_HELP,
     SESSIONS_HELP, WAIT_HELP, WORKERS_HELP,

@@ -2,7 +2,7 @@
 
 use ps_grid::{Cell, Refusal};
 use ps_hints::{field_note, line_note};
-use ps_session::Verb;
+use ps_lines::Verb;
 use std::alloc::{AllocError, Global};
 use std::test::Fail;
 

@@ -4,7 +4,7 @@ ghost use Rattle.ps_grid.specs.Blanks.{IsBlankOf};
 
 use ps_device::{MemorySink, Reading, Writing};
 use ps_grid::Refusal;
-use ps_session::{Following, Peer, SyncFault, follow};
+use ps_peers::{Following, Peer, SyncFault, follow};
 use std::alloc::{AllocError, Global};
 use std::io;
 use std::io::{ErrorKind, Read, Write};

@@ -1,5 +1,5 @@
 use ps_grid::{REPLICAS, Refusal};
-use ps_session::{KeptLine, line_of_replica, put_replica_line, read_kept_line};
+use ps_lines::{KeptLine, line_of_replica, put_replica_line, read_kept_line};
 use ps_wire::{Decoder, encode};
 use std::alloc::Global;
 use std::test::Fail;

@@ -1,4 +1,5 @@
-use ps_session::{LINE_LIMIT, Line, Session};
+use ps_lines::{LINE_LIMIT, Line};
+use ps_session::Session;
 use std::alloc::{AllocError, Global};
 use std::test::Fail;
 

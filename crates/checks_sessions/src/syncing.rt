@@ -3,7 +3,8 @@ ghost use Rattle.ps_grid.specs.Blanks.{IsBlankOf};
 
 use ps_device::{MemorySink, Reading};
 use ps_grid::Refusal;
-use ps_session::{Peer, SyncFault, sync};
+use ps_peers::{Peer, SyncFault};
+use ps_session::sync;
 use std::alloc::Global;
 use std::marker::Brand;
 use std::sync::ledger::{Blank, Ledger};

@@ -2,7 +2,7 @@
 use Rattle.std.proofs.Common.{◌≡◌, ◌∙◌, sym, ap, subst, ℕ, List, [], ◌∷◌, ◌++◌, Option, append_assoc}
 use Rattle.ps_delta.specs.Deltas.{Entries}
 use Rattle.ps_session.specs.Keeping.{IsCovered}
-use Rattle.ps_session.specs.Transcript.{Answering, Run}
+use Rattle.ps_lines.specs.Streams.{Answering, Run}
 use Rattle.ps_desk.specs.Passes.{PassView}
 use Rattle.ps_desk.specs.Seats.{GoesOn, SeatLines}
 use Rattle.ps_commands.specs.Sessions.{IsAttended}

@@ -4,7 +4,7 @@ use Rattle.std.specs.Prelude.{Option, Some, Result, IfErr, IfOk, OnOk}
 use Rattle.std.specs.Io.KnownBytes.{Appends}
 use Rattle.ps_grid.specs.declared.refusal.Refusal.TheVariants.{Device}
 use Rattle.ps_delta.specs.Deltas.{Entries}
-use Rattle.ps_session.specs.Transcript.{Run}
+use Rattle.ps_lines.specs.Streams.{Run}
 use Rattle.ps_desk.specs.Closing.{HistoryBegins, IsClosed, appended_of}
 use Rattle.ps_desk.specs.Opening.{new_passes}
 use Rattle.ps_desk.specs.Passes.{PassView}

@@ -5,7 +5,7 @@ use crate::explain::Onlooker;
 use crate::fault::ProgramFault;
 use crate::kept::OpenedFile;
 use crate::notice::tell_line;
-use ps_session::{Outcome, Watcher};
+use ps_lines::{Outcome, Watcher};
 use ps_sheet::Sheet;
 use std::alloc::Global;
 use std::fmt;

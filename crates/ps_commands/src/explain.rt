@@ -7,7 +7,7 @@ use crate::notice::tell_line;
 use ps_csv::TableWatcher;
 use ps_grid::{Cell, Refusal};
 use ps_hints::{field_note, line_note, record_note};
-use ps_session::{Outcome, Watcher};
+use ps_lines::{Outcome, Watcher};
 use std::alloc::Global;
 use std::io::Write;
 

@@ -9,7 +9,8 @@ use crate::port::PortFault;
 use ps_csv::ImportFault;
 use ps_device::Failed;
 use ps_grid::Refusal;
-use ps_session::{RunFault, SyncFault};
+use ps_peers::SyncFault;
+use ps_session::RunFault;
 use std::alloc::AllocError;
 use thiserror::Error;
 

@@ -1,14 +1,14 @@
 //! The command `follow`: what a replica has and gets, as lines to push.
 ghost use Rattle.std.specs.Prelude.{◌≡◌, ◌⊎◌, ◌<◌, [], IfErr, OnOk, false, true};
 ghost use Rattle.ps_grid.specs.Blanks.{IsBlankOf};
-ghost use Rattle.ps_session.specs.Exchange.{IsAll, IsHalted, IsUntilClosed};
-ghost use Rattle.ps_session.specs.Peers.{PeerView};
+ghost use Rattle.ps_peers.specs.Exchange.{IsAll, IsHalted, IsUntilClosed};
+ghost use Rattle.ps_peers.specs.Peers.{PeerView};
 
 use crate::fault::ProgramFault;
 use crate::peers::{PeerStream, peer_of};
 use crate::port::connect;
 use ps_device::Sink;
-use ps_session::{Following, follow};
+use ps_peers::{Following, follow};
 use ps_words::FollowOptions;
 use std::alloc::Global;
 use std::marker::Brand;

@@ -4,7 +4,7 @@ ghost use Rattle.ps_grid.specs.Blanks.{IsBlankOf};
 
 use crate::fault::ProgramFault;
 use ps_device::{ConsoleOutput, Reading};
-use ps_session::Peer;
+use ps_peers::Peer;
 use std::alloc::Global;
 use std::net::TcpStream;
 use std::sync::ledger::{Blank, Ledger};

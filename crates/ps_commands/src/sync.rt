@@ -11,7 +11,7 @@ use crate::notice::tell;
 use crate::peers::{PeerStream, peer_of};
 use crate::port::connect;
 use ps_device::Sink;
-use ps_session::sync;
+use ps_peers::sync;
 use ps_words::SyncOptions;
 use std::alloc::Global;
 use std::marker::Brand;

@@ -1,14 +1,15 @@
 //! The command `talk`: a session at a server, for whoever types lines or has a file of them.
 ghost use Rattle.std.specs.Prelude.{◌≡◌, ◌⊎◌, ◌<◌, ℕ, List, [], Option, OnErr, OnOk};
 ghost use Rattle.ps_grid.specs.Blanks.{IsBlankOf};
-ghost use Rattle.ps_session.specs.Asking.{IsConversed, IsInterrupted};
-ghost use Rattle.ps_session.specs.Peers.{PeerView};
+ghost use Rattle.ps_peers.specs.Asking.{IsConversed, IsInterrupted};
+ghost use Rattle.ps_peers.specs.Peers.{PeerView};
 
 use crate::fault::ProgramFault;
 use crate::peers::{PeerStream, peer_of};
 use crate::port::connect;
 use ps_device::{Sink, Source};
-use ps_session::{Watcher, ask_lines};
+use ps_lines::Watcher;
+use ps_peers::ask_lines;
 use ps_words::TalkOptions;
 use std::alloc::Global;
 use std::marker::Brand;

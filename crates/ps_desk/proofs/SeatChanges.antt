@@ -10,7 +10,7 @@ use Rattle.ps_delta.specs.declared.edit.Edit.{Edit}
 use Rattle.ps_sheet.specs.Edits.{EditsAreFresh, delta_of_edit}
 use Rattle.ps_sheet.specs.Prepared.{IsRefusedBy, IsToAppend}
 use Rattle.ps_face.specs.Legal.{IsLegal, history_of}
-use Rattle.ps_session.specs.Replies.{done_text, refusal_text}
+use Rattle.ps_lines.specs.Replies.{done_text, refusal_text}
 use Rattle.ps_desk.specs.declared.receipt.Standing.{Standing}
 use Rattle.ps_desk.specs.Passes.{PassView}
 use Rattle.ps_desk.specs.Receipts.{Stands, with_delta}

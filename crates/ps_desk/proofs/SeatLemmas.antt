@@ -5,14 +5,15 @@ use Rattle.ps_grid.specs.declared.refusal.Refusal.{Refusal}
 use Rattle.ps_delta.specs.Deltas.{Entries}
 use Rattle.ps_face.specs.Legal.{history_of}
 use Rattle.ps_session.specs.Answers.{TakesMemory}
-use Rattle.ps_session.specs.Boards.{BoardAnswers, HandsOn, Obeyed}
-use Rattle.ps_session.specs.Commands.{Read, ReadsLine}
-use Rattle.ps_session.specs.Replies.{refusal_text, replica_text}
-use Rattle.ps_session.specs.declared.command.Command.{Command}
-use Rattle.ps_session.specs.declared.command.Command.TheVariants.{Edit, Entries as AllEntries, Entry, Get, Pull, Push}
-use Rattle.ps_session.specs.declared.command.Command.TheVariants.{Replica, Rows}
+use Rattle.ps_session.specs.Boards.{BoardAnswers, Obeyed}
+use Rattle.ps_lines.specs.PullReplies.{HandsOn}
+use Rattle.ps_lines.specs.Commands.{Read, ReadsLine}
+use Rattle.ps_lines.specs.Replies.{refusal_text, replica_text}
+use Rattle.ps_lines.specs.declared.command.Command.{Command}
+use Rattle.ps_lines.specs.declared.command.Command.TheVariants.{Edit, Entries as AllEntries, Entry, Get, Pull, Push}
+use Rattle.ps_lines.specs.declared.command.Command.TheVariants.{Replica, Rows}
 use Rattle.ps_session.proofs.AnswerLemmas.{memory_or_other}
-use Rattle.ps_session.proofs.PulledDeltas.{hands_out}
+use Rattle.ps_lines.proofs.PulledDeltas.{hands_out}
 use Rattle.ps_desk.specs.Passes.{PassView}
 use Rattle.ps_desk.specs.Seats.{GoesOn, IsHandedOut, IsLacking, SeatAnswers, SeatCalls, SeatObeys, SeatPulls}
 use Rattle.ps_desk.proofs.SeatRuns.{goes_itself, goes_on}

@@ -18,8 +18,8 @@ use Rattle.ps_csv.specs.Exports.{exported, row_record, row_records, table_text}
 use Rattle.ps_face.specs.Legal.{IsLegal, Shows, history_of}
 use Rattle.ps_face.specs.Values.{in_order}
 use Rattle.ps_face.proofs.Orders.{get-listed}
-use Rattle.ps_session.specs.Commands.{with_part}
-use Rattle.ps_session.specs.Replies.{refusal_text, rows_text}
+use Rattle.ps_lines.specs.Commands.{with_part}
+use Rattle.ps_lines.specs.Replies.{refusal_text, rows_text}
 use Rattle.ps_desk.specs.Passes.{PassView}
 use Rattle.ps_desk.specs.Seats.{Tabled}
 

@@ -16,14 +16,14 @@ use Rattle.ps_csv.specs.Exports.{Holdings, entry_text, exported, exported_entrie
 use Rattle.ps_face.specs.Legal.{IsLegal, history_of}
 use Rattle.ps_session.specs.Answers.{TakesMemory}
 use Rattle.ps_session.specs.Boards.{BoardAnswers, Calls, told}
-use Rattle.ps_session.specs.Commands.{Read, ReadsLine}
-use Rattle.ps_session.specs.PullReplies.{HandsOut}
-use Rattle.ps_session.specs.Replies.{done_text, entries_reply, entry_reply, refusal_text, replica_text, rows_text}
-use Rattle.ps_session.specs.Replies.{value_text}
-use Rattle.ps_session.specs.Transcript.{Answering, Lines}
-use Rattle.ps_session.specs.declared.command.Command.{Command}
-use Rattle.ps_session.specs.declared.command.Command.TheVariants.{Edit, Entries as AllEntries, Entry, Get, Pull, Push}
-use Rattle.ps_session.specs.declared.command.Command.TheVariants.{Replica, Rows}
+use Rattle.ps_lines.specs.Commands.{Read, ReadsLine}
+use Rattle.ps_lines.specs.PullReplies.{HandsOut}
+use Rattle.ps_lines.specs.Replies.{done_text, entries_reply, entry_reply, refusal_text, replica_text, rows_text}
+use Rattle.ps_lines.specs.Replies.{value_text}
+use Rattle.ps_lines.specs.Streams.{Answering, Lines}
+use Rattle.ps_lines.specs.declared.command.Command.{Command}
+use Rattle.ps_lines.specs.declared.command.Command.TheVariants.{Edit, Entries as AllEntries, Entry, Get, Pull, Push}
+use Rattle.ps_lines.specs.declared.command.Command.TheVariants.{Replica, Rows}
 use Rattle.ps_desk.specs.Passes.{PassView}
 use Rattle.ps_desk.specs.Receipts.{IsAppended, IsReceipt}
 use Rattle.ps_desk.specs.declared.receipt.Receipt.{Receipt}

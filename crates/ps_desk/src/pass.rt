@@ -5,7 +5,7 @@ ghost use mathlib.Core.List.{IsPrefix};
 ghost use Rattle.ps_grid.specs.Rectangle.{LiesInGrid};
 ghost use Rattle.ps_grid.specs.declared.size.TheConstants.{CELLS};
 ghost use Rattle.ps_face.specs.Legal.{IsLegal, Shows, history_of};
-ghost use Rattle.ps_session.specs.Commands.{with_part};
+ghost use Rattle.ps_lines.specs.Commands.{with_part};
 ghost use Rattle.ps_desk.specs.Closing.{EndsAt};
 ghost use Rattle.ps_desk.specs.Passes.{IsShown, entered, owned_by, seen_by};
 ghost use Rattle.ps_desk.specs.Seats.{GoesOn, Tabled};

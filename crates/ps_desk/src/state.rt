@@ -24,7 +24,7 @@ use ps_delta::{Change, Delta};
 use ps_eval::Meter;
 use ps_face::{BookPrefix, FaceWriter};
 use ps_grid::{Cell, Rect, Refusal};
-use ps_session::deltas_after;
+use ps_lines::deltas_after;
 use ps_sheet::{Sheet, Staging};
 use ps_workers::Open;
 use std::alloc::Global;

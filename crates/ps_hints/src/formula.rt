@@ -3,7 +3,7 @@
 use crate::bytes::{first_character, first_filled, is_of_word, last_filled, text_of};
 use crate::formula_hint::FormulaHint;
 use crate::names::{is_corner, is_meant_as_cell, is_nearly_cell};
-use ps_session::split_part;
+use ps_lines::split_part;
 use ps_tokens::{FUNCTIONS, Function};
 
 /// Signs that are written otherwise, the longer ones first.

@@ -6,7 +6,7 @@ use crate::hint::Hint;
 use crate::line_hint::LineHint;
 use crate::names::is_nearly_cell;
 use ps_grid::Refusal;
-use ps_session::{Verb, split_part, split_word};
+use ps_lines::{Verb, split_part, split_word};
 
 /// The hint about a line, which was refused so, or was carried out: then only where the entry that it sets looks like a
 /// number or a formula and is a text.

@@ -3,7 +3,7 @@
 use crate::case::{Capitals, Small};
 use ps_grid::REPLICAS;
 use ps_lattice::{AMOUNT_LIMIT, COUNT_LIMIT, OPTIONS, SEQUENCES};
-use ps_session::Verb;
+use ps_lines::Verb;
 use std::fmt;
 
 /// What to do about a line whose words are refused, or that the sheet refuses.

@@ -10,7 +10,7 @@ use Rattle.ps_keep.specs.Crash.{SurvivesCrashes}
 use Rattle.ps_keep.specs.Journals.{IsJournal, JournalView}
 use Rattle.ps_keep.proofs.CrashLemmas.{journal_survives}
 use Rattle.ps_kept.specs.Inside.{later}
-use Rattle.ps_session.specs.PushLine.{push_line}
+use Rattle.ps_lines.specs.PushLine.{push_line}
 use Rattle.ps_kept.specs.Kept.{IsKept, IsNoted, Notes, PushAll, TellHistory}
 use Rattle.ps_kept.specs.Starts.{Outlives}
 use Rattle.ps_kept.proofs.NoteLemmas.{PushAll-both}

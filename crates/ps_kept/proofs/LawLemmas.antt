@@ -9,8 +9,8 @@ use Rattle.ps_sheet.specs.Sheet.{IsFresh}
 use Rattle.ps_keep.specs.Lines.{AreLines, text, whole_lines}
 use Rattle.ps_keep.proofs.CrashLemmas.{journal_survives, journal_torn, prefix_trans, start_again}
 use Rattle.ps_keep.proofs.LineLemmas.{whole_are, whole_of_text}
-use Rattle.ps_session.specs.PushLine.{Pushes}
-use Rattle.ps_session.specs.ReplicaLine.{replica_line}
+use Rattle.ps_lines.specs.PushLine.{Pushes}
+use Rattle.ps_lines.specs.ReplicaLine.{replica_line}
 use Rattle.ps_kept.specs.Kept.{PushAll, TellHistory, started}
 use Rattle.ps_kept.specs.Laws.{CrashesKeepSheets, FaultsComeAfter, OneHistory, ReadAgain, ReadFilesOpen, StartsMayCrash}
 use Rattle.ps_kept.specs.Laws.{StaysNoted}

@@ -5,7 +5,7 @@ use Rattle.std.proofs.lemmas.List.{take_more}
 use Rattle.ps_delta.specs.Deltas.{Entries}
 use Rattle.ps_wire.specs.Line.{IsOneLine, delta_text}
 use Rattle.ps_wire.proofs.NoFeedLemmas.{delta_line}
-use Rattle.ps_session.specs.PushLine.{push_line}
+use Rattle.ps_lines.specs.PushLine.{push_line}
 use Rattle.ps_keep.specs.Journals.{JournalView}
 use Rattle.ps_keep.specs.Lines.{IsLine}
 use Rattle.ps_kept.specs.Kept.{Notes, PushAll}

@@ -10,8 +10,8 @@ use mathlib.Core.List.{IsPrefix}
 use Rattle.ps_delta.specs.Deltas.{Entries}
 use Rattle.ps_keep.specs.Lines.{whole_lines}
 use Rattle.ps_kept.specs.Inside.{IsPushFault, ReadSoFar}
-use Rattle.ps_session.specs.PushLine.{Pushes, push_word}
-use Rattle.ps_session.specs.ReplicaLine.{replica_line}
+use Rattle.ps_lines.specs.PushLine.{Pushes, push_word}
+use Rattle.ps_lines.specs.ReplicaLine.{replica_line}
 use Rattle.ps_kept.specs.Kept.{PushAll}
 use Rattle.ps_kept.specs.Starts.{HasNoFirst, IsFaultOf, IsUnbegun}
 use Rattle.ps_kept.specs.declared.fault.KeepFault.{KeepFault}

@@ -10,12 +10,12 @@ use Rattle.std.proofs.lemmas.List.Elements.{All-cons, All-nil}
 use Rattle.std.specs.List.{All}
 use mathlib.Core.List.{IsPrefix}
 use Rattle.ps_wire.proofs.ShorterLemmas.{decoded_fit}
-use Rattle.ps_session.specs.EditLines.{HasLine}
+use Rattle.ps_lines.specs.PullReplies.{HasLine}
 use Rattle.ps_delta.specs.Deltas.{Entries}
 use Rattle.ps_keep.specs.Journals.{IsJournal, JournalView}
 use Rattle.ps_keep.specs.Lines.{IsLine, whole_lines}
 use Rattle.ps_kept.specs.Inside.{IsDue}
-use Rattle.ps_session.specs.ReplicaLine.{replica_line}
+use Rattle.ps_lines.specs.ReplicaLine.{replica_line}
 use Rattle.ps_kept.specs.Kept.{IsNoted, PushAll, TellHistory, started}
 use Rattle.ps_kept.specs.Starts.{Reads}
 

@@ -6,9 +6,9 @@ use Rattle.ps_delta.specs.State.{IsBelow}
 use Rattle.ps_delta.specs.Deltas.{Entries, joined_history, state_of}
 use Rattle.ps_sheet.specs.Sheet.{Takes}
 use Rattle.ps_keep.specs.Lines.{whole_lines}
-use Rattle.ps_session.specs.PushLine.{Pushes}
-use Rattle.ps_session.specs.ReplicaLine.{Tells}
-use Rattle.ps_session.proofs.KeptLineLemmas.{one_replica, push_tells_none}
+use Rattle.ps_lines.specs.PushLine.{Pushes}
+use Rattle.ps_lines.specs.ReplicaLine.{Tells}
+use Rattle.ps_lines.proofs.KeptLineLemmas.{one_replica, push_tells_none}
 use Rattle.ps_kept.specs.Starts.{IsOther, PushesNew}
 use Rattle.ps_kept.proofs.ToldLemmas.{pushes_one}
 

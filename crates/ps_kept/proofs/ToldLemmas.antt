@@ -12,7 +12,7 @@ use Rattle.ps_sheet.specs.Sheet.{IsFresh}
 use Rattle.ps_keep.specs.Crash.{SurvivesCrashes}
 use Rattle.ps_keep.specs.Lines.{whole_lines}
 use Rattle.ps_keep.proofs.CrashLemmas.{prefix_trans}
-use Rattle.ps_session.specs.PushLine.{Pushes}
+use Rattle.ps_lines.specs.PushLine.{Pushes}
 use Rattle.ps_kept.specs.Kept.{PushAll, TellHistory}
 use Rattle.ps_kept.specs.Starts.{Outlives}
 use Rattle.ps_kept.proofs.PushLemmas.{text_after}

@@ -2,8 +2,8 @@
 use Rattle.std.specs.Prelude.{◌≡◌, ℕ, List, [], ◌∷◌, ◌++◌, map, ⊤}
 use mathlib.Core.List.{IsPrefix}
 use Rattle.ps_delta.specs.Deltas.{Entries}
-use Rattle.ps_session.specs.PushLine.{Pushes, push_line}
-use Rattle.ps_session.specs.ReplicaLine.{replica_line}
+use Rattle.ps_lines.specs.PushLine.{Pushes, push_line}
+use Rattle.ps_lines.specs.ReplicaLine.{replica_line}
 use Rattle.ps_keep.specs.Journals.{IsJournal, JournalView}
 
 -- the lines push the deltas, one each, in order

@@ -7,8 +7,8 @@ use Rattle.ps_delta.specs.Deltas.{Entries, joined_history, state_of}
 use Rattle.ps_sheet.specs.Sheet.{IsFresh}
 use Rattle.ps_keep.specs.Crash.{IsLeft}
 use Rattle.ps_keep.specs.Lines.{whole_lines}
-use Rattle.ps_session.specs.PushLine.{Pushes}
-use Rattle.ps_session.specs.ReplicaLine.{replica_line}
+use Rattle.ps_lines.specs.PushLine.{Pushes}
+use Rattle.ps_lines.specs.ReplicaLine.{replica_line}
 use Rattle.ps_kept.specs.Kept.{TellHistory}
 use Rattle.ps_kept.specs.declared.fault.KeepFault.{KeepFault}
 use Rattle.ps_kept.specs.declared.fault.KeepFault.TheVariants as faults

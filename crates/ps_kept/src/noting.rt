@@ -1,13 +1,13 @@
 //! The lines of deltas, noted in a journal.
 ghost use Rattle.std.specs.Prelude.{◌≡◌, ◌+◌, ◌<◌, ◌≤◌, ◌^◌, ◌∷◌, ℕ, [], OnOk, OnErr, length, take};
-ghost use Rattle.ps_session.specs.PushLine.{Pushes, push_line};
+ghost use Rattle.ps_lines.specs.PushLine.{Pushes, push_line};
 ghost use Rattle.ps_kept.specs.Kept.{Notes};
 
 use ps_delta::Delta;
 use ps_device::Failed;
 use ps_grid::Refusal;
 use ps_keep::{Device, Journal};
-use ps_session::put_push_line;
+use ps_lines::put_push_line;
 use std::alloc::Global;
 
 /// Writes the line that pushes a delta in the place of what was there.

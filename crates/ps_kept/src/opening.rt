@@ -3,7 +3,7 @@ ghost use Rattle.std.specs.Prelude.{◌≡◌, ◌≢◌, ◌⊎◌, ◌+◌, �
 ghost use Rattle.ps_grid.specs.declared.parties.TheConstants.{REPLICAS, WORKERS};
 ghost use Rattle.std.specs.List.{All};
 ghost use Rattle.ps_sheet.specs.Sheet.{IsSheet};
-ghost use Rattle.ps_session.specs.EditLines.{HasLine};
+ghost use Rattle.ps_lines.specs.PullReplies.{HasLine};
 ghost use Rattle.ps_keep.specs.Journals.{IsJournal};
 ghost use Rattle.ps_keep.specs.Lines.{whole_lines};
 ghost use Rattle.ps_kept.specs.Kept.{IsKept, IsNoted, started};
@@ -15,7 +15,7 @@ use crate::keeper::SheetKeeper;
 use crate::reading::read_sheet;
 use ps_eval::Meter;
 use ps_keep::{Device, Found, Journal, first_line, open};
-use ps_session::line_of_replica;
+use ps_lines::line_of_replica;
 use ps_sheet::Sheet;
 use std::alloc::Global;
 use std::sync::ledger::Ledger;

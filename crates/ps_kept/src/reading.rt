@@ -5,7 +5,7 @@ ghost use Rattle.ps_grid.specs.declared.parties.TheConstants.{REPLICAS, WORKERS}
 ghost use Rattle.ps_delta.specs.Deltas.{Entries};
 ghost use Rattle.ps_sheet.specs.Sheet.{IsSheet};
 ghost use Rattle.ps_keep.specs.Lines.{whole_lines};
-ghost use Rattle.ps_session.specs.ReplicaLine.{replica_line};
+ghost use Rattle.ps_lines.specs.ReplicaLine.{replica_line};
 ghost use Rattle.ps_kept.specs.Kept.{PushAll};
 ghost use Rattle.ps_kept.specs.Starts.{IsFaultOf, IsUnbegun, PushesNew, Reads};
 ghost use Rattle.ps_kept.specs.Inside.{IsPushFault};
@@ -14,7 +14,7 @@ use crate::fault::KeepFault;
 use ps_eval::Meter;
 use ps_grid::Refusal;
 use ps_keep::first_line;
-use ps_session::{KeptLine, line_of_replica, read_kept_line};
+use ps_lines::{KeptLine, line_of_replica, read_kept_line};
 use ps_sheet::Sheet;
 use ps_wire::Decoder;
 use std::alloc::Global;

@@ -11,7 +11,7 @@ use Rattle.ps_face.specs.Legal.{history_of}
 use Rattle.ps_face.proofs.Beginnings.{begins_itself, begins_trans}
 use Rattle.ps_desk.proofs.Closes.{history_begins}
 use Rattle.ps_keep.specs.Journals.{IsJournal, JournalView}
-use Rattle.ps_session.specs.PushLine.{push_line}
+use Rattle.ps_lines.specs.PushLine.{push_line}
 use Rattle.ps_kept.specs.Kept.{Notes, PushAll, TellHistory}
 use Rattle.ps_kept_desk.specs.Records.{EndsKept, IsRecord, RecordView}
 

@@ -10,14 +10,14 @@ use Rattle.ps_delta.specs.Deltas.{Entries, joined_history}
 use Rattle.ps_sheet.specs.Edits.{delta_of_edit}
 use Rattle.ps_sheet.specs.Sheet.{SheetView}
 use Rattle.ps_session.specs.Boards.{BoardAnswers, Obeyed}
-use Rattle.ps_session.specs.Commands.{Read, ReadsLine, with_part}
+use Rattle.ps_lines.specs.Commands.{Read, ReadsLine, with_part}
 use Rattle.ps_session.specs.Answers.{Answers, Edited, Obeys, TakesMemory}
-use Rattle.ps_session.specs.Replies.{done_text, entries_reply, entry_reply, refusal_text, replica_text, rows_text}
-use Rattle.ps_session.specs.Replies.{value_text}
+use Rattle.ps_lines.specs.Replies.{done_text, entries_reply, entry_reply, refusal_text, replica_text, rows_text}
+use Rattle.ps_lines.specs.Replies.{value_text}
 use Rattle.ps_session.specs.SheetBoard.{SheetCalls, SheetPulls}
-use Rattle.ps_session.specs.declared.command.Command.{Command}
-use Rattle.ps_session.specs.declared.command.Command.TheVariants as commands
-use Rattle.ps_session.proofs.PulledDeltas.{hands_out}
+use Rattle.ps_lines.specs.declared.command.Command.{Command}
+use Rattle.ps_lines.specs.declared.command.Command.TheVariants as commands
+use Rattle.ps_lines.proofs.PulledDeltas.{hands_out}
 
 -- a refusal is out of memory, or it isn't
 pub memory_or_other : (refusal : Refusal) → (refusal ≡ refusals.Memory) ⊎ (refusal ≢ refusals.Memory)

@@ -14,16 +14,17 @@ use Rattle.ps_wire.proofs.ShorterLemmas.{decoded_fit}
 use Rattle.ps_delta.specs.declared.edit.Edit.{Edit}
 use Rattle.ps_delta.specs.declared.edit.Edit.TheVariants as edits
 use Rattle.ps_sheet.specs.Edits.{assigned, delta_of_edit}
-use Rattle.ps_session.specs.Commands.{AsksOfCell, AsksOfRectangle, AtNumber, Read, ReadsChange, ReadsLine, ReadsPair}
-use Rattle.ps_session.specs.Commands.{ReadsPull, ReadsPush, ReadsReplica, ReadsSet, ReadsVerb, group_size}
-use Rattle.ps_session.specs.Commands.{replica_number, verb_of}
-use Rattle.ps_session.specs.EditLines.{HasLine, IsEdit, named_count}
-use Rattle.ps_session.specs.Words.{after_word, first_word, words, whole_number}
-use Rattle.ps_session.specs.declared.command.Command.{Command}
-use Rattle.ps_session.specs.declared.command.Command.TheVariants as commands
-use Rattle.ps_session.specs.declared.verb.Verb.{Verb}
-use Rattle.ps_session.specs.declared.verb.Verb.TheVariants.{Add, Choose, Entries as AllEntries, Entry, Get, Pull, Push}
-use Rattle.ps_session.specs.declared.verb.Verb.TheVariants.{Replica, Rows, Set, Sub, Unchoose}
+use Rattle.ps_lines.specs.Commands.{AsksOfCell, AsksOfRectangle, AtNumber, Read, ReadsChange, ReadsLine, ReadsPair}
+use Rattle.ps_lines.specs.Commands.{ReadsPull, ReadsPush, ReadsReplica, ReadsSet, ReadsVerb, group_size}
+use Rattle.ps_lines.specs.Commands.{replica_number, verb_of}
+use Rattle.ps_lines.specs.PullReplies.{HasLine}
+use Rattle.ps_session.specs.EditLines.{IsEdit, named_count}
+use Rattle.ps_lines.specs.Words.{after_word, first_word, words, whole_number}
+use Rattle.ps_lines.specs.declared.command.Command.{Command}
+use Rattle.ps_lines.specs.declared.command.Command.TheVariants as commands
+use Rattle.ps_lines.specs.declared.verb.Verb.{Verb}
+use Rattle.ps_lines.specs.declared.verb.Verb.TheVariants.{Add, Choose, Entries as AllEntries, Entry, Get, Pull, Push}
+use Rattle.ps_lines.specs.declared.verb.Verb.TheVariants.{Replica, Rows, Set, Sub, Unchoose}
 use Rattle.ps_session.proofs.EditLineLemmas.{add_passes, batch_passes, choose_passes, sub_passes, unchoose_passes}
 use Rattle.ps_session.proofs.EntryLemmas.{content_read}
 

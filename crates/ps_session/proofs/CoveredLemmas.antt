@@ -7,12 +7,12 @@ use Rattle.std.proofs.lemmas.List.{append_cancel_right}
 use Rattle.std.proofs.lemmas.List.Elements.{All-append, All-push}
 use Rattle.ps_device.specs.Device.{HoldsBack}
 use Rattle.ps_device.proofs.DeviceLemmas.{Appends-keeps, Appends-nil}
-use Rattle.ps_session.specs.Feeding.{HasNoFeed}
-use Rattle.ps_session.specs.Transcript.{Answering, Cut, IsAfterLine, Lines, Run, Splits, Transcribed, stream_of}
-use Rattle.ps_session.specs.Transcript.{with_last}
+use Rattle.ps_lines.specs.Feeding.{HasNoFeed}
+use Rattle.ps_lines.specs.Streams.{Answering, IsAfterLine, Lines, Run, Splits, stream_of, with_last}
+use Rattle.ps_session.specs.Transcript.{Cut, Transcribed}
 use Rattle.ps_session.specs.Keeping.{AreFirstLines, Halted, HandsOnly, IsCovered, StaysFit}
 use Rattle.ps_session.specs.Inside.Stands.{Stands}
-use Rattle.ps_session.proofs.OneLineMore.{Run-push, stream-push, stream-rest}
+use Rattle.ps_lines.proofs.StreamLemmas.{Run-push, stream-push, stream-rest}
 use Rattle.ps_session.proofs.Runs.{all_lines}
 
 -- ---- the lines of what was read

@@ -11,7 +11,7 @@ use Rattle.ps_content.specs.Entry.{choice, empty, formula, number, tally, text, 
 use Rattle.ps_content.specs.declared.content.Content.{Content}
 use Rattle.ps_content.specs.declared.content.Content.TheVariants.{Blank, Choice, Number, Tally}
 use Rattle.ps_content.proofs.NumberLemmas.{is_number-to}
-use Rattle.ps_session.specs.Commands.{Read}
+use Rattle.ps_lines.specs.Commands.{Read}
 
 -- a word is no number
 no_number : (t c q : Bool) (x y : List ℕ) (z : ℤ)

@@ -1,31 +1,16 @@
 -- What the line that a session holds says of the bytes between two line feeds.
-use Rattle.std.proofs.Common.{◌≡◌, ◌^◌, ◌+◌, ◌-◌, ℕ, min, Bool, true, false, List, length, refl, sym, rules}
-use Rattle.std.proofs.Common.{[], ◌∷◌, ◌<◌, arith, Option, Some, None, Result, Ok, Err, subst, nat_le}
+use Rattle.std.proofs.Common.{◌≡◌, ◌^◌, ◌+◌, ◌-◌, ℕ, min, Bool, true, List, length, refl, sym}
+use Rattle.std.proofs.Common.{[], ◌∷◌, ◌<◌, arith, Option, Some, None, Result, Ok, Err, subst}
 use Rattle.std.specs.Prelude.{if◌then◌else◌, MatchBool, OnOk}
 use Rattle.ps_device.specs.Device.{Sends}
-use Rattle.ps_session.specs.declared.line_reader.TheConstants.{LINE_LIMIT}
-use Rattle.ps_session.specs.Feeding.{kept, without_return}
-use Rattle.ps_session.specs.Transcript.{Answering, Handles, Replies, has_reply, is_filled}
+use Rattle.ps_lines.specs.Feeding.{kept, without_return}
+use Rattle.ps_lines.specs.Streams.{Answering, Handles, Replies}
+use Rattle.ps_session.specs.Transcript.{has_reply, is_filled}
+use Rattle.ps_lines.proofs.FeedLemmas.{fits_kept, long_kept}
 use Rattle.ps_session.specs.Boards.{BoardAnswers, Calls, Obeyed}
-use Rattle.ps_session.specs.Commands.{Read, ReadsLine}
+use Rattle.ps_lines.specs.Commands.{Read, ReadsLine}
 use Rattle.ps_session.specs.Inside.Holds.{Replied, Tells, as_one}
-use Rattle.ps_session.specs.declared.command.Command.{Command}
-
-pub fits_kept : (raw line : List ℕ) → kept raw ≡ Some line → (nat_le (length raw) LINE_LIMIT ≡ true) × (raw ≡ line)
-fits_kept raw line is = go (nat_le (length raw) LINE_LIMIT) refl is
-  where
-    go : (b : Bool) → nat_le (length raw) LINE_LIMIT ≡ b → (if b then Some raw else None) ≡ Some line
-        → (nat_le (length raw) LINE_LIMIT ≡ true) × (raw ≡ line)
-    go true fits e = (fits, search (rules, e))
-    go false fits e = search (rules, e)
-
-pub long_kept : (raw : List ℕ) → kept raw ≡ None → nat_le (length raw) LINE_LIMIT ≡ false
-long_kept raw is = go (nat_le (length raw) LINE_LIMIT) refl is
-  where
-    go : (b : Bool) → nat_le (length raw) LINE_LIMIT ≡ b → (if b then Some raw else None) ≡ None
-        → nat_le (length raw) LINE_LIMIT ≡ false
-    go true fits e = search (rules, e)
-    go false long e = long
+use Rattle.ps_lines.specs.declared.command.Command.{Command}
 
 module _ {State E : Type 0} (refused : List ℕ) (Answers : Answering State) (old new : State) (contents after : Option
     (List ℕ)) (answered counted : ℕ)

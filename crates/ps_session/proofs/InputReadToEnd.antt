@@ -1,63 +1,23 @@
 -- A session whose input is read on piece by piece, and its end.
-use Rattle.std.proofs.Common.{◌≡◌, ◌≢◌, ◌^◌, ◌+◌, ◌-◌, ◌<◌, ◌≤◌, ℕ, min, List, [], ◌∷◌, ◌++◌}
-use Rattle.std.proofs.Common.{length, take, drop, refl, sym, ap, ◌∙◌, rules, arith, Option, Some, None, subst, inl, inr}
-use Rattle.std.proofs.Common.{append_assoc, append-nil, length-drop}
+use Rattle.std.proofs.Common.{◌≡◌, ◌≢◌, ◌^◌, ◌+◌, ◌-◌, ◌<◌, ℕ, min, List, [], ◌∷◌, ◌++◌}
+use Rattle.std.proofs.Common.{length, take, drop, refl, sym, ap, ◌∙◌, arith, Option, Some, None, subst, inl, inr}
+use Rattle.std.proofs.Common.{append-nil}
 use Rattle.std.specs.Prelude.{⊤}
 use Rattle.std.specs.Io.KnownBytes.{Appends, Keeps}
-use Rattle.std.proofs.Math.Seq.{take-add}
-use Rattle.std.proofs.lemmas.List.{take-append-drop}
-use Rattle.ps_device.proofs.DeviceLemmas.{Appends-append, Appends-keeps, Appends-nil, rest-range}
-use Rattle.ps_session.specs.Feeding.{Ends, Reading, kept}
-use Rattle.ps_session.specs.Transcript.{Answered, Answering, Cut, IsAfterLine, Run, Stopped, Transcribed}
+use Rattle.ps_device.proofs.DeviceLemmas.{Appends-append, Appends-keeps, Appends-nil}
+use Rattle.ps_lines.specs.Feeding.{Ends, Holds, Reading, kept}
+use Rattle.ps_session.specs.Transcript.{Answered, Cut, Stopped, Transcribed}
+use Rattle.ps_lines.specs.Streams.{Answering, IsAfterLine, Run, stream_of, with_last}
 use Rattle.ps_session.specs.Transcript.{answered_count}
-use Rattle.ps_session.specs.Transcript.{has_reply, stream_of, with_last}
+use Rattle.ps_session.specs.Transcript.{has_reply}
 use Rattle.ps_session.specs.Inside.Stands.{Stands}
-use Rattle.ps_session.specs.Inside.Holds.{Holds, as_one}
-use Rattle.ps_session.specs.declared.line_reader.Line.{Line}
-use Rattle.ps_session.specs.declared.line_reader.Line.TheVariants as lines
-use Rattle.ps_session.proofs.HoldsLemmas.{fits_kept}
-use Rattle.ps_session.proofs.OneLineMore.{Run-push, counted-push, counted_from_none}
-
--- one turn more, as the code takes it
-pub read-more : (read bytes : List ℕ) (start taken : ℕ)
-    → (read ++ take start bytes) ++ take taken (take (length bytes - start) (drop start bytes)) ≡ read ++ take (start
-    + taken) bytes
-read-more read bytes start taken =
-    ap (λ r. (read ++ take start bytes) ++ take taken r) (rest-range bytes start)
-    ∙ append_assoc read (take start bytes) (take taken (drop start bytes))
-    ∙ ap (λ t. read ++ t) (sym (take-add start taken bytes))
-
--- .. and all that is left
-pub read-rest : (read bytes : List ℕ) (start : ℕ)
-    → (read ++ take start bytes) ++ take (length bytes - start) (drop start bytes) ≡ read ++ bytes
-read-rest read bytes start =
-    ap (λ r. (read ++ take start bytes) ++ r) (rest-range bytes start)
-    ∙ append_assoc read (take start bytes) (drop start bytes)
-    ∙ ap (λ t. read ++ t) (take-append-drop start bytes)
-
--- what holds nothing is empty
-pub nothing_kept : (rest : List ℕ) → kept rest ≡ Some [] → rest ≡ []
-nothing_kept rest is = (fits_kept rest [] is).1
-
-pub with_last-filled : (lines : List (List ℕ)) (rest : List ℕ) → 0 < length rest
-    → with_last lines rest ≡ lines ++ rest ∷ []
-with_last-filled lines [] some = absurd (omega (arith, some))
-with_last-filled lines (b ∷ bs) some = refl
-
-long_filled : (rest : List ℕ) → kept rest ≡ None → 0 < length rest
-long_filled [] is = search (rules, is)
-long_filled (b ∷ bs) is = omega arith
-
--- the rest is a line, and the session holds it
-pub end_held : (before after : Reading) (rest : List ℕ) (line : Line)
-    → line ≢ lines.None → Ends before after line → before.pending ≡ kept rest
-    → Holds line after rest × (0 < length rest)
-end_held before after rest lines.None some ends held = absurd (some refl)
-end_held before after rest lines.Full some ends held =
-    let is = sym held ∙ ends.0 in
-    (is, subst (λ l. 0 < length l) (sym (fits_kept rest after.line is).1) ends.2)
-end_held before after rest lines.TooLong some ends held =
-    let is = sym held ∙ ends.0 in (is, long_filled rest is)
+use Rattle.ps_session.specs.Inside.Holds.{as_one}
+use Rattle.ps_lines.specs.declared.line_buffer.Line.{Line}
+use Rattle.ps_lines.specs.declared.line_buffer.Line.TheVariants as lines
+use Rattle.ps_lines.proofs.FeedLemmas.{end_held, nothing_kept}
+use Rattle.ps_lines.proofs.ReadLemmas.{read-more, read-rest}
+use Rattle.ps_lines.proofs.StreamLemmas.{Run-push, with_last-filled}
+use Rattle.ps_session.proofs.OneLineMore.{counted-push, counted_from_none}
 
 -- the rest was answered, if it is a line
 pub end_ran : {State : Type 0} (Handles : Answering State) (old new : State) (before after : Reading) (line : Line)
@@ -229,14 +189,6 @@ module _ {State : Type 0} (Handles : Answering State) (first : State) (written :
         → Cut Handles ⊥ first written (read ++ bytes) board contents
     cut_rest bytes start board contents c = subst (λ r. Cut Handles ⊥ first written r board contents) (read-rest read
         bytes start) c
-
-pub turn_within : (bytes : List ℕ) (start taken : ℕ) → start < length bytes
-    → taken ≤ length (take (length bytes - start) (drop start bytes))
-    → start + taken ≤ length bytes
-turn_within bytes start taken lt le =
-    let shorter : length (take (length bytes - start) (drop start bytes)) ≡ length bytes - start = ap length
-    (rest-range bytes start) ∙ length-drop start bytes in
-    omega (arith, shorter, lt, le)
 
 -- nothing is read yet
 pub stands_first : {State : Type 0} (Handles : Answering State) (board : State) (contents pending : Option (List ℕ))

@@ -1,67 +1,18 @@
 -- A session that reads on: one line more, a part of a line, the end.
-use Rattle.std.proofs.Common.{◌≡◌, ◌≢◌, ◌+◌, ◌-◌, ◌^◌, ◌<◌, ℕ, Bool, true, false, List, [], ◌∷◌}
-use Rattle.std.proofs.Common.{◌++◌, length, take, min, refl, sym, ap, ◌∙◌, arith, Option, Some, None}
-use Rattle.std.proofs.Common.{subst, append_assoc, append-nil, length-append, flat_map, nat_le, count_by, cond}
-use Rattle.std.specs.Prelude.{if◌then◌else◌}
+use Rattle.std.proofs.Common.{◌≡◌, ◌≢◌, ◌+◌, ◌-◌, ◌^◌, ◌<◌, ℕ, List, [], ◌∷◌}
+use Rattle.std.proofs.Common.{◌++◌, length, take, min, refl, sym, ap, ◌∙◌, arith, Option, Some}
+use Rattle.std.proofs.Common.{append_assoc, count_by, cond}
 use Rattle.std.specs.Io.KnownBytes.{Appends}
-use Rattle.std.proofs.lemmas.Grind.{flat_map-append}
 use Rattle.std.proofs.lemmas.List.Elements.{All-append, All-push}
 use Rattle.std.proofs.lemmas.List.Sums.{fold-append}
-use Rattle.std.proofs.lemmas.Bool.Decides.{nat_tests}
 use Rattle.ps_device.proofs.DeviceLemmas.{Appends-append}
-use Rattle.ps_session.specs.declared.line_reader.TheConstants.{LINE_LIMIT}
-use Rattle.ps_session.specs.Feeding.{HasNoFeed, kept, kept_after}
-use Rattle.ps_session.specs.Transcript.{Answering, Run, stream_of, has_reply, answered_count}
+use Rattle.ps_lines.specs.Feeding.{HasNoFeed, kept_after}
+use Rattle.ps_lines.specs.Streams.{Answering, Run, stream_of}
+use Rattle.ps_session.specs.Transcript.{has_reply, answered_count}
 use Rattle.ps_session.specs.Transcript.{Cut}
+use Rattle.ps_lines.proofs.FeedLemmas.{kept_cut}
+use Rattle.ps_lines.proofs.StreamLemmas.{Run-push, stream-push, stream-rest}
 use Rattle.ps_session.specs.Inside.Stands.{Stands, counted_from}
-
--- a run with one more line
-pub Run-push : {State : Type 0} (Line : Answering State) (lines : List (List ℕ)) (old middle new : State) (text reply
-    : List ℕ) (line : List ℕ)
-    → Run Line old lines text middle → Line middle line reply new
-    → Run Line old (lines ++ line ∷ []) (text ++ reply) new
-Run-push Line [] old middle new text reply line run answers = (
-  reply,
-  new,
-  [],
-  subst (λ m. Line m line reply new) run.1 answers,
-  ap (λ t. t ++ reply) run.0
-      ∙ sym (append-nil reply),
-  (refl, refl),
-)
-Run-push Line (next ∷ lines) old middle new text reply line run answers = (
-  run.0,
-  run.1,
-  run.2 ++ reply,
-  run.3,
-  ap (λ t. t ++ reply) run.4 ∙ append_assoc run.0 run.2 reply,
-  Run-push Line lines run.1 middle new run.2 reply line run.5 answers,
-)
-
--- what is kept of a line doesn't depend on where it was cut
-pub kept_cut : (raw part : List ℕ) → kept_after (kept raw) part ≡ kept (raw ++ part)
-kept_cut raw part = go (nat_le (length raw) LINE_LIMIT) refl
-  where
-    longer : nat_le (length raw) LINE_LIMIT ≡ false → nat_le (length (raw ++ part)) LINE_LIMIT ≡ false
-    longer long =
-        let sum : length (raw ++ part) ≡ length raw + length part = length-append raw part in
-        rw sum (grind (arith, nat_tests, long))
-
-    go : (b : Bool) → nat_le (length raw) LINE_LIMIT ≡ b
-        → kept_after (if b then Some raw else None) part ≡ kept (raw ++ part)
-    go true fits = refl
-    go false long = sym (ap (λ (b : Bool). if b then Some (raw ++ part) else None) (longer long))
-
-pub stream-rest : (lines : List (List ℕ)) (rest part : List ℕ)
-    → stream_of lines rest ++ part ≡ stream_of lines (rest ++ part)
-stream-rest lines rest part = append_assoc (flat_map (λ line. line ++ 10 ∷ []) lines) rest part
-
-pub stream-push : (lines : List (List ℕ)) (line : List ℕ)
-    → stream_of lines (line ++ 10 ∷ []) ≡ stream_of (lines ++ line ∷ []) []
-stream-push lines line =
-    sym (append-nil (flat_map (λ l. l ++ 10 ∷ []) (lines ++ line ∷ []))
-    ∙ flat_map-append (λ l. l ++ 10 ∷ []) lines (line ∷ [])
-    ∙ ap (λ t. flat_map (λ l. l ++ 10 ∷ []) lines ++ t) (append-nil (line ++ 10 ∷ [])))
 
 -- a sum that was cut at a bound may be cut again
 min-more : (a b bound : ℕ) → min (min a bound + b) bound ≡ min (a + b) bound

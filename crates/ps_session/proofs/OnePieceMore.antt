@@ -4,13 +4,15 @@ use Rattle.std.proofs.Common.{length, take, drop, refl, sym, ap, ◌∙◌, Opti
 use Rattle.std.proofs.Common.{subst, append_assoc, rules}
 use Rattle.std.specs.Io.KnownBytes.{Appends}
 use Rattle.std.proofs.lemmas.List.{take-append-drop}
-use Rattle.ps_session.specs.Feeding.{EndsLine, Feeds, HasNoFeed, Reading, kept, kept_after}
-use Rattle.ps_session.specs.Transcript.{Answering, Cut, has_reply}
+use Rattle.ps_lines.specs.Feeding.{EndsLine, Feeds, HasNoFeed, Holds, Reading, kept, kept_after, with_line}
+use Rattle.ps_lines.specs.Streams.{Answering}
+use Rattle.ps_session.specs.Transcript.{Cut, has_reply}
 use Rattle.ps_session.specs.Inside.Stands.{Stands}
-use Rattle.ps_session.specs.Inside.Holds.{Holds, as_one, with_line}
-use Rattle.ps_session.specs.declared.line_reader.Line.{Line}
-use Rattle.ps_session.specs.declared.line_reader.Line.TheVariants as lines
-use Rattle.ps_session.proofs.OneLineMore.{cut_line, kept_cut, stands_line, stands_part}
+use Rattle.ps_session.specs.Inside.Holds.{as_one}
+use Rattle.ps_lines.specs.declared.line_buffer.Line.{Line}
+use Rattle.ps_lines.specs.declared.line_buffer.Line.TheVariants as lines
+use Rattle.ps_session.proofs.OneLineMore.{cut_line, stands_line, stands_part}
+use Rattle.ps_lines.proofs.FeedLemmas.{kept_cut}
 
 -- the part of a line that ended, and what is kept of the whole line
 kept_whole : (before : Reading) (bytes rest : List ℕ) (wanted : Option (List ℕ)) → before.pending ≡ kept rest

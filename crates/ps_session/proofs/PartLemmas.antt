@@ -5,14 +5,16 @@ use Rattle.std.specs.Io.KnownBytes.{Keeps}
 use Rattle.std.proofs.lemmas.Bool.{cases_lt}
 use Rattle.std.proofs.lemmas.List.{take-append-drop, take_all}
 use Rattle.ps_device.specs.Device.{HoldsBack}
-use Rattle.ps_session.specs.Transcript.{Answered, Answering, Lines, Stopped}
+use Rattle.ps_session.specs.Transcript.{Answered, Stopped}
+use Rattle.ps_lines.specs.Streams.{Answering, Lines}
 use Rattle.ps_session.specs.Keeping.{Halted, IsCovered, StaysFit}
 use Rattle.ps_session.specs.Inside.Stands.{Breaks, CutsShort, GoesOn, IsUnderWay, Stands}
 use Rattle.ps_session.specs.declared.transcript.RunFault.{RunFault}
 use Rattle.ps_session.specs.declared.transcript.RunFault.TheVariants as faults
 use Rattle.ps_session.proofs.CoveredLemmas.{begins_again, covered_before, covered_cut, covered_here}
 use Rattle.ps_session.proofs.CoveredLemmas.{fits_after, halted_ended, stands_halted}
-use Rattle.ps_session.proofs.InputReadToEnd.{cut_ended, read-rest, stands_answered, stands_first, stands_flushed}
+use Rattle.ps_session.proofs.InputReadToEnd.{cut_ended, stands_answered, stands_first, stands_flushed}
+use Rattle.ps_lines.proofs.ReadLemmas.{read-rest}
 
 pub keep_or_other : (fault : RunFault) → (fault ≡ faults.Keep) ⊎ (fault ≢ faults.Keep)
 keep_or_other faults.Keep = inl refl

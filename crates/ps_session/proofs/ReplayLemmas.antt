@@ -17,18 +17,19 @@ use Rattle.ps_sheet.specs.Sheet.{SheetView, Takes}
 use Rattle.ps_cells.proofs.SettledValues.{settled_at_most_once}
 use Rattle.ps_session.proofs.GridHistories.{in_grid_after}
 use Rattle.ps_session.specs.Answers.{AmpleLines, Edited, Obeys, Serves}
-use Rattle.ps_session.specs.Commands.{Read}
-use Rattle.ps_session.specs.Feeding.{without_return}
+use Rattle.ps_lines.specs.Commands.{Read}
+use Rattle.ps_lines.specs.Feeding.{without_return}
 use Rattle.ps_session.specs.Laws.{IsSameSheet, TranscriptIsDecided}
-use Rattle.ps_session.specs.Replies.{done_text, rows_text, value_text}
-use Rattle.ps_session.specs.Transcript.{Replies, Run, answered_count, with_last}
-use Rattle.ps_session.specs.declared.command.Command.{Command}
-use Rattle.ps_session.specs.declared.command.Command.TheVariants as commands
-use Rattle.ps_session.specs.declared.line_reader.TheConstants.{LINE_LIMIT}
+use Rattle.ps_lines.specs.Replies.{done_text, rows_text, value_text}
+use Rattle.ps_lines.specs.Streams.{Replies, Run, with_last}
+use Rattle.ps_session.specs.Transcript.{answered_count}
+use Rattle.ps_lines.specs.declared.command.Command.{Command}
+use Rattle.ps_lines.specs.declared.command.Command.TheVariants as commands
+use Rattle.ps_lines.specs.declared.line_buffer.TheConstants.{LINE_LIMIT}
 use Rattle.ps_session.proofs.AskedInRange.{AsksInRange, line_in_range, made_in_grid}
-use Rattle.ps_session.proofs.GreatestGroup.{hands_once}
-use Rattle.ps_session.proofs.ReadingLaws.{reads_once}
-use Rattle.ps_session.proofs.SplitLemmas.{divides_one_way}
+use Rattle.ps_lines.proofs.GreatestGroup.{hands_once}
+use Rattle.ps_lines.proofs.ReadingLaws.{reads_once}
+use Rattle.ps_lines.proofs.SplitLemmas.{divides_one_way}
 
 -- what an edit comes to, given what was made of it
 edited_once : (made : Result Entries Refusal) (history next after : List Entries) (text told : List ℕ)

@@ -9,11 +9,11 @@ use Rattle.ps_delta.specs.Deltas.{Entries, joined_history}
 use Rattle.ps_wire.specs.Value.{IsLawful}
 use Rattle.ps_sheet.specs.Edits.{delta_of_edit}
 use Rattle.ps_sheet.specs.Sheet.{SheetView, Takes}
-use Rattle.ps_session.specs.declared.command.Command.{Command}
-use Rattle.ps_session.specs.declared.command.Command.TheVariants as commands
+use Rattle.ps_lines.specs.declared.command.Command.{Command}
+use Rattle.ps_lines.specs.declared.command.Command.TheVariants as commands
 use Rattle.ps_session.specs.Answers.{Answers, Edited, Obeys}
-use Rattle.ps_session.specs.Commands.{Read}
-use Rattle.ps_session.specs.EditLines.{HasLine}
+use Rattle.ps_lines.specs.Commands.{Read}
+use Rattle.ps_lines.specs.PullReplies.{HasLine}
 use Rattle.ps_session.specs.Keeping.{IsLater}
 use Rattle.ps_session.proofs.AskedInRange.{AsksInRange, is_edit, line_in_range}
 use Rattle.ps_session.proofs.EditLineLemmas.{edit_lines_fit, edits_are_lawful}

@@ -5,12 +5,13 @@ use Rattle.std.proofs.Common.{◌≡◌, ◌≢◌, ◌⊎◌, inl, inr, refl, �
 use Rattle.std.proofs.Common.{nat_le}
 use Rattle.std.proofs.Common.{Result, Ok, Err}
 use Rattle.std.specs.Prelude.{IfOk, MatchBool}
-use Rattle.ps_session.specs.declared.line_reader.TheConstants.{LINE_LIMIT}
+use Rattle.ps_lines.specs.declared.line_buffer.TheConstants.{LINE_LIMIT}
 use Rattle.ps_session.specs.declared.transcript.RunFault.{RunFault}
 use Rattle.ps_session.specs.declared.transcript.RunFault.TheVariants as faults
-use Rattle.ps_session.specs.Feeding.{without_return}
+use Rattle.ps_lines.specs.Feeding.{without_return}
 use Rattle.ps_session.specs.Keeping.{Halted}
-use Rattle.ps_session.specs.Transcript.{Answered, Answering, Cut, Lines, Replies, Run, Stopped, Transcribed}
+use Rattle.ps_session.specs.Transcript.{Answered, Cut, Stopped, Transcribed}
+use Rattle.ps_lines.specs.Streams.{Answering, Lines, Replies, Run}
 
 module _ {State : Type 0} (Q : State → State → Type 0) (same : (x : State) → Q x x)
     (chain : (x y z : State) → Q x y → Q y z → Q x z)

@@ -3,10 +3,11 @@
 use Rattle.std.proofs.Common.{◌≡◌, inl, inr, ℕ, Bool, true, false, List, [], ◌∷◌, Option, length, nat_le}
 use Rattle.std.proofs.Common.{Result, Ok, Err}
 use Rattle.std.specs.Prelude.{IfOk, MatchBool}
-use Rattle.ps_session.specs.declared.line_reader.TheConstants.{LINE_LIMIT}
-use Rattle.ps_session.specs.Feeding.{without_return}
+use Rattle.ps_lines.specs.declared.line_buffer.TheConstants.{LINE_LIMIT}
+use Rattle.ps_lines.specs.Feeding.{without_return}
 use Rattle.ps_session.specs.Keeping.{Halted, IsCovered}
-use Rattle.ps_session.specs.Transcript.{Answered, Answering, Cut, Lines, Replies, Run, Stopped, Transcribed}
+use Rattle.ps_session.specs.Transcript.{Answered, Cut, Stopped, Transcribed}
+use Rattle.ps_lines.specs.Streams.{Answering, Lines, Replies, Run}
 
 module _ {State : Type 0} (Strong Weak : Answering State)
     (weaken : (x y : State) (line text : List ℕ) → Strong x line text y → Weak x line text y) where

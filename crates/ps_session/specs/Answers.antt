@@ -11,14 +11,14 @@ use Rattle.ps_cells.specs.Settled.{IsSettled}
 use Rattle.ps_sheet.specs.Edits.{delta_of_edit}
 use Rattle.ps_sheet.specs.Sheet.{SheetView, Takes}
 use Rattle.ps_csv.specs.Exports.{entry_text, exported, exported_entries, held_in}
-use Rattle.ps_session.specs.PullReplies.{HandsOut}
-use Rattle.ps_session.specs.Commands.{Read, ReadsLine}
-use Rattle.ps_session.specs.Replies.{done_text, entries_reply, entry_reply, refusal_text, replica_text, rows_text}
-use Rattle.ps_session.specs.Replies.{value_text}
-use Rattle.ps_session.specs.Transcript.{Answering, Lines}
-use Rattle.ps_session.specs.declared.command.Command.{Command}
-use Rattle.ps_session.specs.declared.command.Command.TheVariants.{Edit, Entries as AllEntries, Entry, Get, Pull, Push}
-use Rattle.ps_session.specs.declared.command.Command.TheVariants.{Replica, Rows}
+use Rattle.ps_lines.specs.PullReplies.{HandsOut}
+use Rattle.ps_lines.specs.Commands.{Read, ReadsLine}
+use Rattle.ps_lines.specs.Replies.{done_text, entries_reply, entry_reply, refusal_text, replica_text, rows_text}
+use Rattle.ps_lines.specs.Replies.{value_text}
+use Rattle.ps_lines.specs.Streams.{Answering, Lines}
+use Rattle.ps_lines.specs.declared.command.Command.{Command}
+use Rattle.ps_lines.specs.declared.command.Command.TheVariants.{Edit, Entries as AllEntries, Entry, Get, Pull, Push}
+use Rattle.ps_lines.specs.declared.command.Command.TheVariants.{Replica, Rows}
 
 -- what was made of an edit: its delta ends the history, and the reply is the new version; or it is refused
 abbrev pub Edited : Result Entries Refusal → List Entries → List ℕ → List Entries → Type 0

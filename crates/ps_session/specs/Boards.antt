@@ -1,18 +1,17 @@
 -- What a board answers a command and a line, made of what its calls answer.
-use Rattle.std.specs.Prelude.{◌≡◌, ◌⊎◌, ℕ, List, [], ◌∷◌, max, Ok, Err, unwrap_or}
+use Rattle.std.specs.Prelude.{◌≡◌, ℕ, List, max, Ok, Err, unwrap_or}
 use Rattle.ps_grid.specs.Rectangle.{Area, spanned}
-use Rattle.ps_grid.specs.declared.refusal.Refusal.TheVariants as refusals
 use Rattle.ps_value.specs.declared.value.Value.{Value}
 use Rattle.ps_delta.specs.Deltas.{Entries}
 use Rattle.ps_delta.specs.declared.edit.Edit.{Edit as SheetEdit}
-use Rattle.ps_session.specs.Commands.{Read, ReadsLine}
-use Rattle.ps_session.specs.PullReplies.{HandsGroup}
-use Rattle.ps_session.specs.Replies.{done_text, end_text, entries_reply, entry_reply, refusal_text, replica_text}
-use Rattle.ps_session.specs.Replies.{rows_text, value_text}
-use Rattle.ps_session.specs.Transcript.{Answering, Lines}
-use Rattle.ps_session.specs.declared.command.Command.{Command}
-use Rattle.ps_session.specs.declared.command.Command.TheVariants.{Edit, Entries as AllEntries, Entry, Get, Pull, Push}
-use Rattle.ps_session.specs.declared.command.Command.TheVariants.{Replica, Rows}
+use Rattle.ps_lines.specs.Commands.{Read, ReadsLine}
+use Rattle.ps_lines.specs.PullReplies.{HandsOn}
+use Rattle.ps_lines.specs.Replies.{done_text, entries_reply, entry_reply, refusal_text, replica_text}
+use Rattle.ps_lines.specs.Replies.{rows_text, value_text}
+use Rattle.ps_lines.specs.Streams.{Answering, Lines}
+use Rattle.ps_lines.specs.declared.command.Command.{Command}
+use Rattle.ps_lines.specs.declared.command.Command.TheVariants.{Edit, Entries as AllEntries, Entry, Get, Pull, Push}
+use Rattle.ps_lines.specs.declared.command.Command.TheVariants.{Replica, Rows}
 
 -- what the calls of a board answer, or why they refuse: the state before, what was asked for, the answer, the state
 -- after
@@ -42,14 +41,6 @@ told text (Err refusal) = refusal_text refusal
 -- a call answered, and the reply tells its answer
 abbrev pub TellsAnswer : {X : Type 0} → (Read X → Type 0) → (X → List ℕ) → List ℕ → Type 0
 TellsAnswer {X} Call text reply = (answer : Read X) × Call answer × (reply ≡ told text answer)
-
--- what one is told who has the first `from` deltas and takes at most so many at once: of these deltas after them as
--- many as one line holds, or that there are none; out of memory only where there is one
-abbrev pub HandsOn : ℕ → ℕ → Read (List Entries) → List ℕ → Type 0
-HandsOn from most (Err refusal) reply = reply ≡ refusal_text refusal
-HandsOn from most (Ok []) reply = reply ≡ end_text from
-HandsOn from most (Ok (d ∷ ds)) reply =
-    HandsGroup from most (d ∷ ds) reply ⊎ (reply ≡ refusal_text refusals.Memory)
 
 -- what a board does where a line asks for this: the reply, and the board afterwards. A pull asks for one delta at
 -- least, so that there is none only at the end

@@ -1,5 +1,5 @@
 -- The lines of the deltas that edits make, and what follows for those who ask a session for its deltas.
-use Rattle.std.specs.Prelude.{◌≡◌, ◌+◌, ◌<◌, ◌≤◌, ℕ, List, length, drop, Ok}
+use Rattle.std.specs.Prelude.{◌≡◌, ◌<◌, ◌≤◌, ℕ, List, length, Ok}
 use Rattle.std.specs.List.{All}
 use Rattle.ps_grid.specs.declared.size.TheConstants.{CELLS, COLUMNS}
 use Rattle.ps_grid.specs.declared.parties.TheConstants.{REPLICAS}
@@ -12,8 +12,6 @@ use Rattle.ps_delta.specs.Batches.{IsBatch}
 use Rattle.ps_sheet.specs.Edits.{delta_of_edit}
 use Rattle.ps_delta.specs.declared.edit.Edit.{Edit}
 use Rattle.ps_delta.specs.declared.edit.Edit.TheVariants.{Set, SetAll, Add, Sub, Choose, Unchoose}
-use Rattle.ps_session.specs.PullReplies.{HandsOut, IsGreatest}
-use Rattle.ps_session.specs.Replies.{handed_text}
 
 -- how many cells an edit names
 abbrev pub named_count : Edit → ℕ
@@ -46,15 +44,3 @@ EditsAreLawful =
     (replica : ℕ) (history : List Entries) (edit : Edit) (delta : Entries) → 1 ≤ replica → replica ≤ REPLICAS
     → All IsLawful history → IsEdit edit → delta_of_edit replica (joined_history history) edit ≡ Ok delta
     → IsLawful delta
-
--- the delta is in range, and its line isn't too long
-pub record HasLine (delta : Entries) : Type 0 where
-  pub lawful : IsLawful delta
-  pub fits : FitsLine delta
-
--- LAW: of a history whose deltas have lines, whoever has a beginning is handed out more: no pull is refused as too long
-abbrev pub PullsHandOut : Type 0
-PullsHandOut =
-    (history : List Entries) (from most : ℕ) (text : List ℕ) → All HasLine history → from < length history → 1 ≤ most
-    → HandsOut history from most text
-    → (n : ℕ) × (line : List ℕ) × IsGreatest (drop from history) most n line × (text ≡ handed_text (from + n) line)

@@ -1,6 +1,3 @@
 -- How a session works between two lines, in words that no public contract cites.
 pub mod Holds
-pub mod Joints
 pub mod Stands
-pub mod Incomings
-pub mod Kept

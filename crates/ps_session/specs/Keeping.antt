@@ -6,9 +6,9 @@ use Rattle.std.specs.Io.KnownBytes.{Appends}
 use Rattle.ps_grid.specs.declared.parties.TheConstants.{REPLICAS}
 use Rattle.ps_delta.specs.Deltas.{Entries}
 use Rattle.ps_sheet.specs.Sheet.{SheetView}
-use Rattle.ps_session.specs.EditLines.{HasLine}
-use Rattle.ps_session.specs.Feeding.{HasNoFeed}
-use Rattle.ps_session.specs.Transcript.{Answering, Run, stream_of}
+use Rattle.ps_lines.specs.PullReplies.{HasLine}
+use Rattle.ps_lines.specs.Feeding.{HasNoFeed}
+use Rattle.ps_lines.specs.Streams.{Answering, Run, stream_of}
 
 -- these are the first lines of the bytes; where the input has ended, the last of all may lack its line feed
 pub record AreFirstLines (ended : Type 0) (bytes : List ℕ) (lines : List (List ℕ)) : Type 0 where

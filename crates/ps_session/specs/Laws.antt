@@ -2,13 +2,7 @@
 use Rattle.std.specs.Prelude.{◌≡◌, ℕ, List, Option}
 use Rattle.ps_sheet.specs.Sheet.{IsSheet, SheetView}
 use Rattle.ps_session.specs.Answers.{AmpleLines}
-use Rattle.ps_session.specs.Transcript.{Splits, Transcribed}
-
--- LAW: bytes are divided into lines in one way
-abbrev pub DividesOneWay : Type 0
-DividesOneWay =
-    (bytes : List ℕ) (lines others : List (List ℕ)) (rest remainder : List ℕ)
-    → Splits bytes lines rest → Splits bytes others remainder → (lines ≡ others) × (rest ≡ remainder)
+use Rattle.ps_session.specs.Transcript.{Transcribed}
 
 -- two sheets have one replica and one history
 pub record IsSameSheet (a b : SheetView) : Type 0 where

@@ -1,16 +1,5 @@
-pub mod Feeding
 pub mod Transcript
-pub mod Replies
 pub mod Inside
-pub mod Peers
-pub mod PushLine
-pub mod Exchange
-pub mod Asking
-pub mod ReplicaLine
-pub mod KeptLines
-pub mod Words
-pub mod Commands
-pub mod PullReplies
 pub mod Boards
 pub mod SheetBoard
 pub mod Answers

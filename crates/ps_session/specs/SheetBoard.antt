@@ -11,7 +11,7 @@ use Rattle.ps_sheet.specs.Sheet.{SheetView, Takes}
 use Rattle.ps_delta.specs.declared.edit.Edit.{Edit}
 use Rattle.ps_csv.specs.Exports.{entry_text, exported, exported_entries, held_in}
 use Rattle.ps_session.specs.Boards.{Calls}
-use Rattle.ps_session.specs.Commands.{Read}
+use Rattle.ps_lines.specs.Commands.{Read}
 
 -- the history has this many deltas now, and the replica is the same
 pub record Counts (old : SheetView) (n : ℕ) (new : SheetView) : Type 0 where

@@ -1,54 +1,12 @@
 -- The transcript of a session: which lines the bytes hold, what each is answered, and what the answers leave. It knows
 -- nothing of the pieces in which the bytes came.
 use Rattle.std.specs.Prelude.{◌≡◌, ◌⊎◌, ◌<◌, ◌^◌, ◌-◌, ℕ, Bool, true, false, List, [], ◌∷◌, ◌++◌, length, take, min}
-use Rattle.std.specs.Prelude.{Option, if◌then◌else◌, nat_le, MatchBool, count_by, flat_map}
+use Rattle.std.specs.Prelude.{Option, if◌then◌else◌, nat_le, count_by}
 use Rattle.std.specs.List.{All}
 use Rattle.std.specs.Io.KnownBytes.{Appends}
-use Rattle.ps_session.specs.declared.line_reader.TheConstants.{LINE_LIMIT}
-use Rattle.ps_session.specs.Feeding.{HasNoFeed, without_return}
-use Rattle.ps_session.specs.Replies.{refusal_text}
-use Rattle.ps_grid.specs.declared.refusal.Refusal.TheVariants as refusals
-
--- these lines, each with its line feed, and then a rest
-abbrev pub stream_of : List (List ℕ) → List ℕ → List ℕ
-stream_of lines rest = flat_map (λ line. line ++ 10 ∷ []) lines ++ rest
-
--- the bytes are these lines, and a rest that no line feed has ended
-pub record Splits (bytes : List ℕ) (lines : List (List ℕ)) (rest : List ℕ) : Type 0 where
-  pub whole : bytes ≡ stream_of lines rest
-  pub each : All HasNoFeed lines
-  pub partial : HasNoFeed rest
-
--- at the end of the input a rest that isn't empty is a line too
-abbrev pub with_last : List (List ℕ) → List ℕ → List (List ℕ)
-with_last lines [] = lines
-with_last lines (b ∷ bs) = lines ++ (b ∷ bs) ∷ []
-
--- what a line that isn't empty and isn't too long is answered: the state before, the line, the reply's bytes, the
--- state after
-abbrev pub Answering : Type 0 → Type 1
-Answering State = State → List ℕ → List ℕ → State → Type 0
-
--- an empty line has no reply
-abbrev pub Replies : {State : Type 0} → Answering State → State → List ℕ → List ℕ → State → Type 0
-Replies Answers old [] text new = (text ≡ []) × (new ≡ old)
-Replies Answers old (b ∷ bs) text new = Answers old (b ∷ bs) text new
-
--- a line as it stands between line feeds; one that is too long has the reply `refused`
-abbrev pub Handles : {State : Type 0} → List ℕ → Answering State → State → List ℕ → List ℕ → State → Type 0
-Handles refused Answers old raw text new = MatchBool (nat_le (length raw) LINE_LIMIT)
-    (Replies Answers old (without_return raw) text new)
-    ((text ≡ refused) × (new ≡ old))
-
--- .. with the refusal of a line as that reply
-abbrev pub Lines : {State : Type 0} → Answering State → Answering State
-Lines Answers = Handles (refusal_text refusals.Line) Answers
-
--- the lines one after another
-abbrev pub Run : {State : Type 0} → Answering State → State → List (List ℕ) → List ℕ → State → Type 0
-Run Line old [] text new = (text ≡ []) × (new ≡ old)
-Run {State} Line old (line ∷ lines) text new = (first : List ℕ) × (middle : State) × (others : List ℕ)
-    × Line old line first middle × (text ≡ first ++ others) × Run Line middle lines others new
+use Rattle.ps_lines.specs.declared.line_buffer.TheConstants.{LINE_LIMIT}
+use Rattle.ps_lines.specs.Feeding.{HasNoFeed, without_return}
+use Rattle.ps_lines.specs.Streams.{Answering, IsAfterLine, Run, Splits, stream_of, with_last}
 
 abbrev pub is_filled : List ℕ → Bool
 is_filled [] = false
@@ -84,11 +42,6 @@ pub record Answered {State : Type 0} (Line : Answering State) (first : State) (w
   pub split : Splits read lines rest
   pub run : Run Line first lines text last
   pub sent : Appends written contents text
-
--- what stands after a line: the end, or its line feed and more
-abbrev pub IsAfterLine : Type 0 → List ℕ → Type 0
-IsAfterLine ended [] = ended
-IsAfterLine ended (b ∷ bs) = b ≡ 10
 
 -- the reply to one line was cut: all lines before it were answered, the state is the one after it
 pub record Cut {State : Type 0} (Line : Answering State) (ended : Type 0) (first : State) (written : Option (List ℕ))

@@ -2,7 +2,7 @@
 ghost use Rattle.std.specs.Prelude.{◌≡◌, ◌+◌, ◌<◌, ◌^◌, IfOk, length};
 ghost use Rattle.std.specs.Thread.{IsSync};
 ghost use Rattle.ps_session.specs.Boards.{Calls};
-ghost use Rattle.ps_session.specs.Commands.{with_part};
+ghost use Rattle.ps_lines.specs.Commands.{with_part};
 
 use ps_delta::{Delta, Edit};
 use ps_grid::{Cell, Rect, Refusal};

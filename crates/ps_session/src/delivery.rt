@@ -2,11 +2,11 @@
 ghost use Rattle.std.specs.Prelude.{◌≡◌, ◌<◌, [], ℕ, List, Option, OnErr, OnOk};
 ghost use Rattle.std.specs.Io.KnownBytes.{Keeps};
 ghost use Rattle.ps_device.specs.Device.{HoldsBack, Sends};
-ghost use Rattle.ps_session.specs.Replies.{reply_text};
+ghost use Rattle.ps_lines.specs.Replies.{reply_text};
 
 use crate::held_output::HeldOutput;
-use crate::reply::{Reply, send};
 use ps_device::{Failed, Sink, hand_on};
+use ps_lines::{Reply, send};
 use std::sync::ledger::Ledger;
 
 /// How replies are put on a sink of this type, and handed on.

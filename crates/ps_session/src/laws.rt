@@ -1,14 +1,7 @@
 //! Laws of sessions, as functions that do nothing: each is its contract. They are part of the public interface.
 
-ghost use Rattle.ps_session.specs.EditLines.{EditLinesFit, EditsAreLawful, PullsHandOut};
-ghost use Rattle.ps_session.specs.Laws.{DividesOneWay, TranscriptIsDecided};
-
-/// Bytes are divided into lines, and a rest without a line feed, in one way.
-///
-/// Cost: none.
-pub fn bytes_divide_one_way()
-    ensures { DividesOneWay }
-{}
+ghost use Rattle.ps_session.specs.EditLines.{EditLinesFit, EditsAreLawful};
+ghost use Rattle.ps_session.specs.Laws.{TranscriptIsDecided};
 
 /// Where no reply is out of memory, the replica, the history and the bytes read decide all replies and the history
 /// afterwards.
@@ -26,13 +19,4 @@ pub fn transcript_is_decided()
 pub fn edit_lines_fit()
     ensures fit { EditLinesFit }
     ensures lawful { EditsAreLawful }
-{}
-
-/// Where each delta of a history has a line, a pull of what is there is never refused as too long: at least the next
-/// delta is handed out. A session keeps that each delta has a line ([`run`](crate::run)), and an empty history has no
-/// delta without one.
-///
-/// Cost: none.
-pub fn pulls_hand_out()
-    ensures { PullsHandOut }
 {}

@@ -2,23 +2,21 @@
 ghost use Rattle.std.specs.Prelude.{◌≡◌, ◌<◌, List, Ok, OnErr, OnOk, max};
 ghost use Rattle.ps_device.specs.Device.{HoldsBack};
 ghost use Rattle.ps_delta.specs.Deltas.{Entries};
-ghost use Rattle.ps_session.specs.Boards.{BoardAnswers, HandsOn, Obeyed, TellsAnswer};
-ghost use Rattle.ps_session.specs.Commands.{Read};
+ghost use Rattle.ps_session.specs.Boards.{BoardAnswers, Obeyed, TellsAnswer};
+ghost use Rattle.ps_lines.specs.PullReplies.{HandsOn};
+ghost use Rattle.ps_lines.specs.Commands.{Read};
 ghost use Rattle.ps_session.specs.Inside.Holds.{Tells};
-ghost use Rattle.ps_session.specs.Replies.{done_text, entries_reply, entry_reply, reply_text, rows_text};
+ghost use Rattle.ps_lines.specs.Replies.{done_text, entries_reply, entry_reply, reply_text, rows_text};
 
 use crate::board::Board;
-use crate::command::Command;
 use crate::delivery::Delivery;
-use crate::group::greatest_group;
-use crate::reply::Reply;
 use crate::resources::Resources;
 use crate::telling::{refuse, tell, tell_other};
 use crate::tools::Tools;
-use crate::watcher::Watcher;
 use ps_delta::Delta;
 use ps_device::Failed;
 use ps_grid::{Cell, Rect};
+use ps_lines::{Command, Reply, Watcher, greatest_group};
 use std::alloc::Global;
 use std::thread::Threads;
 

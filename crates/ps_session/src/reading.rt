@@ -11,12 +11,11 @@ ghost use Rattle.ps_session.specs.Inside.Stands.{Breaks, GoesOn, IsUnderWay, Sta
 use crate::board::Board;
 use crate::delivery::Delivery;
 use crate::keeper::Keeper;
-use crate::line_reader::Session;
 use crate::resources::Resources;
 use crate::tools::Tools;
 use crate::transcript::{Conversation, RunFault};
-use crate::watcher::Watcher;
 use ps_device::{PIECE_BYTES, Source};
+use ps_lines::{LineBuffer, Watcher};
 use ps_wire::Decoder;
 use std::alloc::{AllocError, Global};
 use std::thread::Threads;
@@ -229,7 +228,7 @@ pub(crate) fn converse<
     ensures sink_failed { result ≡ Err RunFault.Sink → D.failures sink.old < D.failures sink.new }
     ensures source_failed { result ≡ Err RunFault.Source → S.failures source.old < S.failures source.new }
 {
-    let session = match Session::new(resources.alloc) {
+    let session = match LineBuffer::new(resources.alloc) {
         Ok(session) => session,
         Err(AllocError) => return Err(RunFault::Memory),
     };

@@ -1,13 +1,12 @@
 //! Tells the reply to a line, to who looks on and on the sink.
 ghost use Rattle.std.specs.Prelude.{◌≡◌, ◌<◌, OnErr, OnOk};
 ghost use Rattle.ps_device.specs.Device.{HoldsBack, Sends};
-ghost use Rattle.ps_session.specs.Replies.{refusal_text, reply_text};
+ghost use Rattle.ps_lines.specs.Replies.{refusal_text, reply_text};
 
 use crate::delivery::Delivery;
-use crate::reply::Reply;
-use crate::watcher::Watcher;
 use ps_device::Failed;
 use ps_grid::Refusal;
+use ps_lines::{Reply, Watcher};
 
 /// Has a watcher see what became of a line, and puts its reply.
 ///

@@ -6,14 +6,15 @@ ghost use Rattle.std.specs.Prelude.{◌≡◌, ◌≢◌, ◌⊎◌, [], ◌<◌
 ghost use Rattle.std.specs.Prelude.{Err, IfOk, OnOk, OnErr, ⊤, length, take, MatchResult};
 ghost use Rattle.std.specs.Io.KnownBytes.{Consumes, IsAtEnd};
 ghost use Rattle.ps_device.specs.Device.{HoldsBack, Sends};
-ghost use Rattle.ps_session.specs.Transcript.{Answered, Cut, Replies, Run, Stopped, Transcribed};
-ghost use Rattle.ps_session.specs.Transcript.{has_reply, is_filled, with_last};
+ghost use Rattle.ps_session.specs.Transcript.{Answered, Cut, Stopped, Transcribed};
+ghost use Rattle.ps_lines.specs.Streams.{Replies, Run, with_last};
+ghost use Rattle.ps_session.specs.Transcript.{has_reply, is_filled};
 ghost use Rattle.ps_session.specs.Boards.{BoardAnswers, BoardLines};
-ghost use Rattle.ps_session.specs.Replies.{refusal_text};
+ghost use Rattle.ps_lines.specs.Replies.{refusal_text};
 ghost use Rattle.ps_session.specs.Inside.Stands.{CutsShort, GoesOn, Stands};
-ghost use Rattle.ps_session.specs.Feeding.{kept, without_return};
+ghost use Rattle.ps_lines.specs.Feeding.{Holds, kept, without_return};
 ghost use Rattle.ps_session.specs.HeldOutputs.{held_contents, held_failures, held_waiting};
-ghost use Rattle.ps_session.specs.Inside.Holds.{Holds, Replied, as_one};
+ghost use Rattle.ps_session.specs.Inside.Holds.{Replied, as_one};
 ghost use Rattle.ps_session.specs.Keeping.{Halted, IsCovered, StaysFit};
 ghost use Rattle.ps_grid.specs.declared.refusal.Refusal.TheVariants as refusals;
 
@@ -21,15 +22,14 @@ use crate::board::Board;
 use crate::delivery::{AtOnce, Delivery, HeldBack};
 use crate::held_output::HeldOutput;
 use crate::keeper::{Keeper, Unkept};
-use crate::line_reader::{Line, Session, trimmed};
 use crate::obey::answer;
 use crate::reading::converse;
 use crate::resources::Resources;
 use crate::telling::refuse;
 use crate::tools::Tools;
-use crate::watcher::{Outcome, Unwatched, Watcher};
 use ps_device::{Failed, PIECE_BYTES, Sink, Source};
 use ps_grid::Refusal;
+use ps_lines::{Line, LineBuffer, Outcome, Unwatched, Watcher, trimmed};
 use std::alloc::Global;
 use std::sync::ledger::Ledger;
 use std::thread::Threads;
@@ -40,7 +40,7 @@ pub(crate) struct Conversation<'a, R> {
     /// What its lines are read and obeyed by.
     pub(crate) tools: Tools<'a, R>,
     /// The line that is being read.
-    pub(crate) session: Session,
+    pub(crate) session: LineBuffer,
     /// How many lines had a reply; 2^64 - 1 stands for more.
     pub(crate) answered: u64,
 }

@@ -1,6 +1,5 @@
 mod CellLemmas
 mod LineLemmas
-mod ReadLemmas
 mod RoomLemmas
 mod StandsLemmas
 mod TextLemmas

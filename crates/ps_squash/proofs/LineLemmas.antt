@@ -1,6 +1,6 @@
 -- What one line says, and that a line too long to be held says nothing.
 use Rattle.std.proofs.Common.{◌≡◌, ℕ, ◌+◌, ◌-◌, ◌<◌, ◌≤◌, Bool, true, false, List, [], ◌∷◌, length, take, drop}
-use Rattle.std.proofs.Common.{◌++◌, ◌∙◌, ap, refl, sym, subst, arith, rules, nat_le, Some, None, length-append}
+use Rattle.std.proofs.Common.{◌++◌, ◌∙◌, ap, refl, sym, subst, arith, rules, Some, None, length-append}
 use Rattle.std.proofs.Common.{length-drop}
 use Rattle.std.proofs.lemmas.Fmt.{length-decimal-le}
 use Rattle.std.specs.Prelude.{Option, codes, decimal}
@@ -18,11 +18,12 @@ use Rattle.serde_json.specs.Read.{read}
 use Rattle.ps_delta.specs.Deltas.{Entries}
 use Rattle.ps_wire.specs.Line.{IsLine}
 use Rattle.ps_wire.specs.Value.{delta_value}
-use Rattle.ps_session.specs.declared.line_reader.TheConstants.{LINE_LIMIT}
-use Rattle.ps_session.specs.Feeding.{kept, without_return}
-use Rattle.ps_session.specs.PushLine.{IsPush, Pushes, push_word}
-use Rattle.ps_session.specs.ReplicaLine.{Tells, TellsNone, replica_line}
-use Rattle.ps_session.proofs.KeptLineLemmas.{push_tells_none}
+use Rattle.ps_lines.specs.declared.line_buffer.TheConstants.{LINE_LIMIT}
+use Rattle.ps_lines.specs.Feeding.{kept, without_return}
+use Rattle.ps_lines.specs.PushLine.{IsPush, Pushes, push_word}
+use Rattle.ps_lines.specs.ReplicaLine.{Tells, TellsNone, replica_line}
+use Rattle.ps_lines.proofs.FeedLemmas.{long_kept}
+use Rattle.ps_lines.proofs.KeptLineLemmas.{push_tells_none}
 use Rattle.ps_squash.specs.Squashed.{FirstSays, Says, after_push}
 
 pub says_nothing : (line : List ℕ) → length line ≡ 0 → Says line []
@@ -98,22 +99,9 @@ pub told_says_none : (line : List ℕ) (told : Option ℕ) (deltas : List Entrie
 told_says_none line None deltas is said = absurd (false≢true is)
 told_says_none line (Some n) deltas is said = replica_says_none line n said.0
 
--- what a session holds of a line that isn't too long
-pub held_line : (raw line : List ℕ) → kept raw ≡ Some line → raw ≡ line
-held_line raw line is = go (nat_le (length raw) LINE_LIMIT) is
-  where
-    go : (b : Bool) → (if b then Some raw else None) ≡ Some line → raw ≡ line
-    go true e = search (rules, e)
-    go false e = search (rules, e)
-
--- .. and that one is, of which it holds nothing
+-- a line of which nothing is kept is too long
 over_limit : (raw : List ℕ) → kept raw ≡ None → LINE_LIMIT < length raw
-over_limit raw is = go (nat_le (length raw) LINE_LIMIT) refl is
-  where
-    go : (b : Bool) → nat_le (length raw) LINE_LIMIT ≡ b → (if b then Some raw else None) ≡ None
-        → LINE_LIMIT < length raw
-    go true fits e = search (rules, e)
-    go false long e = grind (arith, nat_tests, long)
+over_limit raw is = grind (arith, nat_tests, long_kept raw is)
 
 without_return-length : (raw : List ℕ) → length raw ≤ length (without_return raw) + 1
 without_return-length raw = go (ends_with nat_eq raw (13 ∷ []))

@@ -1,27 +1,24 @@
 -- Lines that are taken in: one line more, a part of a line, the end.
-use Rattle.std.proofs.Common.{◌≡◌, ◌≢◌, ℕ, ◌+◌, ◌-◌, ◌^◌, ◌<◌, ◌≤◌, Bool, true, false, List, [], ◌∷◌, ◌++◌, length, min}
-use Rattle.std.proofs.Common.{take, drop, refl, sym, ap, ◌∙◌, arith, rules, subst, Option, Some, None, nat_le, flat_map}
+use Rattle.std.proofs.Common.{◌≡◌, ◌≢◌, ℕ, ◌+◌, ◌-◌, ◌^◌, ◌<◌, List, [], ◌∷◌, ◌++◌, length, min}
+use Rattle.std.proofs.Common.{take, drop, refl, sym, ap, ◌∙◌, arith, subst, Option, Some, None}
 use Rattle.std.proofs.Common.{inl, inr}
-use Rattle.std.proofs.Common.{append_assoc, append-nil, length-append, length-drop}
-use Rattle.std.proofs.Math.Seq.{take-add}
-use Rattle.std.specs.Prelude.{if◌then◌else◌, ⊤}
-use Rattle.std.proofs.lemmas.Grind.{flat_map-append}
-use Rattle.std.proofs.lemmas.Bool.Decides.{nat_tests}
+use Rattle.std.proofs.Common.{append_assoc, append-nil, length-append}
+use Rattle.std.specs.Prelude.{⊤}
 use Rattle.std.proofs.lemmas.List.{take-append-drop}
 use Rattle.std.proofs.lemmas.List.Elements.{All-append, All-push}
-use Rattle.ps_device.proofs.DeviceLemmas.{rest-range}
 use Rattle.ps_delta.specs.State.{State, empty_state, joined_state}
 use Rattle.ps_delta.specs.Deltas.{Entries, joined_history}
 use Rattle.ps_delta.proofs.HistoryLemmas.{joined_history-append, joined_history-nil}
-use Rattle.ps_session.specs.declared.line_reader.TheConstants.{LINE_LIMIT}
-use Rattle.ps_session.specs.declared.line_reader.Line.{Line}
-use Rattle.ps_session.specs.declared.line_reader.Line.TheVariants as lines
-use Rattle.ps_session.specs.Feeding.{Ends, EndsLine, Feeds, HasNoFeed, Reading, kept, kept_after, without_return}
-use Rattle.ps_session.specs.Transcript.{IsAfterLine, stream_of, with_last}
-use Rattle.ps_session.specs.ReplicaLine.{TellsNone}
+use Rattle.ps_lines.specs.declared.line_buffer.Line.{Line}
+use Rattle.ps_lines.specs.declared.line_buffer.Line.TheVariants as lines
+use Rattle.ps_lines.specs.Feeding.{Ends, EndsLine, Feeds, HasNoFeed, Holds, Reading, kept, kept_after, without_return}
+use Rattle.ps_lines.specs.Streams.{IsAfterLine, stream_of, with_last}
+use Rattle.ps_lines.specs.ReplicaLine.{TellsNone}
 use Rattle.ps_squash.specs.Squashed.{FirstFault, FirstSays, Say, SayAll, SayTogether, Says}
-use Rattle.ps_squash.specs.Inside.{Holds, NextSays, StandsAfter}
-use Rattle.ps_squash.proofs.LineLemmas.{held_line}
+use Rattle.ps_squash.specs.Inside.{NextSays, StandsAfter}
+use Rattle.ps_lines.proofs.FeedLemmas.{end_held, kept_cut, nothing_kept}
+use Rattle.ps_lines.proofs.ReadLemmas.{read-more, read-rest}
+use Rattle.ps_lines.proofs.StreamLemmas.{stream-push, stream-rest, with_last-filled}
 
 -- one line more
 say_push : (ls : List (List ℕ)) (ds here : List Entries) (line : List ℕ) → Say ls ds
@@ -65,27 +62,6 @@ say_next (l ∷ ls) told new ds here line count said is (inr next) = (
   say_push ls said.1 here line said.3 next.2,
   ap (λ x. x ++ here) said.4 ∙ append_assoc said.0 said.1 here,
 )
-
--- what is kept of a line doesn't hang on where it was cut
-kept_cut : (raw part : List ℕ) → kept_after (kept raw) part ≡ kept (raw ++ part)
-kept_cut raw part = go (nat_le (length raw) LINE_LIMIT) refl
-  where
-    go : (b : Bool) → nat_le (length raw) LINE_LIMIT ≡ b
-        → kept_after (if b then Some raw else None) part ≡ kept (raw ++ part)
-    go true fits = refl
-    go false long =
-        let sum : length (raw ++ part) ≡ length raw + length part = length-append raw part in
-        let longer : nat_le (length (raw ++ part)) LINE_LIMIT ≡ false = rw sum (grind (arith, nat_tests, long)) in
-        sym (ap (λ (b : Bool). if b then Some (raw ++ part) else None) longer)
-
-stream-rest : (ls : List (List ℕ)) (rest part : List ℕ) → stream_of ls rest ++ part ≡ stream_of ls (rest ++ part)
-stream-rest ls rest part = append_assoc (flat_map (λ line. line ++ 10 ∷ []) ls) rest part
-
-stream-push : (ls : List (List ℕ)) (line : List ℕ) → stream_of ls (line ++ 10 ∷ []) ≡ stream_of (ls ++ line ∷ []) []
-stream-push ls line =
-    sym (append-nil (flat_map (λ l. l ++ 10 ∷ []) (ls ++ line ∷ []))
-    ∙ flat_map-append (λ l. l ++ 10 ∷ []) ls (line ∷ [])
-    ∙ ap (λ t. flat_map (λ l. l ++ 10 ∷ []) ls ++ t) (append-nil (line ++ 10 ∷ [])))
 
 one_more : (ls : List (List ℕ)) (line : List ℕ) (before after : ℕ) → before ≡ min (length ls) (2 ^ 64 - 1)
     → after ≡ min (before + 1) (2 ^ 64 - 1) → after ≡ min (length (ls ++ line ∷ [])) (2 ^ 64 - 1)
@@ -219,7 +195,7 @@ module _ (read : List ℕ) (before after : Reading) (told : Option ℕ) (old : S
   pub none_remains : Ends before after lines.None → StandsAfter read before.pending told old count
       → SayTogether read told old
   none_remains ends s =
-      let none : s.rest ≡ [] = held_line s.rest [] (sym s.held ∙ ends.0) in record {
+      let none : s.rest ≡ [] = nothing_kept s.rest (sym s.held ∙ ends.0) in record {
         lines = s.lines;
         rest = s.rest;
         split = s.split;
@@ -228,34 +204,17 @@ module _ (read : List ℕ) (before after : Reading) (told : Option ℕ) (old : S
         joined = s.joined;
       }
 
-  last_filled : (ls : List (List ℕ)) (rest : List ℕ) → 0 < length rest → with_last ls rest ≡ ls ++ rest ∷ []
-  last_filled ls [] some = absurd (omega (arith, some))
-  last_filled ls (b ∷ bs) some = refl
-
-  long_filled : (rest : List ℕ) → kept rest ≡ None → 0 < length rest
-  long_filled [] is = search (rules, is)
-  long_filled (b ∷ bs) is = omega arith
-
-  last_held : (line : Line) → line ≢ lines.None → Ends before after line
-      → (s : StandsAfter read before.pending told old count) → Holds line after s.rest × (0 < length s.rest)
-  last_held lines.None some ends s = absurd (some refl)
-  last_held lines.Full some ends s =
-      let is = sym s.held ∙ ends.0 in
-      (is, subst (λ l. 0 < length l) (sym (held_line s.rest after.line is)) ends.2)
-  last_held lines.TooLong some ends s =
-      let is = sym s.held ∙ ends.0 in (is, long_filled s.rest is)
-
   pub last_joins : (tells : Option ℕ) (new : State) (line : Line) → line ≢ lines.None → Ends before after line
       → Joined line after told old count tells new → StandsAfter read before.pending told old count
       → SayTogether read tells new
   last_joins tells new line some ends joined s =
-      let held = last_held line some ends s in
+      let held = end_held before after s.rest line some ends s.held in
       let j = joined s.rest held.0 in record {
         lines = s.lines;
         rest = s.rest;
         split = s.split;
         deltas = s.deltas ++ j.0;
-        said = subst (λ ls. SayAll ls tells (s.deltas ++ j.0)) (sym (last_filled s.lines s.rest held.1))
+        said = subst (λ ls. SayAll ls tells (s.deltas ++ j.0)) (sym (with_last-filled s.lines s.rest held.1))
             (say_next s.lines told tells s.deltas j.0 s.rest count s.said s.counted j.1);
         joined = joined_more old new s.deltas j.0 s.joined j.2;
       }
@@ -263,7 +222,7 @@ module _ (read : List ℕ) (before after : Reading) (told : Option ℕ) (old : S
   pub last_fails : (number : ℕ) (line : Line) → line ≢ lines.None → Ends before after line
       → Faulty line after count number → StandsAfter read before.pending told old count → FirstFault ⊤ read number
   last_fails number line some ends faulty s =
-      let held = last_held line some ends s in
+      let held = end_held before after s.rest line some ends s.held in
       let f = faulty s.rest held.0 in record {
         lines = s.lines;
         line = s.rest;
@@ -328,23 +287,10 @@ pub stands_more : (read bytes : List ℕ) (start taken : ℕ) (pending : Option 
     told state count
     → StandsAfter (read ++ take (start + taken) bytes) pending told state count
 stands_more read bytes start taken pending told state count s =
-    subst (λ r. StandsAfter r pending told state count)
-    (ap (λ r. (read ++ take start bytes) ++ take taken r) (rest-range bytes start)
-    ∙ append_assoc read (take start bytes) (take taken (drop start bytes))
-    ∙ ap (λ t. read ++ t) (sym (take-add start taken bytes))) s
+    subst (λ r. StandsAfter r pending told state count) (read-more read bytes start taken) s
 
 pub fault_rest : (read bytes : List ℕ) (start number : ℕ)
     → FirstFault ⊥ ((read ++ take start bytes) ++ take (length bytes - start) (drop start bytes)) number
     → FirstFault ⊥ (read ++ bytes) number
 fault_rest read bytes start number f =
-    subst (λ r. FirstFault ⊥ r number)
-    (ap (λ r. (read ++ take start bytes) ++ r) (rest-range bytes start)
-    ∙ append_assoc read (take start bytes) (drop start bytes)
-    ∙ ap (λ t. read ++ t) (take-append-drop start bytes)) f
-
-pub turn_within : (bytes : List ℕ) (start taken : ℕ) → start < length bytes
-    → taken ≤ length (take (length bytes - start) (drop start bytes)) → start + taken ≤ length bytes
-turn_within bytes start taken lt le =
-    let shorter : length (take (length bytes - start) (drop start bytes)) ≡ length bytes - start =
-    ap length (rest-range bytes start) ∙ length-drop start bytes in
-    omega (arith, shorter, lt, le)
+    subst (λ r. FirstFault ⊥ r number) (read-rest read bytes start) f

@@ -9,23 +9,15 @@ use Rattle.ps_delta.specs.Order.{Rising, Under}
 use Rattle.ps_wire.specs.Fits.{FitsLine}
 use Rattle.ps_wire.specs.Length.{size}
 use Rattle.ps_wire.specs.Value.{cell_value}
-use Rattle.ps_session.specs.Feeding.{Reading, kept}
-use Rattle.ps_session.specs.Transcript.{Splits}
-use Rattle.ps_session.specs.declared.kept_line.KeptLine.{KeptLine}
-use Rattle.ps_session.specs.declared.kept_line.KeptLine.TheVariants as kept_lines
-use Rattle.ps_session.specs.declared.line_reader.Line.{Line}
-use Rattle.ps_session.specs.declared.line_reader.Line.TheVariants as lines
+use Rattle.ps_lines.specs.Feeding.{kept}
+use Rattle.ps_lines.specs.Streams.{Splits}
+use Rattle.ps_lines.specs.declared.kept_line.KeptLine.{KeptLine}
+use Rattle.ps_lines.specs.declared.kept_line.KeptLine.TheVariants as kept_lines
 use Rattle.ps_wire.specs.Line.{IsLine, delta_text}
 use Rattle.ps_squash.specs.Squashed.{AreFull, Divide, FirstFault, FirstSays, SayAll, Says, cells_in, push_lines}
 use Rattle.ps_squash.specs.Squashed.{told_line}
 use Rattle.ps_squash.specs.declared.fault.SquashFault.{SquashFault}
 use Rattle.ps_squash.specs.declared.fault.SquashFault.TheVariants as faults
-
--- how the line that a session holds stands for the bytes between two line feeds
-abbrev pub Holds : Line → Reading → List ℕ → Type 0
-Holds lines.None session raw = ⊥
-Holds lines.Full session raw = kept raw ≡ Some session.line
-Holds lines.TooLong session raw = kept raw ≡ None
 
 -- what a first line is read as: nothing where it is empty; else the replica that it tells, or the delta that it says
 abbrev pub IsRead : List ℕ → Option KeptLine → Type 0

@@ -6,10 +6,10 @@ use Rattle.ps_delta.specs.State.{State}
 use Rattle.ps_delta.specs.Deltas.{AreEntries, Entries, IsDelta, joined_history}
 use Rattle.ps_wire.specs.Fits.{FitsLine}
 use Rattle.ps_wire.specs.Line.{IsLine, delta_text}
-use Rattle.ps_session.specs.Feeding.{HasNoFeed, without_return}
-use Rattle.ps_session.specs.PushLine.{push_line, push_word}
-use Rattle.ps_session.specs.ReplicaLine.{Tells, TellsNone, replica_line}
-use Rattle.ps_session.specs.Transcript.{IsAfterLine, Splits, stream_of, with_last}
+use Rattle.ps_lines.specs.Feeding.{HasNoFeed, without_return}
+use Rattle.ps_lines.specs.PushLine.{push_line, push_word}
+use Rattle.ps_lines.specs.ReplicaLine.{Tells, TellsNone, replica_line}
+use Rattle.ps_lines.specs.Streams.{IsAfterLine, Splits, stream_of, with_last}
 
 -- ---- lines in
 

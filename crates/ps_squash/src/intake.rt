@@ -5,17 +5,17 @@ ghost use Rattle.std.specs.Io.KnownBytes.{Consumes, IsAtEnd};
 ghost use Rattle.ps_grid.specs.declared.refusal.Refusal.TheVariants as refusals;
 ghost use Rattle.ps_delta.specs.Deltas.{Entries, joined_history};
 ghost use Rattle.ps_delta.specs.State.{joined_state, state_at};
-ghost use Rattle.ps_session.specs.Feeding.{without_return};
-ghost use Rattle.ps_session.specs.ReplicaLine.{TellsNone};
+ghost use Rattle.ps_lines.specs.Feeding.{Holds, without_return};
+ghost use Rattle.ps_lines.specs.ReplicaLine.{TellsNone};
 ghost use Rattle.ps_squash.specs.Squashed.{FirstFault, FirstSays, SayTogether, Says};
-ghost use Rattle.ps_squash.specs.Inside.{Fails, GoesOn, Holds, IsOfIntake, IsOfLines, IsRead, NextSays, StandsAfter};
+ghost use Rattle.ps_squash.specs.Inside.{Fails, GoesOn, IsOfIntake, IsOfLines, IsRead, NextSays, StandsAfter};
 ghost use Rattle.ps_squash.specs.declared.fault.SquashFault.TheVariants.{Line as FaultyLine};
 
 use crate::fault::SquashFault;
 use ps_delta::Grid;
 use ps_device::{PIECE_BYTES, Source};
 use ps_grid::Refusal;
-use ps_session::{KeptLine, Line, Session, read_kept_line};
+use ps_lines::{KeptLine, Line, LineBuffer, read_kept_line};
 use ps_wire::Decoder;
 use std::alloc::Global;
 
@@ -27,7 +27,7 @@ struct Intake {
     /// What reads the deltas of the lines.
     decoder: Decoder,
     /// The line that is being read.
-    session: Session,
+    session: LineBuffer,
     /// Whose the lines are, where the first one told it.
     told: Option<u8>,
     /// The join of what the lines say.
@@ -264,7 +264,7 @@ fn begin(alloc: Global) -> Result<Intake, SquashFault>
         StandsAfter [] intake.session.pending intake.told (state_at intake.state) intake.ended) }
     ensures memory { IfErr result (λ f. f ≡ SquashFault.Memory) }
 {
-    let session = Session::new(alloc)?;
+    let session = LineBuffer::new(alloc)?;
     let state = match Grid::new(alloc) {
         Ok(state) => state,
         Err(Refusal::Memory) => return Err(SquashFault::Memory),

@@ -13,7 +13,7 @@ ghost use Rattle.ps_squash.specs.Inside.{HasWide, cell_size, ended_size};
 
 use ps_delta::{CellState, Delta};
 use ps_grid::{Cell, Refusal, Twin};
-use ps_session::put_push_line;
+use ps_lines::put_push_line;
 use ps_wire::{DELTA_LINE_LIMIT, encode};
 use std::alloc::Global;
 

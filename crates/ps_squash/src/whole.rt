@@ -15,7 +15,7 @@ use crate::lines::put_lines;
 use ps_delta::Grid;
 use ps_device::{Sink, Source, hand_on, put_all};
 use ps_grid::Refusal;
-use ps_session::put_replica_line;
+use ps_lines::put_replica_line;
 use std::alloc::Global;
 
 /// Reads the lines of a source to its end, each a delta's line with or without the word `push` before it, and writes

@@ -1,20 +1,8 @@
--- How the line that a session holds stands for the bytes between two line feeds.
-use Rattle.std.specs.Prelude.{◌≡◌, ◌+◌, ◌-◌, ◌<◌, ◌^◌, ℕ, Bool, List, [], Option, Some, None, Result, MatchResult}
+-- What a session tells of a line, and how its replies are counted.
+use Rattle.std.specs.Prelude.{◌≡◌, ◌+◌, ◌-◌, ◌<◌, ◌^◌, ℕ, Bool, List, Option, Result, MatchResult}
 use Rattle.std.specs.Prelude.{length, take, min, if◌then◌else◌}
 use Rattle.std.specs.Io.KnownBytes.{Appends}
 use Rattle.ps_device.specs.Device.{Sends}
-use Rattle.ps_session.specs.Feeding.{Reading, kept}
-use Rattle.ps_session.specs.declared.line_reader.Line.{Line}
-use Rattle.ps_session.specs.declared.line_reader.Line.TheVariants as lines
-
--- a reader that holds this line, and nothing of another
-abbrev pub with_line : List ℕ → Reading
-with_line line = record { pending = Some []; line = line }
-
-abbrev pub Holds : Line → Reading → List ℕ → Type 0
-Holds lines.None session raw = ⊥
-Holds lines.Full session raw = kept raw ≡ Some session.line
-Holds lines.TooLong session raw = kept raw ≡ None
 
 -- something was answered, and the reply was sent, or cut
 abbrev pub Tells : {State E : Type 0} → (State → List ℕ → State → Type 0) → State → State → Option (List ℕ)

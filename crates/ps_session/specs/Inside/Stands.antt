@@ -1,9 +1,10 @@
 -- Where a session stands between two pieces of its input.
 use Rattle.std.specs.Prelude.{◌≡◌, ◌⊎◌, ◌+◌, ◌-◌, ◌^◌, ◌++◌, ℕ, List, Option, count_by, min}
 use Rattle.std.specs.Io.KnownBytes.{Appends}
-use Rattle.ps_session.specs.Feeding.{kept}
+use Rattle.ps_lines.specs.Feeding.{kept}
 use Rattle.ps_session.specs.Keeping.{Halted}
-use Rattle.ps_session.specs.Transcript.{Answered, Answering, Cut, Run, Splits, has_reply}
+use Rattle.ps_session.specs.Transcript.{Answered, Cut, has_reply}
+use Rattle.ps_lines.specs.Streams.{Answering, Run, Splits}
 
 -- so many lines had a reply, from this number on, or the greatest 64-bit number where there are more
 abbrev pub counted_from : ℕ → List (List ℕ) → ℕ

@@ -1,7 +1,7 @@
 use Rattle.std.proofs.Common.{Some, ap, inl, refl, rules, subst, sym, ◌∙◌}
 use Rattle.std.specs.Prelude.{MatchOption, nat_eq}
 use Rattle.std.specs.List.{starts_with}
-use Rattle.ps_session.specs.KeptLines.{LineSays, LineSaysNothing}
+use Rattle.ps_lines.specs.KeptLines.{LineSays, LineSaysNothing}
 use Rattle.ps_kept.proofs.PushLemmas.{no_beginning, unbegun}
 use Rattle.ps_kept.proofs.TakenLemmas.{is_other}
 use Rattle.ps_kept.proofs.reading.after_first.Goals as goal

@@ -1,7 +1,7 @@
 use Rattle.std.proofs.Common.{Err, Some, ap, arith, subst, ◌∙◌}
 use Rattle.std.specs.Prelude.{MatchOption}
 use Rattle.std.proofs.lemmas.Bool.{ltb-false, ltb-true}
-use Rattle.ps_session.specs.KeptLines.{LineSays, LineSaysNothing}
+use Rattle.ps_lines.specs.KeptLines.{LineSays, LineSaysNothing}
 use Rattle.ps_kept.proofs.TakenLemmas.{not_new, taken_new}
 use Rattle.ps_kept.proofs.reading.take_in.Goals as goal
 

@@ -1,5 +1,5 @@
 use Rattle.std.proofs.Common.{Err, Ok, refl}
-use Rattle.ps_session.specs.Replies.{refusal_text}
+use Rattle.ps_lines.specs.Replies.{refusal_text}
 use Rattle.ps_session.proofs.HoldsLemmas.{told_by}
 use Rattle.ps_session.proofs.obey.answer.Goals as goal
 

@@ -1,8 +1,8 @@
 use Rattle.std.proofs.Common.{◌∙◌, ◌<◌, Err, ap, arith, length, subst}
 use Rattle.std.proofs.lemmas.Grind.{common_steps}
 use Rattle.std.specs.Prelude.{Ok}
-use Rattle.ps_session.specs.PullReplies.{HasNone}
-use Rattle.ps_session.proofs.PulledDeltas.{hands_refusal}
+use Rattle.ps_lines.specs.PullReplies.{HasNone}
+use Rattle.ps_lines.proofs.PulledDeltas.{hands_refusal}
 use Rattle.ps_session.proofs.obey.hand_out.Goals as goal
 
 pub overflow_add-result : goal.overflow_add-result

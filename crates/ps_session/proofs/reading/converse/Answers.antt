@@ -8,7 +8,7 @@ use Rattle.ps_session.proofs.CoveredLemmas.{covered_end, covered_ended, covered_
 use Rattle.ps_session.proofs.CoveredLemmas.{fits_after, halted_ended}
 use Rattle.ps_session.proofs.InputReadToEnd.{cut_ended, transcribed_flushed}
 use Rattle.ps_session.proofs.PartLemmas.{breaks_ended, keep_or_other, keeps_itself}
-use Rattle.ps_session.proofs.ReadLemmas.{Consumes-nil, same_fault}
+use Rattle.ps_lines.proofs.ReadLemmas.{Consumes-nil, same_fault}
 use Rattle.ps_session.proofs.reading.converse.Goals as goal
 
 pub returns-in-Err-clause-covered : goal.returns-in-Err-clause-covered

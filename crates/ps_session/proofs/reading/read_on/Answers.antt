@@ -5,7 +5,7 @@ use Rattle.ps_session.specs.Keeping.{IsCovered}
 use Rattle.ps_session.proofs.CoveredLemmas.{covered_here, covered_none, stands_halted}
 use Rattle.ps_session.proofs.InputReadToEnd.{stands_answered}
 use Rattle.ps_session.proofs.PartLemmas.{stands_begun}
-use Rattle.ps_session.proofs.ReadLemmas.{Consumes-append, Consumes-keeps, Consumes-nil, same_fault}
+use Rattle.ps_lines.proofs.ReadLemmas.{Consumes-append, Consumes-keeps, Consumes-nil, same_fault}
 use Rattle.ps_session.proofs.reading.read_on.Goals as goal
 
 pub returns-in_err-release-clause-sink : goal.returns-in_err-release-clause-sink

@@ -2,10 +2,10 @@ use Rattle.std.proofs.Common.{◌∙◌, ◌++◌, ap, inl, inr, subst, sym, Err
 use Rattle.std.proofs.lemmas.Result.{err_from_is_err_and}
 use Rattle.ps_session.specs.Boards.{BoardAnswers, BoardLines}
 use Rattle.ps_session.specs.Keeping.{IsCovered}
-use Rattle.ps_session.proofs.InputReadToEnd.{cut_rest, stands_more, stands_flushed, turn_within}
+use Rattle.ps_session.proofs.InputReadToEnd.{cut_rest, stands_more, stands_flushed}
+use Rattle.ps_lines.proofs.ReadLemmas.{same_fault, turn_within}
 use Rattle.ps_session.proofs.PartLemmas.{fits_after_part, keep_or_other, part_breaks, part_covered, part_cut}
 use Rattle.ps_session.proofs.PartLemmas.{part_halts, part_waits, under_way_after}
-use Rattle.ps_session.proofs.ReadLemmas.{same_fault}
 use Rattle.ps_session.proofs.reading.read_piece.Goals as goal
 
 pub returns-in-Err-clause-sink : goal.returns-in-Err-clause-sink

@@ -1,7 +1,7 @@
 use Rattle.std.proofs.Common.{◌<◌, length, arith, rules, subst}
 use Rattle.std.proofs.lemmas.Grind.{common_steps}
 use Rattle.std.specs.Prelude.{MatchOption}
-use Rattle.ps_session.specs.KeptLines.{LineSays, LineSaysNothing}
+use Rattle.ps_lines.specs.KeptLines.{LineSays, LineSaysNothing}
 use Rattle.ps_squash.proofs.LineLemmas.{other_says, push_says_none}
 use Rattle.ps_squash.proofs.intake.read_line.Goals as goal
 

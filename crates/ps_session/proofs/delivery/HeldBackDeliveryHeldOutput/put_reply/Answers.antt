@@ -1,4 +1,4 @@
-use Rattle.ps_session.specs.Replies.{reply_text}
+use Rattle.ps_lines.specs.Replies.{reply_text}
 use Rattle.ps_session.proofs.HeldLemmas.{sends_held, sends_wait}
 use Rattle.ps_session.proofs.delivery.HeldBackDeliveryHeldOutput.put_reply.Goals as goal
 

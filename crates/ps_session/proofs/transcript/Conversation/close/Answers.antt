@@ -1,7 +1,7 @@
 use Rattle.ps_grid.specs.declared.refusal.Refusal.TheVariants as refusals
 use Rattle.std.proofs.Common.{refl}
 use Rattle.ps_session.specs.Boards.{BoardAnswers}
-use Rattle.ps_session.specs.Replies.{refusal_text}
+use Rattle.ps_lines.specs.Replies.{refusal_text}
 use Rattle.ps_session.proofs.HoldsLemmas.{handled_full, handled_long}
 use Rattle.ps_session.proofs.transcript.Conversation.close.Goals as goal
 

@@ -2,7 +2,7 @@ use Rattle.std.proofs.Common.{◌+◌, ℕ, Ok, Err, take}
 use Rattle.std.proofs.lemmas.Result.{err_from_is_err_and}
 use Rattle.ps_grid.specs.declared.refusal.Refusal.TheVariants as refusals
 use Rattle.ps_session.specs.Boards.{BoardAnswers, BoardLines}
-use Rattle.ps_session.specs.Replies.{refusal_text}
+use Rattle.ps_lines.specs.Replies.{refusal_text}
 use Rattle.ps_session.proofs.HoldsLemmas.{handled_full}
 use Rattle.ps_session.proofs.OnePieceMore.{whole_cut, whole_stands}
 use Rattle.ps_session.proofs.transcript.Conversation.turn.Goals as goal

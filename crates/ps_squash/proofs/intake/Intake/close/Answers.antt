@@ -1,6 +1,5 @@
 use Rattle.std.proofs.Common.{◌≡◌, rules, subst, None}
-use Rattle.ps_session.specs.Feeding.{kept}
-use Rattle.ps_squash.specs.Inside.{Holds}
+use Rattle.ps_lines.specs.Feeding.{Holds, kept}
 use Rattle.ps_squash.proofs.LineLemmas.{too_long, too_long_tells}
 use Rattle.ps_squash.proofs.intake.Intake.close.Goals as goal
 

@@ -1,4 +1,5 @@
-use Rattle.ps_squash.proofs.StandsLemmas.{fault_rest, stands_more, turn_within}
+use Rattle.ps_lines.proofs.ReadLemmas.{turn_within}
+use Rattle.ps_squash.proofs.StandsLemmas.{fault_rest, stands_more}
 use Rattle.ps_squash.proofs.intake.Intake.take_in.Goals as goal
 
 pub turns-preserved : goal.turns-preserved

@@ -1,0 +1,11 @@
+pub mod Feeding
+pub mod Streams
+pub mod Incomings
+pub mod Words
+pub mod Commands
+pub mod Replies
+pub mod PullReplies
+pub mod PushLine
+pub mod ReplicaLine
+pub mod KeptLines
+pub mod Inside

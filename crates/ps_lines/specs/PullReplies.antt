@@ -1,0 +1,67 @@
+-- What is handed out of a history to those who have its beginning.
+use Rattle.std.specs.Prelude.{◌≡◌, ◌⊎◌, ◌+◌, ◌<◌, ◌≤◌, ℕ, List, [], ◌∷◌, length, take, drop, Ok, Err}
+use Rattle.std.specs.List.{All}
+use Rattle.ps_grid.specs.declared.refusal.Refusal.TheVariants as refusals
+use Rattle.ps_delta.specs.Deltas.{Entries, IsDelta, joined_history, state_of}
+use Rattle.ps_wire.specs.Line.{delta_text}
+use Rattle.ps_wire.specs.declared.TheConstants.{DELTA_LINE_LIMIT}
+use Rattle.ps_wire.specs.Fits.{FitsLine}
+use Rattle.ps_wire.specs.Value.{IsLawful}
+use Rattle.ps_lines.specs.Commands.{Read}
+use Rattle.ps_lines.specs.Replies.{end_text, handed_text, refusal_text}
+
+-- the delta stands for the join of the deltas
+pub record IsJoint (deltas : List Entries) (delta : Entries) : Type 0 where
+  pub lawful : IsDelta delta
+  pub joined : state_of delta ≡ joined_history deltas
+
+-- the bytes are the line of the first n deltas joined, and not too long
+pub record IsGroupLine (deltas : List Entries) (n : ℕ) (line : List ℕ) : Type 0 where
+  pub within : n ≤ length deltas
+  pub delta : Entries
+  pub joint : IsJoint (take n deltas) delta
+  pub is : line ≡ delta_text delta
+  pub fits : length line ≤ DELTA_LINE_LIMIT
+
+-- n is the greatest number up to `most` for which there is such a line
+pub record IsGreatest (deltas : List Entries) (most n : ℕ) (line : List ℕ) : Type 0 where
+  pub some : 1 ≤ n
+  pub within : n ≤ most
+  pub grouped : IsGroupLine deltas n line
+  pub greatest : (k : ℕ) (longer : List ℕ) → n < k → k ≤ most → ¬ IsGroupLine deltas k longer
+
+-- there is no such line
+abbrev pub HasNone : List Entries → ℕ → Type 0
+HasNone deltas most = (k : ℕ) (line : List ℕ) → 1 ≤ k → k ≤ most → ¬ IsGroupLine deltas k line
+
+-- of the deltas after the version `from`, the greatest number up to `most` whose line isn't too long
+abbrev pub HandsGroup : ℕ → ℕ → List Entries → List ℕ → Type 0
+HandsGroup from most deltas text =
+    ((n : ℕ) × (line : List ℕ) × IsGreatest deltas most n line × (text ≡ handed_text (from + n) line))
+    ⊎ (HasNone deltas most × (text ≡ refusal_text refusals.TooLong))
+
+-- PULL: the reply to one who has the first `from` deltas, and takes at most so many at once
+pub record HandsOut (history : List Entries) (from most : ℕ) (text : List ℕ) : Type 0 where
+  pub beyond : length history < from → text ≡ refusal_text refusals.Version
+  pub at_end : from ≡ length history → text ≡ end_text from
+  pub before_end : from < length history → HandsGroup from most (drop from history) text
+
+-- what one is told who has the first `from` deltas and takes at most so many at once: of these deltas after them as
+-- many as one line holds, or that there are none; out of memory only where there is one
+abbrev pub HandsOn : ℕ → ℕ → Read (List Entries) → List ℕ → Type 0
+HandsOn from most (Err refusal) reply = reply ≡ refusal_text refusal
+HandsOn from most (Ok []) reply = reply ≡ end_text from
+HandsOn from most (Ok (d ∷ ds)) reply =
+    HandsGroup from most (d ∷ ds) reply ⊎ (reply ≡ refusal_text refusals.Memory)
+
+-- the delta is in range, and its line isn't too long
+pub record HasLine (delta : Entries) : Type 0 where
+  pub lawful : IsLawful delta
+  pub fits : FitsLine delta
+
+-- LAW: of a history whose deltas have lines, whoever has a beginning is handed out more: no pull is refused as too long
+abbrev pub PullsHandOut : Type 0
+PullsHandOut =
+    (history : List Entries) (from most : ℕ) (text : List ℕ) → All HasLine history → from < length history → 1 ≤ most
+    → HandsOut history from most text
+    → (n : ℕ) × (line : List ℕ) × IsGreatest (drop from history) most n line × (text ≡ handed_text (from + n) line)

@@ -1,0 +1,200 @@
+//! The lines that a source holds, one after another.
+ghost use Rattle.std.specs.Prelude.{◌≡◌, ◌≤◌, false, length};
+ghost use Rattle.ps_device.specs.declared.TheConstants.{PIECE_BYTES};
+
+use crate::line_buffer::{Line, LineBuffer};
+use ps_device::{Failed, PIECE_BYTES, Source};
+use std::alloc::{AllocError, Global};
+
+/// Why no line came.
+#[derive(Clone, Copy, PartialEq, Eq)]
+pub enum LineFault {
+    /// The source failed.
+    Failed,
+    /// The source ended, with nothing after the line before.
+    Ended,
+    /// The source ended in the middle of a line, or the line is too long.
+    Broken,
+}
+
+/// What a reader of lines came to: the end of a line, or that of its source.
+#[derive(Clone, Copy, PartialEq, Eq)]
+pub struct NextLine {
+    /// What ended; `Line::None` only at the end of the source.
+    pub line: Line,
+    /// Whether the source has ended.
+    pub is_last: bool,
+}
+
+/// The reader of the lines of a source.
+#[derive(Drop)]
+pub struct Incoming<S: Source + Drop> {
+    source: S,
+    /// the line that is being read, or that was read last
+    lines: LineBuffer,
+    /// the bytes that were read at once, of which those from `start` to `end` belong to later lines
+    piece: Vec<u8>,
+    start: usize,
+    end: usize,
+    ghost within: { start ≤ end },
+    ghost read: { end ≤ PIECE_BYTES },
+    ghost room: { length piece.items ≡ PIECE_BYTES },
+}
+
+impl NextLine {
+    /// A line that a line feed ended.
+    fn inside(line: Line) -> NextLine
+        ensures { result ≡ record { line = line; is_last = false } }
+    {
+        NextLine {
+            line,
+            is_last: false,
+        }
+    }
+}
+
+impl<S: Source + Drop> Incoming<S> {
+    ghost use Rattle.std.specs.Prelude.{◌≢◌, ◌<◌, ◌++◌, ◌∷◌, ℕ, List, [], Err, IfOk, OnErr, OnOk, Some, None};
+    ghost use Rattle.std.specs.Prelude.{false, true};
+    ghost use Rattle.std.specs.Io.KnownBytes.{Consumes, IsAtEnd, Keeps};
+    ghost use Rattle.ps_lines.specs.Feeding.{Feeds, HasNoFeed, without_return};
+    ghost use Rattle.ps_lines.specs.Incomings.{IsNextLine, due, lines_left};
+    ghost use Rattle.ps_lines.specs.Streams.{TakesLine};
+
+    /// The reader of the lines of this source, of which nothing was read yet. Refused out of memory.
+    ///
+    /// Cost: the room of a line and of a piece.
+    pub fn new(alloc: Global, source: S) -> Result<Incoming<S>, AllocError>
+        ensures source { IfOk result (λ new. new.source ≡ source) }
+        ensures none { IfOk result (λ new. (new.start ≡ 0) × (new.end ≡ 0)) }
+        ensures ready { IfOk result (λ new. new.lines.pending ≡ Some []) }
+    {
+        let mut piece = Vec::with_capacity(alloc, PIECE_BYTES)?;
+        piece.resize(PIECE_BYTES, 0)?;
+        Ok(Incoming {
+            source,
+            lines: LineBuffer::new(alloc)?,
+            piece,
+            start: 0,
+            end: 0,
+        })
+    }
+
+    /// The line that was read last, without a carriage return at its end.
+    ///
+    /// Cost: constant.
+    pub fn line(&self) -> &[u8]
+        ensures { result.now ≡ without_return self.now.lines.line }
+    {
+        self.lines.line()
+    }
+
+    /// Reads on to the end of a line.
+    ///
+    /// Cost: linear in the bytes of the line, but for the time that the source takes.
+    pub fn read_line(&mut self) -> Result<(), LineFault>
+        requires ready { self.old.lines.pending ≡ Some [] }
+        ensures ready { OnOk result (self.new.lines.pending ≡ Some []) }
+        ensures one { OnOk result (HasNoFeed self.new.lines.line) }
+        ensures read { OnOk result (Consumes (due S.remaining self.old) (due S.remaining self.new)
+            (self.new.lines.line ++ 10 ∷ [])) }
+        ensures falls { OnOk result (lines_left S.left self.new < lines_left S.left self.old) }
+        ensures taken { OnErr result (TakesLine (due S.remaining self.old) (due S.remaining self.new)) }
+        ensures ended { result ≡ Err LineFault.Ended
+            → Consumes (due S.remaining self.old) (due S.remaining self.new) [] × IsAtEnd (due S.remaining self.new) }
+        ensures calm { result ≢ Err LineFault.Failed → S.failures self.new.source ≡ S.failures self.old.source }
+        ensures failed { result ≡ Err LineFault.Failed → S.failures self.old.source < S.failures self.new.source }
+    {
+        'pieces: loop {
+            match self.fill() {
+                Ok(true) => {}
+                Ok(false) => return Err(self.end_of_input()),
+                Err(_) => return Err(LineFault::Failed),
+            }
+            match self.take_in() {
+                Line::None => {}
+                Line::Full => return Ok(()),
+                Line::TooLong => return Err(LineFault::Broken),
+            }
+        }
+    }
+
+    /// Reads on to the end of a line, or to that of the source, after which what remains is a line too.
+    ///
+    /// Cost: linear in the bytes of the line, but for the time that the source takes.
+    pub fn next_line(&mut self) -> Result<NextLine, Failed>
+        requires ready { self.old.lines.pending ≡ Some [] }
+        ensures ready { OnOk result (self.new.lines.pending ≡ Some []) }
+        ensures next { IfOk result (IsNextLine (due S.remaining self.old) (due S.remaining self.new)
+            self.new.lines.line) }
+        ensures falls { IfOk result (λ next. next.is_last ≡ false
+            → lines_left S.left self.new < lines_left S.left self.old) }
+        ensures taken { OnErr result (TakesLine (due S.remaining self.old) (due S.remaining self.new)) }
+        ensures calm { OnOk result (S.failures self.new.source ≡ S.failures self.old.source) }
+        ensures failed { OnErr result (S.failures self.old.source < S.failures self.new.source) }
+    {
+        'pieces: loop {
+            let more = match self.fill() {
+                Ok(more) => more,
+                Err(failed) => return Err(failed),
+            };
+            if !more {
+                let line = self.lines.end();
+                return Ok(NextLine {
+                    line,
+                    is_last: true,
+                });
+            }
+            match self.take_in() {
+                Line::None => {}
+                Line::Full => return Ok(NextLine::inside(Line::Full)),
+                Line::TooLong => return Ok(NextLine::inside(Line::TooLong)),
+            }
+        }
+    }
+
+    /// Takes in what was read, up to the end of a line.
+    fn take_in(&mut self) -> Line
+        requires some { self.old.start < self.old.end }
+        ensures fed { (bytes : List ℕ) × Consumes (due S.remaining self.old) (due S.remaining self.new) bytes
+            × Feeds self.old.lines self.new.lines bytes result }
+        ensures source { self.new.source ≡ self.old.source }
+        ensures falls { lines_left S.left self.new < lines_left S.left self.old }
+    {
+        let fed = self.lines.feed(&self.piece[self.start..self.end]);
+        self.start += fed.taken;
+        fed.line
+    }
+
+    /// Reads from the source where all that was read is taken in, and returns whether there is anything still.
+    fn fill(&mut self) -> Result<bool, Failed>
+        ensures lines { self.new.lines ≡ self.old.lines }
+        ensures same { Keeps (due S.remaining self.old) (due S.remaining self.new) }
+        ensures some { IfOk result (λ more. more ≡ true → self.new.start < self.new.end) }
+        ensures ended { IfOk result (λ more. more ≡ false → IsAtEnd (due S.remaining self.new)) }
+        ensures calm { OnOk result (S.failures self.new.source ≡ S.failures self.old.source) }
+        ensures failed { OnErr result (S.failures self.old.source < S.failures self.new.source) }
+        ensures falls { lines_left S.left self.new ≤ lines_left S.left self.old }
+    {
+        if self.start < self.end {
+            return Ok(true);
+        }
+        self.start = 0;
+        self.end = 0;
+        self.end = self.source.take(self.piece.as_mut_slice())?;
+        Ok(self.end > 0)
+    }
+
+    /// Why there is no line at the end of the input.
+    fn end_of_input(&mut self) -> LineFault
+        ensures due { due S.remaining self.new ≡ due S.remaining self.old }
+        ensures source { self.new.source ≡ self.old.source }
+        ensures ended { result ≡ LineFault.Ended → self.old.lines.pending ≡ Some [] }
+        ensures broken { result ≢ LineFault.Failed }
+    {
+        match self.lines.end() {
+            Line::None => LineFault::Ended,
+            Line::Full | Line::TooLong => LineFault::Broken,
+        }
+    }
+}

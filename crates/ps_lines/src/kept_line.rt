@@ -1,0 +1,78 @@
+//! What a line of a kept file says, to whoever reads one.
+ghost use Rattle.std.specs.Prelude.{◌≡◌, ◌⊎◌, Err, IfErr, IfOk, MatchOption};
+ghost use Rattle.ps_delta.specs.Deltas.{Entries};
+ghost use Rattle.ps_lines.specs.PushLine.{IsPush, Pushes};
+ghost use Rattle.ps_lines.specs.KeptLines.{LineSays, LineSaysNothing};
+ghost use Rattle.ps_lines.specs.Words.{first_word};
+ghost use Rattle.ps_lines.specs.Commands.{verb_of};
+ghost use Rattle.ps_lines.specs.Inside.Kept.{is_kept_verb};
+
+use crate::command::Command;
+use crate::replica_line::is_replica_line;
+use crate::verb::Verb;
+use crate::words::split_word;
+use ps_delta::Delta;
+use ps_grid::Refusal;
+use ps_wire::Decoder;
+use std::alloc::Global;
+
+/// What a line of a kept file says.
+#[derive(Drop)]
+pub enum KeptLine {
+    /// Whose the lines after it are: the replica of this number.
+    Replica(u8),
+    /// One change: this delta is pushed.
+    Push(Delta),
+}
+
+/// What a line of a kept file says: the replica that it tells, in just the spelling of a kept file, or the delta that
+/// it pushes, in whatever spelling; none where it does neither. It is read as a session's command, by
+/// [`Command::read`].
+///
+/// A line that begins with `push ` is refused as `Delta` where the rest is no line of a delta, and may be refused out
+/// of memory; any other line takes none. The decoder is lent for the line of a delta.
+///
+/// Cost: O(n) in the n bytes of the line, and where it begins with `push ` that of [`Decoder::decode`].
+pub fn read_kept_line(
+    alloc: Global,
+    decoder: &mut Decoder,
+    line: &[u8],
+) -> Result<Option<KeptLine>, Refusal>
+    ensures says { IfOk result (λ found. MatchOption found (LineSaysNothing line.now) (LineSays line.now)) }
+    ensures no_delta { result ≡ Err Refusal.Delta → IsPush line.now × ((d : Entries) → ¬ Pushes line.now d) }
+    ensures memory { result ≡ Err Refusal.Memory → IsPush line.now }
+    ensures refused { IfErr result (λ e. (e ≡ Refusal.Delta) ⊎ (e ≡ Refusal.Memory)) }
+{
+    // no command of another verb is read, so that no other line takes memory
+    if !may_be_kept(line) {
+        return Ok(None);
+    }
+    match Command::read(alloc, decoder, line) {
+        Ok(Command::Push(delta)) => Ok(Some(KeptLine::Push(delta))),
+        Ok(Command::Replica(Some(replica))) => {
+            if is_replica_line(line, replica) {
+                Ok(Some(KeptLine::Replica(replica)))
+            } else {
+                Ok(None)
+            }
+        }
+        Ok(Command::Replica(None)) => Ok(None),
+        Ok(_) => unreachable!(),
+        // a word too few or too many, or no replica's number
+        Err(Refusal::Command) => Ok(None),
+        Err(Refusal::Replica) => Ok(None),
+        Err(Refusal::Delta) => Err(Refusal::Delta),
+        Err(Refusal::Memory) => Err(Refusal::Memory),
+        Err(_) => unreachable!(),
+    }
+}
+
+/// Whether a line has one of the verbs that a kept file has.
+fn may_be_kept(line: &[u8]) -> bool
+    ensures { result ≡ is_kept_verb (verb_of (first_word line.now)) }
+{
+    matches!(
+        Verb::read(split_word(line).0),
+        Some(Verb::Push | Verb::Replica)
+    )
+}

@@ -1,0 +1,89 @@
+-- One reply more of what is followed, and its end.
+use Rattle.std.proofs.Common.{◌≡◌, ℕ, List, [], ◌∷◌, ◌++◌, Option, ◌∙◌, arith, inl, inr, refl}
+use Rattle.std.proofs.Common.{subst}
+use Rattle.std.specs.Io.KnownBytes.{Appends, Consumes}
+use Rattle.std.proofs.lemmas.List.Elements.{All-push}
+use Rattle.ps_device.proofs.DeviceLemmas.{Appends-append, Appends-nil}
+use Rattle.ps_lines.specs.Feeding.{HasNoFeed, without_return}
+use Rattle.ps_peers.specs.Peers.{IsReplied, PeerView, PutsSome}
+use Rattle.ps_lines.specs.Streams.{TakesLine, stream_of}
+use Rattle.ps_peers.specs.Exchange.{Asks, HandsOver, IsFollowed, IsHalted, TellsEnd, pull_text}
+use Rattle.ps_lines.proofs.StreamLemmas.{Run-push, stream-push, stream-rest}
+use Rattle.ps_lines.proofs.ReadLemmas.{Consumes-append, Consumes-nil}
+
+-- nothing was read
+pub takes_none : (old new : Option (List ℕ)) → old ≡ new → TakesLine old new
+takes_none old new same = record {
+  part = [];
+  feed = [];
+  one = λ k d lt. absurd (omega (arith, lt));
+  ends = inl refl;
+  taken = subst (λ known. Consumes old known []) same (Consumes-nil old);
+}
+
+pub replied_takes : (request : List ℕ) (old new : PeerView) → IsReplied request old new
+    → TakesLine old.to_come new.to_come
+replied_takes request old new r =
+    record { part = new.line; feed = 10 ∷ []; one = r.one; ends = inr refl; taken = r.read }
+
+module _ (first mid last : PeerView) (written before contents : Option (List ℕ)) (version : ℕ)
+    (f : IsFollowed first mid written before version) where
+  -- one reply more, which was handed on
+  pub followed_more : (text : List ℕ) (next : ℕ) → IsReplied (pull_text version) mid last
+      → HandsOver version last.line text next → Appends before contents text
+      → IsFollowed first last written contents next
+  followed_more text next r hands sent = record {
+    replies = f.replies ++ last.line ∷ [];
+    each = All-push HasNoFeed f.replies last.line f.each r.one;
+    read = subst (Consumes first.to_come last.to_come)
+        (stream-rest f.replies [] (last.line ++ 10 ∷ []) ∙ stream-push f.replies last.line)
+        (Consumes-append _ _ _ (stream_of f.replies []) (last.line ++ 10 ∷ []) f.read r.read);
+    requests = f.requests ++ pull_text version;
+    asks = Run-push Asks f.replies 0 version next f.requests (pull_text version) last.line f.asks (refl, (text, hands));
+    asked = Appends-append _ _ _ f.requests (pull_text version) f.asked r.asked;
+    text = f.text ++ text;
+    hands = Run-push HandsOver f.replies 0 version next f.text text last.line f.hands hands;
+    sent = Appends-append _ _ _ f.text text f.sent sent;
+  }
+
+  -- the end is handed on as nothing
+  pub followed_end : IsReplied (pull_text version) mid last → TellsEnd (without_return last.line) version
+      → before ≡ contents → IsFollowed first last written contents version
+  followed_end r ended same =
+      followed_more [] version r (inr (ended, refl, refl)) (subst (λ known. Appends before known []) same
+      (Appends-nil before))
+
+  -- what came then was not handed on
+  pub halted_before : (failed : Type 0) → before ≡ contents → TakesLine mid.to_come last.to_come
+      → IsHalted failed first last written contents
+  halted_before failed same taken = record {
+    middle = mid;
+    before = before;
+    version = version;
+    followed = f;
+    taken = taken;
+    handed = inl same;
+  }
+
+  -- .. or was cut
+  pub halted_cut : (failed : Type 0) (text : List ℕ) (next : ℕ) → failed → IsReplied (pull_text version) mid last
+      → HandsOver version last.line text next
+      → PutsSome before contents text → IsHalted failed first last written contents
+  halted_cut failed text next fails r hands cut = record {
+    middle = mid;
+    before = before;
+    version = version;
+    followed = f;
+    taken = replied_takes (pull_text version) mid last r;
+    handed = inr (
+      fails,
+      record {
+        one = r.one;
+        read = r.read;
+        text = text;
+        next = next;
+        hands = hands;
+        sent = cut;
+      },
+    );
+  }

@@ -1,0 +1,124 @@
+-- What one replica hands to another, or to whoever reads on: the peer's replies to one pull after the other, and the
+-- lines that they are handed on as.
+use Rattle.std.specs.Prelude.{◌≡◌, ◌⊎◌, ◌<◌, ◌≤◌, ⊤, ℕ, List, [], ◌∷◌, ◌++◌, Option, Some, codes, decimal}
+use Rattle.std.specs.Prelude.{drop, length, string_bytes}
+use Rattle.std.specs.Io.KnownBytes.{Appends, Consumes}
+use Rattle.std.specs.List.{All}
+use Rattle.ps_lines.specs.declared.command.TheConstants.{LARGEST_GROUP}
+use Rattle.ps_peers.specs.declared.peer_reply.PeerReply.{PeerReply}
+use Rattle.ps_peers.specs.declared.peer_reply.PeerReply.TheVariants as replies
+use Rattle.ps_peers.specs.declared.peer_pull.Due.{Due}
+use Rattle.ps_peers.specs.declared.peer_pull.Due.TheVariants as dues
+use Rattle.ps_peers.specs.declared.peer_pull.SyncFault.{SyncFault}
+use Rattle.ps_peers.specs.declared.peer_pull.SyncFault.TheVariants.{PeerRefused, Refused}
+use Rattle.ps_lines.specs.Feeding.{HasNoFeed, without_return}
+use Rattle.ps_peers.specs.Peers.{IsClosed, IsReplied, PeerView, PutsSome}
+use Rattle.ps_lines.specs.Streams.{Answering, Run, TakesLine, stream_of}
+use Rattle.ps_lines.specs.PushLine.{push_text}
+use Rattle.ps_lines.specs.Words.{whole_number}
+
+-- what asks for the deltas after a version, as many at once as a reply may join
+abbrev pub pull_text : ℕ → List ℕ
+pull_text version = codes "pull " ++ decimal version ++ (codes " " ++ decimal LARGEST_GROUP) ++ 10 ∷ []
+
+-- the reply `delta`, with a version and a delta line
+pub record TellsDelta (reply : List ℕ) (last : ℕ) (delta : List ℕ) : Type 0 where
+  pub digits : List ℕ
+  pub is : reply ≡ codes "delta " ++ (digits ++ 32 ∷ delta)
+  pub number : whole_number digits ≡ Some last
+
+-- the reply `end`, with a version
+pub record TellsEnd (reply : List ℕ) (version : ℕ) : Type 0 where
+  pub digits : List ℕ
+  pub is : reply ≡ codes "end " ++ digits
+  pub number : whole_number digits ≡ Some version
+
+-- the reply `ok`, with a version
+pub record TellsDone (reply : List ℕ) : Type 0 where
+  pub digits : List ℕ
+  pub version : ℕ
+  pub is : reply ≡ codes "ok " ++ digits
+  pub number : whole_number digits ≡ Some version
+
+-- what a reply tells
+abbrev pub IsTold : List ℕ → PeerReply → Type 0
+IsTold reply replies.Taken = TellsDone reply
+IsTold reply (replies.Delta last delta) = TellsDelta reply last delta.now
+IsTold reply (replies.End version) = TellsEnd reply version
+IsTold reply (replies.Refused text) = text.now ≡ reply
+
+-- a fault that is a peer's own has this line
+abbrev pub IsOwn : SyncFault → List ℕ → Type 0
+IsOwn (PeerRefused text) line = string_bytes text ≡ line
+IsOwn (Refused refusal) line = ⊤
+
+-- GROUP: a delta line came that is due to a pull after `version`
+abbrev pub IsGroup : ℕ → List ℕ → ℕ → List ℕ → Type 0
+IsGroup version reply last delta = TellsDelta reply last delta × (version < last)
+
+-- what a reply to a pull after `version` hands out: of a group, where its line begins
+abbrev pub IsDue : ℕ → List ℕ → Due → Type 0
+IsDue version reply (dues.Group last start) = IsGroup version reply last (drop start reply) × (start ≤ length reply)
+IsDue version reply dues.End = TellsEnd reply version
+IsDue version reply dues.Closed = ⊥
+
+-- what a pull after `version` came to: a reply that is due, or the peer closed in the place of one
+abbrev pub IsNext : ℕ → PeerView → PeerView → Due → Type 0
+IsNext version old new dues.Closed = IsClosed (pull_text version) old new
+IsNext version old new due = IsReplied (pull_text version) old new × IsDue version (without_return new.line) due
+
+-- what a line that replies to a pull after `version` is handed on as, and the version to ask after next
+abbrev pub HandsOver : Answering ℕ
+HandsOver version line text next =
+    ((delta : List ℕ) × IsGroup version (without_return line) next delta × (text ≡ push_text delta))
+    ⊎ (TellsEnd (without_return line) version × (text ≡ []) × (next ≡ version))
+
+-- .. and the pull that it replies to
+abbrev pub Asks : Answering ℕ
+Asks version line text next =
+    (text ≡ pull_text version) × ((handed : List ℕ) × HandsOver version line handed next)
+
+-- FOLLOWED: the peer replied to one pull after the other, the first after version 0, each further one after the version
+-- of the reply before; and what was written is just what the replies are handed on as, in order, each once
+pub record IsFollowed (first last : PeerView) (written contents : Option (List ℕ)) (version : ℕ) : Type 0 where
+  pub replies : List (List ℕ)
+  pub each : All HasNoFeed replies
+  pub read : Consumes first.to_come last.to_come (stream_of replies [])
+  pub requests : List ℕ
+  pub asks : Run Asks 0 replies requests version
+  pub asked : Appends first.asked last.asked requests
+  pub text : List ℕ
+  pub hands : Run HandsOver 0 replies text version
+  pub sent : Appends written contents text
+
+-- .. until the peer had no more: its last reply is the end
+pub record IsAll (first last : PeerView) (written contents : Option (List ℕ)) : Type 0 where
+  pub version : ℕ
+  pub followed : IsFollowed first last written contents version
+  pub ended : TellsEnd (without_return last.line) version
+
+-- .. until the peer closed: it ended its replies after one of them
+pub record IsUntilClosed (first last : PeerView) (written contents : Option (List ℕ)) : Type 0 where
+  pub middle : PeerView
+  pub version : ℕ
+  pub followed : IsFollowed first middle written contents version
+  pub closed : IsClosed (pull_text version) middle last
+
+-- a line that was due was read, and what it is handed on as was cut
+pub record IsCut (middle last : PeerView) (version : ℕ) (before contents : Option (List ℕ)) : Type 0 where
+  pub one : HasNoFeed last.line
+  pub read : Consumes middle.to_come last.to_come (last.line ++ 10 ∷ [])
+  pub text : List ℕ
+  pub next : ℕ
+  pub hands : HandsOver version last.line text next
+  pub sent : PutsSome before contents text
+
+-- HALTED: it was followed up to some reply. Of what came then no more than a line was read, and none of it was handed
+-- on, or, where that `failed`, a beginning
+pub record IsHalted (failed : Type 0) (first last : PeerView) (written contents : Option (List ℕ)) : Type 0 where
+  pub middle : PeerView
+  pub before : Option (List ℕ)
+  pub version : ℕ
+  pub followed : IsFollowed first middle written before version
+  pub taken : TakesLine middle.to_come last.to_come
+  pub handed : (before ≡ contents) ⊎ (failed × IsCut middle last version before contents)

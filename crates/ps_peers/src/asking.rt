@@ -1,0 +1,339 @@
+//! The lines of an input, asked of a peer, and its replies, written.
+ghost use Rattle.std.specs.Prelude.{◌≡◌, ◌≢◌, ◌⊎◌, ◌<◌, ◌≤◌, ℕ, List, [], Option, Some, None, Err, IfErr, IfOk, OnErr};
+ghost use Rattle.std.specs.Prelude.{OnOk, length, option_map, nat_eq};
+ghost use Rattle.std.specs.List.{starts_with};
+ghost use Rattle.std.specs.Io.KnownBytes.{Appends, Consumes, IsAtEnd, Keeps};
+ghost use Rattle.ps_grid.specs.declared.refusal.Refusal.TheVariants as Refusal;
+ghost use Rattle.ps_peers.specs.Asking.{Asked, AsksLine, HandsLines, HandsSome, IsBrokenOff, IsConversed};
+ghost use Rattle.ps_peers.specs.Asking.{IsInterrupted, ended, lines_after, lines_due, no_seat, none_more, number_after};
+ghost use Rattle.ps_peers.specs.Exchange.{IsOwn};
+ghost use Rattle.ps_lines.specs.Feeding.{without_return};
+ghost use Rattle.ps_lines.specs.Incomings.{IsHeld};
+ghost use Rattle.ps_peers.specs.Peers.{PutsSome};
+ghost use Rattle.ps_lines.specs.Replies.{refusal_text};
+ghost use Rattle.ps_peers.specs.declared.peer_pull.SyncFault.TheVariants.{Refused};
+
+use crate::peer::Peer;
+use crate::peer_pull::{SyncFault, fault_of, refused};
+use ps_device::{Failed, Sink, Source, hand_on};
+use ps_grid::Refusal;
+use ps_lines::reply_words::{DELTA, END, ENTRIES, ENTRY, ERR, OK, REPLICA, ROWS, VAL};
+use ps_lines::{
+    Incoming, Line, Outcome, Reply, Verb, Watcher, read_whole, send, send_pieces, split_word,
+};
+use std::alloc::{AllocError, Global};
+
+/// What a server says that has no seat for a session, and closes then.
+const NO_SEAT: &str = "err 21 seat";
+
+/// The number that follows a word at the front of a line; none where another word stands there, or no such number.
+fn number_after(first: &[u8], word: &[u8]) -> Option<u64>
+    ensures { result ≡ number_after first.now word.now }
+{
+    if first.len() < word.len() {
+        return None;
+    }
+    let (front, digits) = first.split_at(word.len());
+    if front == word {
+        read_whole(digits)
+    } else {
+        None
+    }
+}
+
+/// That no line follows, where this holds.
+fn none_more(due: bool) -> Option<u64>
+    ensures { result ≡ none_more due }
+{
+    if due { Some(0) } else { None }
+}
+
+/// That no line follows a first line with this word and a number.
+fn numbered(first: &[u8], word: &[u8]) -> Option<u64>
+    ensures { result ≡ option_map (λ n. 0) (number_after first.now word.now) }
+{
+    match number_after(first, word) {
+        Some(_) => Some(0),
+        None => None,
+    }
+}
+
+/// How many lines follow the first line of a reply to a line of this verb; none where it is no such reply.
+fn lines_after(verb: Option<Verb>, first: &[u8]) -> Option<u64>
+    ensures { result ≡ lines_after verb first.now }
+{
+    match verb {
+        None => None,
+        Some(Verb::Get) => none_more(first.starts_with(VAL)),
+        Some(Verb::Entry) => none_more(first.starts_with(ENTRY)),
+        Some(Verb::Rows) => number_after(first, ROWS),
+        Some(Verb::Entries) => number_after(first, ENTRIES),
+        Some(Verb::Pull) => none_more(first.starts_with(DELTA) || first.starts_with(END)),
+        Some(Verb::Replica) => numbered(first, REPLICA),
+        Some(Verb::Set | Verb::Add | Verb::Sub | Verb::Choose | Verb::Unchoose | Verb::Push) =>
+            numbered(first, OK),
+    }
+}
+
+/// How many lines follow the first line of the reply to a line; none where it isn't due.
+fn lines_due(line: &[u8], first: &[u8]) -> Option<u64>
+    ensures { result ≡ lines_due line.now first.now }
+{
+    if first == NO_SEAT.as_bytes() {
+        return None;
+    }
+    if first.starts_with(ERR) {
+        return Some(0);
+    }
+    let (word, _) = split_word(line);
+    lines_after(Verb::read(word), first)
+}
+
+/// The fault of a peer whose reply begins with a line that isn't due: its own where it has no seat.
+fn undue(alloc: Global, first: &[u8]) -> SyncFault
+    ensures device { result ≢ Refused Refusal.Device }
+    ensures own { IsOwn result first.now }
+{
+    if first == NO_SEAT.as_bytes() {
+        refused(alloc, NO_SEAT)
+    } else {
+        SyncFault::Refused(Refusal::Line)
+    }
+}
+
+/// What became of a line to which a reply begins so, for who looks on.
+fn outcome_of(first: &[u8]) -> Outcome {
+    match refusal_of(first) {
+        Some(refusal) => Outcome::Refused(refusal),
+        None => Outcome::Answered,
+    }
+}
+
+/// The refusal that a reply tells, if it tells one.
+fn refusal_of(first: &[u8]) -> Option<Refusal> {
+    let (digits, _) = split_word(first.strip_prefix(ERR)?);
+    match read_whole(digits)? {
+        1 => Some(Refusal::Cell),
+        2 => Some(Refusal::Text),
+        3 => Some(Refusal::Formula),
+        4 => Some(Refusal::TooLong),
+        5 => Some(Refusal::NotTally),
+        6 => Some(Refusal::NotChoice),
+        7 => Some(Refusal::Amount),
+        8 => Some(Refusal::OptionRange),
+        9 => Some(Refusal::Replica),
+        10 => Some(Refusal::TallyFull),
+        11 => Some(Refusal::ChoiceFull),
+        12 => Some(Refusal::NotChosen),
+        13 => Some(Refusal::ClockFull),
+        14 => Some(Refusal::Delta),
+        15 => Some(Refusal::Line),
+        16 => Some(Refusal::Command),
+        17 => Some(Refusal::Version),
+        18 => Some(Refusal::Csv),
+        19 => Some(Refusal::Memory),
+        20 => Some(Refusal::Device),
+        21 => Some(Refusal::Seat),
+        _ => None,
+    }
+}
+
+/// Writes a line and its line feed, which may wait.
+fn put_line<O: Sink>(line: &[u8], out: &mut O) -> Result<(), Failed>
+    ensures sent { OnOk result (Appends (O.contents out.old) (O.contents out.new) (ended line.now)) }
+    ensures put { PutsSome (O.contents out.old) (O.contents out.new) (ended line.now) }
+    ensures calm { OnOk result (O.failures out.new ≡ O.failures out.old) }
+    ensures failed { OnErr result (O.failures out.old < O.failures out.new) }
+{
+    let pieces: [&[u8]; 2] = [line, b"\n"];
+    send_pieces(pieces.as_slice(), out)
+}
+
+/// Reads so many further lines of a reply, and writes each, which may wait.
+fn put_rest<S: Source + Drop, K: Sink + Drop, O: Sink>(
+    count: u64,
+    peer: &mut Peer<S, K>,
+    out: &mut O,
+) -> Result<(), SyncFault>
+    ensures all { OnOk result ((lines : List (List ℕ)) × (length lines ≡ count)
+        × HandsLines lines peer.old.to_come peer.new.to_come (O.contents out.old) (O.contents out.new)) }
+    ensures some { OnErr result (HandsSome peer.old.to_come peer.new.to_come
+        (O.contents out.old) (O.contents out.new)) }
+    ensures unasked { peer.new.asked ≡ peer.old.asked }
+    ensures calm { OnOk result ((peer.new.failures ≡ peer.old.failures) × (O.failures out.new ≡ O.failures out.old)) }
+    ensures failed { result ≡ Err (Refused Refusal.Device)
+        → (peer.old.failures < peer.new.failures) ⊎ (O.failures out.old < O.failures out.new) }
+    ensures rises { O.failures out.old ≤ O.failures out.new }
+    ensures own { IfErr result (λ fault. (line : List ℕ) → IsOwn fault line) }
+{
+    for _ in 0..count {
+        match peer.read_more() {
+            Ok(()) => {}
+            Err(fault) => return Err(fault_of(fault)),
+        }
+        match put_line(peer.reply(), out) {
+            Ok(()) => {}
+            Err(_) => return Err(SyncFault::Refused(Refusal::Device)),
+        }
+    }
+    Ok(())
+}
+
+/// How many lines follow the first line of the reply to a line. Refused where it isn't due.
+fn count_due(alloc: Global, line: &[u8], first: &[u8]) -> Result<u64, SyncFault>
+    ensures due { IfOk result (λ count. lines_due line.now first.now ≡ Some count) }
+    ensures undue { OnErr result (lines_due line.now first.now ≡ None) }
+    ensures device { IfErr result (λ fault. fault ≢ Refused Refusal.Device) }
+    ensures own { IfErr result (λ fault. IsOwn fault first.now) }
+{
+    match lines_due(line, first) {
+        Some(count) => Ok(count),
+        None => Err(undue(alloc, first)),
+    }
+}
+
+/// Asks a peer a line, and writes the whole reply to it, of which nothing waits then.
+fn ask_line<S: Source + Drop, K: Sink + Drop, O: Sink, W: Watcher>(
+    alloc: Global,
+    line: &[u8],
+    peer: &mut Peer<S, K>,
+    out: &mut O,
+    watcher: &mut W,
+) -> Result<(), SyncFault>
+    ensures asked { OnOk result ((text : List ℕ) × Asked peer.old line.now text peer.new
+        × Appends (O.contents out.old) (O.contents out.new) text) }
+    ensures put { PutsSome peer.old.asked peer.new.asked (ended line.now) }
+    ensures some { OnErr result (HandsSome peer.old.to_come peer.new.to_come
+        (O.contents out.old) (O.contents out.new)) }
+    ensures flushed { O.waiting out.old ≡ []
+        → (O.waiting out.new ≡ []) ⊎ (O.failures out.old < O.failures out.new) }
+    ensures calm { OnOk result ((peer.new.failures ≡ peer.old.failures) × (O.failures out.new ≡ O.failures out.old)) }
+    ensures failed { result ≡ Err (Refused Refusal.Device)
+        → (peer.old.failures < peer.new.failures) ⊎ (O.failures out.old < O.failures out.new) }
+    ensures own { IfErr result (λ fault. IsOwn fault (without_return peer.new.line)) }
+{
+    let request: [&[u8]; 2] = [line, b"\n"];
+    match peer.ask(request.as_slice()) {
+        Ok(()) => {}
+        Err(fault) => return Err(fault_of(fault)),
+    }
+    let count = match count_due(alloc, line, peer.reply()) {
+        Ok(count) => count,
+        Err(fault) => return Err(fault),
+    };
+    watcher.saw(line, outcome_of(peer.reply()));
+    match put_line(peer.reply(), out) {
+        Ok(()) => {}
+        Err(_) => return Err(SyncFault::Refused(Refusal::Device)),
+    }
+    let rest = put_rest(count, peer, out);
+    // what came of a reply that breaks off is handed on, too
+    let flushed = hand_on(out);
+    match rest {
+        Ok(()) => {}
+        Err(fault) => return Err(fault),
+    }
+    match flushed {
+        Ok(()) => Ok(()),
+        Err(_) => Err(SyncFault::Refused(Refusal::Device)),
+    }
+}
+
+/// Refuses a line that is too long, of which nothing is sent, as a session does.
+fn refuse_line<O: Sink, W: Watcher>(out: &mut O, watcher: &mut W) -> Result<(), Failed>
+    ensures sent { OnOk result (Appends (O.contents out.old) (O.contents out.new) (refusal_text Refusal.Line)) }
+    ensures put { PutsSome (O.contents out.old) (O.contents out.new) (refusal_text Refusal.Line) }
+    ensures flushed { OnOk result (O.waiting out.new ≡ []) }
+    ensures calm { OnOk result (O.failures out.new ≡ O.failures out.old) }
+    ensures failed { OnErr result (O.failures out.old < O.failures out.new) }
+{
+    watcher.saw(b"", Outcome::Refused(Refusal::Line));
+    send(&Reply::Refused(Refusal::Line), out)?;
+    hand_on(out)?;
+    Ok(())
+}
+
+/// Asks a peer what ended in an input, and writes the reply to it: a line, which is `text` then, or one that is too
+/// long. An empty line has no reply, and isn't asked.
+fn answer<S: Source + Drop, K: Sink + Drop, O: Sink, W: Watcher>(
+    alloc: Global,
+    line: Line,
+    text: &[u8],
+    peer: &mut Peer<S, K>,
+    out: &mut O,
+    watcher: &mut W,
+) -> Result<(), SyncFault>
+    ensures answered { OnOk result ((raw held : List ℕ) → IsHeld line raw held → text.now ≡ without_return held
+        → (reply : List ℕ) × AsksLine peer.old raw reply peer.new
+        × Appends (O.contents out.old) (O.contents out.new) reply) }
+    ensures broken { OnErr result ((raw held : List ℕ) → IsHeld line raw held → text.now ≡ without_return held
+        → IsBrokenOff raw peer.old peer.new (O.contents out.old) (O.contents out.new)) }
+    ensures flushed { O.waiting out.old ≡ []
+        → (O.waiting out.new ≡ []) ⊎ (O.failures out.old < O.failures out.new) }
+    ensures calm { OnOk result ((peer.new.failures ≡ peer.old.failures) × (O.failures out.new ≡ O.failures out.old)) }
+    ensures failed { result ≡ Err (Refused Refusal.Device)
+        → (peer.old.failures < peer.new.failures) ⊎ (O.failures out.old < O.failures out.new) }
+    ensures own { IfErr result (λ fault. IsOwn fault (without_return peer.new.line)) }
+{
+    match line {
+        Line::None => Ok(()),
+        Line::Full if text.is_empty() => {
+            watcher.saw(text, Outcome::Answered);
+            Ok(())
+        }
+        Line::Full => ask_line(alloc, text, peer, out, watcher),
+        Line::TooLong => match refuse_line(out, watcher) {
+            Ok(()) => Ok(()),
+            Err(_) => Err(SyncFault::Refused(Refusal::Device)),
+        },
+    }
+}
+
+/// Asks a peer each line of an input, to its end, and writes the replies, each whole and handed on before the next line
+/// is read. An empty line isn't asked; one that is too long is refused here as a session does it. A last line needs no
+/// line feed.
+///
+/// It ends early as `Device` only where the input, the connection or `out` fails, and as `Line` where a reply isn't
+/// due: where it is none to such a line, or the peer closes before its end. A peer that has no seat is a fault of its
+/// own. A refusal that is the reply to a line ends nothing. What was sent stays sent, and what was written stays
+/// written.
+///
+/// Cost: linear in the bytes of the lines and of the replies, but for the time that the input and the peer take, and
+/// 0.4 MB of memory.
+pub fn ask_lines<I: Source + Drop, S: Source + Drop, K: Sink + Drop, O: Sink, W: Watcher>(
+    alloc: Global,
+    input: I,
+    peer: &mut Peer<S, K>,
+    out: &mut O,
+    watcher: &mut W,
+) -> Result<(), SyncFault>
+    ensures all { OnOk result ((left : Option (List ℕ)) × IsConversed peer.old peer.new (O.contents out.old)
+        (O.contents out.new) (I.remaining input) left) }
+    ensures interrupted { OnErr result ((left : Option (List ℕ)) × IsInterrupted peer.old peer.new (O.contents out.old)
+        (O.contents out.new) (I.remaining input) left) }
+    ensures flushed { O.waiting out.old ≡ []
+        → (O.waiting out.new ≡ []) ⊎ (O.failures out.old < O.failures out.new) }
+    ensures calm { OnOk result ((peer.new.failures ≡ peer.old.failures) × (O.failures out.new ≡ O.failures out.old)) }
+    ensures failed { result ≡ Err (Refused Refusal.Device)
+        → ((last : I) × (I.failures input < I.failures last)) ⊎ (peer.old.failures < peer.new.failures)
+        ⊎ (O.failures out.old < O.failures out.new) }
+    ensures own { IfErr result (λ fault. IsOwn fault (without_return peer.new.line)) }
+{
+    let mut lines = match Incoming::new(alloc, input) {
+        Ok(lines) => lines,
+        Err(AllocError) => return Err(SyncFault::Refused(Refusal::Memory)),
+    };
+    'lines: loop {
+        let next = match lines.next_line() {
+            Ok(next) => next,
+            Err(_) => return Err(SyncFault::Refused(Refusal::Device)),
+        };
+        match answer(alloc, next.line, lines.line(), peer, out, watcher) {
+            Ok(()) => {}
+            Err(fault) => return Err(fault),
+        }
+        if next.is_last {
+            return Ok(());
+        }
+    }
+}

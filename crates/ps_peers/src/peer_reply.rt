@@ -1,0 +1,48 @@
+//! What a peer replied.
+ghost use Rattle.std.specs.Prelude.{◌≡◌, ◌++◌, IfSome};
+ghost use Rattle.ps_peers.specs.Exchange.{IsTold};
+
+use ps_lines::reply_words::{DELTA, END, ERR, OK};
+use ps_lines::{read_whole, split_word};
+
+/// What a peer replied to a `pull` or a `push`.
+#[derive(Clone, Copy)]
+pub(crate) enum PeerReply<'a> {
+    /// `ok`: the line was taken in.
+    Taken,
+    /// `delta`: the version after it, and its line.
+    Delta(u64, &'a [u8]),
+    /// `end`: the peer's version.
+    End(u64),
+    /// `err`, with the whole reply.
+    Refused(&'a str),
+}
+
+/// Reads a reply; none where it is no reply to a `pull` or a `push`.
+pub(crate) fn read_reply(line: &[u8]) -> Option<PeerReply<'_>>
+    ensures { IfSome result (IsTold line.now) }
+{
+    let text = str::from_utf8(line).ok()?;
+    if let Some(rest) = after(line, DELTA) {
+        let (digits, delta) = split_word(rest);
+        return Some(PeerReply::Delta(read_whole(digits)?, delta?));
+    }
+    if let Some(digits) = after(line, END) {
+        return Some(PeerReply::End(read_whole(digits)?));
+    }
+    if let Some(digits) = after(line, OK) {
+        read_whole(digits)?;
+        return Some(PeerReply::Taken);
+    }
+    if line.starts_with(ERR) {
+        return Some(PeerReply::Refused(text));
+    }
+    None
+}
+
+/// What stands after a word and its space, where a line begins with it.
+fn after<'a>(line: &'a [u8], word: &[u8]) -> Option<&'a [u8]>
+    ensures { IfSome result (λ rest. line.now ≡ word.now ++ rest.now) }
+{
+    line.strip_prefix(word)
+}

@@ -1,7 +1,0 @@
-use Rattle.ps_session.proofs.WordCounts.{pull_more}
-use Rattle.ps_session.proofs.command.read_group.Goals as goal
-
-pub returns-in_default-Some : goal.returns-in_default-Some
-returns-in_default-Some c =
-    rw (c.split_word.ensures.words, c.in_default-Some.is-1)
-    (pull_more c.args.from.now c.split_word.result.0.now c.in_default-Some.field-0-1.now)

@@ -1,7 +1,0 @@
-use Rattle.ps_session.proofs.WordCounts.{pair_more}
-use Rattle.ps_session.proofs.command.read_pair.Goals as goal
-
-pub returns-in_default-Some : goal.returns-in_default-Some
-returns-in_default-Some c =
-    rw (c.split_word.ensures.words, c.in_default-Some.is-1)
-    (pair_more c.args.refusal c.args.word.now c.split_word.result.0.now c.in_default-Some.field-0-1.now)

@@ -1,9 +1,0 @@
-use Rattle.ps_session.specs.Inside.Incomings.{IsReading, lines_left}
-use Rattle.ps_session.proofs.incoming.Incoming.read_line.Given as goal
-
-abbrev pub invariant-pieces : goal.invariant-pieces
-invariant-pieces g l =
-    IsReading g.S.Source.remaining g.S.Source.left g.S.Source.failures l.fn.self l.self
-
-abbrev pub decreases-pieces : goal.decreases-pieces
-decreases-pieces g l = lines_left g.S.Source.left l.self

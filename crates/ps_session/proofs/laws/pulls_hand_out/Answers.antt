@@ -1,5 +1,0 @@
-use Rattle.ps_session.proofs.PullsHandOut.{pulls_hand_out}
-use Rattle.ps_session.proofs.laws.pulls_hand_out.Goals as goal
-
-pub returns : goal.returns
-returns c = pulls_hand_out

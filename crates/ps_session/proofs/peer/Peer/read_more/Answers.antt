@@ -1,6 +1,0 @@
-use Rattle.std.proofs.Common.{refl}
-use Rattle.ps_session.proofs.ExchangeLemmas.{takes_none}
-use Rattle.ps_session.proofs.peer.Peer.read_more.Goals as goal
-
-pub returns-then-not-self-clause-taken : goal.returns-then-not-self-clause-taken
-returns-then-not-self-clause-taken g c = takes_none c.args.self.now.to_come c.args.self.now.to_come refl
