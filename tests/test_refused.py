@@ -14,7 +14,7 @@ from shortage import ALL, Short, build, each, refusing, requests_in
 TESTS = {
     "checks_keep": ("sheet::refused_open_kept",),
     "checks_state": (
-        "delta::refused::refused_joined", "index::refused_set", "wire::refused_decode", "wire::refused_encode",
+        "delta::refused::refused_joined", "index::refused_set", "wire::refused_decode_and_encode",
     ),
     "checks_sheet": (
         "csv::refused_import", "face::refused_append", "face::waiting::refused_post", "sheet::refused::refused_edit",

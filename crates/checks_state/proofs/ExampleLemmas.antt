@@ -1,5 +1,5 @@
 -- The small sheets of the tests: what `After` asks of them, one more formula, and what a mark asks.
-use Rattle.std.proofs.Common.{◌≡◌, ℕ, ◌<◌, ◌⊎◌, inl, inr, Bool, true, false, ◌&&◌, ◌||◌, List, [], ◌∷◌, ◌++◌}
+use Rattle.std.proofs.Common.{◌≡◌, ℕ, ◌<◌, Bool, true, false, ◌&&◌, ◌||◌, List, [], ◌∷◌, ◌++◌}
 use Rattle.std.proofs.Common.{refl, sym, ap, ◌∙◌, arith, ⊎_elim, eqb, eqb-true, subst, Some}
 use Rattle.std.specs.Prelude.{nat_lt}
 use Rattle.std.proofs.lemmas.Grind.{common_steps}
@@ -16,7 +16,7 @@ use Rattle.ps_index.specs.declared.span.Span.{Span}
 use Rattle.ps_region.specs.Listed.{listed}
 use Rattle.checks_state.specs.ExampleLaws.{within_above, within_below, within_formula}
 use Rattle.checks_state.specs.Examples.{refers_in, refers_within, has_formula_in, IsSmallSheet}
-use Rattle.ps_region.proofs.CellListLemmas.{in-push_old, in-push_same, or_cases, or_true}
+use Rattle.ps_region.proofs.CellListLemmas.{in-push_old, in-push_same, or_cases}
 use Rattle.ps_region.proofs.CountLemmas.{and_true_left}
 use Rattle.ps_region.proofs.ListedLemmas.{listed_refers, listed_below}
 
@@ -113,30 +113,3 @@ module _ (index : List (List Span)) (formulas : List (ℕ × Tree)) (cells : Lis
       let d = IsCyclic-next (refers_within formulas) c cyc in
       let f = within_formula formulas c d.0 d.1 in
       (f, InRegion-touched (refers_within formulas) cells c (s.listed c f))
-
-  -- an index that lists a formula that a cell had before as well
-  module _ (listing : List (List Span)) (c : ℕ) (before : Tree)
-      (stands : Stands listing (with_put c (Some before) s.forms)) where
-    pub before_lists : (x d : ℕ) → refers_within formulas x d ≡ true → In (listed listing d) x
-    before_lists x d r =
-        let now : refers s.forms x d ≡ true =
-        s.same x d ∙ and_true_left (refers_in formulas x d) (nat_lt x CELLS && nat_lt d CELLS) r in
-        listed_refers listing (with_put c (Some before) s.forms) stands x d (within_above formulas x d r)
-        (within_below formulas x d r)
-        ∙ ⊎_elim
-        (λ (e : eqb c x ≡ true). rw e (ap (λ b. mentions before d || b) now ∙ or_true (mentions before d)))
-        (λ (e : eqb c x ≡ false). rw e now)
-        (bool_cases (eqb c x))
-
-    pub before_extra : (x d : ℕ) → d < CELLS → In (listed listing d) x
-        → (refers_within formulas x d ≡ true) ⊎ In (c ∷ []) x
-    before_extra x d lt i =
-        let low = listed_below listing d x i in
-        let found : refers (with_put c (Some before) s.forms) x d ≡ true =
-        sym (listed_refers listing (with_put c (Some before) s.forms) stands x d low lt) ∙ i in
-        ⊎_elim
-        (λ (e : eqb c x ≡ true). inr (subst (λ y. In (c ∷ []) y) (eqb-true c x e) (in-push_same [] c)))
-        (λ (e : eqb c x ≡ false).
-        let now : refers s.forms x d ≡ true = rw e at found in
-        inl (sym (within_is formulas x d low lt) ∙ (sym (s.same x d) ∙ now)))
-        (bool_cases (eqb c x))

@@ -8,7 +8,7 @@ ghost use Rattle.std.specs.List.Sorted.{IsStrictlyIncreasing};
 ghost use Rattle.ps_delta.specs.Deltas.{cells_of};
 ghost use Rattle.ps_delta.specs.Changes.{HasRoomFor};
 
-use Part::{Added, Assigned, Chosen, Nothing};
+use Part::{Added, Assigned, Chosen};
 use ps_content::Content;
 use ps_delta::{CellState, Delta, Grid, Touched};
 use ps_grid::{CELLS, Cell, Refusal, Twin};
@@ -19,8 +19,6 @@ use std::process::Abort;
 // What a delta has for a cell.
 #[derive(Clone, Copy)]
 enum Part {
-    // An empty state.
-    Nothing,
     // A number, with a time and a replica.
     Assigned(u64, u8, i64),
     // What a replica added.
@@ -71,7 +69,6 @@ fn chosen(
 
 fn state_of(rt: &impl Abort, alloc: Global, part: &Part) -> Result<CellState, Refusal> {
     match part {
-        Nothing => Ok(CellState::empty(alloc)),
         Assigned(time, replica, number) => Ok(assigned(rt, alloc, *time, *replica, *number)),
         Added(replica, count) => added(rt, alloc, *replica, *count),
         Chosen(replica, removed) => chosen(rt, alloc, *replica, *removed),
@@ -83,29 +80,13 @@ fn cell(rt: &impl Abort, index: usize) -> Cell {
     Cell::from_index(index).expect(rt, "a cell of the grid")
 }
 
-// The delta of these cells, if they make one.
-fn made(rt: &impl Abort, alloc: Global, parts: &[(usize, Part)]) -> Result<Option<Delta>, Refusal> {
+// The delta of these cells.
+fn delta_of(rt: &impl Abort, alloc: Global, parts: &[(usize, Part)]) -> Result<Delta, Refusal> {
     let mut cells = Vec::new(alloc);
     for (index, part) in parts {
         cells.push((cell(rt, *index), state_of(rt, alloc, part)?))?;
     }
-    Delta::new(alloc, cells)
-}
-
-// The delta of these cells.
-fn delta_of(rt: &impl Abort, alloc: Global, parts: &[(usize, Part)]) -> Result<Delta, Refusal> {
-    Ok(made(rt, alloc, parts)?.expect(rt, "a delta"))
-}
-
-// Joins the delta of these cells into the grid.
-fn join(
-    rt: &impl Abort,
-    alloc: Global,
-    grid: &mut Grid,
-    parts: &[(usize, Part)],
-) -> Result<(), Refusal> {
-    let delta = delta_of(rt, alloc, parts)?;
-    grid.join(alloc, &delta)
+    Ok(Delta::new(alloc, cells)?.expect(rt, "a delta"))
 }
 
 // The grid that a delta is joined into.
@@ -115,23 +96,12 @@ fn grid_with(alloc: Global, delta: &Delta) -> Result<Grid, Refusal> {
     Ok(grid)
 }
 
-// Joins a list of deltas into the grid, each by its cells.
-fn join_all(
-    rt: &impl Abort,
-    alloc: Global,
-    grid: &mut Grid,
-    list: &[&[(usize, Part)]],
-) -> Result<(), Refusal> {
-    for parts in list {
-        join(rt, alloc, grid, parts)?;
-    }
-    Ok(())
-}
-
 // The grid that a list of deltas is joined into, each by its cells.
 fn grid_of(rt: &impl Abort, alloc: Global, list: &[&[(usize, Part)]]) -> Result<Grid, Refusal> {
     let mut grid = Grid::new(alloc)?;
-    join_all(rt, alloc, &mut grid, list)?;
+    for parts in list {
+        grid.join(alloc, &delta_of(rt, alloc, parts)?)?;
+    }
     Ok(grid)
 }
 
@@ -176,57 +146,6 @@ fn six(rt: &impl Abort, alloc: Global) -> Result<Vec<Delta>, Refusal> {
     Ok(deltas)
 }
 
-// The n-th of the 720 orders of six.
-fn order_of(n: usize) -> [usize; 6] {
-    let mut order = [0, 1, 2, 3, 4, 5];
-    let mut rest = n;
-    for k in 0..6 {
-        order.swap(k, k + rest % (6 - k));
-        rest /= 6 - k;
-    }
-    order
-}
-
-// Joins a delta twice.
-fn join_twice(
-    rt: &impl Abort,
-    alloc: Global,
-    grid: &mut Grid,
-    delta: &Delta,
-) -> Result<(), Refusal> {
-    grid.join(alloc, delta)?;
-    grid.join(alloc, delta)?;
-    assert!(rt; grid.covers(delta));
-    Ok(())
-}
-
-// Joins the deltas at these places, each twice.
-fn join_at(
-    rt: &impl Abort,
-    alloc: Global,
-    grid: &mut Grid,
-    deltas: &[Delta],
-    places: &[usize],
-) -> Result<(), Refusal> {
-    for k in places {
-        join_twice(rt, alloc, grid, deltas.get(*k).expect(rt, "one of six"))?;
-    }
-    Ok(())
-}
-
-// Joins the six deltas in the n-th of their 720 orders, each twice, and looks at what they leave.
-fn join_in_order(
-    rt: &impl Abort,
-    alloc: Global,
-    deltas: &[Delta],
-    n: usize,
-) -> Result<(), Refusal> {
-    let mut grid = Grid::new(alloc)?;
-    join_at(rt, alloc, &mut grid, deltas, &order_of(n))?;
-    check_six(rt, &grid);
-    Ok(())
-}
-
 // Whether a cell has the number and the counts of the six deltas, and no set.
 fn is_first(state: &CellState) -> bool {
     number_of(state) == Some(4) && state.tally.value() == 14 && state.choice.is_empty()
@@ -251,206 +170,63 @@ fn check_six(rt: &impl Abort, grid: &Grid) {
     assert!(rt; has_six(grid, first, second, third));
 }
 
-/// Six deltas joined in every order, each twice, leave one state: of two contents with one stamp the greater one, of
-/// counts the greater ones, and of a pair that it was removed.
-#[test]
-fn deltas_join_in_any_order_and_again(rt: HostRuntime) -> Result<(), Refusal> {
-    let deltas = six(&rt, rt.alloc())?;
-    for n in 0..720usize {
-        join_in_order(&rt, rt.alloc(), &deltas, n)?;
-    }
-    Ok(())
-}
-
 // The join of the deltas as one delta.
 fn joined(rt: &impl Abort, alloc: Global, deltas: &[Delta]) -> Result<Delta, Refusal> {
     assert!(rt; deltas.len() > 0);
     Delta::joined(alloc, deltas)
 }
 
-// The join of the six deltas as one delta.
-fn six_as_one(rt: &impl Abort, alloc: Global) -> Result<Delta, Refusal> {
-    let deltas = six(rt, alloc)?;
-    joined(rt, alloc, &deltas)
+// What a cell holds in a delta of it alone, which is made of a state that may be empty or else of one that isn't; the
+// delta is then given up, and its twin joined.
+fn held_by_one(rt: &impl Abort, alloc: Global, is_filled: bool) -> Result<Option<i64>, Refusal> {
+    let state = assigned(rt, alloc, 1, 1, 5);
+    let delta = if is_filled && !state.is_empty() {
+        Delta::of_filled(cell(rt, 3), state)
+    } else {
+        Delta::of_one(cell(rt, 3), state).expect(rt, "a delta")
+    };
+    let twin = delta.twin(alloc)?;
+    drop(delta);
+    Ok(number_at(rt, &grid_with(alloc, &twin)?, 3))
 }
 
-/// The join of the six deltas as one delta does what they do one after another, and names two cells.
+/// A cell and its state make a delta, with a test and without one; its twin outlives it. An empty state makes none.
 #[test]
-fn a_group_joins_as_its_deltas(rt: HostRuntime) -> Result<(), Refusal> {
-    let joined = six_as_one(&rt, rt.alloc())?;
-    assert_eq!(rt; joined.parts().len(), 2);
-    let grid = grid_with(rt.alloc(), &joined)?;
-    check_six(&rt, &grid);
-    Ok(())
-}
-
-// Joins two numbers with one stamp, the one after the other, and looks for the greater one.
-fn join_two_numbers(
-    rt: &impl Abort,
-    alloc: Global,
-    first: i64,
-    second: i64,
-) -> Result<(), Refusal> {
-    let one = [(0, Assigned(1, 1, first))];
-    let other = [(0, Assigned(1, 1, second))];
-    let three = delta_of(rt, alloc, &[(0, Assigned(1, 1, 3))])?;
-    let grid = grid_of(rt, alloc, &[&one, &other])?;
-    assert!(rt; number_at(rt, &grid, 0) == Some(4) && grid.covers(&three));
-    Ok(())
-}
-
-/// With one stamp at a cell the greater content stays, whichever comes first; the smaller one is then covered.
-#[test]
-fn of_one_stamp_the_greater_content_stays(rt: HostRuntime) -> Result<(), Refusal> {
-    for (first, second) in [(3, 4), (4, 3)] {
-        join_two_numbers(&rt, rt.alloc(), first, second)?;
+fn one_cell_makes_a_delta(rt: HostRuntime) {
+    for is_filled in [false, true] {
+        assert!(rt; held_by_one(&rt, rt.alloc(), is_filled) == Ok(Some(5)));
     }
-    Ok(())
-}
-
-const FIVE: Part = Assigned(1, 1, 5);
-
-// How many cells the delta of these cells names, if they make one.
-fn named(
-    rt: &impl Abort,
-    alloc: Global,
-    parts: &[(usize, Part)],
-) -> Result<Option<usize>, Refusal> {
-    let delta = made(rt, alloc, parts)?;
-    Ok(delta.map(|delta| delta.parts().len()))
-}
-
-/// No delta has no cell, cells out of order, a cell twice or an empty state.
-#[test]
-fn deltas_are_ascending_and_not_empty(rt: HostRuntime) -> Result<(), Refusal> {
-    let none: &[(usize, Part)] = &[];
-    let out_of_order: &[(usize, Part)] = &[(1, FIVE), (0, FIVE)];
-    let twice: &[(usize, Part)] = &[(1, FIVE), (1, Assigned(2, 1, 5))];
-    let empty: &[(usize, Part)] = &[(1, FIVE), (2, Nothing)];
-    let good: &[(usize, Part)] = &[(0, FIVE), (CELLS - 1, Added(1, 1))];
-    for (parts, count) in [
-        (none, None),
-        (out_of_order, None),
-        (twice, None),
-        (empty, None),
-        (good, Some(2)),
-    ] {
-        assert!(rt; named(&rt, rt.alloc(), parts)? == count);
-    }
-    Ok(())
-}
-
-/// A cell and its state make a delta of that cell alone; an empty state makes none.
-#[test]
-fn one_cell_makes_a_delta(rt: HostRuntime) -> Result<(), Refusal> {
-    let state = state_of(&rt, rt.alloc(), &FIVE)?;
-    let delta = Delta::of_one(cell(&rt, 3), state).expect(&rt, "a delta");
-    let grid = grid_with(rt.alloc(), &delta)?;
-    assert!(rt; delta.parts().len() == 1 && number_at(&rt, &grid, 3) == Some(5));
     assert!(rt; Delta::of_one(cell(&rt, 3), CellState::empty(rt.alloc())).is_none());
-    Ok(())
 }
 
-/// A cell with a state that isn't empty makes the same delta without a question.
-#[test]
-fn a_filled_cell_makes_a_delta(rt: HostRuntime) -> Result<(), Refusal> {
-    let state = state_of(&rt, rt.alloc(), &FIVE)?;
-    assert!(rt; !state.is_empty());
-    let delta = Delta::of_filled(cell(&rt, 3), state);
-    let grid = grid_with(rt.alloc(), &delta)?;
-    assert!(rt; delta.parts().len() == 1 && number_at(&rt, &grid, 3) == Some(5));
-    Ok(())
-}
-
-// A twin of the delta of these cells, which is given up.
-fn twin_of(rt: &impl Abort, alloc: Global, parts: &[(usize, Part)]) -> Result<Delta, Refusal> {
-    let delta = delta_of(rt, alloc, parts)?;
-    delta.twin(alloc)
-}
-
-/// A delta that is given up leaves its twin whole, be it of one cell or of several.
-#[test]
-fn twins_outlive_their_delta(rt: HostRuntime) -> Result<(), Refusal> {
-    let one = twin_of(&rt, rt.alloc(), &[(3, Chosen(2, true))])?;
-    let several = twin_of(&rt, rt.alloc(), SIX[5])?;
-    assert!(rt; one.parts().len() == 1 && several.parts().len() == 2);
-    let grid = grid_with(rt.alloc(), &one)?;
-    assert!(rt; grid.at(cell(&rt, 3)).choice.parts().len() == 1);
-    let grid = grid_with(rt.alloc(), &several)?;
-    assert!(rt; grid.at(cell(&rt, 0)).tally.value() == 9);
-    assert!(rt; grid.at(cell(&rt, 1)).choice.parts().len() == 1);
-    Ok(())
-}
-
-// Whether the cells are just those at these indexes.
-fn are_at(cells: &[Cell], expected: &[usize]) -> bool {
-    if cells.len() != expected.len() {
-        return false;
-    }
-    for k in 0..cells.len() {
-        if cells[k].index() != expected[k] {
-            return false;
-        }
-    }
-    true
-}
-
-// Finds the cells that a join of these cells would touch, which are the expected ones.
-fn touch(
+// Whether a delta touches two cells of the grid, of which the first has a counter that isn't shown.
+fn touches_two(
     rt: &impl Abort,
     alloc: Global,
     grid: &Grid,
-    touched: &mut Touched,
-    parts: &[(usize, Part)],
-    expected: &[usize],
-) -> Result<(), Refusal> {
-    let delta = delta_of(rt, alloc, parts)?;
-    grid.touched(&delta, touched);
-    assert!(rt; grid.covers(&delta) == expected.is_empty() && are_at(touched.cells(), expected));
-    Ok(())
-}
-
-// A counter and a set, which the number of the cell of the counter hides.
-static LATE: &[(usize, Part)] = &[(3, Added(1, 5)), (4, Chosen(1, true))];
-
-// A number that is older than that of its cell, and one of another cell.
-static EARLY: &[(usize, Part)] = &[(3, Assigned(1, 9, 7)), (5, Assigned(1, 9, 7))];
-
-// What the joins of the cells would touch, before and after one of them.
-fn touch_in_turn(
-    rt: &impl Abort,
-    alloc: Global,
-    grid: &mut Grid,
-    touched: &mut Touched,
-) -> Result<(), Refusal> {
-    touch(rt, alloc, grid, touched, LATE, &[3, 4])?;
-    touch(rt, alloc, grid, touched, EARLY, &[5])?;
-    join(rt, alloc, grid, LATE)?;
-    touch(rt, alloc, grid, touched, LATE, &[])
-}
-
-// The same, with a list of touched cells of its own.
-fn touch_newly(rt: &impl Abort, alloc: Global, grid: &mut Grid) -> Result<(), Refusal> {
+    delta: &Delta,
+) -> Result<bool, Refusal> {
     let mut touched = Touched::new(alloc)?;
-    touch_in_turn(rt, alloc, grid, &mut touched)
+    grid.touched(delta, &mut touched);
+    Ok(!grid.covers(delta) && touched.cells() == [cell(rt, 3), cell(rt, 4)].as_slice())
 }
 
 /// Touched are the cells that a join would change: a counter that isn't shown counts, and what is covered doesn't.
 #[test]
 fn hidden_parts_are_touched(rt: HostRuntime) -> Result<(), Refusal> {
-    let mut grid = grid_of(&rt, rt.alloc(), &[&[(3, Assigned(2, 1, 8))]])?;
-    touch_newly(&rt, rt.alloc(), &mut grid)?;
-    assert!(rt; number_at(&rt, &grid, 3) == Some(8));
-    Ok(())
-}
-
-/// A register that comes to a cell leaves the set that it has.
-#[test]
-fn a_set_stays_beside_a_register(rt: HostRuntime) -> Result<(), Refusal> {
-    let set = [(4, Chosen(1, true))];
-    let register = [(4, Assigned(3, 1, 6))];
-    let grid = grid_of(&rt, rt.alloc(), &[&set, &register])?;
-    assert_eq!(rt; grid.at(cell(&rt, 4)).choice.parts().len(), 1);
+    let alloc = rt.alloc();
+    let grid = grid_of(
+        &rt,
+        alloc,
+        &[&[(3, Assigned(2, 1, 8)), (5, Assigned(1, 9, 7))]],
+    )?;
+    let parts = [
+        (3, Added(1, 5)),
+        (4, Chosen(1, true)),
+        (5, Assigned(1, 9, 7)),
+    ];
+    let delta = delta_of(&rt, alloc, &parts)?;
+    assert!(rt; touches_two(&rt, alloc, &grid, &delta)?);
     Ok(())
 }
 
@@ -474,22 +250,6 @@ fn two_grids_join_cell_by_cell(rt: HostRuntime) -> Result<(), Refusal> {
     let mut grid = grid_of(&rt, rt.alloc(), &[SIX[0], SIX[2], SIX[4]])?;
     join_other_half(&rt, rt.alloc(), &mut grid)?;
     check_six(&rt, &grid);
-    Ok(())
-}
-
-/// The first and the last cell of a block of 64 are written, beside cells that never were.
-#[test]
-fn cells_beside_a_written_one_are_empty(rt: HostRuntime) -> Result<(), Refusal> {
-    let written = [(64, Assigned(1, 1, 6)), (127, Assigned(1, 1, 7))];
-    let grid = grid_of(&rt, rt.alloc(), &[&written])?;
-    let numbers = [
-        (63, None),
-        (64, Some(6)),
-        (65, None),
-        (127, Some(7)),
-        (128, None),
-    ];
-    assert!(rt; have_numbers(&rt, &grid, &numbers) && grid.at(cell(&rt, CELLS - 1)).is_empty());
     Ok(())
 }
 

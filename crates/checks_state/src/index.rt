@@ -17,7 +17,15 @@ fn cell(name: &str) -> Result<Cell, Refusal> {
 }
 
 /// Whether the cells that refer to a cell are just those of these names, in this order.
-fn refer_to(index: &Index, to: Cell, names: &str) -> bool {
+fn refer_to(index: &Index, to: &str, names: &str) -> bool {
+    match Cell::read(to.as_bytes()) {
+        Some(to) => are_readers(index, to, names),
+        None => false,
+    }
+}
+
+/// The same of a cell.
+fn are_readers(index: &Index, to: Cell, names: &str) -> bool {
     let mut names = names.split_ascii_whitespace();
     for found in index.dependents(to) {
         let name = names.next().unwrap_or("");
@@ -28,17 +36,11 @@ fn refer_to(index: &Index, to: Cell, names: &str) -> bool {
     names.next().is_none()
 }
 
-/// Whether in each line the cells that refer to the first are just the others, in this order.
-fn all_refer(index: &Index, lines: &str) -> bool {
-    for line in lines.lines() {
-        let (to, names) = line.split_once(":").unwrap_or(("", ""));
-        match cell(to) {
-            Ok(to) => {
-                if !refer_to(index, to, names) {
-                    return false;
-                }
-            }
-            Err(_) => return false,
+/// Whether of each row the cells that refer to the first are just the others, in this order.
+fn all_refer(index: &Index, rows: &[(&str, &str)]) -> bool {
+    for (to, names) in rows {
+        if !refer_to(index, to, names) {
+            return false;
         }
     }
     true
@@ -74,15 +76,9 @@ fn put_in(index: &mut Index, cell: Cell, formula: &Formula) -> Result<(), Refusa
     index.set(cell, None, Some(formula))
 }
 
-/// Whether the spans of a column are just this one.
-fn has_one_span(index: &Index, column: u8, from: u16, to: u16, cell: Cell) -> bool {
-    if column as usize >= COLUMNS {
-        return false;
-    }
-    match *index.spans(column) {
-        [span] => span == Span { from, to, cell },
-        _ => false,
-    }
+/// Whether column B has one span, of these rows.
+fn has_one_span(index: &Index, from: u16, to: u16, cell: Cell) -> bool {
+    index.spans(1) == [Span { from, to, cell }].as_slice()
 }
 
 /// Ranges of a formula that meet are one span, and the cells in all of them are referred to once.
@@ -95,16 +91,18 @@ fn ranges_that_meet_are_one_span(rt: HostRuntime) {
 /// Whether two ranges that overlap are one span, and those cells are found that refer to each cell.
 fn ranges_that_meet(alloc: Global) -> Result<bool, Refusal> {
     let index = index_of(alloc, "A1 =SUM([.B1:.B2];[.B2:.B3])\nB2 =[.C1]")?;
-    let spans = has_one_span(&index, 1, 1, 3, cell("A1")?)
-        && has_one_span(&index, 2, 1, 1, cell("B2")?)
-        && index.spans(0).is_empty()
-        && index.spans(3).is_empty();
+    let rows = [
+        ("B1", "A1"),
+        ("B2", "A1"),
+        ("B3", "A1"),
+        ("C1", "B2"),
+        ("B4", ""),
+        ("CZ1024", ""),
+    ];
     Ok(
-        spans
-            && all_refer(
-                &index,
-                "B1:A1\nB2:A1\nB3:A1\nC1:B2\nB4:\nC2:\nA1:\nD1:\nCZ1024:",
-            ),
+        has_one_span(&index, 1, 3, cell("A1")?)
+            && index.spans(0).is_empty()
+            && all_refer(&index, &rows),
     )
 }
 
@@ -115,19 +113,16 @@ fn readers_are_known_without_a_walk(rt: HostRuntime) {
     assert!(rt; found == Ok(true));
 }
 
-/// Whether the one cell that refers to A1 is known, and the two of A2 and those of a column with a range aren't. The
-/// two are walked as those of a row, and the one of F1, a row below that at which the range is kept, as those of two
-/// rows.
+/// Whether the one cell that refers to A1 is known; the two of A2 are walked as those of a row, and the one of F1, a row
+/// below that at which the range is kept, as those of two rows.
 fn known_readers(alloc: Global) -> Result<bool, Refusal> {
     let lines = "B1 =[.A1]\nC1 =[.A2]\nD1 =[.A2]\nE1 =SUM([.F1:.F2])";
     let index = index_of(alloc, lines)?;
     Ok(
         one_reads(&index, cell("A1")?, cell("B1")?)
-            && row_reads(&index, cell("A2")?, "C1 D1")
+            && are_walked(&index, cell("A2")?, cell("C1")?)
             && nobody_reads(&index, cell("A3")?)
-            && two_rows_read(&index, cell("F1")?, cell("E1")?)
-            && several_may_read(&index, cell("F2")?)
-            && nobody_reads(&index, cell("CZ1024")?),
+            && are_walked(&index, cell("F1")?, cell("E1")?),
     )
 }
 
@@ -144,33 +139,13 @@ fn one_reads(index: &Index, to: Cell, reader: Cell) -> bool {
     }
 }
 
-/// Whether nothing is known of the cells that refer to this one.
-fn several_may_read(index: &Index, to: Cell) -> bool {
-    matches!(index.readers(to), Readers::Several)
-}
-
-/// Whether this cell alone refers to the other, and is given by a walk of two rows of spans.
-fn two_rows_read(index: &Index, to: Cell, reader: Cell) -> bool {
-    let Readers::TwoRows(mut walk) = index.readers(to) else {
-        return false;
-    };
-    walk.next() == Some(reader) && walk.next().is_none()
-}
-
-/// Whether the cells that refer to a cell are given as a walk of its row, and are just those of these names, in this
-/// order.
-fn row_reads(index: &Index, to: Cell, names: &str) -> bool {
-    let Readers::Row(walk) = index.readers(to) else {
-        return false;
-    };
-    let mut names = names.split_ascii_whitespace();
-    for found in walk {
-        let name = names.next().unwrap_or("");
-        if Cell::read(name.as_bytes()) != Some(found) {
-            return false;
-        }
+/// Whether the first cell that refers to this one is given by a walk of one row of spans, or of two.
+fn are_walked(index: &Index, to: Cell, reader: Cell) -> bool {
+    match index.readers(to) {
+        Readers::Row(mut walk) => walk.next() == Some(reader),
+        Readers::TwoRows(mut walk) => walk.next() == Some(reader),
+        _ => false,
     }
-    names.next().is_none()
 }
 
 /// A cell for which two formulas are put in comes once, and for as long as one of them is there.
@@ -188,102 +163,11 @@ fn two_formulas(alloc: Global) -> Result<bool, Refusal> {
     let mut index = Index::new(alloc)?;
     index.set(cell, None, Some(&sum))?;
     index.set(cell, None, Some(&other))?;
-    let both = all_refer(&index, "B1:A1\nB3:A1") && index.spans(1).len() == 2;
+    let both = refer_to(&index, "A1", "") && all_refer(&index, &[("B1", "A1"), ("B3", "A1")]);
     index.remove(cell, &other);
-    let one = all_refer(&index, "B1:A1\nB3:A1") && has_one_span(&index, 1, 1, 3, cell);
+    let one = has_one_span(&index, 1, 3, cell);
     index.remove(cell, &sum);
-    let none = all_refer(&index, "B1:\nB3:") && index.spans(1).is_empty();
-    Ok(both && one && none)
-}
-
-/// A formula in place of another: what the old one referred to is left, whatever the new one shares with it.
-#[test]
-fn a_formula_takes_the_place_of_another(rt: HostRuntime) {
-    let found = exchanged(rt.alloc());
-    assert!(rt; found == Ok(true));
-}
-
-/// Whether a cell is found by its formula's references alone, when that is exchanged and taken out.
-fn exchanged(alloc: Global) -> Result<bool, Refusal> {
-    let cell = cell("CZ1024")?;
-    let old = Formula::read(alloc, b"=SUM([.B1:.B9])+[.A1024]")?;
-    let new = Formula::read(alloc, b"=SUM([.B5:.C10])")?;
-    let mut index = Index::new(alloc)?;
-    index.set(cell, None, Some(&old))?;
-    let before = all_refer(&index, "A1024:CZ1024\nB1:CZ1024\nB9:CZ1024\nB10:\nC5:");
-    index.set(cell, Some(&old), Some(&new))?;
-    let after = all_refer(
-        &index,
-        "A1024:\nB1:\nB4:\nB5:CZ1024\nB9:CZ1024\nB10:CZ1024\nC5:CZ1024",
-    );
-    index.set(cell, Some(&new), None)?;
-    let none = all_refer(&index, "B5:\nB9:\nB10:\nC5:");
-    Ok(before && after && none)
-}
-
-/// First and last rows and columns, a range over several columns, and the whole grid.
-#[test]
-fn ranges_reach_the_sides_of_the_grid(rt: HostRuntime) {
-    let found = sides_of_the_grid(rt.alloc());
-    assert!(rt; found == Ok(true));
-}
-
-/// Whether references to corners, columns and the whole grid are found at its sides.
-fn sides_of_the_grid(alloc: Global) -> Result<bool, Refusal> {
-    let mut index = index_of(
-        alloc,
-        "A3 =SUM([.A1];[.A1024];[.CZ1];[.CZ1024])\nA2 =SUM([.B1:.D1024])",
-    )?;
-    let few = all_refer(
-        &index,
-        "A1:A3\nA2:\nA1023:\nA1024:A3\nB1:A2\nC512:A2\nD1024:A2\nE1:\nCZ1:A3\nCZ2:\nCZ1023:\nCZ1024:A3",
-    );
-    put(alloc, &mut index, "A1 =SUM([.A1:.CZ1024])")?;
-    let all = all_refer(
-        &index,
-        "A1:A1 A3\nA2:A1\nA1023:A1\nA1024:A1 A3\nB1:A1 A2\nC512:A1 A2\nD1024:A1 A2\nE1:A1\nCZ1:A1 A3\n\
-        CZ2:A1\nCZ1023:A1\nCZ1024:A1 A3",
-    );
-    Ok(few && all && has_one_span(&index, 50, 1, 1024, cell("A1")?))
-}
-
-/// The cells that refer to a cell come in order, whatever the order in which their formulas were put in.
-#[test]
-fn dependents_come_in_order(rt: HostRuntime) {
-    let found = in_order(rt.alloc());
-    assert!(rt; found == Ok(true));
-}
-
-/// Whether cells are found in order that were put in without.
-fn in_order(alloc: Global) -> Result<bool, Refusal> {
-    let index = index_of(
-        alloc,
-        "CZ1024 =[.B1]\nC3 =SUM([.B1:.B2])\nA3 =[.B1]\nCZ2 =SUM([.B1:.B1024])\nB1 =[.B1]\nA2 =[.B2]",
-    )?;
-    Ok(all_refer(&index, "B1:B1 CZ2 A3 C3 CZ1024\nB2:A2 CZ2 C3\nB3:CZ2"))
-}
-
-/// Ranges of one column within one another, and their first and last rows.
-#[test]
-fn ranges_lie_within_one_another(rt: HostRuntime) {
-    let found = nested(rt.alloc());
-    assert!(rt; found == Ok(true));
-}
-
-/// Whether of nine ranges those are found that have a row, at each side of each.
-fn nested(alloc: Global) -> Result<bool, Refusal> {
-    let index = index_of(
-        alloc,
-        "B3 =[.A512]\nB7 =[.A1024]\nB1 =SUM([.A1:.A1024])\nB2 =SUM([.A511:.A513])\n\
-        B4 =SUM([.A1:.A512])\nB5 =SUM([.A513:.A1024])\nB6 =SUM([.A2:.A3])\n\
-        B8 =SUM([.A1:.A511])\nB9 =SUM([.A1023:.A1024])",
-    )?;
-    Ok(all_refer(
-        &index,
-        "A1:B1 B4 B8\nA2:B1 B4 B6 B8\nA3:B1 B4 B6 B8\nA4:B1 B4 B8\nA510:B1 B4 B8\n\
-        A511:B1 B2 B4 B8\nA512:B1 B2 B3 B4\nA513:B1 B2 B5\nA514:B1 B5\nA700:B1 B5\n\
-        A1022:B1 B5\nA1023:B1 B5 B9\nA1024:B1 B5 B7 B9",
-    ))
+    Ok(both && one && index.spans(1).is_empty())
 }
 
 /// A column takes a span of each of two formulas of each cell.
@@ -346,13 +230,8 @@ fn are_alike(index: &Index, twin: &Index) -> bool {
         }
     }
     for k in 0..CELLS {
-        match Cell::from_index(k) {
-            Some(cell) => {
-                if !refer_alike(index, twin, cell) {
-                    return false;
-                }
-            }
-            None => return false,
+        if Cell::from_index(k).is_none_or(|to| !refer_alike(index, twin, to)) {
+            return false;
         }
     }
     true
@@ -384,6 +263,25 @@ fn set_again(
 /// Other formulas, beside which one is put in and exchanged.
 const BESIDE: &str = "A1 =SUM([.B1:.B2])\nA2 =[.CZ2]\nB1 =SUM([.A1:.CZ1024])";
 
+/// What refers to cells once a formula is put in, and once it is exchanged.
+static PUT: [(&str, &str); 5] = [
+    ("A1024", "B1 A9"),
+    ("B1", "A1 B1 A9"),
+    ("B9", "B1 A9"),
+    ("B10", "B1"),
+    ("CZ2", "B1 A2"),
+];
+
+static EXCHANGED: [(&str, &str); 7] = [
+    ("A1024", "B1"),
+    ("B1", "A1 B1"),
+    ("B2", "A1 B1"),
+    ("B3", "B1 A9"),
+    ("B10", "B1 A9"),
+    ("CZ2", "B1 A2"),
+    ("CZ10", "B1 A9"),
+];
+
 /// Whether refused calls left all as it was, and the next ones put a formula in and exchanged it for another.
 fn refuse_set(alloc: Global) -> Result<bool, Refusal> {
     let cell = cell("A9")?;
@@ -392,16 +290,10 @@ fn refuse_set(alloc: Global) -> Result<bool, Refusal> {
     let mut index = index_of(alloc, BESIDE)?;
     let mut twin = index_of(alloc, BESIDE)?;
     let is_put = set_again(&mut index, &twin, cell, None, &old)?;
-    let before = all_refer(
-        &index,
-        "A1024:B1 A9\nB1:A1 B1 A9\nB9:B1 A9\nB10:B1\nCZ2:B1 A2",
-    );
+    let before = all_refer(&index, &PUT);
     twin.set(cell, None, Some(&old))?;
     let is_exchanged = set_again(&mut index, &twin, cell, Some(&old), &new)?;
-    let after = all_refer(
-        &index,
-        "A1024:B1\nB1:A1 B1\nB2:A1 B1\nB3:B1 A9\nB10:B1 A9\nCZ2:B1 A2\nCZ10:B1 A9",
-    );
+    let after = all_refer(&index, &EXCHANGED);
     Ok(is_put && before && is_exchanged && after)
 }
 

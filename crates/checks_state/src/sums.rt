@@ -1,13 +1,11 @@
-//! Sums over a table beside plain walks: of the same cells row by row, over tables filled by chance, and of what was
-//! put into one column, as it was noted.
-//!
-//! The plain walks stand here: they know no runs, no summaries and nothing that is remembered.
+//! Sums over tables filled by chance, beside a plain walk of the same cells row by row, which knows no runs, no summaries
+//! and nothing that is remembered.
 
 ghost use Rattle.ps_grid.specs.Blanks.{IsBlankOf};
 
 use ps_eval::{Meter, eval};
 use ps_formula::Formula;
-use ps_grid::{COLUMNS, Cell, ROWS, Rect, Refusal, Twin};
+use ps_grid::{COLUMNS, Cell, ROWS, Rect, Refusal};
 use ps_shown::{Kept, Shown};
 use ps_value::{Fault, Label, Operand, SharedLabel, Value};
 use std::alloc::Global;
@@ -46,11 +44,7 @@ fn take(plain: &mut Plain, operand: Operand) {
             plain.least = plain.least.min(number);
             plain.greatest = plain.greatest.max(number);
         }
-        Operand::Err(fault) => {
-            if plain.fault.is_none() {
-                plain.fault = Some(fault);
-            }
-        }
+        Operand::Err(fault) => plain.fault = plain.fault.or(Some(fault)),
     }
 }
 
@@ -248,120 +242,4 @@ fn sums_are_those_of_a_plain_walk(rt: HostRuntime) -> Result<(), Fail> {
 #[test]
 fn the_first_fault_row_by_row_is_shown(rt: HostRuntime) -> Result<(), Fail> {
     fill(&rt, rt.alloc(), 3, true)
-}
-
-/// Wherever a cell lies in a block whose sum is remembered, it is in the next sum as it is shown then.
-#[test]
-fn no_sum_is_stale(rt: HostRuntime) -> Result<(), Fail> {
-    let alloc = rt.alloc();
-    let mut shown = Shown::new(alloc).ok().ok_or("a table")?;
-    let _ = put_by(&rt, alloc, &mut shown, 5, 4_000, false)?;
-    let whole = rect(0, 1, 5, 1_024)?;
-    for row in [1, 2, 56, 57, 58, 114, 115, 969, 970, 1_023, 1_024] {
-        shown.remember(whole);
-        agree(&rt, alloc, &shown)?;
-        let cell = Cell::new(0, row).ok_or("a cell")?;
-        let _ = shown.put(cell, Kept::Num(1_000_000_000 + i64::from(row)));
-        agree(&rt, alloc, &shown)?;
-    }
-    Ok(())
-}
-
-/// What is put into a column of 57 numbers one after another, and into which row.
-const STEPS: [(u16, Operand); 18] = [
-    (30, Operand::Num(40)),
-    (30, Operand::Text),
-    (30, Operand::Num(-3)),
-    (30, Operand::Empty),
-    (30, Operand::Num(100)),
-    (30, Operand::Num(30)),
-    (57, Operand::Empty),
-    (56, Operand::Text),
-    (1, Operand::Num(55)),
-    (31, Operand::Err(Fault::DivZero)),
-    (32, Operand::Num(7)),
-    (33, Operand::Err(Fault::Value)),
-    (31, Operand::Num(31)),
-    (33, Operand::Text),
-    (2, Operand::Num(i64::MAX)),
-    (3, Operand::Num(i64::MIN)),
-    (2, Operand::Num(i64::MIN)),
-    (57, Operand::Num(57)),
-];
-
-/// Puts what evaluation reads as this, and notes it by its row.
-fn put_operand(
-    alloc: Global,
-    shown: &mut Shown,
-    noted: &mut [Operand; 58],
-    row: u16,
-    operand: Operand,
-) -> Result<(), Fail> {
-    let kept = match operand {
-        Operand::Empty => Kept::Empty,
-        Operand::Num(number) => Kept::Num(number),
-        Operand::Err(fault) => Kept::Err(fault),
-        Operand::Text => {
-            let label = Label::new(b"text").ok_or("a label")?;
-            Kept::Text(SharedLabel::new(alloc, label).ok().ok_or("a text")?)
-        }
-    };
-    let cell = Cell::new(0, row).ok_or("a cell")?;
-    let _ = shown.put(cell, kept);
-    let note = noted.get_mut(usize::from(row)).ok_or("a row")?;
-    *note = operand;
-    Ok(())
-}
-
-/// Whether each function of the first 57 rows shows what is made of the operands that were noted.
-fn agrees_with(
-    rt: &impl Abort,
-    alloc: Global,
-    shown: &Shown,
-    noted: &[Operand; 58],
-) -> Result<(), Fail> {
-    let mut plain = nothing();
-    for operand in noted {
-        take(&mut plain, *operand);
-    }
-    compare(rt, alloc, shown, "[.A1:.A57]", &plain)
-}
-
-/// The sum of a block that is remembered follows what is put into it: numbers, texts, faults and nothing, and where the
-/// least or the greatest number comes or goes.
-#[test]
-fn a_remembered_sum_follows_what_is_put(rt: HostRuntime) -> Result<(), Fail> {
-    let alloc = rt.alloc();
-    let mut shown = Shown::new(alloc).ok().ok_or("a table")?;
-    let mut noted = [Operand::Empty; 58];
-    for row in 1..58 {
-        put_operand(
-            alloc,
-            &mut shown,
-            &mut noted,
-            row,
-            Operand::Num(i64::from(row)),
-        )?;
-    }
-    for (row, operand) in STEPS {
-        shown.remember(rect(0, 1, 0, 57)?);
-        put_operand(alloc, &mut shown, &mut noted, row, operand)?;
-        agrees_with(&rt, alloc, &shown, &noted)?;
-    }
-    Ok(())
-}
-
-/// A copy of a table sums what it shows, and not what the table shows that it was copied from.
-#[test]
-fn a_copy_has_sums_of_its_own(rt: HostRuntime) -> Result<(), Fail> {
-    let alloc = rt.alloc();
-    let mut shown = Shown::new(alloc).ok().ok_or("a table")?;
-    let chance = put_by(&rt, alloc, &mut shown, 7, 4_000, true)?;
-    remember_all(&mut shown)?;
-    let mut copy = shown.twin(alloc).ok().ok_or("a copy")?;
-    agree(&rt, alloc, &copy)?;
-    let _ = put_by(&rt, alloc, &mut copy, chance, 10, true)?;
-    remember_all(&mut copy)?;
-    agree(&rt, alloc, &copy)?;
-    agree(&rt, alloc, &shown)
 }

@@ -1,36 +1,21 @@
 //! Lines of deltas, good and bad.
 
 use ps_delta::Delta;
-use ps_grid::{Refusal, Twin};
-use ps_wire::{DELTA_LINE_LIMIT, Decoder, decode, encode, fits_line, outgrows_line};
+use ps_grid::Refusal;
+use ps_wire::{Decoder, decode, encode, fits_line, outgrows_line};
 use serde_json::Value;
 use std::alloc::Global;
-use std::process::Abort;
 
-/// The compact text of the delta that the bytes stand for.
-fn rewritten(alloc: Global, bytes: &[u8]) -> Result<Vec<u8>, Refusal> {
-    let delta = decode(alloc, bytes)?;
-    let mut line = Vec::new(alloc);
-    encode(alloc, &delta, &mut line)?;
-    Ok(line)
+/// Whether the line is written back unchanged, and fits a line.
+fn stays(alloc: Global, line: &[u8]) -> Result<bool, Refusal> {
+    let delta = decode(alloc, line)?;
+    let mut text = Vec::new(alloc);
+    encode(alloc, &delta, &mut text)?;
+    Ok(text.as_slice() == line && fits_line(&delta) && !outgrows_line(&delta))
 }
 
-/// Whether the bytes stand for a delta whose compact text is this one.
-fn is_rewritten(alloc: Global, bytes: &[u8], compact: &[u8]) -> Result<bool, Refusal> {
-    let text = rewritten(alloc, bytes)?;
-    Ok(text.as_slice() == compact)
-}
-
-fn is_refused(alloc: Global, bytes: &[u8]) -> bool {
-    matches!(decode(alloc, bytes), Err(Refusal::Delta))
-}
-
-/// Whether the line is written back unchanged.
-fn stays(alloc: Global, line: &str) -> Result<bool, Refusal> {
-    is_rewritten(alloc, line.as_bytes(), line.as_bytes())
-}
-
-/// The lines that the first worked examples accept or answer stay as they are.
+/// The lines that the first worked examples accept or answer, and those of the last cell, of the last sequence, of
+/// several deltas joined, and of an escaped text stay as they are.
 #[test]
 fn old_lines(rt: HostRuntime) -> Result<(), Refusal> {
     for line in [
@@ -53,16 +38,6 @@ fn old_lines(rt: HostRuntime) -> Result<(), Refusal> {
         r#"[["A1",[1,2,"@tally"],[[1,1099511627776,0]],[]]]"#,
         r#"[["A1",[1,2,"@choice"],[],[[5,1,64,0]]]]"#,
         r#"[["A1",null,[],[[5,1,64,1]]]]"#,
-    ] {
-        assert!(rt; stays(rt.alloc(), line)?, "{line}");
-    }
-    Ok(())
-}
-
-/// So do those of the last cell, of the last sequence, of several deltas joined, and of an escaped text.
-#[test]
-fn compact_lines_stay_as_they_are(rt: HostRuntime) -> Result<(), Refusal> {
-    for line in [
         r#"[["A1",[1,2,"@choice"],[],[[5,1,256,0]]]]"#,
         r#"[["A1",null,[],[[5,1,256,1]]]]"#,
         r#"[["A1",[1,1,"@choice"],[],[[7,1,1,0]]]]"#,
@@ -70,7 +45,7 @@ fn compact_lines_stay_as_they_are(rt: HostRuntime) -> Result<(), Refusal> {
         r#"[["CZ1024",[1,1,""],[],[]]]"#,
         r#"[["A1",[1,1,"'a\"b\\c/é"],[],[]]]"#,
     ] {
-        assert!(rt; stays(rt.alloc(), line)?, "{line}");
+        assert!(rt; stays(rt.alloc(), line.as_bytes())?, "{line}");
     }
     Ok(())
 }
@@ -95,26 +70,10 @@ fn written_by_serde_json(alloc: Global, text: &[u8]) -> Result<Vec<u8>, Refusal>
     }
 }
 
-/// The text of a delta is the one that serde_json writes for the value that it reads there.
-#[test]
-fn texts_are_those_of_serde_json(rt: HostRuntime) -> Result<(), Refusal> {
-    let text = rewritten(rt.alloc(), ALL_KINDS.as_bytes())?;
-    let other = written_by_serde_json(rt.alloc(), &text)?;
-    assert!(rt; text.as_slice() == other.as_slice());
-    Ok(())
-}
-
-/// Blanks and escapes may be spelled in other ways; what is written is compact.
-#[test]
-fn other_spellings_are_written_compactly(rt: HostRuntime) -> Result<(), Refusal> {
-    let spaced = br#"[ ["A1", [1,2,"\u0035"], [], []] ]"#;
-    let compact = br#"[["A1",[1,2,"5"],[],[]]]"#;
-    assert!(rt; is_rewritten(rt.alloc(), spaced, compact)?);
-    Ok(())
-}
-
 /// Texts that are lines, and texts that aren't, though some of them are JSON.
-const IN_TURN: [(&str, bool); 18] = [
+const IN_TURN: [(&str, bool); 20] = [
+    (ALL_KINDS, true),
+    (r#"[ ["A1", [1,2,"\u0035"], [], []] ]"#, true),
     (r#"[["A1",[1,2,"'a\u0062\"c"],[],[]]]"#, true),
     (r#"[["A1",[1,2,"5"],[],[]]"#, false),
     (r#" [ ["\u00411" , [1,2,"5"],[ ],[]] ] "#, true),
@@ -159,19 +118,6 @@ fn is_read(
         Err(Refusal::Delta) => Ok(!is_line),
         Err(refusal) => Err(refusal),
     }
-}
-
-/// One decoder reads each text as if there had been none before.
-#[test]
-fn one_decoder_reads_texts_in_turn(rt: HostRuntime) -> Result<(), Refusal> {
-    let mut decoder = Decoder::new(rt.alloc());
-    for (text, is_line) in IN_TURN {
-        assert!(rt;
-            is_read(rt.alloc(), &mut decoder, text.as_bytes(), is_line)?,
-            "{text}"
-        );
-    }
-    Ok(())
 }
 
 /// Texts that are compact lines of a cell with a register alone, or nearly so, and whether they are lines.
@@ -222,145 +168,50 @@ const NEARLY_COMPACT: [(&str, bool); 44] = [
     (r#"[["A1",[1,2,5],[],[]]]"#, false),
 ];
 
-/// Whatever is nearly a compact line is read as JSON is, or refused.
+/// Texts that are no delta: nothing, cells out of order or twice, names, numbers, contents, counts and pairs out of
+/// their ranges, numbers with a sign, a fraction or an exponent, and what goes on after its end.
+const NO_DELTAS: [(&str, bool); 27] = [
+    (r#"[]"#, false),
+    (r#"[["A1",null,[],[]]]"#, false),
+    (r#"[["B1",[1,1,"1"],[],[]],["A1",[1,1,"1"],[],[]]]"#, false),
+    (r#"[["A1",[1,1,"1"],[],[]],["A1",[1,1,"1"],[],[]]]"#, false),
+    (r#"[["A01",[1,1,"1"],[],[]]]"#, false),
+    (r#"[["A1",[0,1,"1"],[],[]]]"#, false),
+    (r#"[["A1",[1,33,"1"],[],[]]]"#, false),
+    (r#"[["A1",[1.0,1,"1"],[],[]]]"#, false),
+    (r#"[["A1",[1,1,"01"],[],[]]]"#, false),
+    (r#"[["A1",[1,1,"=[.$A$1]"],[],[]]]"#, false),
+    (r#"[["A1",null,[[1,0,0]],[]]]"#, false),
+    (r#"[["A1",null,[],[[64,1,1,0]]]]"#, false),
+    (r#"[["A1",null,[],[[0,1,257,0]]]]"#, false),
+    (r#"[["A1",[1e0,1,"1"],[],[]]]"#, false),
+    (r#"[["A1",[-1,1,"1"],[],[]]]"#, false),
+    (r#"[["A1",[-0,1,"1"],[],[]]]"#, false),
+    (r#"[["A1",[18446744073709551616,1,"1"],[],[]]]"#, false),
+    (r#"[["A1",[9007199254740992,2,"1"],[],[]]]"#, false),
+    (r#"[["A1",null,[],[[0,1,1,2]]]]"#, false),
+    (r#"[["A1",null,[],[[0,257,1,0]]]]"#, false),
+    (r#"[["A1",null,[[2,1,0],[1,1,0]],[]]]"#, false),
+    (r#"[["A1",null,[],[[1,1,1,0],[1,1,1,1]]]]"#, false),
+    (r#"[["DA1",[1,1,"1"],[],[]]]"#, false),
+    (r#"[["A1",[1,1,"1"],[]]]"#, false),
+    (r#"[["A1",[1,1,"1"],[],[]]] 1"#, false),
+    (r#"{"A1":[1,1,"1"]}"#, false),
+    ("", false),
+];
+
+/// One decoder reads each text as JSON is read, or refuses it, as if there had been none before.
 #[test]
-fn nearly_compact_lines_are_read_as_json(rt: HostRuntime) -> Result<(), Refusal> {
+fn one_decoder_reads_texts_in_turn(rt: HostRuntime) -> Result<(), Refusal> {
     let mut decoder = Decoder::new(rt.alloc());
-    for (text, is_line) in NEARLY_COMPACT {
-        assert!(rt;
-            is_read(rt.alloc(), &mut decoder, text.as_bytes(), is_line)?,
-            "{text}"
-        );
-    }
-    Ok(())
-}
-
-/// What isn't a delta: nothing, cells out of order or twice, names, numbers, contents, counts and pairs out of their
-/// ranges, numbers with a sign, a fraction or an exponent, and what goes on after its end.
-#[test]
-fn what_is_no_delta_is_refused(rt: HostRuntime) {
-    for line in [
-        r#"[]"#,
-        r#"[["A1",null,[],[]]]"#,
-        r#"[["B1",[1,1,"1"],[],[]],["A1",[1,1,"1"],[],[]]]"#,
-        r#"[["A1",[1,1,"1"],[],[]],["A1",[1,1,"1"],[],[]]]"#,
-        r#"[["A01",[1,1,"1"],[],[]]]"#,
-        r#"[["A1",[0,1,"1"],[],[]]]"#,
-        r#"[["A1",[1,33,"1"],[],[]]]"#,
-        r#"[["A1",[1.0,1,"1"],[],[]]]"#,
-        r#"[["A1",[1,1,"01"],[],[]]]"#,
-        r#"[["A1",[1,1,"=[.$A$1]"],[],[]]]"#,
-        r#"[["A1",null,[[1,0,0]],[]]]"#,
-        r#"[["A1",null,[],[[64,1,1,0]]]]"#,
-        r#"[["A1",null,[],[[0,1,257,0]]]]"#,
-        r#"[["A1",[1e0,1,"1"],[],[]]]"#,
-        r#"[["A1",[-1,1,"1"],[],[]]]"#,
-        r#"[["A1",[-0,1,"1"],[],[]]]"#,
-        r#"[["A1",[18446744073709551616,1,"1"],[],[]]]"#,
-        r#"[["A1",[9007199254740992,2,"1"],[],[]]]"#,
-        r#"[["A1",null,[],[[0,1,1,2]]]]"#,
-        r#"[["A1",null,[],[[0,257,1,0]]]]"#,
-        r#"[["A1",null,[[2,1,0],[1,1,0]],[]]]"#,
-        r#"[["A1",null,[],[[1,1,1,0],[1,1,1,1]]]]"#,
-        r#"[["DA1",[1,1,"1"],[],[]]]"#,
-        r#"[["A1",[1,1,"1"],[]]]"#,
-        r#"[["A1",[1,1,"1"],[],[]]] 1"#,
-        r#"{"A1":[1,1,"1"]}"#,
-        "",
-    ] {
-        assert!(rt; is_refused(rt.alloc(), line.as_bytes()), "{line}");
-    }
-    assert!(rt; is_refused(rt.alloc(), b"[[\"A1\",[1,1,\"'\xff\"],[],[]]]"));
-}
-
-/// Looks at each proper beginning of a line.
-fn look_at_beginnings(rt: &impl Abort, alloc: Global, line: &[u8]) {
-    for length in 0..line.len() {
-        assert!(rt; is_refused(alloc, &line[..length]), "{length}");
-    }
-}
-
-/// Each proper beginning of a line is refused, and so are brackets without end.
-#[test]
-fn cut_lines_are_refused(rt: HostRuntime) -> Result<(), Refusal> {
-    let line = br#"[["B1",[2,2,"4"],[],[]],["D1",[2,2,"=[.C1]"],[],[]]]"#;
-    look_at_beginnings(&rt, rt.alloc(), line);
-    let brackets = vec![in rt.alloc(); b'['; 200]?;
-    assert!(rt; is_refused(rt.alloc(), &brackets));
-    Ok(())
-}
-
-/// The text with as many blanks after it as make this length.
-fn padded(alloc: Global, text: &[u8], length: usize) -> Result<Vec<u8>, Refusal> {
-    let mut line = text.to_vec(alloc)?;
-    line.resize(length, b' ')?;
-    Ok(line)
-}
-
-/// A line may be padded with blanks up to the limit, and not beyond.
-#[test]
-fn lines_are_padded_up_to_the_limit(rt: HostRuntime) -> Result<(), Refusal> {
-    let text = br#"[["A1",[1,2,"5"],[],[]]]"#;
-    let longest = padded(rt.alloc(), text, DELTA_LINE_LIMIT)?;
-    assert!(rt; is_rewritten(rt.alloc(), &longest, text)?);
-    let longer = padded(rt.alloc(), text, DELTA_LINE_LIMIT + 1)?;
-    assert!(rt; is_refused(rt.alloc(), &longer));
-    Ok(())
-}
-
-/// Appends a pair that isn't removed, and a comma.
-fn push_pair(
-    alloc: Global,
-    line: &mut Vec<u8>,
-    option: u64,
-    replica: u64,
-    sequence: u64,
-) -> Result<(), Refusal> {
-    let pair = format!(in alloc; "[{option},{replica},{sequence},0],")?;
-    line.extend_from_slice(pair.as_bytes())?;
-    Ok(())
-}
-
-/// The delta of A1 with the first so many pairs of eight options from the given one on, 256 of each of eight replicas.
-fn pairs_from(alloc: Global, first: u64, count: usize) -> Result<Delta, Refusal> {
-    let mut line = b"[[\"A1\",null,[],[".as_slice().to_vec(alloc)?;
-    let mut left = count;
-    for option in first..first.saturating_add(8) {
-        for replica in 1..=8 {
-            for sequence in 1..=256 {
-                if left > 0 {
-                    left -= 1;
-                    push_pair(alloc, &mut line, option, replica, sequence)?;
-                }
-            }
+    for texts in [&IN_TURN[..], &NEARLY_COMPACT[..], &NO_DELTAS[..]] {
+        for (text, is_line) in texts {
+            assert!(rt;
+                is_read(rt.alloc(), &mut decoder, text.as_bytes(), *is_line)?,
+                "{text}"
+            );
         }
     }
-    let _ = line.pop();
-    line.extend_from_slice(b"]]]")?;
-    decode(alloc, &line)
-}
-
-/// The join of a delta and of the first so many pairs of the options from 8 on.
-fn joined_with(alloc: Global, first: &Delta, count: usize) -> Result<Delta, Refusal> {
-    let more = pairs_from(alloc, 8, count)?;
-    Delta::joined(alloc, &[first.twin(alloc)?, more])
-}
-
-/// Whether the delta is refused as too long for a line.
-fn is_too_long(alloc: Global, delta: &Delta) -> bool {
-    let mut line = Vec::new(alloc);
-    matches!(encode(alloc, delta, &mut line), Err(Refusal::TooLong))
-}
-
-/// The join of 16,384 pairs of a cell and 6,086 more has a text of 262,144 bytes, and so a line. With one pair more it
-/// has none, whatever it is joined with.
-#[test]
-fn what_outgrows_a_line(rt: HostRuntime) -> Result<(), Refusal> {
-    let first = pairs_from(rt.alloc(), 0, 16_384)?;
-    let longest = joined_with(rt.alloc(), &first, 6_086)?;
-    assert!(rt; fits_line(&longest) && !outgrows_line(&longest));
-    let longer = joined_with(rt.alloc(), &first, 6_087)?;
-    assert!(rt; !fits_line(&longer) && outgrows_line(&longer) && is_too_long(rt.alloc(), &longer));
     Ok(())
 }
 
@@ -374,24 +225,6 @@ fn decode_again(alloc: Global, bytes: &[u8]) -> Result<Delta, Refusal> {
         Err(Refusal::Memory) => decode(alloc, bytes),
         answer => answer,
     }
-}
-
-/// Whether the delta of the full line has it as its text.
-fn refuse_decode(alloc: Global) -> Result<bool, Refusal> {
-    let delta = decode_again(alloc, FULL_LINE)?;
-    let mut line = Vec::new(alloc);
-    encode(alloc, &delta, &mut line)?;
-    Ok(line.as_slice() == FULL_LINE)
-}
-
-/// A refused `decode` is `Memory`, and the next one returns the delta of the line.
-#[test]
-fn refused_decode(rt: HostRuntime) {
-    let mut found = refuse_decode(rt.alloc());
-    if found == Err(Refusal::Memory) {
-        found = refuse_decode(rt.alloc());
-    }
-    assert!(rt; found == Ok(true));
 }
 
 /// Appends the text of the delta, by a second call where the first one is refused. Whether that refusal was `Memory`
@@ -412,9 +245,9 @@ fn encode_again(
     }
 }
 
-/// Whether the full line comes twice, and a refused call left what was there.
-fn refuse_encode(alloc: Global) -> Result<bool, Refusal> {
-    let delta = decode(alloc, FULL_LINE)?;
+/// Whether the full line is read and comes twice, and a refused call left what was there.
+fn refuse_both(alloc: Global) -> Result<bool, Refusal> {
+    let delta = decode_again(alloc, FULL_LINE)?;
     let mut line = Vec::new(alloc);
     let is_kept_empty = encode_again(alloc, &delta, &mut line, b"")?;
     let is_kept_full = encode_again(alloc, &delta, &mut line, FULL_LINE)?;
@@ -422,12 +255,13 @@ fn refuse_encode(alloc: Global) -> Result<bool, Refusal> {
     Ok(is_kept_empty && is_kept_full && is_twice && line.len() == 2 * FULL_LINE.len())
 }
 
-/// A refused `encode` is `Memory` and leaves the line as it was, be it empty or not; the next one appends the text.
+/// A refused `decode` is `Memory`, and so is a refused `encode`, which leaves the line as it was, be it empty or not; the
+/// next call returns the delta of the line, or appends its text.
 #[test]
-fn refused_encode(rt: HostRuntime) {
-    let mut found = refuse_encode(rt.alloc());
+fn refused_decode_and_encode(rt: HostRuntime) {
+    let mut found = refuse_both(rt.alloc());
     if found == Err(Refusal::Memory) {
-        found = refuse_encode(rt.alloc());
+        found = refuse_both(rt.alloc());
     }
     assert!(rt; found == Ok(true));
 }

@@ -44,14 +44,39 @@ fn is_changed(rt: &impl Abort, grid: &Grid) -> bool {
         && number_at(rt, grid, LAST) == Some(8)
 }
 
-/// Whether a refused join left the grid as it was, and the next one changed it.
+/// Whether a refused join leaves the grid as it is in the twin, and the next one changes it.
+fn is_joined(
+    rt: &impl Abort,
+    alloc: Global,
+    grid: &mut Grid,
+    twin: &Grid,
+    change: &Delta,
+) -> Result<bool, Refusal> {
+    let is_kept = join_again(alloc, grid, twin, change)?;
+    Ok(is_kept && grid.covers(change) && is_changed(rt, grid))
+}
+
+/// The same of a grid of its own.
+fn refuse_own(
+    rt: &impl Abort,
+    alloc: Global,
+    twin: &Grid,
+    change: &Delta,
+) -> Result<bool, Refusal> {
+    let mut grid = grid_of(rt, alloc, &[SIX[0], SIX[2], SIX[4]])?;
+    is_joined(rt, alloc, &mut grid, twin, change)
+}
+
+/// The same beside a twin.
+fn refuse_beside(rt: &impl Abort, alloc: Global, change: &Delta) -> Result<bool, Refusal> {
+    let twin = grid_of(rt, alloc, &[SIX[0], SIX[2], SIX[4]])?;
+    refuse_own(rt, alloc, &twin, change)
+}
+
+/// The same of the change.
 fn refuse_join(rt: &impl Abort, alloc: Global) -> Result<bool, Refusal> {
-    let before = [SIX[0], SIX[2], SIX[4]];
-    let mut grid = grid_of(rt, alloc, &before)?;
-    let twin = grid_of(rt, alloc, &before)?;
     let change = delta_of(rt, alloc, &CHANGE)?;
-    let is_kept = join_again(alloc, &mut grid, &twin, &change)?;
-    Ok(is_kept && grid.covers(&change) && is_changed(rt, &grid))
+    refuse_beside(rt, alloc, &change)
 }
 
 /// After a refused join each cell of the grid is as before, and the next one joins the whole delta.
