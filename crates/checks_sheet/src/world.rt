@@ -1,6 +1,5 @@
-//! Small worlds with what each replica took and shows, worked by hand from the rules; a long one whose sheets agree.
+//! Small worlds with what each replica took and shows, worked by hand from the rules.
 
-ghost use Rattle.std.specs.Prelude.{◌≡◌, ◌<◌};
 ghost use Rattle.ps_grid.specs.Blanks.{IsBlankOf};
 
 use ps_content::{Content, read_entry};
@@ -179,12 +178,6 @@ static GREATER_SEEN: [Row; 2] = [
     (2, &[1, 2], 1, Seen::Text("y")),
 ];
 
-/// Two replicas assign at the same time, and deltas come twice, to an unknown replica, or aren't there.
-#[test]
-fn both_show_the_greater_replica(rt: HostRuntime) -> Result<(), Refusal> {
-    play_steps(&rt, rt.alloc(), 2, &GREATER, &GREATER_SEEN)
-}
-
 static COUNTED: [Step; 9] = [
     Step::Set(1, "@tally"),
     Step::Deliver(2, 1),
@@ -203,12 +196,6 @@ static COUNTED_SEEN: [Row; 3] = [
     (3, &[1, 4], 2, Seen::Num(1)),
 ];
 
-/// A counter at three replicas, of which each has seen another part.
-#[test]
-fn each_counts_what_it_took(rt: HostRuntime) -> Result<(), Refusal> {
-    play_steps(&rt, rt.alloc(), 3, &COUNTED, &COUNTED_SEEN)
-}
-
 static STAMPED: [Step; 6] = [
     Step::Foreign(3),
     Step::Foreign(4),
@@ -220,93 +207,12 @@ static STAMPED: [Step; 6] = [
 
 static STAMPED_SEEN: [Row; 2] = [(1, &[1, 2], 2, Seen::Num(4)), (2, &[1, 2], 1, Seen::Num(4))];
 
-/// Two untrusted peers' deltas with the same stamp, received in both orders.
+/// Two replicas assign at the same time, and deltas come twice, to an unknown replica, or aren't there; a counter at
+/// three replicas, of which each has seen another part; two untrusted peers' deltas with the same stamp, received in both
+/// orders.
 #[test]
-fn equal_stamps_show_the_greater_content(rt: HostRuntime) -> Result<(), Refusal> {
+fn replicas_show_what_they_took(rt: HostRuntime) -> Result<(), Refusal> {
+    play_steps(&rt, rt.alloc(), 2, &GREATER, &GREATER_SEEN)?;
+    play_steps(&rt, rt.alloc(), 3, &COUNTED, &COUNTED_SEEN)?;
     play_steps(&rt, rt.alloc(), 2, &STAMPED, &STAMPED_SEEN)
-}
-
-/// The k-th edit of the long world: two after one another at the same cell and replica, then the next ones.
-fn edit_of(alloc: Global, k: usize) -> Result<Edit, Refusal> {
-    let at = cell(k / 2 % 4)?;
-    Ok(match k % 6 {
-        0 => Edit::Set(at, read_entry(alloc, b"=[.A1]+[.B1]")?),
-        1 => Edit::Set(at, Content::Number(7)),
-        2 => Edit::Set(at, Content::Tally),
-        3 => Edit::Add(at, 5),
-        4 => Edit::Set(at, Content::Choice),
-        _ => Edit::Choose(at, 3),
-    })
-}
-
-const EDITS: usize = 20;
-
-/// The replica of the k-th edit: each cell is edited at one replica after another.
-fn editor(k: usize) -> u8
-    requires { k < EDITS }
-{
-    ((k / 2 + k / 8) % 4) as u8 + 1
-}
-
-/// Twice the same delivery.
-fn twice(events: &mut Vec<Event>, replica: u8, number: usize) -> Result<(), Refusal> {
-    events.push(Event::Deliver(replica, number))?;
-    events.push(Event::Deliver(replica, number))?;
-    Ok(())
-}
-
-/// Twenty edits, each delivered at once to one replica; in the end all are delivered to all, the last ones first.
-fn long_script(alloc: Global) -> Result<Vec<Event>, Refusal> {
-    let mut events = Vec::new(alloc);
-    for k in 0..EDITS {
-        events.push(Event::Edit(editor(k), edit_of(alloc, k)?))?;
-        twice(&mut events, (k % 3) as u8 + 1, k + 1)?;
-    }
-    for k in 0..EDITS {
-        for replica in 1..5 {
-            twice(&mut events, 5 - replica, EDITS - k)?;
-        }
-    }
-    Ok(events)
-}
-
-/// Whether two sheets show the same in the first four cells.
-fn show_alike(sheet: &Sheet, other: &Sheet) -> Result<bool, Refusal> {
-    for index in 0..4 {
-        let at = cell(index)?;
-        if sheet.shown(at) != other.shown(at) {
-            return Ok(false);
-        }
-    }
-    Ok(true)
-}
-
-/// Whether two replicas took all deltas.
-fn took_all(world: &World, replica: u8, other: u8) -> bool {
-    match (world.taken(replica), world.taken(other)) {
-        (Some(numbers), Some(others)) => numbers.len() == EDITS && numbers == others,
-        _ => false,
-    }
-}
-
-/// Whether two replicas took the same deltas and show the same values.
-fn are_equal(world: &World, replica: u8, other: u8) -> Result<bool, Refusal> {
-    let sheet = world.sheet(replica).ok_or(Refusal::Replica)?;
-    let same = world.sheet(other).ok_or(Refusal::Replica)?;
-    Ok(took_all(world, replica, other) && show_alike(sheet, same)?)
-}
-
-/// Replicas 2, 3 and 4 are each equal to the first.
-fn check_equal(rt: &impl Abort, world: &World) -> Result<(), Refusal> {
-    for replica in 2..5 {
-        assert!(rt; are_equal(world, 1, replica)?, "replica {replica}");
-    }
-    Ok(())
-}
-
-/// Four replicas edit the same cells; what each took in the end, in its own order and twice, shows the same everywhere.
-#[test]
-fn sheets_agree_in_the_end(rt: HostRuntime) -> Result<(), Refusal> {
-    let world = run(&rt, rt.alloc(), 4, long_script(rt.alloc())?)?;
-    check_equal(&rt, &world)
 }

@@ -6,7 +6,7 @@ use crate::face::published::{Published, Telling};
 use crate::face::{cell, read_both, shows_number, text};
 use ps_content::{Content, read_entry};
 use ps_delta::Edit;
-use ps_face::{FaceReader, MOST_WAITING, Named, NewBook};
+use ps_face::{FaceReader, Named, NewBook};
 use ps_grid::{Cell, Refusal};
 use ps_value::Value;
 use std::alloc::Global;
@@ -90,10 +90,6 @@ const SEVEN: Value = Value::Num(7);
 enum Trial<'a> {
     /// These steps are gone through.
     Steps(&'a [Step]),
-    /// Patches are posted until all are shown.
-    Fill,
-    /// Patches of many changes are posted.
-    Widen,
     /// Some patches are posted.
     Post,
 }
@@ -123,8 +119,6 @@ fn try_on<L: Named, T: Abort + Threads + Wait + Sync>(
     let early = readers.pop().expect(rt, "a reader");
     match trial {
         Trial::Steps(steps) => go_through(rt, alloc, published, reader, early, steps),
-        Trial::Fill => fill_up(rt, alloc, published, reader),
-        Trial::Widen => post_wide(rt, alloc, published, reader),
         Trial::Post => post_some(rt, alloc, published, reader),
     }
 }
@@ -167,65 +161,6 @@ fn count<L: Named, T: Abort + Threads + Sync, R: Wait + Drop>(
     let published = published.tell(rt, alloc, edit, Telling::Posted)?;
     let (reader, seen) = look(rt, reader);
     Ok((published, reader, seen))
-}
-
-/// Posts as many patches as are shown at once, and one more, which waits until it is shown.
-fn fill_up<L: Named, T: Abort + Threads + Sync, R: Wait + Drop>(
-    rt: &T,
-    alloc: Global,
-    mut published: Published<L, R>,
-    mut reader: FaceReader<L>,
-) -> Result<(), Refusal> {
-    for number in 1..MOST_WAITING {
-        let (gone_on, back, seen) = count(rt, alloc, published, reader, number)?;
-        published = gone_on;
-        reader = back;
-        assert!(rt; seen == (0, EMPTY, EMPTY));
-    }
-    let all = (64, Value::Num(64), EMPTY);
-    let (published, reader, seen) = count(rt, alloc, published, reader, MOST_WAITING)?;
-    assert!(rt; seen == all);
-    let (mut published, reader, seen) = count(rt, alloc, published, reader, MOST_WAITING + 1)?;
-    assert!(rt; seen == all);
-    published.show();
-    let (_, seen) = look(rt, reader);
-    assert!(rt; seen == (65, Value::Num(65), EMPTY));
-    Ok(())
-}
-
-/// Of patches that are posted 63 wait, and with the next one all are shown.
-#[test]
-fn the_64th_patch_that_waits_shows_all(rt: HostRuntime) {
-    let ended = try_anew(&rt, rt.alloc(), NewBook::new(), Trial::Fill);
-    assert!(rt; MOST_WAITING == 64 && ended.is_ok());
-}
-
-/// Posts formulas on A1 to 40 cells, and shows them. Of two numbers that are then posted in A1 the first waits, with
-/// what the formulas show; with the second too many changes would wait, so both are shown.
-fn post_wide<L: Named, T: Abort + Threads + Sync, R: Wait + Drop>(
-    rt: &T,
-    alloc: Global,
-    mut published: Published<L, R>,
-    reader: FaceReader<L>,
-) -> Result<(), Refusal> {
-    for index in 1..41 {
-        let place = Cell::from_index(index).expect(rt, "a cell");
-        let formula = read_entry(alloc, b"=[.A1]")?;
-        published = published.tell(rt, alloc, Edit::Set(place, formula), Telling::Posted)?;
-    }
-    published.show();
-    let (published, reader, (version, _, _)) = count(rt, alloc, published, reader, 1)?;
-    assert!(rt; version == 40);
-    let (_, _, (version, value, _)) = count(rt, alloc, published, reader, 2)?;
-    assert!(rt; version == 42 && value == Value::Num(2));
-    Ok(())
-}
-
-/// Patches that would change more than 64 cells together don't wait.
-#[test]
-fn too_many_changes_are_shown_at_once(rt: HostRuntime) {
-    let ended = try_anew(&rt, rt.alloc(), NewBook::new(), Trial::Widen);
-    assert!(rt; ended.is_ok());
 }
 
 /// Posts six patches, and shows what waits. Before that a reader sees a version, and what A1 shows at it.

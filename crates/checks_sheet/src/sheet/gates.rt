@@ -3,26 +3,46 @@
 ghost use Rattle.std.specs.Prelude.{◌<◌};
 
 use crate::sheet::jobs::{Job, at_sheet};
-use crate::sheet::long::Many::Wide;
-use crate::sheet::script::Asked::Set;
-use crate::sheet::script::Step::{self, Ask, Fan, Put};
-use crate::sheet::script::{BACK, OVER, Part, check_count, delta_of, go_on};
+use crate::sheet::script::Step::{self, Enter, Wide};
+use crate::sheet::script::{BACK, OVER, Part, apply, check_count, delta_of, go_on};
 use crate::sheet::slots::{TWO_CYCLES, commit, entered, ready, version};
-use Counted::{Delta, Entry};
-use ps_delta::Change;
-use ps_grid::{Refusal, WORKERS};
-use ps_sheet::Sheet;
+use Counted::{Delta, Typed};
+use ps_content::read_entry;
+use ps_delta::{Batch, Change, Edit};
+use ps_grid::{COLUMNS, Cell, Refusal, WORKERS};
+use ps_sheet::{Report, Sheet};
 use ps_workers::Gate;
 use std::alloc::Global;
 use std::process::Abort;
 use std::sync::atomic::{AtomicU64, Ordering};
 use std::thread::Threads;
 
+/// So many cells from `A2` on, each one more than `A1`.
+fn wide(rt: &impl Abort, alloc: Global, count: usize) -> Result<Batch, Refusal> {
+    let mut cells = Vec::new(alloc);
+    for place in COLUMNS..COLUMNS.saturating_add(count) {
+        let cell = Cell::from_index(place).expect(rt, "a cell");
+        cells.push((cell, read_entry(alloc, b"=[.A1]+1")?))?;
+    }
+    Ok(Batch::new(cells).expect(rt, "a batch"))
+}
+
+/// Types them as one batch.
+pub(crate) fn put_wide<R: Abort + Threads + Sync>(
+    rt: &R,
+    alloc: Global,
+    sheet: &mut Sheet,
+    count: usize,
+) -> Result<Report, Refusal> {
+    let batch = wide(rt, alloc, count)?;
+    apply(rt, alloc, sheet, Edit::SetAll(batch))
+}
+
 /// A change, and how often the workers pass in it.
 #[derive(Clone, Copy)]
 pub(crate) enum Counted {
     /// An entry into a cell.
-    Entry(&'static str, &'static str, u64),
+    Typed(&'static str, &'static str, u64),
     /// A delta of several cells.
     Delta(&'static [(&'static str, Part)], u64),
 }
@@ -102,14 +122,14 @@ fn count<R: Abort + Threads + Sync>(
 
 fn change_of(rt: &impl Abort, alloc: Global, counted: &Counted) -> Result<Change, Refusal> {
     match counted {
-        Entry(name, entry, _) => entered(rt, alloc, name, entry),
+        Typed(name, entry, _) => entered(rt, alloc, name, entry),
         Delta(parts, _) => Ok(Change::Delta(delta_of(rt, alloc, parts)?)),
     }
 }
 
 fn passes_of(counted: &Counted) -> u64 {
     match counted {
-        Entry(_, _, passes) | Delta(_, passes) => *passes,
+        Typed(_, _, passes) | Delta(_, passes) => *passes,
     }
 }
 
@@ -148,22 +168,22 @@ pub(crate) fn count_all<R: Abort + Threads + Sync>(
 
 /// A change that reaches 6,000 cells at once, and one that reaches none.
 static FEW: Counts = Counts {
-    begun: &[Fan(6_104)],
-    changes: &[Entry("A1", "5", 6_000), Entry("B1", "9", 0)],
-    version: 6_002,
+    begun: &[Wide(6_000, [1, 6_000, 0, 1])],
+    changes: &[Typed("A1", "5", 6_000), Typed("B1", "9", 0)],
+    version: 3,
 };
 
 /// The same with 8,193 cells, which are worth two workers.
 static SOME: Counts = Counts {
-    begun: &[Put(Wide(8_193), [1, 8_193, 0, 1])],
-    changes: &[Entry("A1", "5", 8_193), Entry("B1", "9", 0)],
+    begun: &[Wide(8_193, [1, 8_193, 0, 1])],
+    changes: &[Typed("A1", "5", 8_193), Typed("B1", "9", 0)],
     version: 3,
 };
 
 /// The same with 65,640 cells, which are worth sixteen.
 static MANY: Counts = Counts {
-    begun: &[Put(Wide(65_640), [1, 65_640, 0, 1])],
-    changes: &[Entry("A1", "5", 65_640), Entry("B1", "9", 0)],
+    begun: &[Wide(65_640, [1, 65_640, 0, 1])],
+    changes: &[Typed("A1", "5", 65_640), Typed("B1", "9", 0)],
     version: 3,
 };
 
@@ -177,15 +197,15 @@ static CYCLES: Counts = Counts {
 /// Changes after which formulas keep their values.
 static QUIET: Counts = Counts {
     begun: &[
-        Ask("A1", Set("5"), Ok(1)),
-        Ask("B1", Set("=[.A1]>0"), Ok(2)),
-        Ask("C1", Set("=[.B1]+1"), Ok(3)),
-        Ask("D1", Set("=[.A1]*0"), Ok(4)),
+        Enter("A1", "5", [1, 0, 0, 0]),
+        Enter("B1", "=[.A1]>0", [2, 1, 0, 1]),
+        Enter("C1", "=[.B1]+1", [3, 1, 0, 1]),
+        Enter("D1", "=[.A1]*0", [4, 1, 0, 1]),
     ],
     changes: &[
-        Entry("A1", "6", 2),
-        Entry("A1", "-1", 3),
-        Entry("A1", "-1", 0),
+        Typed("A1", "6", 2),
+        Typed("A1", "-1", 3),
+        Typed("A1", "-1", 0),
     ],
     version: 7,
 };

@@ -5,12 +5,10 @@ ghost use Rattle.ps_grid.specs.declared.parties.TheConstants.{WORKERS};
 
 use crate::sheet::changed::{Look, look_at_all};
 use crate::sheet::gates::{Counts, count_all};
-use crate::sheet::orders::take_in_order;
-use crate::sheet::prepared::stay_alike;
+use crate::sheet::prepared::give_up_and_make;
 use crate::sheet::refused::{Tries, try_all};
-use crate::sheet::rounds::{change_often, give_up_often};
 use crate::sheet::script::{Step, go_on};
-use Job::{Alike, Count, GiveUps, Order, Random, Stage, Steps, Try};
+use Job::{Count, GiveUp, Stage, Steps, Try};
 use ps_grid::Refusal;
 use ps_sheet::Sheet;
 use std::alloc::Global;
@@ -22,16 +20,10 @@ use std::thread::Threads;
 pub(crate) enum Job {
     /// These steps, one after another.
     Steps(&'static [Step]),
-    /// Six deltas, in the n-th of their orders.
-    Order(usize),
-    /// Changes at random.
-    Random,
-    /// Changes at random, each after one that is given up.
-    GiveUps,
     /// Changes through a gate that counts, each evaluated by so many workers.
     Count(&'static Counts, u64),
-    /// A change that is given up and made beside a twin.
-    Alike,
+    /// A change that is given up and made.
+    GiveUp,
     /// Changes that are staged, of which each is given up once and then made.
     Stage(&'static [Look]),
     /// Changes of which a growth may be refused.
@@ -49,11 +41,8 @@ fn do_job<R: Abort + Threads + Sync>(
             go_on(rt, alloc, slot.as_mut().expect(rt, "a sheet"), steps);
             Ok(())
         }
-        Order(n) => take_in_order(rt, alloc, slot.as_mut().expect(rt, "a sheet"), n),
-        Random => change_often(rt, alloc, slot.as_mut().expect(rt, "a sheet")),
-        GiveUps => give_up_often(rt, alloc, slot),
         Count(counts, workers) => count_all(rt, alloc, slot, counts, workers.max(1)),
-        Alike => stay_alike(rt, alloc, slot),
+        GiveUp => give_up_and_make(rt, alloc, slot),
         Stage(looks) => look_at_all(rt, alloc, slot, looks),
         Try(tries) => try_all(rt, alloc, slot, tries),
     }

@@ -5,7 +5,6 @@
 //! comes before the call, all is done once more.
 
 use crate::sheet::jobs::{Job, at_sheet};
-use crate::sheet::long::at;
 use crate::sheet::script::Asked::{self, Add, Choose, Set, Sub, Unchoose};
 use crate::sheet::script::Seen::{self, Num, Options, Text};
 use crate::sheet::script::{
@@ -16,7 +15,7 @@ use crate::sheet::slots::{commit, prepare, put_back, taken};
 use Tried::{Batched, One, Received};
 use Way::{Made, Prepared};
 use ps_delta::{Change, Edit};
-use ps_grid::{CELLS, Refusal};
+use ps_grid::{CELLS, Cell, Refusal};
 use ps_sheet::{Report, Sheet};
 use ps_value::Value;
 use ps_workers::Open;
@@ -52,6 +51,11 @@ pub(crate) struct Tries {
     changes: &'static [(Tried, Result<Figures, Refusal>)],
     /// what cells show at the end
     shown: &'static [(&'static str, Seen)],
+}
+
+/// The cell at a place in the order of the grid, row by row.
+fn at(rt: &impl Abort, place: usize) -> Cell {
+    Cell::from_index(place).expect(rt, "a cell")
 }
 
 /// What a sheet showed, and how many deltas it had.

@@ -1,13 +1,15 @@
 //! What a change reports: how many formulas were evaluated, how many are cyclic, and how many levels the others have.
 //! The expected numbers are worked by hand from the rules.
 
+use crate::sheet::jobs::{Job, at_sheet};
 use crate::sheet::script::Part::{self, Assigned};
 use crate::sheet::script::Seen::{Num, Text};
 use crate::sheet::script::Step::{self, Enter, Receive, Show};
-use crate::sheet::script::{CYCLE, play};
+use crate::sheet::script::{BACK, CYCLE, OVER};
 use ps_grid::Refusal;
 
-static REACHED: [Step; 8] = [
+/// Two ranges that meet are one reference; what refers to a changed cell is evaluated, and then what refers to that.
+const REACHED: &[Step] = &[
     Enter("B1", "1", [1, 0, 0, 0]),
     Enter("B2", "=[.C1]", [2, 1, 0, 1]),
     Enter("B3", "3", [3, 0, 0, 0]),
@@ -18,13 +20,8 @@ static REACHED: [Step; 8] = [
     Show("A1", Num(14)),
 ];
 
-/// Two ranges that meet are one reference; what refers to a changed cell is evaluated, and then what refers to that.
-#[test]
-fn a_change_reaches_what_refers_to_it(rt: HostRuntime) -> Result<(), Refusal> {
-    play(&rt, rt.alloc(), 1, &REACHED)
-}
-
-static STAYING: [Step; 10] = [
+/// A formula that keeps its value stops the evaluation there; the levels count what could have changed.
+const STAYING: &[Step] = &[
     Enter("A1", "5", [1, 0, 0, 0]),
     Enter("B1", "=[.A1]>0", [2, 1, 0, 1]),
     Enter("C1", "=[.B1]+1", [3, 1, 0, 1]),
@@ -37,13 +34,8 @@ static STAYING: [Step; 10] = [
     Show("D1", Num(0)),
 ];
 
-/// A formula that keeps its value stops the evaluation there; the levels count what could have changed.
-#[test]
-fn a_value_that_stays_stops_the_work(rt: HostRuntime) -> Result<(), Refusal> {
-    play(&rt, rt.alloc(), 1, &STAYING)
-}
-
-static FOLLOWED: [Step; 16] = [
+/// Number after number in one cell, with other formulas that refer to it between them, and one of its own.
+const FOLLOWED: &[Step] = &[
     Enter("A1", "1", [1, 0, 0, 0]),
     Enter("B1", "=[.A1]", [2, 1, 0, 1]),
     Enter("A1", "2", [3, 1, 0, 1]),
@@ -62,13 +54,8 @@ static FOLLOWED: [Step; 16] = [
     Show("C1", Num(17)),
 ];
 
-/// Number after number in one cell, with other formulas that refer to it between them, and one of its own.
-#[test]
-fn a_region_follows_the_formulas(rt: HostRuntime) -> Result<(), Refusal> {
-    play(&rt, rt.alloc(), 1, &FOLLOWED)
-}
-
-static ALIKE: [Step; 6] = [
+/// A number and a text that look alike are two values: what refers to the cell is evaluated.
+const ALIKE: &[Step] = &[
     Enter("A1", "5", [1, 0, 0, 0]),
     Enter("B1", "=COUNT([.A1])", [2, 1, 0, 1]),
     Show("B1", Num(1)),
@@ -77,12 +64,6 @@ static ALIKE: [Step; 6] = [
     Show("B1", Num(0)),
 ];
 
-/// A number and a text that look alike are two values: what refers to the cell is evaluated.
-#[test]
-fn values_that_look_alike_are_two(rt: HostRuntime) -> Result<(), Refusal> {
-    play(&rt, rt.alloc(), 1, &ALIKE)
-}
-
 /// `B1` ends the cycle of `A1` and `B1`, and `C1` closes one with `A1`.
 const TURNED: &[(&str, Part)] = &[
     ("A1", Assigned(2, 2, "=[.C1]")),
@@ -90,7 +71,8 @@ const TURNED: &[(&str, Part)] = &[
     ("C1", Assigned(2, 2, "=[.A1]")),
 ];
 
-static TURNING: [Step; 11] = [
+/// One delta ends a cycle and begins another: what the old one held is evaluated, and what leads to the new one isn't.
+const TURNING: &[Step] = &[
     Enter("A1", "=[.B1]", [1, 1, 0, 1]),
     Enter("B1", "=[.A1]", [2, 0, 2, 0]),
     Enter("C1", "7", [3, 0, 0, 0]),
@@ -104,8 +86,111 @@ static TURNING: [Step; 11] = [
     Show("E1", Num(8)),
 ];
 
-/// One delta ends a cycle and begins another: what the old one held is evaluated, and what leads to the new one isn't.
+/// Two formulas that refer to each other are cyclic, and so is one that refers to them; a number there ends it.
+const TWO_AND_ONE: &[Step] = &[
+    Enter("A1", "=[.B1]", [1, 1, 0, 1]),
+    Enter("B1", "=[.A1]", [2, 0, 2, 0]),
+    Enter("C1", "=[.A1]+1", [3, 0, 1, 0]),
+    Show("A1", CYCLE),
+    Show("B1", CYCLE),
+    Show("C1", CYCLE),
+    Enter("B1", "4", [4, 2, 0, 2]),
+    Show("A1", Num(4)),
+    Show("C1", Num(5)),
+];
+
+/// One delta ends a cycle and makes another, and the next one the other way round.
+const OVER_AND_BACK: &[Step] = &[
+    Enter("A1", "=[.B1]", [1, 1, 0, 1]),
+    Enter("B1", "=[.A1]", [2, 0, 2, 0]),
+    Enter("C1", "=[.D1]", [3, 1, 0, 1]),
+    Enter("D1", "7", [4, 1, 0, 1]),
+    Enter("E1", "=[.A1]+1", [5, 0, 1, 0]),
+    Enter("F1", "=[.C1]+1", [6, 1, 0, 1]),
+    Show("A1", CYCLE),
+    Show("B1", CYCLE),
+    Show("E1", CYCLE),
+    Show("C1", Num(7)),
+    Show("F1", Num(8)),
+    Receive(OVER, [7, 2, 3, 2]),
+    Show("A1", Num(4)),
+    Show("B1", Num(4)),
+    Show("E1", Num(5)),
+    Show("C1", CYCLE),
+    Show("D1", CYCLE),
+    Show("F1", CYCLE),
+    Receive(BACK, [8, 2, 3, 2]),
+    Show("A1", CYCLE),
+    Show("B1", CYCLE),
+    Show("E1", CYCLE),
+    Show("C1", Num(7)),
+    Show("F1", Num(8)),
+];
+
+/// B1 refers to A1, C1 to B1, and so on to E1: a change of A1 has four levels of one cell each.
+const CHAIN: &[Step] = &[
+    Enter("B1", "=[.A1]", [1, 1, 0, 1]),
+    Enter("C1", "=[.B1]", [2, 1, 0, 1]),
+    Enter("D1", "=[.C1]", [3, 1, 0, 1]),
+    Enter("E1", "=[.D1]", [4, 1, 0, 1]),
+    Enter("A1", "5", [5, 4, 0, 4]),
+    Show("E1", Num(5)),
+];
+
+/// A1 is level 1, B1 and C1 are level 2, D1 is level 3.
+const DIAMOND: &[Step] = &[
+    Enter("A1", "=1", [1, 1, 0, 1]),
+    Enter("B1", "=[.A1]", [2, 1, 0, 1]),
+    Enter("C1", "=[.A1]", [3, 1, 0, 1]),
+    Enter("D1", "=[.A1]+[.B1]+[.C1]", [4, 1, 0, 1]),
+    Enter("E1", "=[.F1]", [5, 1, 0, 1]),
+    Enter("A1", "=2", [6, 4, 0, 3]),
+    Show("D1", Num(6)),
+];
+
+/// A2 counts once in the two ranges of B1, where it has a level and where it is cyclic.
+const OVERLAPPING: &[Step] = &[
+    Enter("A2", "=[.A1]", [1, 1, 0, 1]),
+    Enter("B1", "=SUM([.A1:.A2];[.A2:.A3])", [2, 1, 0, 1]),
+    Enter("A1", "1", [3, 2, 0, 2]),
+    Show("B1", Num(3)),
+    Enter("A1", "=[.A2]", [4, 0, 3, 0]),
+];
+
+/// C1 is reached and refers to A1, which isn't, and is on a cycle: C1 is cyclic.
+const OUTSIDE: &[Step] = &[
+    Enter("A1", "=[.B1]", [1, 1, 0, 1]),
+    Enter("B1", "=[.A1]", [2, 0, 2, 0]),
+    Enter("C1", "=[.D1]+[.A1]", [3, 0, 1, 0]),
+    Enter("E1", "=[.D1]", [4, 1, 0, 1]),
+    Enter("D1", "5", [5, 1, 1, 1]),
+];
+
+/// A1 no longer refers to B1, which refers to it: two levels, and no cyclic cell.
+const BEFORE: &[Step] = &[
+    Enter("A1", "=[.B1]", [1, 1, 0, 1]),
+    Enter("B1", "=[.A1]", [2, 0, 2, 0]),
+    Enter("A1", "=1", [3, 2, 0, 2]),
+];
+
+/// Each script at an empty sheet of its own.
 #[test]
-fn one_delta_ends_a_cycle_and_begins_another(rt: HostRuntime) -> Result<(), Refusal> {
-    play(&rt, rt.alloc(), 1, &TURNING)
+fn changes_report_what_they_reach(rt: HostRuntime) -> Result<(), Refusal> {
+    for steps in [
+        REACHED,
+        STAYING,
+        FOLLOWED,
+        ALIKE,
+        TURNING,
+        TWO_AND_ONE,
+        OVER_AND_BACK,
+        CHAIN,
+        DIAMOND,
+        OVERLAPPING,
+        OUTSIDE,
+        BEFORE,
+    ] {
+        at_sheet(&rt, rt.alloc(), 1, 1, Job::Steps(steps))?;
+    }
+    Ok(())
 }

@@ -3,17 +3,16 @@
 ghost use Rattle.std.specs.Prelude.{◌≡◌, ◌<◌};
 ghost use Rattle.ps_grid.specs.Blanks.{IsBlankOf};
 
-use crate::sheet::jobs::{Job, at_sheet};
-use crate::sheet::long::{Many, chain, fan, put_many, show_alike, show_sequence};
+use crate::sheet::gates::put_wide;
 use Asked::{Add, Choose, Set, Sub, Unchoose};
-use Part::{Assigned, Counted, Paired};
+use Part::Assigned;
 use Seen::{Empty, Failed, Num, Options, Text};
-use Step::{Alike, Ask, Chain, Enter, Fan, Get, GetAll, Put, Receive, Sequence, Show, Type};
+use Step::{Ask, Enter, Receive, Show, Wide};
 use ps_content::{Content, read_entry};
 use ps_delta::{Batch, CellState, Delta, Edit};
 use ps_eval::Meter;
 use ps_grid::{Cell, Refusal};
-use ps_lattice::{Assignment, Choice, Count, Pair, Register, Tally};
+use ps_lattice::{Assignment, Choice, Register, Tally};
 use ps_sheet::{Report, Sheet};
 use ps_value::{Fault, Label, Value};
 use std::alloc::Global;
@@ -43,10 +42,6 @@ pub(crate) enum Asked {
 pub(crate) enum Part {
     /// What an entry says, with a time and a replica.
     Assigned(u64, u8, &'static str),
-    /// What a replica added and subtracted.
-    Counted(u8, u64, u64),
-    /// A pair that is in: its option, replica and sequence.
-    Paired(u8, u8, u16),
 }
 
 /// What a cell shows.
@@ -67,26 +62,12 @@ pub(crate) enum Step {
     Ask(&'static str, Asked, Result<u64, Refusal>),
     /// Enters an entry into a cell, and has this report.
     Enter(&'static str, &'static str, Figures),
-    /// Types these entries into these cells as one batch.
-    Type(&'static [(&'static str, &'static str)], Result<u64, Refusal>),
-    /// Receives a delta of one cell.
-    Get(&'static str, Part, Result<u64, Refusal>),
-    /// Receives a delta of several cells.
-    GetAll(&'static [(&'static str, Part)], Result<u64, Refusal>),
     /// Receives a delta of several cells, and has this report.
     Receive(&'static [(&'static str, Part)], Figures),
     /// Looks at a cell.
     Show(&'static str, Seen),
-    /// Enters a chain of so many cells.
-    Chain(usize),
-    /// Enters cells from `A2` to before a place, to each of which `A1` leads.
-    Fan(usize),
-    /// Types many entries as one batch, and has this report.
-    Put(Many, Figures),
-    /// Looks at the cells from one place to before another, which show the same.
-    Alike(usize, usize, Seen),
-    /// Looks at the cells from one place to before another, which show numbers in sequence.
-    Sequence(usize, usize, i64),
+    /// Types into so many cells from `A2` on that each is one more than `A1`, as one batch, and has this report.
+    Wide(usize, Figures),
 }
 
 /// `D1` closes a cycle and `B1` ends one.
@@ -180,15 +161,6 @@ pub(crate) fn edit_of(alloc: Global, cell: Cell, asked: &Asked) -> Result<Edit, 
     }
 }
 
-/// What an entry of these pieces says.
-pub(crate) fn read_pieces(alloc: Global, pieces: &[&[u8]]) -> Result<Content, Refusal> {
-    let mut entry = Vec::new(alloc);
-    for piece in pieces {
-        entry.extend_from_slice(piece)?;
-    }
-    read_entry(alloc, &entry)
-}
-
 /// Adds a cell with what an entry says.
 fn add_entry(
     rt: &impl Abort,
@@ -243,41 +215,6 @@ fn register(
     ))
 }
 
-fn tally(
-    rt: &impl Abort,
-    alloc: Global,
-    replica: u8,
-    added: u64,
-    subtracted: u64,
-) -> Result<CellState, Refusal> {
-    let mut counts = Vec::new(alloc);
-    counts.push((replica, Count { added, subtracted }))?;
-    let tally = Tally::from_parts(alloc, counts)?.expect(rt, "counts");
-    Ok(CellState::from_parts(Register::empty(), tally, Choice::empty(alloc)))
-}
-
-fn choice(rt: &impl Abort, alloc: Global, pair: Pair) -> Result<CellState, Refusal> {
-    let mut pairs = Vec::new(alloc);
-    pairs.push((pair, false))?;
-    let choice = Choice::from_parts(alloc, pairs)?.expect(rt, "pairs");
-    Ok(CellState::from_parts(Register::empty(), Tally::empty(alloc), choice))
-}
-
-fn state_of(rt: &impl Abort, alloc: Global, part: &Part) -> Result<CellState, Refusal> {
-    match part {
-        Assigned(time, replica, entry) => register(rt, alloc, *time, *replica, entry),
-        Counted(replica, added, subtracted) => { tally(rt, alloc, *replica, *added, *subtracted) }
-        Paired(option, replica, sequence) => {
-            let pair = Pair {
-                option: *option,
-                replica: *replica,
-                sequence: *sequence,
-            };
-            choice(rt, alloc, pair)
-        }
-    }
-}
-
 /// Adds a cell with what a part says.
 fn add_part(
     rt: &impl Abort,
@@ -286,7 +223,8 @@ fn add_part(
     name: &str,
     part: &Part,
 ) -> Result<(), Refusal> {
-    let state = state_of(rt, alloc, part)?;
+    let Assigned(time, replica, entry) = part;
+    let state = register(rt, alloc, *time, *replica, entry)?;
     Ok(cells.push((cell(rt, name), state))?)
 }
 
@@ -350,17 +288,6 @@ pub(crate) fn ask<R: Abort + Threads + Sync>(
     apply(rt, alloc, sheet, edit)
 }
 
-/// Types entries into cells as one batch.
-fn type_all<R: Abort + Threads + Sync>(
-    rt: &R,
-    alloc: Global,
-    sheet: &mut Sheet,
-    entries: &[(&str, &str)],
-) -> Result<Report, Refusal> {
-    let batch = batch_of(rt, alloc, entries)?;
-    apply(rt, alloc, sheet, Edit::SetAll(batch))
-}
-
 /// Receives a delta of these cells.
 pub(crate) fn get_all<R: Abort + Threads + Sync>(
     rt: &R,
@@ -405,27 +332,13 @@ fn take_step<R: Abort + Threads + Sync>(rt: &R, alloc: Global, sheet: &mut Sheet
         Enter(name, entry, figures) => {
             check_figures(rt, ask(rt, alloc, sheet, name, &Set(entry)), *figures, name)
         }
-        Type(entries, answer) => {
-            check_version(rt, type_all(rt, alloc, sheet, entries), *answer, "a batch")
-        }
-        Get(name, part, answer) => {
-            let ended = get_all(rt, alloc, sheet, &[(*name, *part)]);
-            check_version(rt, ended, *answer, name)
-        }
-        GetAll(parts, answer) => {
-            check_version(rt, get_all(rt, alloc, sheet, parts), *answer, "a delta")
-        }
         Receive(parts, figures) => {
             check_figures(rt, get_all(rt, alloc, sheet, parts), *figures, "a delta")
         }
         Show(name, seen) => check_shown(rt, sheet, name, seen),
-        Chain(cells) => chain(rt, alloc, sheet, *cells),
-        Fan(end) => fan(rt, alloc, sheet, *end),
-        Put(many, figures) => {
-            check_figures(rt, put_many(rt, alloc, sheet, *many), *figures, "a batch")
+        Wide(count, figures) => {
+            check_figures(rt, put_wide(rt, alloc, sheet, *count), *figures, "a batch")
         }
-        Alike(from, to, seen) => show_alike(rt, sheet, *from, *to, value(rt, seen)),
-        Sequence(from, to, first) => show_sequence(rt, sheet, *from, *to, *first),
     }
 }
 
@@ -439,14 +352,4 @@ pub(crate) fn go_on<R: Abort + Threads + Sync>(
     for step in steps {
         take_step(rt, alloc, sheet, step);
     }
-}
-
-/// The steps, one after another, at the empty sheet of a replica.
-pub(crate) fn play<R: Abort + Threads + Sync>(
-    rt: &R,
-    alloc: Global,
-    replica: u8,
-    steps: &'static [Step],
-) -> Result<(), Refusal> {
-    at_sheet(rt, alloc, replica, 1, Job::Steps(steps))
 }

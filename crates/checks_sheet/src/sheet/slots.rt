@@ -2,15 +2,14 @@
 
 ghost use Rattle.ps_grid.specs.Blanks.{IsBlankOf};
 
-use crate::sheet::script::Asked::Set;
-use crate::sheet::script::Step::{self, Ask};
+use crate::sheet::script::Step::{self, Enter};
 use crate::sheet::script::cell;
 use ps_content::read_entry;
 use ps_delta::{Change, Edit};
 use ps_eval::Meter;
 use ps_grid::Refusal;
 use ps_sheet::{Prepared, Report, Sheet};
-use ps_workers::{Gate, Open};
+use ps_workers::Gate;
 use std::alloc::Global;
 use std::marker::Brand;
 use std::process::Abort;
@@ -87,17 +86,6 @@ pub(crate) fn cancel(slot: &mut Option<Sheet>, prepared: Prepared) {
     put_back(slot, prepared.cancel());
 }
 
-/// Gives a change up.
-pub(crate) fn give_up<R: Abort + Threads + Sync>(
-    rt: &R,
-    alloc: Global,
-    slot: &mut Option<Sheet>,
-    change: Change,
-) {
-    let prepared = ready(rt, alloc, slot, change, &Open);
-    cancel(slot, prepared);
-}
-
 /// How many deltas the sheet of a slot has.
 pub(crate) fn version(rt: &impl Abort, slot: &Option<Sheet>) -> u64 {
     slot.as_ref().expect(rt, "a sheet").version()
@@ -105,10 +93,10 @@ pub(crate) fn version(rt: &impl Abort, slot: &Option<Sheet>) -> u64 {
 
 /// `A1` and `B1` are a cycle, and a number in `D1` keeps `C1` and `D1` from one.
 pub(crate) const TWO_CYCLES: &[Step] = &[
-    Ask("A1", Set("=[.B1]"), Ok(1)),
-    Ask("B1", Set("=[.A1]"), Ok(2)),
-    Ask("C1", Set("=[.D1]"), Ok(3)),
-    Ask("D1", Set("7"), Ok(4)),
-    Ask("E1", Set("=[.A1]+1"), Ok(5)),
-    Ask("F1", Set("=[.C1]+1"), Ok(6)),
+    Enter("A1", "=[.B1]", [1, 1, 0, 1]),
+    Enter("B1", "=[.A1]", [2, 0, 2, 0]),
+    Enter("C1", "=[.D1]", [3, 1, 0, 1]),
+    Enter("D1", "7", [4, 1, 0, 1]),
+    Enter("E1", "=[.A1]+1", [5, 0, 1, 0]),
+    Enter("F1", "=[.C1]+1", [6, 1, 0, 1]),
 ];
