@@ -1,8 +1,6 @@
-//! Desks as sessions use them: by turns in one thread, and in sixteen threads at once.
+//! Desks as sessions use them, by turns in one thread.
 
 mod desks;
 mod memory;
-mod refused;
 mod shown;
-mod threads;
 mod turns;

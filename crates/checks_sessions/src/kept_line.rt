@@ -1,12 +1,10 @@
 use ps_grid::{REPLICAS, Refusal};
 use ps_lines::{KeptLine, line_of_replica, put_replica_line, read_kept_line};
-use ps_wire::{Decoder, encode};
+use ps_wire::Decoder;
 use std::alloc::Global;
 use std::test::Fail;
 
-/// The line of a delta, and lines that push it.
-const DELTA: &[u8] = b"[[\"A1\",[1,2,\"5\"],[],[]]]";
-
+/// Lines that push a delta.
 const PUSHES: [&[u8]; 2] = [
     b"push [[\"A1\",[1,2,\"5\"],[],[]]]",
     b"push  [ [\"\\u00411\", [1,2,\"5\"],[], []] ] ",
@@ -17,21 +15,13 @@ fn read(alloc: Global, line: &[u8]) -> Result<Option<KeptLine>, Refusal> {
     read_kept_line(alloc, &mut Decoder::new(alloc), line)
 }
 
-/// The replica that a line tells.
-fn told(alloc: Global, line: &[u8]) -> Option<u8> {
-    match read(alloc, line) {
-        Ok(Some(KeptLine::Replica(replica))) => Some(replica),
-        Ok(Some(KeptLine::Push(_)) | None) | Err(_) => None,
-    }
-}
-
-/// The line of the delta that a line pushes.
-fn pushed(alloc: Global, line: &[u8]) -> Result<Vec<u8>, Refusal> {
-    let mut text = Vec::new(alloc);
-    if let Some(KeptLine::Push(delta)) = read(alloc, line)? {
-        encode(alloc, &delta, &mut text)?;
-    }
-    Ok(text)
+/// The replica that a line tells, or 0 where it pushes a delta.
+fn said(alloc: Global, line: &[u8]) -> Result<Option<u8>, Refusal> {
+    Ok(match read(alloc, line)? {
+        Some(KeptLine::Replica(replica)) => Some(replica),
+        Some(KeptLine::Push(_)) => Some(0),
+        None => None,
+    })
 }
 
 /// The line of each replica tells it.
@@ -40,7 +30,7 @@ fn each_replica_is_told(rt: HostRuntime) -> Result<(), Fail> {
     let alloc = rt.alloc();
     for replica in 1..=REPLICAS {
         let line = line_of_replica(alloc, replica)?;
-        assert!(rt; told(alloc, line.as_slice()) == Some(replica));
+        assert!(rt; said(alloc, line.as_slice()) == Ok(Some(replica)));
     }
     let mut text = Vec::new(alloc);
     put_replica_line(7, &mut text)?;
@@ -48,51 +38,36 @@ fn each_replica_is_told(rt: HostRuntime) -> Result<(), Fail> {
     Ok(())
 }
 
-/// A delta is pushed in any spelling.
+/// Lines that push a delta, in whatever spelling; lines that are near to such ones, and say nothing; and lines that push
+/// no delta, which are refused, though it be one without `push `.
 #[test]
-fn deltas_are_pushed(rt: HostRuntime) -> Result<(), Fail> {
-    for line in PUSHES.as_slice() {
-        let text = pushed(rt.alloc(), line).ok().ok_or("a delta")?;
-        assert!(rt; text.as_slice() == DELTA);
-    }
-    Ok(())
-}
-
-/// Lines that are near to such ones, and say nothing.
-#[test]
-fn other_lines_say_nothing(rt: HostRuntime) {
-    let lines: [&[u8]; 14] = [
-        b"replica 0",
-        b"replica 33",
-        b"replica 07",
-        b"replica 7 ",
-        b"replica  7",
-        b"Replica 7",
-        b"replica",
-        b"replica ",
-        b"push",
-        b"Push [[\"A1\",[1,2,\"5\"],[],[]]]",
-        b" push [[\"A1\",[1,2,\"5\"],[],[]]]",
-        b"[[\"A1\",[1,2,\"5\"],[],[]]]",
-        b"pull 0",
-        b"",
-    ];
-    for line in lines.as_slice() {
-        assert!(rt; matches!(read(rt.alloc(), line), Ok(None)));
-    }
-}
-
-/// A line that pushes no delta is refused, though it be one without `push `.
-#[test]
-fn other_pushes_are_refused(rt: HostRuntime) {
-    let lines: [&[u8]; 4] = [
-        b"push ",
-        b"push [[\"A1\",[1,2,\"5\"],[],[]]",
-        b"push push [[\"A1\",[1,2,\"5\"],[],[]]]",
-        b"push replica 7",
-    ];
-    for line in lines.as_slice() {
-        assert!(rt; matches!(read(rt.alloc(), line), Err(Refusal::Delta)));
+fn lines_say_what_they_say(rt: HostRuntime) {
+    for (line, want) in [
+        (PUSHES[0], Ok(Some(0))),
+        (PUSHES[1], Ok(Some(0))),
+        (b"replica 0", Ok(None)),
+        (b"replica 33", Ok(None)),
+        (b"replica 07", Ok(None)),
+        (b"replica 7 ", Ok(None)),
+        (b"replica  7", Ok(None)),
+        (b"Replica 7", Ok(None)),
+        (b"replica", Ok(None)),
+        (b"replica ", Ok(None)),
+        (b"push", Ok(None)),
+        (b"Push [[\"A1\",[1,2,\"5\"],[],[]]]", Ok(None)),
+        (b" push [[\"A1\",[1,2,\"5\"],[],[]]]", Ok(None)),
+        (b"[[\"A1\",[1,2,\"5\"],[],[]]]", Ok(None)),
+        (b"pull 0", Ok(None)),
+        (b"", Ok(None)),
+        (b"push ", Err(Refusal::Delta)),
+        (b"push [[\"A1\",[1,2,\"5\"],[],[]]", Err(Refusal::Delta)),
+        (
+            b"push push [[\"A1\",[1,2,\"5\"],[],[]]]",
+            Err(Refusal::Delta),
+        ),
+        (b"push replica 7", Err(Refusal::Delta)),
+    ] {
+        assert!(rt; said(rt.alloc(), line) == want);
     }
 }
 
@@ -102,7 +77,7 @@ fn other_pushes_are_refused(rt: HostRuntime) {
 fn refused_read_kept_line(rt: HostRuntime) {
     let alloc = rt.alloc();
     let mut decoder = Decoder::new(alloc);
-    assert!(rt; told(alloc, b"replica 32") == Some(32));
+    assert!(rt; said(alloc, b"replica 32") == Ok(Some(32)));
     for _ in 0..2 {
         match read_kept_line(alloc, &mut decoder, PUSHES[1]) {
             Ok(said) => {

@@ -1,15 +1,12 @@
-//! Tests of lines, peers, sessions and desks, by public calls alone.
+//! Tests of sessions and of desks, by public calls alone.
 //!
-//! `commands` asks what lines ask for, `session` how bytes are put together to lines, and `kept_line` what a line of a
-//! kept file says, all of `ps_lines`. `syncing` and `following` are what peers may reply, of `ps_peers`. `runs` is what
-//! a sheet's session replies, and `keeping` what one hands on whose keeper or sink fails, of `ps_session`. `desk` has a
-//! sheet shared by several sessions, of `ps_desk`.
+//! `session` asks how bytes are put together to lines, `runs` what a sheet's session replies, `keeping` what one hands on whose keeper or sink fails, `syncing` and `following` what peers may reply,
+//! `kept_line` what a line of a kept file says, all of `ps_session`. `desk` has a sheet shared by several sessions, of
+//! `ps_desk`.
 //!
 //! A crate with tests is proved a second time with them, so these stand apart from what they test.
 #![tactic(auto)]
 
-#[cfg(test)]
-mod commands;
 #[cfg(test)]
 mod desk;
 #[cfg(test)]

@@ -1,4 +1,4 @@
-use ps_lines::{LINE_LIMIT, Line};
+use ps_lines::Line;
 use ps_session::Session;
 use std::alloc::{AllocError, Global};
 use std::test::Fail;
@@ -38,20 +38,5 @@ fn cuts_do_not_matter(rt: HostRuntime) -> Result<(), Fail> {
         let found = lines_of(alloc, &text[..cut], &text[cut..])?;
         assert!(rt; found.as_slice() == b"set A1 5||get A1|\rget|".as_slice());
     }
-    Ok(())
-}
-
-/// A line of 262,208 bytes is a line; of one more nothing is kept, and the next line is read as ever.
-#[test]
-fn long_lines_are_dropped(rt: HostRuntime) -> Result<(), Fail> {
-    let alloc = rt.alloc();
-    let long = vec![in alloc; b'x'; LINE_LIMIT]?;
-    let mut session = Session::new(alloc)?;
-    assert!(rt; session.feed(long.as_slice()).line == Line::None);
-    assert!(rt; session.feed(b"\n").line == Line::Full && session.line().len() == LINE_LIMIT);
-    assert!(rt; session.feed(long.as_slice()).line == Line::None);
-    assert!(rt; session.feed(b"x\nget").line == Line::TooLong);
-    assert!(rt; session.feed(b"get\n").line == Line::Full && session.line() == b"get".as_slice());
-    assert!(rt; session.end() == Line::None);
     Ok(())
 }

@@ -1,4 +1,4 @@
-//! What a peer may reply to `sync`.
+//! What `sync` hands on; what else a peer may reply is a test of the program (`tests/test_sync.py`).
 ghost use Rattle.ps_grid.specs.Blanks.{IsBlankOf};
 
 use ps_device::{MemorySink, Reading};
@@ -8,7 +8,6 @@ use ps_session::sync;
 use std::alloc::Global;
 use std::marker::Brand;
 use std::sync::ledger::{Blank, Ledger};
-use std::test::Fail;
 
 /// What counts the failures of a peer's two devices.
 #[derive(Drop)]
@@ -55,34 +54,10 @@ fn between<I: Ledger, O: Ledger, J: Ledger, P: Ledger>(
     sync(alloc, &mut from, &mut to)
 }
 
-/// Whether peers with these replies are refused for an unexpected one.
-fn is_refused(alloc: Global, pulled: &[u8], pushed: &[u8]) -> bool {
-    match synced(alloc, pulled, pushed) {
-        Err(SyncFault::Refused(refusal)) => refusal == Refusal::Line,
-        _ => false,
-    }
-}
-
 /// Two groups of deltas, and their end.
 #[test]
-fn each_group_is_pushed(rt: HostRuntime) -> Result<(), Fail> {
+fn each_group_is_pushed(rt: HostRuntime) {
     let pulled = b"delta 16 [1]\ndelta 20 [2]\nend 20\n";
-    match synced(rt.alloc(), pulled, b"ok 1\nok 2\n") {
-        Ok(lines) => assert!(rt; lines == 2),
-        Err(_) => assert!(rt; false),
-    }
-    Ok(())
-}
-
-/// A peer that says `hello`, one whose versions don't rise, and one that stops in the middle of a line.
-#[test]
-fn other_replies_are_refused(rt: HostRuntime) -> Result<(), Fail> {
-    let alloc = rt.alloc();
-    assert!(rt;
-        is_refused(alloc, b"hello\n", b"")
-            && is_refused(alloc, b"delta 0 [1]\n", b"")
-            && is_refused(alloc, b"delta 1 [1]", b"")
-            && is_refused(alloc, b"delta 1 [1]\n", b"hello\n")
-    );
-    Ok(())
+    let lines = synced(rt.alloc(), pulled, b"ok 1\nok 2\n");
+    assert!(rt; lines.ok() == Some(2));
 }

@@ -121,87 +121,81 @@ fn at_a_desk<T: Abort + Threads + Wait + Sync>(
 
 /// A change is shown at once. One that directly follows it is shown before the replies are handed on, and the next one
 /// after that at once again.
-#[test]
-fn changes_that_follow_are_shown_with_the_replies(rt: HostRuntime) {
-    let acts = [
-        (0, Enter("1", 1)),
-        (1, Look(1)),
-        (0, Enter("2", 2)),
-        (0, Enter("3", 3)),
-        (1, Look(1)),
-        (0, Show),
-        (1, Look(3)),
-        (0, Enter("4", 4)),
-        (1, Look(4)),
-    ];
-    at_a_desk(&rt, rt.alloc(), &acts, Look(4));
-}
+const FOLLOWING: &[(usize, Act)] = &[
+    (0, Enter("1", 1)),
+    (1, Look(1)),
+    (0, Enter("2", 2)),
+    (0, Enter("3", 3)),
+    (1, Look(1)),
+    (0, Show),
+    (1, Look(3)),
+    (0, Enter("4", 4)),
+    (1, Look(4)),
+];
 
 /// A session sees all that it changed, and then the others do.
-#[test]
-fn a_look_shows_what_waits(rt: HostRuntime) {
-    let acts = [
-        (0, Enter("1", 1)),
-        (0, Enter("2", 2)),
-        (0, Look(2)),
-        (1, Look(2)),
-        (0, Enter("3", 3)),
-        (1, Look(3)),
-        (0, Enter("4", 4)),
-        (0, Pull(4)),
-        (1, Look(4)),
-    ];
-    at_a_desk(&rt, rt.alloc(), &acts, Look(4));
-}
+const LOOKED_AT: &[(usize, Act)] = &[
+    (0, Enter("1", 1)),
+    (0, Enter("2", 2)),
+    (0, Look(2)),
+    (1, Look(2)),
+    (0, Enter("3", 3)),
+    (1, Look(3)),
+    (0, Enter("4", 4)),
+    (0, Pull(4)),
+    (1, Look(4)),
+];
 
 /// Who is told of another session's changes, by a pull or by the number of a change of its own, sees them.
-#[test]
-fn who_is_told_of_changes_sees_them(rt: HostRuntime) {
-    let acts = [
-        (0, Enter("1", 1)),
-        (0, Enter("2", 2)),
-        (1, Pull(2)),
-        (1, Look(2)),
-        (0, Enter("3", 3)),
-        (1, Enter("4", 4)),
-        (1, Look(4)),
-        (1, Enter("5", 5)),
-        (0, Enter("6", 6)),
-        (1, Enter("7", 7)),
-        (1, Look(7)),
-        (0, Look(7)),
-    ];
-    at_a_desk(&rt, rt.alloc(), &acts, Look(7));
-}
+const TOLD: &[(usize, Act)] = &[
+    (0, Enter("1", 1)),
+    (0, Enter("2", 2)),
+    (1, Pull(2)),
+    (1, Look(2)),
+    (0, Enter("3", 3)),
+    (1, Enter("4", 4)),
+    (1, Look(4)),
+    (1, Enter("5", 5)),
+    (0, Enter("6", 6)),
+    (1, Enter("7", 7)),
+    (1, Look(7)),
+    (0, Look(7)),
+];
 
 /// After a change that was refused a session sees all that came before it.
-#[test]
-fn a_refused_change_hides_nothing(rt: HostRuntime) {
-    let acts = [
-        (0, Enter("1", 1)),
-        (0, Enter("2", 2)),
-        (1, Refuse),
-        (1, Look(2)),
-        (0, Enter("3", 3)),
-        (0, Refuse),
-        (0, Look(3)),
-        (0, Refuse),
-        (0, Enter("4", 4)),
-        (1, Refuse),
-        (1, Refuse),
-        (1, Look(4)),
-    ];
-    at_a_desk(&rt, rt.alloc(), &acts, Look(4));
-}
+const REFUSED: &[(usize, Act)] = &[
+    (0, Enter("1", 1)),
+    (0, Enter("2", 2)),
+    (1, Refuse),
+    (1, Look(2)),
+    (0, Enter("3", 3)),
+    (0, Refuse),
+    (0, Look(3)),
+    (0, Refuse),
+    (0, Enter("4", 4)),
+    (1, Refuse),
+    (1, Refuse),
+    (1, Look(4)),
+];
 
 /// A session that leaves shows what waits.
+const LEFT: &[(usize, Act)] = &[
+    (0, Enter("1", 1)),
+    (0, Enter("2", 2)),
+    (0, Enter("3", 3)),
+    (1, Look(1)),
+];
+
+/// What a session changes is shown to another one as its session is told.
 #[test]
-fn who_leaves_shows_what_waits(rt: HostRuntime) {
-    let acts = [
-        (0, Enter("1", 1)),
-        (0, Enter("2", 2)),
-        (0, Enter("3", 3)),
-        (1, Look(1)),
-    ];
-    at_a_desk(&rt, rt.alloc(), &acts, Look(3));
+fn seats_show_what_they_change(rt: HostRuntime) {
+    for (acts, last) in [
+        (FOLLOWING, Look(4)),
+        (LOOKED_AT, Look(4)),
+        (TOLD, Look(7)),
+        (REFUSED, Look(4)),
+        (LEFT, Look(3)),
+    ] {
+        at_a_desk(&rt, rt.alloc(), acts, last);
+    }
 }
