@@ -1,6 +1,5 @@
-//! The tests of `ps_commands`, `ps_words` and `ps_hints`, by their public items: sessions, one at a desk, devices that
-//! fail, the command line and its help, hints, servers with their clients, what a peer may reply, and lines that are
-//! squashed.
+//! The tests of `ps_commands`, `ps_words` and `ps_hints`, by their public items: a session at a desk, devices that fail,
+//! the command line and its help, hints, and lines that are squashed.
 //!
 //! They stand apart since a crate with tests is proved twice. Nothing stands on this crate.
 #![tactic(auto)]
@@ -16,12 +15,6 @@ mod help;
 #[cfg(test)]
 mod hints;
 #[cfg(test)]
-mod serving;
-#[cfg(test)]
-mod session;
-#[cfg(test)]
 mod squash;
-#[cfg(test)]
-mod sync;
 #[cfg(test)]
 mod words;
