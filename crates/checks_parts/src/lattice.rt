@@ -3,9 +3,7 @@
 //! What a test asserts is worked out by small functions with few owned values each: those are quick to prove.
 
 use ps_grid::{Refusal, Twin};
-use ps_lattice::{
-    Assignment, COUNT_LIMIT, Choice, Count, Join, LAST_TIME, Linear, Pair, Register, Tally,
-};
+use ps_lattice::{Assignment, Choice, Count, Join, LAST_TIME, Linear, Pair, Register, Tally};
 use std::alloc::Global;
 
 #[derive(Clone, Copy, PartialEq, Eq, PartialOrd, Ord)]
@@ -155,118 +153,6 @@ fn a_counter_shows_sums(rt: HostRuntime) {
     assert!(rt; five_less_two(rt.alloc()) == Ok(true));
 }
 
-fn counter(alloc: Global, parts: &[(u8, Count)]) -> Result<Option<Tally>, Refusal> {
-    Tally::from_parts(alloc, Vec::from_slice(alloc, parts)?)
-}
-
-// Why adding the amount at replica 1 is refused, and why subtracting it is.
-fn refusals(alloc: Global, tally: &Tally, amount: u64) -> (Option<Refusal>, Option<Refusal>) {
-    (
-        tally.add(alloc, 1, amount).err(),
-        tally.sub(alloc, 1, amount).err(),
-    )
-}
-
-fn a_full_counter_refuses(alloc: Global) -> Result<bool, Refusal> {
-    let Some(full) = counter(alloc, &[(1, count(COUNT_LIMIT, 0))])? else {
-        return Ok(false);
-    };
-    let out_of_range = (Some(Refusal::Amount), Some(Refusal::Amount));
-    let too_much = (Some(Refusal::TallyFull), None);
-    Ok(
-        refusals(alloc, &full, 0) == out_of_range
-            && refusals(alloc, &full, 1) == too_much
-            && refusals(alloc, &full, 1_000_000) == too_much
-            && refusals(alloc, &full, 1_000_001) == out_of_range,
-    )
-}
-
-// Whether a counter has these counts, whose order and range are to be tested.
-fn is_counter(alloc: Global, parts: &[(u8, Count)]) -> Result<bool, Refusal> {
-    Ok(counter(alloc, parts)?.is_some())
-}
-
-/// Amounts out of range, and counts that would pass their limit, are refused.
-#[test]
-fn a_counter_refuses(rt: HostRuntime) {
-    let alloc = rt.alloc();
-    assert!(rt; a_full_counter_refuses(alloc) == Ok(true));
-    for (replica, added) in [(0, 1), (33, 1), (1, 0), (1, COUNT_LIMIT + 1)] {
-        assert!(rt; is_counter(alloc, &[(replica, count(added, 0))]) == Ok(false));
-    }
-    for first in [2, 1] {
-        let parts = [(first, count(1, 0)), (1, count(1, 0))];
-        assert!(rt; is_counter(alloc, &parts) == Ok(false));
-    }
-}
-
-// Whether a counter of the first counts, with one of the other counts joined in, has the counts of the join, and each
-// is below it; where it doesn't have the others already, it isn't.
-fn joins_to(
-    alloc: Global,
-    counts: &[(u8, Count)],
-    others: &[(u8, Count)],
-    both: &[(u8, Count)],
-) -> Result<bool, Refusal> {
-    let (Some(tally), Some(other)) = (counter(alloc, counts)?, counter(alloc, others)?) else {
-        return Ok(false);
-    };
-    let joined = with(alloc, &tally, &[&other])?;
-    let is_above = tally.below(&joined) && other.below(&joined);
-    Ok(is_above && has_counts(&joined, both) && joined.below(&tally) == (counts == both))
-}
-
-/// Counters of one replica, with counts to the last one of 32 bits and past it, and of several replicas join to the
-/// greater counts of each.
-#[test]
-fn great_counts_join_small_ones(rt: HostRuntime) {
-    let alloc = rt.alloc();
-    let last = 4_294_967_295;
-    for (mine, theirs, both) in [
-        (count(5, 7), count(6, 2), count(6, 7)),
-        (count(last, 1), count(3, last), count(last, last)),
-        (count(last, 1), count(last + 1, 0), count(last + 1, 1)),
-        (count(0, last + 1), count(2, last), count(2, last + 1)),
-        (
-            count(COUNT_LIMIT, 0),
-            count(0, COUNT_LIMIT),
-            count(COUNT_LIMIT, COUNT_LIMIT),
-        ),
-        (count(9, 9), count(9, 0), count(9, 9)),
-    ] {
-        assert!(rt; joins_to(alloc, &[(3, mine)], &[(3, theirs)], &[(3, both)]) == Ok(true));
-        let apart = [(3, mine), (4, theirs)];
-        assert!(rt; joins_to(alloc, &[(3, mine)], &[(4, theirs)], &apart) == Ok(true));
-        let more = [(3, both), (4, theirs)];
-        assert!(rt; joins_to(alloc, &[(3, mine)], &apart, &apart) == Ok(true));
-        assert!(rt; joins_to(alloc, &apart, &[(3, theirs)], &more) == Ok(true));
-    }
-}
-
-// What a counter of replica 1's count shows after an amount is added and another one is subtracted.
-fn value_after(
-    alloc: Global,
-    counts: Count,
-    added: u64,
-    subtracted: u64,
-) -> Result<Option<i64>, Refusal> {
-    let Some(mut tally) = counter(alloc, &[(1, counts)])? else {
-        return Ok(None);
-    };
-    take_in(tally.add(alloc, 1, added), &mut tally, alloc)?;
-    take_in(tally.sub(alloc, 1, subtracted), &mut tally, alloc)?;
-    Ok(Some(tally.value()))
-}
-
-/// A counter counts on past the last number of 32 bits.
-#[test]
-fn a_counter_counts_past_32_bits(rt: HostRuntime) {
-    let alloc = rt.alloc();
-    let last = 4_294_967_295;
-    assert!(rt; value_after(alloc, count(last, 0), 1, 2) == Ok(Some(4_294_967_294)));
-    assert!(rt; value_after(alloc, count(1, last), 2, 1_000_000) == Ok(Some(-4_295_967_292)));
-}
-
 // The options that are in once the edit is joined.
 fn options_after(
     edit: Result<Choice, Refusal>,
@@ -320,79 +206,6 @@ fn a_removal_keeps_what_it_did_not_see(rt: HostRuntime) {
     assert!(rt; options_shown(rt.alloc()) == Ok((1 << 7, 0, 1 << 7)));
     assert!(rt; a_removal_holds_its_pair(rt.alloc()) == Ok(true));
     assert!(rt; the_next_removal_holds_the_new_pair(rt.alloc()) == Ok(true));
-}
-
-fn chosen_256_times(alloc: Global) -> Result<bool, Refusal> {
-    let mut choice = Choice::empty(alloc);
-    for _ in 0..256 {
-        take_in(choice.choose(alloc, 1, 0), &mut choice, alloc)?;
-    }
-    Ok(
-        choice.parts().len() == 256
-            && choice.choose(alloc, 1, 3).err() == Some(Refusal::ChoiceFull)
-            && choice.choose(alloc, 2, 3).is_ok(),
-    )
-}
-
-fn is_choice(alloc: Global, parts: &[(Pair, bool)]) -> Result<bool, Refusal> {
-    Ok(Choice::from_parts(alloc, Vec::from_slice(alloc, parts)?)?.is_some())
-}
-
-/// A replica has 256 sequences in a choice, over all options.
-#[test]
-fn a_choice_has_256_sequences(rt: HostRuntime) {
-    let alloc = rt.alloc();
-    assert!(rt; chosen_256_times(alloc) == Ok(true));
-    for (option, replica, sequence, is_in_range) in [
-        (64, 1, 1, false),
-        (0, 0, 1, false),
-        (0, 33, 1, false),
-        (0, 1, 0, false),
-        (0, 1, 257, false),
-        (7, 2, 1, true),
-    ] {
-        let parts = [(pair(option, replica, sequence), false)];
-        assert!(rt; is_choice(alloc, &parts) == Ok(is_in_range));
-    }
-    for (second, is_removed) in [(0, false), (1, true)] {
-        let parts = [(pair(1, 1, 1), false), (pair(second, 1, 1), is_removed)];
-        assert!(rt; is_choice(alloc, &parts) == Ok(false));
-    }
-}
-
-// How many pairs a choice of one option and its twin have, once another option is joined into the twin.
-fn pairs_of_two(alloc: Global) -> Result<(usize, usize), Refusal> {
-    let one = Choice::empty(alloc).choose(alloc, 1, 7)?;
-    let both = with_option_9(alloc, &one)?;
-    Ok((one.parts().len(), both.parts().len()))
-}
-
-fn with_option_9(alloc: Global, choice: &Choice) -> Result<Choice, Refusal> {
-    let other = Choice::empty(alloc).choose(alloc, 2, 9)?;
-    with(alloc, choice, &[&other])
-}
-
-// How many pairs a choice has that more is joined into, and its options.
-fn with_more(alloc: Global) -> Result<(usize, u64), Refusal> {
-    let one = Choice::empty(alloc).choose(alloc, 1, 7)?;
-    let again = with(alloc, &one, &[&with_option_9(alloc, &one)?])?;
-    Ok((again.parts().len(), again.options()))
-}
-
-// How many pairs a choice has that less is joined into, and its options.
-fn with_less(alloc: Global) -> Result<(usize, u64), Refusal> {
-    let one = Choice::empty(alloc).choose(alloc, 1, 7)?;
-    let both = with_option_9(alloc, &with_option_9(alloc, &one)?)?;
-    let again = with(alloc, &both, &[&Choice::empty(alloc)])?;
-    Ok((again.parts().len(), again.options()))
-}
-
-/// A twin stays what it was when the other one is joined; joined with less, a choice stays, and with more it is that.
-#[test]
-fn a_twin_is_a_value_of_its_own(rt: HostRuntime) {
-    assert!(rt; pairs_of_two(rt.alloc()) == Ok((1, 2)));
-    assert!(rt; with_more(rt.alloc()) == Ok((2, 640)));
-    assert!(rt; with_less(rt.alloc()) == Ok((2, 640)));
 }
 
 fn held(register: &Register<Letter>) -> Option<(u64, u8, u8)> {
