@@ -1,32 +1,33 @@
 // The current cell, and the opposite corner of what is selected.
 let current = [0, 0], corner = [0, 0];
-const bound = (value, most) => Math.max(0, Math.min(most - 1, value));
-function selected() {
-  const [left, right] = [current[0], corner[0]].sort((a, b) => a - b);
-  const [top, bottom] = [current[1], corner[1]].sort((a, b) => a - b);
-  return { left, top, right, bottom };
-}
+const selected = () => boxOf(current, corner);
 function visible() {
   const width = Math.max(grid.clientWidth - SIDE, WIDTH), height = Math.max(grid.clientHeight - HEIGHT, HEIGHT);
   return {
-    left: Math.floor(grid.scrollLeft / WIDTH), top: Math.floor(grid.scrollTop / HEIGHT),
-    right: bound(Math.floor((grid.scrollLeft + width - 1) / WIDTH), COLUMNS),
+    left: columnAt(grid.scrollLeft), top: bound(Math.floor(grid.scrollTop / HEIGHT), ROWS),
+    right: columnAt(grid.scrollLeft + width - 1),
     bottom: bound(Math.floor((grid.scrollTop + height - 1) / HEIGHT), ROWS),
   };
 }
 function bringIntoView([column, row]) {
-  const x = column * WIDTH, y = row * HEIGHT, width = grid.clientWidth - SIDE, height = grid.clientHeight - HEIGHT;
-  if (x < grid.scrollLeft) grid.scrollLeft = x;
-  else if (x + WIDTH > grid.scrollLeft + width) grid.scrollLeft = x + WIDTH - width;
+  const x = lefts[column], y = row * HEIGHT, width = grid.clientWidth - SIDE, height = grid.clientHeight - HEIGHT;
+  if (x < grid.scrollLeft || widthOf(column) > width) grid.scrollLeft = x;
+  else if (lefts[column + 1] > grid.scrollLeft + width) grid.scrollLeft = lefts[column + 1] - width;
   if (y < grid.scrollTop) grid.scrollTop = y;
   else if (y + HEIGHT > grid.scrollTop + height) grid.scrollTop = y + HEIGHT - height;
 }
-function moveTo([column, row], extends_it) {
-  const to = [bound(column, COLUMNS), bound(row, ROWS)];
-  if (extends_it) corner = to; else current = corner = to;
+/** Selects the area between two cells, of which the first is the current one. */
+function select(from, to = from) {
+  if (!isSame(from, current)) leaveMark(current);
+  [current, corner] = [from, to];
   hideOptions();
-  bringIntoView(to);
   draw();
+  look();
+}
+function moveTo([column, row], isExtending) {
+  const to = [bound(column, COLUMNS), bound(row, ROWS)];
+  bringIntoView(to);
+  select(isExtending ? current : to, to);
 }
 
 // Drawing: only what is visible has elements.
@@ -46,15 +47,18 @@ function drawHead(key, parent, name, text, box, isOn) {
     element = made('div', name, parent);
     element.textContent = text;
     element.setAttribute('role', name === 'column' ? 'columnheader' : 'rowheader');
+    element.dataset.head = key;
+    if (name === 'column') made('i', 'edge', element).dataset.edge = key.slice(1);
     place(element, ...box);
     heads.set(key, element);
   }
-  element.className = isOn ? name + ' on' : name;
+  const wanted = isOn ? name + ' on' : name;
+  if (element.className !== wanted) element.className = wanted;
 }
 function drawHeads(area, range) {
   for (let c = area.left; c <= area.right; c++) {
     const isOn = c >= range.left && c <= range.right;
-    drawHead('c' + c, $('columns'), 'column', columnName(c), [SIDE + c * WIDTH, 0, WIDTH, HEIGHT], isOn);
+    drawHead('c' + c, $('columns'), 'column', columnName(c), [SIDE + lefts[c], 0, widthOf(c), HEIGHT], isOn);
   }
   for (let r = area.top; r <= area.bottom; r++) {
     const isOn = r >= range.top && r <= range.bottom;
@@ -91,7 +95,7 @@ function cellElement(column, row) {
     element.style.lineHeight = HEIGHT - 1 + 'px';
     element.setAttribute('role', 'gridcell');
     element.setAttribute('aria-colindex', column + 2);
-    place(element, SIDE + column * WIDTH, HEIGHT + row * HEIGHT, WIDTH, HEIGHT);
+    place(element, SIDE + lefts[column], HEIGHT + row * HEIGHT, widthOf(column), HEIGHT);
     cells.set(key, element);
   }
   return element;
@@ -103,41 +107,56 @@ function draw(changed = new Set()) {
   for (let r = area.top; r <= area.bottom; r++)
     for (let c = area.left; c <= area.right; c++)
       fill(cellElement(c, r), [c, r], changed.has(keyOf(c, r)));
-  place($('current'), SIDE + current[0] * WIDTH - 1, HEIGHT + current[1] * HEIGHT - 1, WIDTH + 1, HEIGHT + 1);
-  place($('range'), SIDE + range.left * WIDTH, HEIGHT + range.top * HEIGHT,
-    (range.right - range.left + 1) * WIDTH - 1, (range.bottom - range.top + 1) * HEIGHT - 1);
-  $('range').hidden = nameOf(current) === nameOf(corner);
+  const [x, y, width, height] = pixels(boxOf(current, current)), [left, top, wide, high] = pixels(range);
+  place($('current'), x - 1, y - 1, width + 1, height + 1);
+  place($('range'), left, top, wide - 1, high - 1);
+  $('range').hidden = isSame(current, corner);
+  place($('handle'), left + wide - 6, top + high - 6, 10, 10);
+  drawCut();
   grid.setAttribute('aria-activedescendant', 'cell-' + keyOf(...current));
   drawLine();
   if (!options.hidden && changed.has(keyOf(...current))) drawOptions();
 }
+/** What a cell is, beside what it shows: for screen readers, and below the grid. */
+function kindOf(cell, entry, value) {
+  const mark = marks.get(keyOf(...cell));
+  if (mark) return `refused: ${mark.text}: ${mark.why} F2 takes it up again`;
+  if (entry[0] === '=') return FAULTS[value] ? value + ' ' + FAULTS[value] : 'formula ' + fromEntry(entry);
+  return entry === '@tally' ? 'counter: + and \u2212 count'
+    : entry === '@choice' ? 'options: Enter shows them' : noteOf(entry);
+}
 function drawLine() {
-  const entry = heldAt(current), value = shownAt(current), fault = entry[0] === '=' ? FAULTS[value] : undefined;
-  if (document.activeElement !== $('name')) $('name').value = nameOf(current);
-  if (editing === null) line.value = fromEntry(entry);
-  $('value').textContent = entry[0] === '=' ? '= ' + value : '';
-  $('value').className = fault ? 'fault' : '';
-  $('hint').textContent = fault ? value + ' ' + fault
-    : entry === '@tally' ? '+ and \u2212 count' : entry === '@choice' ? 'Enter shows the options' : '';
+  const entry = heldAt(current), value = shownAt(current), isFault = entry[0] === '=' && FAULTS[value];
+  const kind = kindOf(current, entry, value);
+  if (document.activeElement !== $('name')) $('name').value = isSame(current, corner) ? nameOf(current) : areaName(selected());
+  if (editing === null) line.value = textOf(current, entry);
+  const note = entry === passedOf && passedOver ? ', ' + passedOver : '';
+  $('value').textContent = entry[0] === '=' ? '= ' + value + note : '';
+  $('value').className = isFault || note ? 'fault' : '';
+  const hint = entry[0] === '=' && !isFault ? '' : kind;
+  if ($('hint').textContent !== hint) $('hint').textContent = hint;
+  if (editing === null && marks.has(keyOf(...current))) marks.get(keyOf(...current)).isSeen = true;
+  drawSums();
 }
 function fill(element, cell, isNew) {
-  const value = shownAt(cell), entry = heldAt(cell);
+  const value = shownAt(cell), entry = heldAt(cell), mark = marks.get(keyOf(...cell));
   if (isNew) { element.classList.remove('flash'); void element.offsetWidth; element.classList.add('flash'); }
-  const isSelected = cell[0] === current[0] && cell[1] === current[1];
-  if (element.ariaSelected !== String(isSelected)) element.setAttribute('aria-selected', isSelected);
-  if (element.value === value && element.entry === entry) return;
-  element.value = value;
-  element.entry = entry;
-  element.title = entry[0] === '=' && FAULTS[value] || (value.length > 12 ? value : '');
+  const isSelected = String(isSame(cell, current));
+  if (element.ariaSelected !== isSelected) element.setAttribute('aria-selected', isSelected);
+  const names = entry === '@choice' ? namesFor(cell) : null;
+  if (element.value === value && element.entry === entry && element.mark === mark && element.names === names) return;
+  Object.assign(element, { value, entry, mark, names });
+  const kind = kindOf(cell, entry, value);
+  element.title = mark || noteOf(entry) || FAULTS[value] && entry[0] === '=' ? kind : value.length > 12 ? value : '';
+  element.setAttribute('aria-label', [value, nameOf(cell), kind].filter(Boolean).join(', '));
   element.textContent = '';
-  const flash = isNew ? ' flash' : '';
-  if (entry === '@tally' && /^-?\d+$/.test(value)) fillTally(element, value, flash);
-  else if (entry === '@choice' && value[0] === '{') fillChoice(element, value, flash);
+  const more = (isNew ? ' flash' : '') + (mark ? ' refused' : noteOf(entry) ? ' looks' : '');
+  if (entry === '@tally' && /^-?\d+$/.test(value)) fillTally(element, value, more);
+  else if (entry === '@choice' && value[0] === '{') fillChoice(element, value, more, names);
   else {
     const fault = entry[0] === '=' && FAULTS[value];
-    const isNumber = entry[0] !== "'" && /^-?\d+$/.test(value);
-    const kind = fault ? value === '#CYCLE!' ? ' fault cycle' : ' fault' : isNumber ? ' number' : '';
-    element.className = 'cell' + kind + flash;
+    const look = fault ? value === '#CYCLE!' ? ' fault cycle' : ' fault' : isNumber(entry, value) ? ' number' : '';
+    element.className = 'cell' + look + more;
     element.textContent = value;
   }
 }
@@ -146,35 +165,16 @@ function button(parent, action, sign, label) {
   Object.assign(element, { textContent: sign, tabIndex: -1, ariaLabel: label });
   element.dataset.action = action;
 }
-function fillTally(element, value, flash) {
-  element.className = 'cell tally' + flash;
+function fillTally(element, value, more) {
+  element.className = 'cell tally' + more;
   button(element, 'sub', '\u2212', 'one less');
   made('span', '', element).textContent = value;
   button(element, 'add', '+', 'one more');
 }
 const readOptions = value => value.length > 2 ? value.slice(1, -1).split(',') : [];
-function fillChoice(element, value, flash) {
-  element.className = 'cell choice' + flash;
-  const marks = made('span', 'marks', element);
-  for (const option of readOptions(value)) made('i', 'mark', marks).textContent = option;
+function fillChoice(element, value, more, names) {
+  element.className = 'cell choice' + more;
+  const list = made('span', 'marks', element);
+  for (const option of readOptions(value)) made('i', 'mark', list).textContent = names && names[option] || option;
   button(element, 'options', '\u25be', 'options');
 }
-
-// What is told: a refusal beside its cell.
-let telling = null;
-function tell(text, cell = current, stays = false) {
-  const box = $('refusal'), element = cells.get(keyOf(...cell));
-  box.textContent = text;
-  box.hidden = !text;
-  clearTimeout(telling);
-  if (!text) return;
-  const near = (element || grid).getBoundingClientRect();
-  beside(box, near);
-  if (!stays) telling = setTimeout(() => tell(''), 8000);
-}
-function beside(box, near) {
-  const below = near.bottom + 4, isRoom = below + box.offsetHeight < innerHeight;
-  box.style.left = Math.max(4, Math.min(near.left, innerWidth - box.offsetWidth - 8)) + 'px';
-  box.style.top = Math.max(4, isRoom ? below : near.top - box.offsetHeight - 4) + 'px';
-}
-

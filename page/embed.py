@@ -5,9 +5,13 @@ by their hashes, so a browser runs that script and no other.
 import base64
 import hashlib
 import pathlib
+import re
 
 HERE = pathlib.Path(__file__).resolve().parent
-SCRIPTS = ["sheet.js", "drawing.js", "editing.js"]
+# The scripts, in the order in which they are put together to one.
+SCRIPTS = [f"{name}.js" for name in (
+    "names", "words", "formulas", "wire", "cells", "widths", "drawing", "telling", "changes", "undo", "editing", "options",
+    "clipboard", "filling", "sums", "finding", "files", "keys", "pointer", "start")]
 MODULE = HERE.parent / "crates" / "ps_page" / "src" / "page.rt"
 
 
@@ -15,15 +19,54 @@ def hash_of(text):
     return "'sha256-" + base64.b64encode(hashlib.sha256(text.encode()).digest()).decode() + "'"
 
 
-def module():
-    style = (HERE / "page.css").read_text()
-    script = "\n" + "\n".join((HERE / name).read_text() for name in SCRIPTS)
+# The parts of a script that stay as they are: texts, regular expressions and names; comments and blanks, which go.
+PARTS = re.compile(r"""
+    (?P<gone>//[^\n]*|/\*.*?\*/|\s+)
+    |(?P<kept>'(?:[^'\\]|\\.)*'|"(?:[^"\\]|\\.)*"|`(?:[^`\\$]|\\.|\$(?!\{)|\$\{(?:'[^']*'|[^{}`']|`[^`]*`|\{[^{}]*\})*\})*`)
+    |(?P<slash>/)|(?P<word>[\w$]+)|(?P<sign>.)""", re.VERBOSE | re.DOTALL)
+# So many parts stand in a line at least, so that lines don't get too long.
+LINE_PARTS = 25
+PATTERN = re.compile(r"/(?:[^/\\\[\n]|\\.|\[(?:[^\]\\]|\\.)*\])+/[a-z]*")
+
+
+def compact(script):
+    """A script without its comments and the blanks that it doesn't need, so that the page is small."""
+    out, at, was_gap, start = [], 0, False, 0
+    while at < len(script):
+        found = PARTS.match(script, at)
+        if found["slash"] and out and re.search(r"[(,=:\[!&|?{};+\-*<>]$|^return$", out[-1]):
+            found = PATTERN.match(script, at)
+        at = found.end()
+        part, is_gone = found[0], found.re is PARTS and found["gone"]
+        if is_gone:
+            was_gap = True
+            continue
+        if was_gap and out and (re.match(r"[\w$][\w$]", out[-1][-1] + part[0]) or out[-1][-1] + part[0] in ("++", "--")):
+            out.append(" ")
+        elif was_gap and len(out) - start > LINE_PARTS and out[-1] in "{};,":
+            out.append("\n")
+            start = len(out)
+        out.append(part)
+        was_gap = False
+    return "".join(out)
+
+
+def assembled():
+    """The page with style and scripts in it, and the content policy that names both by their hashes."""
+    style = re.sub(r"\s*([{};:,>])\s*", r"\1", re.sub(r"\s+", " ", (HERE / "page.css").read_text()))
+    style = style.replace("}", "}\n")
+    script = compact("\n".join((HERE / name).read_text() for name in SCRIPTS))
     page = (HERE / "page.html").read_text().replace("{style}", style).replace("{script}", script)
     if not page.isascii() or '"##' in page or "\r" in page:
         raise SystemExit("the page has to be ASCII, with line feeds alone and no quote before ##")
     policy = (f"default-src 'none'; script-src {hash_of(script)}; style-src {hash_of(style)}; connect-src 'self'; "
               "img-src data:; base-uri 'none'; form-action 'none'; frame-ancestors 'none'")
-    head = "".join(line + "\\r\n" for line in [
+    return page, policy
+
+
+def head_of(page, policy):
+    """The lines of the response's head, the last one empty."""
+    return [
         "HTTP/1.1 200 OK",
         "content-type: text/html; charset=utf-8",
         f"content-length: {len(page)}",
@@ -36,7 +79,12 @@ def module():
         "cross-origin-resource-policy: same-origin",
         "connection: close",
         "",
-    ])
+    ]
+
+
+def module():
+    page, policy = assembled()
+    head = "".join(line + "\\r\n" for line in head_of(page, policy))
     return ("//! The page, written by page/embed.py from the files beside it.\n\n"
             "/// The head of the response with the page, which ends where the connection does.\n"
             f'pub const PAGE_HEAD: &[u8] = b"{head}";\n\n'

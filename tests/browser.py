@@ -14,12 +14,12 @@ from browser_socket import WebSocket, request
 from program import LIMIT
 
 NAMES = ["chromium", "chromium-browser", "google-chrome"]
-CONTROL, SHIFT = 2, 8
+ALT, CONTROL, SHIFT = 1, 2, 8
 # What a letter does with Control.
 COMMANDS = {"c": "copy", "v": "paste", "x": "cut"}
 # The code that a browser gives each key that isn't a letter.
 KEYS = {"Enter": 13, "Tab": 9, "Escape": 27, "Backspace": 8, "Delete": 46, "Home": 36, "PageUp": 33, "PageDown": 34,
-        "ArrowLeft": 37, "ArrowUp": 38, "ArrowRight": 39, "ArrowDown": 40, "F2": 113}
+        "ArrowLeft": 37, "ArrowUp": 38, "ArrowRight": 39, "ArrowDown": 40, "End": 35, "F1": 112, "F2": 113, "F6": 117, " ": 32}
 
 
 def program():

@@ -1,82 +1,12 @@
 """The page of `sheet page` in a real browser: what one types another sees, each key, counters, choices, pictures."""
-import contextlib
 import os
 import signal
 import unittest
-from pathlib import Path
 
-import browser
-from browser import CONTROL, SHIFT, Browser
-from browser_gateway import paging
-from program import LIMIT, NO_BROWSER, ProgramTest
+from browser import CONTROL, SHIFT
+from browser_page import SESSIONS, BrowserTest
+from program import LIMIT
 from servers import serving
-
-SESSIONS = 16
-# Where pictures of the page are kept; nowhere unless the variable is set.
-PICTURES = os.environ.get("SHEET_PICTURES")
-
-
-class BrowserTest(ProgramTest):
-    """A test of the page, for which one browser is started."""
-
-    browser = None
-    words = ()
-
-    @classmethod
-    def tearDownClass(cls):
-        if cls.browser is not None:
-            cls.browser.end()
-            cls.browser = None
-
-    def setUp(self):
-        if browser.program() is None:
-            self.skipTest(NO_BROWSER)
-        if self.browser is None:
-            type(self).browser = Browser()
-        with contextlib.ExitStack() as stack:
-            self.server = stack.enter_context(serving(SESSIONS))
-            self.gateway = stack.enter_context(paging(self.server.port, *self.words))
-            self.addCleanup(stack.pop_all().close)
-        self.client = self.server.client()
-
-    def page(self):
-        """A page that is connected, and at whose end nothing went wrong."""
-        page = self.browser.page(self.gateway.url)
-        self.addCleanup(page.close)
-        self.addCleanup(lambda: self.assertEqual(page.problems, []))
-        page.wait_for("document.getElementById('link').textContent", "connected")
-        page.wait_for("seenAt !== ''")
-        return page
-
-    def assert_shows(self, page, cell, text):
-        """A page comes to show a text in a cell; how long that took."""
-        column, row = cell
-        return page.wait_for(f"(document.getElementById('cell-' + keyOf({column}, {row})) || {{}}).textContent", text)
-
-    def assert_held(self, line, reply):
-        """The server comes to answer this line so."""
-        self.client.wait_for(line, reply)
-
-    def middle(self, page, column, row, part=""):
-        """Where the middle of a cell, or of a part of it, is."""
-        return page.middle(f"document.querySelector('#cell-' + keyOf({column}, {row}) + ' {part}'.trimEnd())")
-
-    def button(self, page, name):
-        """Where the button of an example is, once the page knows that the sheet is empty."""
-        page.wait_for("document.getElementById('examples').hidden", False)
-        return page.middle(f"document.getElementById('{name}')")
-
-    def current(self, page):
-        """The name of the current cell."""
-        return page.value("document.getElementById('name').value")
-
-    def keep_picture(self, page, name):
-        """Has a picture of a page that isn't empty, and keeps it where that is asked for."""
-        picture = page.picture()
-        self.assertTrue(picture.startswith(b"\x89PNG"))
-        if PICTURES:
-            (Path(PICTURES) / f"{name}.png").write_bytes(picture)
-        return picture
 
 
 class Two(BrowserTest):
@@ -267,10 +197,10 @@ class Keys(BrowserTest):
         self.assert_held("get B1", "val 31")
         page.wait_for("shownAt([1, 0])", "31")
         page.key("x", CONTROL)
-        self.assert_held("get B1", "val ")
         page.key("ArrowDown")
         page.key("v", CONTROL)
         self.assert_held("get B2", "val 31")
+        self.assert_held("get B1", "val ")
 
 
 class Pointer(BrowserTest):
@@ -398,14 +328,6 @@ class Looks(BrowserTest):
         for box in ("name", "line", "tally", "choice", "link"):
             self.assertLessEqual(page.value(f"document.getElementById('{box}').getBoundingClientRect().right"), 400)
         self.keep_picture(page, "narrow")
-
-    def test_a_screen_reader_finds_the_grid(self):
-        page = self.filled()
-        nodes = page.call("Accessibility.getFullAXTree")["nodes"]
-        found = {(node.get("role", {}).get("value"), node.get("name", {}).get("value")) for node in nodes}
-        for wanted in (("grid", "Sheet"), ("gridcell", "Pizza"), ("columnheader", "A"), ("rowheader", "1"),
-                       ("button", "one more"), ("textbox", "Content of the cell"), ("textbox", "Cell")):
-            self.assertIn(wanted, found)
 
     def test_the_whole_sheet_by_scrolling(self):
         page = self.page()

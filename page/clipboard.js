@@ -1,0 +1,114 @@
+// Copy, cut and paste. What is copied goes out as the text that cells show, and for this page as entries beside it,
+// whose references move along; what was cut moves as it is.
+const FORM = 'application/x-sheet-entries';
+let cutArea = null, cutText = '';
+const isAtGrid = () => editing === null && document.activeElement === grid;
+/** Whether all of an area was read, as it lies in view or was asked for since it is selected. */
+const isKnown = area => seenRange === areaName(area) || seenAt === areaName(visible()) && isWithin(area, visible());
+const quoted = text => /^"|[\t\r\n]/.test(text) ? '"' + text.replace(/"/g, '""') + '"' : text;
+/** What is selected, without what is empty at the end of whole rows and columns. */
+function copiedArea() {
+  const area = selected(), isWhole = area.right === COLUMNS - 1 || area.bottom === ROWS - 1;
+  if (!isWhole) return area;
+  const used = [...held.keys()].map(cellAt).filter(cell => isWithin(boxOf(cell, cell), area));
+  const inner = used.length ? areaAround(used) : { right: area.left, bottom: area.top };
+  return { ...area, right: Math.max(area.left, inner.right), bottom: Math.max(area.top, inner.bottom) };
+}
+const rowsOf = (area, each) => {
+  const rows = [];
+  for (let r = area.top; r <= area.bottom; r++) {
+    rows.push([]);
+    for (let c = area.left; c <= area.right; c++) rows[r - area.top].push(each([c, r]));
+  }
+  return rows;
+};
+const copied = () => rowsOf(copiedArea(), cell => quoted(shownAt(cell))).map(row => row.join('\t')).join('\n');
+const copiedEntries = () => {
+  const area = copiedArea();
+  return { left: area.left, top: area.top, rows: rowsOf(area, cell => textOf(cell, heldAt(cell))) };
+};
+/** The texts of a copy for its new place, with their references moved. */
+function movedRows({ left, top, rows }, [column, row]) {
+  return rows.map((texts, i) => texts.map((text, j) => {
+    const moved = isFormula(text) ? shifted(text, column - left, row - top) : text;
+    return [[column + j, row + i], moved === null ? text : moved, moved === null ? 'A reference would leave the sheet.' : ''];
+  })).flat();
+}
+/** Repeats the rows of a copy to fill a selection that is a multiple of it. */
+function repeated(copy, range) {
+  const high = copy.rows.length, wide = copy.rows[0].length, found = [];
+  const down = (range.bottom - range.top + 1) / high, right = (range.right - range.left + 1) / wide;
+  const isMultiple = Number.isInteger(down) && Number.isInteger(right);
+  for (let i = 0; i < (isMultiple ? down : 1); i++)
+    for (let j = 0; j < (isMultiple ? right : 1); j++)
+      found.push(...movedRows(copy, [range.left + j * wide, range.top + i * high]));
+  return found;
+}
+/** Reads a table of texts: fields in quotes may have the separator, quotes and line breaks, which become blanks. */
+function readFields(text, separator) {
+  const rows = [[]];
+  let breaks = 0, at = 0;
+  const end = text.replace(/\r?\n$/, '').length, isEnd = i => i >= end || text[i] === separator || /[\r\n]/.test(text[i]);
+  while (at <= end) {
+    const quote = /"((?:[^"]|"")*)"/y;
+    quote.lastIndex = at;
+    const found = quote.exec(text), isQuoted = found && isEnd(quote.lastIndex);
+    let stop = isQuoted ? quote.lastIndex : at;
+    while (!isEnd(stop)) stop++;
+    const field = isQuoted ? found[1].replace(/""/g, '"') : text.slice(at, stop);
+    breaks += (field.match(/\r\n|[\r\n]/g) || []).length;
+    rows[rows.length - 1].push(field.replace(/\r\n|[\t\r\n]/g, ' '));
+    if (stop >= end) break;
+    if (text[stop] !== separator) rows.push([]);
+    at = stop + (text[stop] === '\r' && text[stop + 1] === '\n' ? 2 : 1);
+  }
+  return [rows, breaks];
+}
+const placed = (rows, [column, row]) => rows.map((texts, i) => texts.map((text, j) => [[column + j, row + i], text])).flat();
+/** Pastes a text; one that is a single field fills what is selected. */
+function pasteText(text) {
+  const range = selected(), [rows, breaks] = readFields(text, '\t');
+  if (rows.length > 1 || rows[0].length > 1) return putMany(placed(rows, [range.left, range.top]), breaks);
+  return putMany(cellsOf(range).map(cell => [cell, rows[0][0]]), breaks);
+}
+/** Moves what was cut: its entries stay as they are. Counters and sets stay where they are, with what they have. */
+async function moveCut(from, copy, to) {
+  const isHere = ([column, row]) => !isCounter(copy.rows[row][column]);
+  const offsets = rowsOf({ left: 0, top: 0, right: copy.rows[0].length - 1, bottom: copy.rows.length - 1 }, cell => cell).flat();
+  const moving = offsets.filter(isHere), stayed = offsets.length - moving.length;
+  const targets = moving.map(([j, i]) => [[to[0] + j, to[1] + i], copy.rows[i][j]]);
+  const covered = new Set(targets.map(([cell]) => keyOf(...cell)));
+  const emptied = moving.map(([j, i]) => [from.left + j, from.top + i]).filter(cell => !covered.has(keyOf(...cell)));
+  if (targets.some(([cell]) => !isInGrid(cell))) { tell('This would go beyond the end of the sheet: nothing was moved.'); return; }
+  await putMany([...targets, ...emptied.map(cell => [cell, ''])]);
+  if (stayed) tell(several(stayed, 'counter or set', 'counters and sets') + ' stayed, since counts and marks do not move.',
+    to, true, true);
+}
+function drawCut() {
+  $('cut').hidden = !cutArea;
+  if (cutArea) place($('cut'), ...pixels(cutArea));
+}
+function dropCut() {
+  if (cutArea) { cutArea = null; drawCut(); }
+}
+for (const kind of ['copy', 'cut'])
+  document.addEventListener(kind, event => {
+    if (!isAtGrid()) return;
+    event.preventDefault();
+    if (!isKnown(selected())) { tell('The cells are still being read: once more, please.'); return; }
+    const text = copied();
+    event.clipboardData.setData('text/plain', text);
+    event.clipboardData.setData(FORM, JSON.stringify(copiedEntries()));
+    [cutArea, cutText] = kind === 'cut' ? [copiedArea(), text] : [null, ''];
+    drawCut();
+  });
+document.addEventListener('paste', event => {
+  if (!isAtGrid()) return;
+  event.preventDefault();
+  const text = event.clipboardData.getData('text/plain'), own = event.clipboardData.getData(FORM), from = cutArea;
+  const copy = own && JSON.parse(own), range = selected();
+  dropCut();
+  if (!copy) return pasteText(text);
+  if (from && text === cutText) return moveCut(from, copy, [range.left, range.top]);
+  return putMany(repeated(copy, range));
+});

@@ -1,0 +1,71 @@
+// Tables of CSV out and in, and print.
+const LARGEST_FILE = 4000000;
+const csvField = text => /[",\r\n]/.test(text) ? '"' + text.replace(/"/g, '""') + '"' : text;
+/** The used part of the sheet as CSV: by `rows` what it shows, by `entries` what it holds. */
+async function csvOf(word) {
+  const area = await usedArea(), found = area ? await readArea(word, area) : new Map();
+  return area ? rowsOf(area, cell => csvField(found.get(keyOf(...cell)) || '')).map(row => row.join(',') + '\r\n').join('') : '';
+}
+async function saveCsv(word) {
+  try {
+    const file = new Blob([await csvOf(word)], { type: 'text/csv' }), anchor = document.createElement('a');
+    Object.assign(anchor, { href: URL.createObjectURL(file), download: word === 'rows' ? 'sheet.csv' : 'entries.csv' });
+    anchor.click();
+    setTimeout(() => URL.revokeObjectURL(anchor.href), 10000);
+  } catch (error) {
+    tell(NO_LINK);
+  }
+}
+/** The separator that the first line of a table has most often. */
+function separatorOf(text) {
+  const first = text.slice(0, (text + '\n').indexOf('\n'));
+  return [',', ';', '\t'].reduce((a, b) => first.split(b).length > first.split(a).length ? b : a);
+}
+/** Takes in a file: it tells first what would change, and then what was refused. */
+async function openCsv(file) {
+  if (file.size > LARGEST_FILE) { tell('The file is too large: at most 4 MB are taken in.'); return; }
+  const text = (await file.text()).replace(/^\ufeff/, ''), [rows, breaks] = readFields(text, separatorOf(text));
+  const wanted = placed(rows, current), inside = wanted.filter(([cell]) => isInGrid(cell));
+  const entries = await readArea('entries', areaAround(inside.map(([cell]) => cell))).catch(() => null);
+  if (!entries) { tell(NO_LINK); return; }
+  const was = cell => entries.get(keyOf(...cell)) || '', isNew = ([cell, due]) => fromEntry(was(cell)) !== due && was(cell) !== due;
+  const changed = inside.filter(isNew), filled = changed.filter(([cell]) => was(cell));
+  const size = `${several(rows.length, 'row')} and ${several(Math.max(...rows.map(row => row.length)), 'column')}`;
+  const beyond = wanted.length - inside.length;
+  const what = `${file.name}: ${size}, from ${nameOf(current)} on. ${several(changed.length, 'cell')} would change, ` +
+    `${filled.length} of them hold something now.` + (beyond ? ` ${several(beyond, 'cell')} lie beyond the sheet.` : '');
+  if (await question(what, ['Take in', 'Cancel']) === 0) await putMany(wanted.filter(each => !isInGrid(each[0]) || isNew(each)), breaks);
+}
+$('file').onchange = event => {
+  if (event.target.files[0]) openCsv(event.target.files[0]);
+  event.target.value = '';
+};
+grid.addEventListener('dragover', event => event.preventDefault());
+grid.addEventListener('drop', event => {
+  event.preventDefault();
+  if (event.dataTransfer.files[0]) openCsv(event.dataTransfer.files[0]);
+});
+/** Lays out the used part on paper, as a plain table. */
+async function layOutPaper() {
+  const area = await usedArea(), paper = $('paper');
+  paper.textContent = '';
+  if (!area) return;
+  const [entries, values] = await readBoth(area);
+  const table = made('table', '', paper);
+  for (const row of rowsOf(area, cell => cell)) {
+    const line = made('tr', '', table);
+    for (const cell of row) {
+      const key = keyOf(...cell), value = values.get(key) || '', names = entries.get(key) === '@choice' && namesFor(cell);
+      made('td', isNumber(entries.get(key) || '', value) ? 'number' : '', line).textContent =
+        names && value[0] === '{' ? readOptions(value).map(n => names[n] || n).join(', ') : value;
+    }
+  }
+}
+async function printSheet() {
+  try {
+    await layOutPaper();
+    print();
+  } catch (error) {
+    tell(NO_LINK);
+  }
+}

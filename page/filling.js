@@ -1,0 +1,33 @@
+// Filling: the cells of an area take the texts of its first rows or columns, again and again, with references moved.
+/** Puts what `source` holds into the rest of `area`, which goes on below it or to its right. */
+async function fillArea(source, area) {
+  const wide = source.right - source.left + 1, high = source.bottom - source.top + 1, wanted = [];
+  const entries = await readArea('entries', source).catch(() => null);
+  if (!entries) { tell(NO_LINK); return; }
+  for (const cell of cellsOf(area)) {
+    const from = [source.left + (cell[0] - area.left) % wide, source.top + (cell[1] - area.top) % high];
+    if (isSame(from, cell)) continue;
+    const text = textOf(from, entries.get(keyOf(...from)) || '');
+    const moved = isFormula(text) ? shifted(text, cell[0] - from[0], cell[1] - from[1]) : text;
+    wanted.push([cell, moved === null ? text : moved, moved === null ? 'A reference would leave the sheet.' : '']);
+  }
+  await putMany(wanted);
+}
+/** Fills down from the first row of what is selected, or from the row above it. */
+function fillDown() {
+  const area = selected(), isOne = area.top === area.bottom;
+  const whole = isOne ? { ...area, top: Math.max(0, area.top - 1) } : area;
+  return fillArea({ ...whole, bottom: whole.top }, whole);
+}
+/** Fills to the right from the first column of what is selected, or from the column before it. */
+function fillRight() {
+  const area = selected(), isOne = area.left === area.right;
+  const whole = isOne ? { ...area, left: Math.max(0, area.left - 1) } : area;
+  return fillArea({ ...whole, right: whole.left }, whole);
+}
+/** Where a drag of the handle goes: further down or to the right, whichever is more. */
+function fillTo(source, [column, row]) {
+  const down = row - source.bottom, right = column - source.right;
+  if (down <= 0 && right <= 0) return source;
+  return down >= right ? { ...source, bottom: row } : { ...source, right: column };
+}

@@ -1,0 +1,118 @@
+// The keys of the grid. A move that has to ask the server first holds up the keys after it, so that none goes elsewhere.
+let isMoving = false, heldKeys = [];
+const isControl = event => event.ctrlKey || event.metaKey;
+function target(event) {
+  const isFar = event.shiftKey && event.key !== 'Tab', [column, row] = isFar ? corner : current;
+  const page = Math.max(1, Math.floor((grid.clientHeight - HEIGHT) / HEIGHT) - 1), arrow = ARROWS[event.key];
+  if (arrow) return [column + arrow[0], row + arrow[1]];
+  switch (event.key) {
+    case 'Tab': return [column + (event.shiftKey ? -1 : 1), row];
+    case 'Home': return isControl(event) ? [0, 0] : [0, row];
+    case 'PageDown': return [column, row + page];
+    case 'PageUp': return [column, row - page];
+    default: return null;
+  }
+}
+/** Where Control and an arrow lead: to the last filled cell of a run, or over empty ones to the next filled one. */
+async function edgeFrom(cell, [right, down]) {
+  const area = right ? { ...ALL, top: cell[1], bottom: cell[1] } : { ...ALL, left: cell[0], right: cell[0] };
+  const found = await readArea('entries', area), at = n => [cell[0] + n * right, cell[1] + n * down];
+  const isFull = n => found.has(keyOf(...at(n)));
+  let n = 1;
+  if (!isInGrid(at(1))) return cell;
+  if (isFull(0) && isFull(1)) while (isInGrid(at(n + 1)) && isFull(n + 1)) n++;
+  else while (isInGrid(at(n + 1)) && !isFull(n)) n++;
+  return at(n);
+}
+/** The last cell of the row that holds something, or with Control that of the used part. */
+async function endFrom([column, row], isWhole) {
+  const keys = [...(await readArea('entries', isWhole ? ALL : { ...ALL, top: row, bottom: row })).keys()];
+  const area = areaAround(keys.map(cellAt));
+  return keys.length ? [area.right, isWhole ? area.bottom : row] : isWhole ? [0, 0] : [0, row];
+}
+async function moveFar(finding, isExtending) {
+  isMoving = true;
+  try {
+    moveTo(await finding, isExtending);
+  } catch (error) {
+    tell(NO_LINK);
+  }
+  isMoving = false;
+  while (heldKeys.length && !isMoving) replay(heldKeys.shift());
+}
+/** Does what a held key would have done. */
+function replay(event) {
+  if (editing === null) gridKey(event);
+  else if (event.key.length > 1) editorKey(event);
+  else if (!isControl(event)) {
+    editor.setRangeText(event.key, editor.selectionStart, editor.selectionEnd, 'end');
+    editor.dispatchEvent(new Event('input'));
+  }
+}
+const COMMANDS = {
+  a: () => select([0, 0], [COLUMNS - 1, ROWS - 1]), z: () => undo(), y: () => redo(), d: () => fillDown(),
+  r: () => fillRight(), f: () => openFind(), p: () => printSheet(), Z: () => redo(),
+};
+/** Does what a key with Control does, unless the browser does it. */
+function controlKey(event) {
+  const arrow = ARROWS[event.key], from = event.shiftKey ? corner : current;
+  const key = event.shiftKey ? event.key.toUpperCase() : event.key.toLowerCase();
+  if (arrow) moveFar(edgeFrom(from, arrow), event.shiftKey);
+  else if (event.key === 'End') moveFar(endFrom(from, true), event.shiftKey);
+  else if (event.key === 'Home') moveTo([0, 0], event.shiftKey);
+  else if (event.key === ' ') select([current[0], 0], [corner[0], ROWS - 1]);
+  else if (COMMANDS[key] && event.key.length === 1) COMMANDS[key]();
+  else return false;
+  return true;
+}
+function plainKey(event) {
+  const key = event.key, to = target(event), isTally = heldAt(current) === '@tally';
+  if (to) {
+    if (key !== 'Tab') homeColumn = null; else if (homeColumn === null) homeColumn = current[0];
+    moveTo(to, event.shiftKey && key !== 'Tab');
+  }
+  else if (key === 'End') moveFar(endFrom(event.shiftKey ? corner : current, false), event.shiftKey);
+  else if (key === 'Enter' && event.shiftKey) moveTo([current[0], current[1] - 1]);
+  else if (key === 'Enter' || key === 'F2') begin();
+  else if (key === 'Delete' || key === 'Backspace') clearArea(selected());
+  else if (key === 'Escape') { hideOptions(); tell(''); dropCut(); select(current); }
+  else if (key === 'F1' || key === '?') openHelp();
+  else if (key === 'F6') (event.shiftKey ? $('help-button') : $('name')).focus();
+  else if (key === ' ' && event.shiftKey) select([0, current[1]], [COLUMNS - 1, corner[1]]);
+  else if (isTally && (key === '+' || key === '-')) step(key === '+' ? 'add' : 'sub', current, 1);
+  else if (key.length === 1) edit(key, 'cell', true);
+  else return false;
+  return true;
+}
+/** Alt and Shift with an arrow: a narrower or wider column, or the width that fits. */
+function widthKey(event) {
+  const arrow = event.shiftKey && ARROWS[event.key];
+  if (!arrow) return false;
+  if (arrow[1]) fitWidth(current[0]); else { setWidth(current[0], widthOf(current[0]) + 16 * arrow[0]); keepWidths(); }
+  return true;
+}
+function gridKey(event) {
+  if (isMoving) { heldKeys.push(event); event.preventDefault(); return; }
+  if (event.isComposing || event.key === 'Shift' || event.key === 'Control') return;
+  const isTaken = event.altKey ? widthKey(event) : isControl(event) ? controlKey(event) : plainKey(event);
+  if (isTaken) event.preventDefault();
+}
+grid.addEventListener('keydown', event => { if (event.target === grid && editing === null) gridKey(event); });
+document.addEventListener('keydown', event => {
+  if (isControl(event) && /^[fp]$/.test(event.key) && event.target !== grid) { COMMANDS[event.key](); event.preventDefault(); }
+  if ((event.key === 'F6' || event.key === 'Escape') && $('bar').contains(event.target) && editing === null) grid.focus();
+});
+$('name').addEventListener('focus', event => {
+  if (editing !== null) { commit(0, 0); event.target.focus(); }
+  event.target.select();
+});
+$('name').addEventListener('keydown', event => {
+  const to = event.key === 'Enter' ? readRange(event.target.value) : null;
+  if (event.key === 'Enter' && !to) tell(REFUSALS[1]);
+  if (!to && event.key !== 'Escape') return;
+  event.preventDefault();
+  grid.focus();
+  if (!to) { draw(); return; }
+  bringIntoView([to.left, to.top]);
+  select([to.left, to.top], [to.right, to.bottom]);
+});

@@ -1,0 +1,48 @@
+'use strict';
+// The grid and the names of its cells. A cell is [column, row], both from 0; an area is the box between two cells.
+const COLUMNS = 104, ROWS = 1024;
+const ALL = { left: 0, top: 0, right: COLUMNS - 1, bottom: ROWS - 1 };
+
+const $ = id => document.getElementById(id);
+const bound = (value, most) => Math.max(0, Math.min(most - 1, value));
+const keyOf = (column, row) => row * COLUMNS + column;
+const cellAt = key => [key % COLUMNS, Math.floor(key / COLUMNS)];
+const isSame = (a, b) => a[0] === b[0] && a[1] === b[1];
+const isInGrid = ([column, row]) => column >= 0 && row >= 0 && column < COLUMNS && row < ROWS;
+
+const columnName = c => c < 26 ? String.fromCharCode(65 + c) : columnName(Math.floor(c / 26) - 1) + columnName(c % 26);
+const nameOf = ([column, row]) => columnName(column) + (row + 1);
+const readColumn = s => [...s.toUpperCase()].reduce((n, letter) => n * 26 + letter.charCodeAt(0) - 64, 0) - 1;
+function readName(text) {
+  const found = /^\$?([A-Z]{1,2})\$?([1-9]\d{0,3})$/i.exec(text.trim());
+  const cell = found && [readColumn(found[1]), found[2] - 1];
+  return cell && isInGrid(cell) ? cell : null;
+}
+
+const boxOf = (a, b) => ({
+  left: Math.min(a[0], b[0]), top: Math.min(a[1], b[1]), right: Math.max(a[0], b[0]), bottom: Math.max(a[1], b[1]),
+});
+const areaName = area => nameOf([area.left, area.top]) + ':' + nameOf([area.right, area.bottom]);
+const isWithin = (inner, area) => inner.left >= area.left && inner.right <= area.right && inner.top >= area.top &&
+  inner.bottom <= area.bottom;
+/** The area that a text names: two cells with a colon between them, or one cell. */
+function readRange(text) {
+  const [first, last] = text.split(':').map(readName);
+  return first && (text.includes(':') ? last && boxOf(first, last) : boxOf(first, first));
+}
+/** The smallest area with all of these cells. */
+function areaAround(cells) {
+  const area = { left: COLUMNS, top: ROWS, right: 0, bottom: 0 };
+  for (const [column, row] of cells) {
+    area.left = Math.min(area.left, column);
+    area.right = Math.max(area.right, column);
+    area.top = Math.min(area.top, row);
+    area.bottom = Math.max(area.bottom, row);
+  }
+  return area;
+}
+function cellsOf(area) {
+  const cells = [];
+  for (let r = area.top; r <= area.bottom; r++) for (let c = area.left; c <= area.right; c++) cells.push([c, r]);
+  return cells;
+}

@@ -1,0 +1,55 @@
+// The examples for an empty sheet, the buttons, the help, and the start.
+const VOTE = [['Friday lunch', 'Votes'], ['Pizza', '@tally'], ['Pasta', '@tally'], ['Salad', '@tally'],
+  ['', ''], ['All votes', '=SUM(B2:B4)'], ['Most', '=MAX(B2:B4)']];
+const PLAN = [['Who', 'Days', 'Hours a day', 'Hours'], ['Ann', '@choice', '6', '=B2*C2'],
+  ['Bob', '@choice', '8', '=B3*C3'], ['Eve', '@choice', '4', '=B4*C4'], ['', '', '', ''],
+  ['All hours', '', '', '=SUM(D2:D4)']];
+async function fillIn(table) {
+  $('examples').hidden = true;
+  isEmpty = false;
+  await putMany(placed(table, [0, 0]));
+  grid.focus();
+}
+$('vote').onclick = () => fillIn(VOTE);
+$('plan').onclick = () => fillIn(PLAN);
+async function make(entry) {
+  const entryNow = heldAt(current), cell = current;
+  if (editing !== null) { commit(0, 0); return; }
+  if (!entryNow) await putMany([[cell, entry]]);
+  else if (entryNow !== entry) tell(nameOf(cell) + ': This cell holds something. Delete it first.');
+  grid.focus();
+}
+function openHelp() {
+  $('help').showModal();
+  $('help').scrollTop = 0;
+}
+const CLICKS = {
+  tally: () => make('@tally'), choice: () => make('@choice'), undo, redo, 'help-button': openHelp,
+  'open-csv': () => $('file').click(), 'save-rows': () => saveCsv('rows'), 'save-entries': () => saveCsv('entries'),
+  'print': printSheet, 'find-button': openFind, 'fit': () => fitWidth(current[0]), 'fill-down': fillDown,
+  'fill-right': fillRight,
+};
+for (const [id, call] of Object.entries(CLICKS)) $(id).onclick = () => { if ($('more').matches(':popover-open')) $('more').hidePopover(); call(); };
+$('help').onclose = () => grid.focus();
+$('more').addEventListener('toggle', event => {
+  if (event.newState === 'open') beside($('more'), $('menu').getBoundingClientRect());
+});
+function redraw() {
+  draw();
+  if (link.isUp) look();
+}
+grid.addEventListener('scroll', redraw);
+addEventListener('resize', redraw);
+link.onLink = () => {
+  document.body.classList.toggle('lost', !link.isHeard);
+  $('link').textContent = link.words;
+  if (link.isUp && !link.isHeard) { seenAt = seenRange = ''; look(); }
+  if (link.isHeard) tell('');
+};
+link.onChange = look;
+Object.assign($('corner').style, { width: SIDE + 'px', height: HEIGHT + 'px', marginBottom: -HEIGHT + 'px' });
+layOut();
+drawButtons();
+draw();
+grid.focus();
+connect();

@@ -1,0 +1,19 @@
+// Sum, count, least and greatest of what is selected, below the grid.
+function drawSums() {
+  const area = selected(), box = $('sums');
+  let text = '';
+  if (!isSame(current, corner) && isKnown(area)) {
+    const numbers = [], texts = [];
+    for (const [key, value] of shown) {
+      const cell = cellAt(key), entry = held.get(key) || '';
+      if (!isWithin(boxOf(cell, cell), area)) continue;
+      if (isNumber(entry, value)) numbers.push(BigInt(value)); else if (noteOf(entry)) texts.push(cell);
+    }
+    const least = numbers.reduce((a, b) => a < b ? a : b, numbers[0]);
+    const most = numbers.reduce((a, b) => a > b ? a : b, numbers[0]);
+    if (numbers.length) text = `Sum ${numbers.reduce((a, b) => a + b)} \u00b7 Count ${numbers.length} \u00b7 ` +
+      `Least ${least} \u00b7 Greatest ${most}`;
+    if (texts.length) text += ` (without ${several(texts.length, 'text')} that look${texts.length > 1 ? '' : 's'} like a number)`;
+  }
+  if (box.textContent !== text) box.textContent = text;
+}

@@ -1,0 +1,57 @@
+// What is told, beside a cell, and what is asked, in a box that waits for an answer.
+let telling = null;
+/** Tells a text beside a cell, for some seconds or until something else is told; `isNote` where nothing went wrong. */
+function tell(text, cell = current, stays = false, isNote = false) {
+  const box = $('refusal'), element = cells.get(keyOf(...cell));
+  box.textContent = text;
+  box.className = isNote ? 'note' : '';
+  box.hidden = !text;
+  clearTimeout(telling);
+  if (!text) return;
+  beside(box, (element || grid).getBoundingClientRect());
+  if (!stays) telling = setTimeout(() => tell(''), 8000);
+}
+function beside(box, near) {
+  const below = near.bottom + 4, isRoom = below + box.offsetHeight < innerHeight;
+  box.style.left = Math.max(4, Math.min(near.left, innerWidth - box.offsetWidth - 8)) + 'px';
+  box.style.top = Math.max(4, isRoom ? below : near.top - box.offsetHeight - 4) + 'px';
+}
+/** Asks, and promises the number of the answer; the last one is taken where the box is closed without any. */
+function question(text, answers) {
+  return new Promise(done => {
+    const box = $('question'), row = box.lastElementChild;
+    box.firstElementChild.textContent = text;
+    row.textContent = '';
+    let chosen = answers.length - 1;
+    answers.forEach((answer, i) => {
+      const element = made('button', '', row);
+      element.textContent = answer;
+      element.onclick = () => { chosen = i; box.close(); };
+    });
+    box.onclose = () => { done(chosen); if (editing === null) grid.focus({ preventScroll: true }); };
+    box.showModal();
+    row.lastElementChild.focus();
+  });
+}
+
+// What was refused of a paste, a fill or a file: cell by cell its text and why, until the cell has been looked at.
+const marks = new Map();
+function mark(cell, text, why) {
+  marks.set(keyOf(...cell), { text, why, isSeen: false });
+}
+/** Drops the mark of a cell that is left, once it was looked at. */
+function leaveMark(cell) {
+  const found = marks.get(keyOf(...cell));
+  if (found && found.isSeen) marks.delete(keyOf(...cell));
+}
+/** Tells how much of what was wanted was refused, and why: one line, which stays. */
+function report(refused, count, beyond, breaks) {
+  const reasons = [...new Set(refused.map(({ why }) => why))].slice(0, 2).join(' ');
+  const names = refused.slice(0, 3).map(({ cell }) => nameOf(cell)).join(', ') + (refused.length > 3 ? ', ..' : '');
+  const parts = [];
+  if (refused.length) parts.push(`${refused.length} of ${several(count, 'cell')} refused (${names}): ${reasons} ` +
+    'Marked until you look at them; F2 there takes the text up again.');
+  if (beyond) parts.push(`${several(beyond, 'cell')} beyond the sheet's end left out.`);
+  if (breaks) parts.push(several(breaks, 'line break') + (breaks > 1 ? ' became blanks.' : ' became a blank.'));
+  if (parts.length) tell(parts.join(' '), refused.length ? refused[0].cell : current, true, !refused.length);
+}

@@ -1,0 +1,42 @@
+// Sizes in pixels, which grow with the browser's letters, and the widths of columns, which this browser keeps.
+const SCALE = parseFloat(getComputedStyle(document.documentElement).fontSize) / 16;
+const WIDTH = Math.round(104 * SCALE), HEIGHT = Math.round(26 * SCALE), SIDE = Math.round(48 * SCALE);
+const LEAST_WIDTH = Math.round(24 * SCALE), MOST_WIDTH = 900;
+let widths = new Map(JSON.parse(localStorage.getItem('widths') || '[]')), lefts = [];
+
+function layOut() {
+  lefts = [0];
+  for (let c = 0; c < COLUMNS; c++) lefts.push(lefts[c] + (widths.get(c) || WIDTH));
+  Object.assign(space.style, { width: SIDE + lefts[COLUMNS] + 'px', height: HEIGHT + ROWS * HEIGHT + 'px' });
+}
+/** The column at a distance from the left end of the first one. */
+function columnAt(x) {
+  let column = 0;
+  while (column < COLUMNS - 1 && lefts[column + 1] <= x) column++;
+  return column;
+}
+const widthOf = column => lefts[column + 1] - lefts[column];
+/** The box of an area, as it lies in the scrolled space. */
+const pixels = area => [SIDE + lefts[area.left], HEIGHT + area.top * HEIGHT, lefts[area.right + 1] - lefts[area.left],
+  (area.bottom - area.top + 1) * HEIGHT];
+
+function setWidth(column, width) {
+  widths.set(column, Math.max(LEAST_WIDTH, Math.min(MOST_WIDTH, Math.round(width))));
+  layOut();
+  for (const elements of [cells, heads]) for (const element of elements.values()) element.remove();
+  cells.clear();
+  heads.clear();
+  draw();
+}
+function keepWidths() {
+  localStorage.setItem('widths', JSON.stringify([...widths]));
+}
+/** Gives a column the width that the longest of what it shows wants. */
+async function fitWidth(column) {
+  const found = await readArea('rows', { ...ALL, left: column, right: column });
+  const measure = document.createElement('canvas').getContext('2d');
+  measure.font = getComputedStyle(document.body).font;
+  const texts = [...found.values()].map(text => measure.measureText(text).width);
+  if (texts.length) setWidth(column, Math.max(...texts) + 20 * SCALE); else setWidth(column, WIDTH);
+  keepWidths();
+}

@@ -1,0 +1,50 @@
+// The connection: nothing else knows how lines reach the server. What the rest has of it is `ask`, which promises the
+// lines of a reply, `link`, which tells how the connection is, and the calls `onLink` and `onChange`.
+const POLL = 200, FIRST_WAIT = 500, LONGEST_WAIT = 5000, MOST_UNDER_WAY = 250;
+// Why the gateway closes a connection.
+const ENDS = { 'no server': 'the server does not answer', 'no room': 'all places are taken' };
+const link = { isUp: false, isHeard: false, words: 'connecting', onLink() {}, onChange() {} };
+let socket = null, pause = FIRST_WAIT, waiting = [], underWay = [];
+
+/** Sends a line; promises the lines of its reply. Many may be under way: they are answered in order. */
+function ask(text) {
+  return new Promise((done, fail) => {
+    if (!link.isUp) { fail(new Error('lost')); return; }
+    waiting.push({ text, done, fail });
+    sendWaiting();
+  });
+}
+function sendWaiting() {
+  while (waiting.length && underWay.length < MOST_UNDER_WAY) {
+    underWay.push(waiting.shift());
+    socket.send(underWay[underWay.length - 1].text);
+  }
+}
+function connect() {
+  const opened = new WebSocket('ws://' + location.host + '/live');
+  socket = opened;
+  opened.onopen = () => { link.isUp = true; tellLink('waiting for the server'); };
+  opened.onmessage = event => {
+    if (!link.isHeard) { link.isHeard = true; pause = FIRST_WAIT; tellLink('connected'); }
+    const asked = underWay.shift();
+    if (asked) asked.done(event.data.replace(/\n$/, '').split('\n'));
+    sendWaiting();
+  };
+  opened.onclose = event => { if (socket === opened) lose(ENDS[event.reason]); };
+}
+function lose(reason) {
+  const was = link.isHeard;
+  link.isUp = link.isHeard = false;
+  for (const asked of [...underWay.splice(0), ...waiting.splice(0)]) asked.fail(new Error('lost'));
+  tellLink((reason || (was ? 'connection lost' : 'no connection')) + ', trying again');
+  setTimeout(connect, pause);
+  pause = Math.min(pause * 1.7, LONGEST_WAIT);
+}
+function tellLink(words) {
+  link.words = words;
+  link.onLink();
+}
+// A server says nothing by itself yet, so that something has changed is supposed several times a second.
+setInterval(() => { if (link.isUp && !document.hidden) link.onChange(); }, POLL);
+setInterval(() => { if (link.isUp) link.onChange(); }, 20000);
+document.addEventListener('visibilitychange', () => { if (link.isUp) link.onChange(); });

@@ -1,0 +1,244 @@
+"""The page of `sheet page` for everybody: by keys alone, by a screen reader, on small and dark screens; help and size."""
+import json
+import unittest
+
+from browser import SHIFT
+from browser_page import BrowserTest
+
+# All that stands in the page at most, in bytes.
+MOST_BYTES = 72_000
+CONTRAST = """(() => {
+  const canvas = document.createElement('canvas').getContext('2d', { willReadFrequently: true });
+  const rgb = color => { canvas.clearRect(0, 0, 1, 1); canvas.fillStyle = color; canvas.fillRect(0, 0, 1, 1);
+    return [...canvas.getImageData(0, 0, 1, 1).data]; };
+  const light = ([r, g, b]) => [r, g, b].map(v => v / 255).map(v => v <= 0.03928 ? v / 12.92 : ((v + 0.055) / 1.055) ** 2.4)
+    .reduce((sum, v, i) => sum + v * [0.2126, 0.7152, 0.0722][i], 0);
+  const backOf = element => { for (let e = element; e; e = e.parentElement) {
+    const color = rgb(getComputedStyle(e).backgroundColor); if (color[3] === 255) return color; } return rgb('Canvas'); };
+  const low = [];
+  for (const element of document.querySelectorAll('body *')) {
+    const own = [...element.childNodes].some(node => node.nodeType === 3 && node.data.trim());
+    if (!own && element.tagName !== 'INPUT' || element.disabled || !element.checkVisibility() || element.closest('#paper')) continue;
+    if (element.tagName === 'SCRIPT' || element.tagName === 'STYLE') continue;
+    const [a, b] = [light(rgb(getComputedStyle(element).color)), light(backOf(element))].sort((x, y) => y - x);
+    const ratio = (a + 0.05) / (b + 0.05);
+    if (ratio < 4.5) low.push(`${element.tagName} ${element.id} ${element.className} ${element.textContent.slice(0, 20)} ${ratio}`);
+  }
+  return low;
+})()"""
+
+
+class FoundTest(BrowserTest):
+    """A test with something of each kind in the sheet."""
+
+    def filled(self):
+        page = self.page()
+        self.fill("set A1 Friday", "set A2 @tally", "add A2 3", "set A3 @choice", "choose A3 1", "set A4 =[.A1]+1",
+                  "set A5 =[.A5]", "set A6 12.50", "set A7 -1250", "set B1 =[.A7]*2")
+        page.wait_for("shownAt([1, 0])", "-2500")
+        return page
+
+
+class Reader(FoundTest):
+    def nodes(self, page):
+        return page.call("Accessibility.getFullAXTree")["nodes"]
+
+    def test_cells_heads_and_fields_have_roles_and_names(self):
+        page = self.filled()
+        found = {(node.get("role", {}).get("value"), node.get("name", {}).get("value")) for node in self.nodes(page)}
+        for wanted in (
+            ("grid", "Sheet"), ("columnheader", "A"), ("rowheader", "1"), ("gridcell", "Friday, A1"),
+            ("gridcell", "3, A2, counter: + and \u2212 count"), ("gridcell", "{1}, A3, options: Enter shows them"),
+            ("gridcell", "#VALUE!, A4, #VALUE! a text where a number is wanted"), ("gridcell", "-2500, B1, formula =A7*2"),
+            ("gridcell", "12.50, A6, 12.50 is kept as a text: numbers are whole"), ("gridcell", "C3"),
+            ("button", "one more"), ("button", "Undo"), ("button", "Help"), ("button", "More"),
+            ("textbox", "Content of the cell"), ("textbox", "Cell"),
+        ):
+            self.assertIn(wanted, found)
+
+    def test_the_current_cell_is_told(self):
+        page = self.filled()
+        page.key("ArrowDown")
+        grid = next(node for node in self.nodes(page) if node.get("role", {}).get("value") == "grid")
+        active = next(each for each in grid["properties"] if each["name"] == "activedescendant")
+        self.assertEqual(active["value"]["relatedNodes"][0]["idref"], "cell-104")
+
+    def test_a_refusal_is_an_alert(self):
+        page = self.filled()
+        self.go(page, "C1")
+        page.type("=1+")
+        page.key("Enter")
+        self.assertIn("This is no formula", self.told(page))
+        alert = next(node for node in self.nodes(page) if node.get("role", {}).get("value") == "alert")
+        self.assertIn(("live", "assertive"), {(each["name"], each["value"].get("value")) for each in alert["properties"]})
+        texts = [node.get("name", {}).get("value", "") for node in self.nodes(page)]
+        self.assertTrue(any("C1: This is no formula" in text for text in texts))
+
+    def test_a_question_is_a_dialog_that_has_the_keys(self):
+        page = self.filled()
+        self.go(page, "A2")
+        page.key("Delete")
+        page.wait_for("!!document.querySelector('#question[open]')")
+        dialogs = [node for node in self.nodes(page) if node.get("role", {}).get("value") == "dialog"]
+        self.assertTrue(any("A2 is a counter that shows 3" in node["name"]["value"] for node in dialogs))
+        page.wait_for("document.activeElement.textContent", "Leave")
+        page.key("Enter")
+        page.wait_for("!document.querySelector('#question[open]')")
+        page.wait_for("document.activeElement.id", "grid")
+        self.assertEqual(self.client.ask("get A2"), "val 3")
+
+
+class KeysAlone(FoundTest):
+    def test_everything_in_the_bar_is_reached(self):
+        page = self.filled()
+        page.key("F6")
+        reached = []
+        for _ in range(8):
+            reached.append(page.value("document.activeElement.id"))
+            page.key("Tab")
+            if page.value("editing") is not None:
+                # (the line above the grid is edited once it has the keys)
+                reached.append("line")
+                page.key("Escape")
+                break
+        self.assertEqual(reached, ["name", "line"])
+        page.wait_for("document.activeElement.id", "grid")
+        page.key("F6", SHIFT)
+        reached = []
+        for _ in range(4):
+            reached.append(page.value("document.activeElement.id"))
+            page.key("Tab", SHIFT)
+        self.assertEqual(reached, ["help-button", "menu", "choice", "tally"])
+        page.key("F6")
+        page.wait_for("document.activeElement.id", "grid")
+
+    def test_the_menu_by_keys(self):
+        page = self.filled()
+        page.key("F6", SHIFT)
+        page.key("Tab", SHIFT)
+        page.key("Enter")
+        page.wait_for("document.getElementById('more').matches(':popover-open')")
+        page.key("Tab")
+        page.wait_for("document.activeElement.id", "find-button")
+        page.key("Enter")
+        page.wait_for("document.activeElement.id", "sought")
+
+    def test_options_by_keys(self):
+        page = self.filled()
+        self.go(page, "A3")
+        page.key("Enter")
+        page.wait_for("document.activeElement.type", "checkbox")
+        page.key(" ")
+        self.assert_held("get A3", "val {0,1}")
+        page.key("Escape")
+        page.wait_for("document.activeElement.id", "grid")
+
+
+class Screens(FoundTest):
+    def test_320_pixels(self):
+        page = self.filled()
+        page.call("Emulation.setDeviceMetricsOverride", width=320, height=568, deviceScaleFactor=1, mobile=False)
+        page.wait_for("innerWidth", 320)
+        self.fits(page, 320)
+        self.assertGreater(page.value("grid.clientHeight"), 250)
+        page.click(*self.middle(page, 0, 1, "[data-action=add]"))
+        self.assert_held("get A2", "val 4")
+        page.key("?")
+        self.assertLessEqual(page.value("document.getElementById('help').getBoundingClientRect().width"), 320)
+        self.assertLessEqual(page.value("(e => e.scrollWidth - e.clientWidth)(document.getElementById('help'))"), 0)
+        self.keep_picture(page, "help-320")
+
+    def fits(self, page, width):
+        self.assertLessEqual(page.value("document.documentElement.scrollWidth"), width)
+        for box in ("name", "line", "undo", "redo", "tally", "choice", "menu", "help-button", "link"):
+            self.assertLessEqual(page.value(f"document.getElementById('{box}').getBoundingClientRect().right"), width, box)
+
+    def test_200_percent(self):
+        page = self.filled()
+        page.call("Emulation.setDeviceMetricsOverride", width=600, height=360, deviceScaleFactor=2, mobile=False)
+        page.wait_for("innerWidth", 600)
+        self.fits(page, 600)
+        self.assertGreater(page.value("grid.clientHeight"), 150)
+        self.keep_picture(page, "zoomed")
+
+    def test_touch(self):
+        page = self.filled()
+        page.call("Emulation.setTouchEmulationEnabled", enabled=True)
+        for _ in range(2):
+            x, y = self.middle(page, 0, 0)
+            page.call("Input.dispatchTouchEvent", type="touchStart", touchPoints=[{"x": x, "y": y}])
+            page.call("Input.dispatchTouchEvent", type="touchEnd", touchPoints=[])
+        page.wait_for("document.getElementById('editor').value", "Friday")
+        page.key("Escape")
+        x, y = self.middle(page, 0, 1, "[data-action=add]")
+        page.call("Input.dispatchTouchEvent", type="touchStart", touchPoints=[{"x": x, "y": y}])
+        page.call("Input.dispatchTouchEvent", type="touchEnd", touchPoints=[])
+        self.assert_held("get A2", "val 4")
+        self.assertEqual(self.current(page), "A2")
+
+    def test_contrast_in_light_and_dark(self):
+        page = self.filled()
+        self.paste(page, "x" * 65)
+        self.told(page)
+        for scheme in ("light", "dark"):
+            page.call("Emulation.setEmulatedMedia", features=[{"name": "prefers-color-scheme", "value": scheme},
+                                                              {"name": "prefers-reduced-motion", "value": "reduce"}])
+            page.wait_for("matchMedia('(prefers-color-scheme: %s)').matches" % scheme)
+            self.assertEqual(page.value(CONTRAST), [], scheme)
+        page.key("?")
+        page.wait_for("document.getElementById('help').open")
+        self.assertEqual(page.value(CONTRAST), [])
+
+
+class Help(FoundTest):
+    def test_a_question_mark_opens_it(self):
+        page = self.filled()
+        page.key("?")
+        page.wait_for("document.getElementById('help').open")
+        text = page.value("document.getElementById('help').textContent")
+        for function in page.value("FUNCTIONS"):
+            self.assertIn(function, text)
+        for word in ("Ctrl+Z", "Ctrl+D", "F6", "64 bytes", "counter", "options F1:K1", "CZ1024"):
+            self.assertIn(word, text)
+        self.keep_picture(page, "help")
+        page.key("Escape")
+        page.wait_for("document.getElementById('help').open", False)
+        page.wait_for("document.activeElement.id", "grid")
+        page.click(*page.middle("document.getElementById('help-button')"))
+        page.wait_for("document.getElementById('help').open")
+
+    def test_its_formulas_are_formulas(self):
+        page = self.page()
+        formulas = page.value("[...document.querySelectorAll('#help dt')].map(e => e.textContent).filter(isFormula)")
+        self.assertGreater(len(formulas), 5)
+        for row, formula in enumerate(formulas, 1):
+            self.fill(f"set H{row} " + page.value(f"toEntry({json.dumps(formula)})"))
+
+
+class Speed(BrowserTest):
+    def test_the_page_is_small_and_whole(self):
+        page = self.page()
+        self.assertLessEqual(page.value("performance.getEntriesByType('navigation')[0].encodedBodySize"), MOST_BYTES)
+        self.assertEqual(page.value("performance.getEntriesByType('resource').filter(e => !e.name.startsWith('data:')).length"), 0)
+
+    def test_scrolling_keeps_up_with_the_screen(self):
+        page = self.page()
+        lines = [f"set {chr(65 + n % 26)}{n // 26 + 1} {n}" for n in range(1500)]
+        self.client.send("".join(f"{text}\n" for text in lines).encode())
+        for _ in lines:
+            self.client.reply()
+        page.wait_for("shownAt([0, 0])", "0")
+        # the machine may be busy: of some tries one has to be in time
+        for _ in range(10):
+            cost = page.value("""new Promise(done => { const costs = []; let n = 0;
+                const step = () => { const begin = performance.now(); grid.scrollTop = n * 37; draw();
+                  void grid.offsetHeight; costs.push(performance.now() - begin);
+                  if (++n < 40) requestAnimationFrame(step); else done(costs.sort((a, b) => a - b)[20]); };
+                requestAnimationFrame(step); })""")
+            if cost < 16:
+                return
+        self.fail(f"a picture takes {cost} ms")
+
+
+if __name__ == "__main__":
+    unittest.main()

@@ -1,0 +1,109 @@
+"""A paste into the page of `sheet page` loses nothing: what is refused is told and marked, and the rest goes on."""
+import unittest
+
+from browser import CONTROL
+from browser_page import BrowserTest
+
+LONG = "Bring the projector, the long cable and the list of everybody who wants lunch, too"
+
+
+class Refused(BrowserTest):
+    def test_a_paste_goes_on_after_a_refused_cell(self):
+        page = self.page()
+        rows = [f"task {n}\t{n}" for n in range(1, 9)]
+        rows[2] = f"{LONG}\t3"
+        self.paste(page, "\n".join([*rows, "all\t=SUM(B1:B8)"]))
+        self.assert_held("entry B9", "entry =SUM([.B1:.B8])")
+        self.assert_held("get B9", "val 36")
+        self.assertEqual(self.client.ask("get A8"), "val task 8")
+        self.assertEqual(self.client.ask("get A3"), "val ")
+        said = self.told(page)
+        self.assertIn("1 of 18 cells refused (A3): A text has at most 64 bytes", said)
+
+    def test_a_refused_cell_is_marked_until_it_is_looked_at(self):
+        page = self.page()
+        self.paste(page, f"one\n{LONG}\n=1+\ntwo")
+        self.assert_held("get A4", "val two")
+        page.wait_for("document.querySelectorAll('.refused').length", 2)
+        self.assertIn("2 of 4 cells refused (A2, A3)", self.told(page))
+        # its text can be had back there
+        self.go(page, "A2")
+        page.wait_for("document.getElementById('hint').textContent.startsWith('refused: Bring the projector')")
+        page.key("F2")
+        page.wait_for("document.getElementById('editor').value", LONG)
+        page.key("Escape")
+        page.key("ArrowDown")
+        page.wait_for("document.querySelectorAll('.refused').length", 1)
+        page.key("ArrowDown")
+        page.wait_for("document.querySelectorAll('.refused').length", 0)
+
+    def test_what_lies_beyond_the_sheet_is_told(self):
+        page = self.page()
+        self.go(page, "CZ1023")
+        self.paste(page, "1\t2\n3\t4\n5\t6\n")
+        self.assert_held("get CZ1024", "val 3")
+        self.assertIn("4 cells beyond the sheet's end left out", self.told(page))
+
+
+class Fields(BrowserTest):
+    def test_a_line_break_in_quotes_becomes_a_blank(self):
+        page = self.page()
+        self.paste(page, 'Ann\t"Main Street 1\nOffice"\t5\r\nBob\t"a ""b"""\t7\r\n')
+        self.assert_held("get C2", "val 7")
+        self.assertEqual(self.entries("A1:C3"), ["'Ann,'Main Street 1 Office,5", "'Bob,\"'a \"\"b\"\"\",7", ",,"])
+        self.assertIn("1 line break became a blank", self.told(page))
+
+    def test_quotes_that_are_none_stay(self):
+        page = self.page()
+        self.paste(page, '"open\tx\n5" pipe\t"a"b\n')
+        self.assert_held("get B2", 'val "a"b')
+        self.assertEqual([self.client.ask(f"get {cell}") for cell in ("A1", "B1", "A2")],
+                         ['val "open', "val x", 'val 5" pipe'])
+
+    def test_blank_fields_empty_cells(self):
+        page = self.page()
+        self.fill("set A1 1", "set B2 2")
+        self.paste(page, "\t5\n6\t\n")
+        self.assert_held("get A2", "val 6")
+        self.assert_held("get B2", "val ")
+        self.assertEqual((self.client.ask("get A1"), self.client.ask("get B1")), ("val ", "val 5"))
+
+    def test_one_field_fills_what_is_selected(self):
+        page = self.page()
+        self.go(page, "B2:C3")
+        self.paste(page, "7\n")
+        self.assert_held("get C3", "val 7")
+        self.assertEqual(self.entries("A1:D4"), [",,,", ",7,7,", ",7,7,", ",,,"])
+
+
+class Speed(BrowserTest):
+    def test_a_thousand_cells_within_a_second(self):
+        page = self.page()
+        # the machine may be busy: of some pastes one has to be in time
+        times = []
+        for first in range(1, 6):
+            text = "\n".join("\t".join(str(first + 20 * row + n) for n in range(20)) for row in range(50))
+            begin = page.value("performance.now()")
+            self.paste(page, text)
+            page.wait_for("heldAt([19, 49])", str(first + 999))
+            times.append(page.value("performance.now()") - begin)
+            self.assert_held("get T50", f"val {first + 999}")
+            self.assertEqual(self.client.ask("get A1"), f"val {first}")
+            page.wait_for("done.length", first)
+            if times[-1] < 1000:
+                return
+        self.fail(f"no paste was done in time: {times}")
+
+    def test_a_paste_is_undone_by_one_step(self):
+        page = self.page()
+        self.fill("set B2 old")
+        self.paste(page, "1\t2\n3\t4\n")
+        self.assert_held("get B2", "val 4")
+        page.wait_for("document.getElementById('undo').disabled", False)
+        page.key("z", CONTROL)
+        self.assert_held("get A1", "val ")
+        self.assert_held("get B2", "val old")
+
+
+if __name__ == "__main__":
+    unittest.main()
