@@ -131,7 +131,7 @@ function drawLine() {
   if (document.activeElement !== $('name')) $('name').value = isSame(current, corner) ? nameOf(current) : areaName(selected());
   if (editing === null) line.value = textOf(current, entry);
   const note = entry === passedOf && passedOver ? ', ' + passedOver : '';
-  $('value').textContent = entry[0] === '=' ? '= ' + value + note : '';
+  $('value').title = $('value').textContent = entry[0] === '=' ? '= ' + value + note : '';
   $('value').className = isFault || note ? 'fault' : '';
   const hint = entry[0] === '=' && !isFault ? '' : kind;
   if ($('hint').textContent !== hint) $('hint').textContent = hint;

@@ -6,6 +6,7 @@ function edit(text, where, wasTyped = false) {
   if (editing !== null) return;
   if (!link.isHeard) { tell(NO_LINK); return; }
   hideOptions();
+  tell('');
   corner = current;
   [editing, begunWith, isTyped] = [where, heldAt(current), wasTyped];
   editor.value = text;
@@ -26,7 +27,7 @@ function placeEditor() {
 function stopEditing() {
   editing = picked = pickedCell = null;
   editor.style.display = 'none';
-  grid.focus({ preventScroll: true });
+  focusGrid();
   draw();
 }
 /** Where one is after an entry: Enter goes back to the column where a row of Tabs began. */

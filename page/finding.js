@@ -25,7 +25,7 @@ function openFind() {
 function closeFind() {
   $('find').hidden = true;
   sought = '';
-  grid.focus({ preventScroll: true });
+  focusGrid();
 }
 $('find').addEventListener('keydown', event => {
   if (event.key === 'Escape') closeFind();

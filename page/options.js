@@ -41,6 +41,7 @@ function showOptions() {
   const note = noteFor(cell);
   naming.querySelector('input').value = note ? areaName(note.area) : '';
   drawOptions();
+  tell('');
   options.hidden = false;
   beside(options, (cells.get(keyOf(...cell)) || grid).getBoundingClientRect());
   list.querySelector('input').focus();
@@ -53,7 +54,7 @@ function drawOptions() {
 function hideOptions() {
   if (options.hidden) return;
   options.hidden = true;
-  grid.focus({ preventScroll: true });
+  focusGrid();
 }
 /** Keeps where the names are: in the note that there is, at the end of the column's head, or in the next cell. */
 async function nameOptions(text) {

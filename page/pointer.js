@@ -19,7 +19,7 @@ function selectHead(head, isExtending) {
 function pressHead(event, head) {
   event.preventDefault();
   if (editing !== null) commit(0, 0);
-  grid.focus({ preventScroll: true });
+  focusGrid();
   if (head) { selectHead(head, event.shiftKey); dragging = { kind: 'heads', head }; } else COMMANDS.a();
 }
 function pressEdge(event, column) {
@@ -35,7 +35,7 @@ function pressCell(event, cell) {
     pick(cell);
     return;
   }
-  grid.focus({ preventScroll: true });
+  focusGrid();
   const action = event.target.dataset.action, hadOptions = !options.hidden && isSame(cell, current);
   homeColumn = null;
   bringIntoView(cell);

@@ -8,13 +8,15 @@ function tell(text, cell = current, stays = false, isNote = false) {
   box.hidden = !text;
   clearTimeout(telling);
   if (!text) return;
-  beside(box, (element || grid).getBoundingClientRect());
+  beside(box, (element || grid).getBoundingClientRect(), true);
   if (!stays) telling = setTimeout(() => tell(''), 8000);
 }
-function beside(box, near) {
-  const below = near.bottom + 4, isRoom = below + box.offsetHeight < innerHeight;
-  box.style.left = Math.max(4, Math.min(near.left, innerWidth - box.offsetWidth - 8)) + 'px';
-  box.style.top = Math.max(4, isRoom ? below : near.top - box.offsetHeight - 4) + 'px';
+/** Lays a box beside another one: below it, or where it has to leave what comes next in sight, above it or to its right. */
+function beside(box, near, isAside) {
+  const below = near.bottom + 4, above = near.top - box.offsetHeight - 4, isRoom = below + box.offsetHeight < innerHeight;
+  const isAbove = isAside ? above > grid.getBoundingClientRect().top : !isRoom, left = isAside && !isAbove ? near.right + 4 : near.left;
+  box.style.left = Math.max(4, Math.min(left, innerWidth - box.offsetWidth - 8)) + 'px';
+  box.style.top = Math.max(4, isAbove ? above : Math.min(below, innerHeight - box.offsetHeight - 4)) + 'px';
 }
 /** Asks, and promises the number of the answer; the last one is taken where the box is closed without any. */
 function question(text, answers) {
@@ -22,13 +24,13 @@ function question(text, answers) {
     const box = $('question'), row = box.lastElementChild;
     box.firstElementChild.textContent = text;
     row.textContent = '';
-    let chosen = answers.length - 1;
+    const choose = i => { box.close(); focusGrid(); done(i); };
     answers.forEach((answer, i) => {
       const element = made('button', '', row);
       element.textContent = answer;
-      element.onclick = () => { chosen = i; box.close(); };
+      element.onclick = () => choose(i);
     });
-    box.onclose = () => { done(chosen); if (editing === null) grid.focus({ preventScroll: true }); };
+    box.oncancel = event => { event.preventDefault(); choose(answers.length - 1); };
     box.showModal();
     row.lastElementChild.focus();
   });
@@ -46,7 +48,7 @@ function leaveMark(cell) {
 }
 /** Tells how much of what was wanted was refused, and why: one line, which stays. */
 function report(refused, count, beyond, breaks) {
-  const reasons = [...new Set(refused.map(({ why }) => why))].slice(0, 2).join(' ');
+  const reasons = [...new Set(refused.map(({ why }) => why.split('. ')[0].replace(/\.?$/, '.')))].slice(0, 2).join(' ');
   const names = refused.slice(0, 3).map(({ cell }) => nameOf(cell)).join(', ') + (refused.length > 3 ? ', ..' : '');
   const parts = [];
   if (refused.length) parts.push(`${refused.length} of ${several(count, 'cell')} refused (${names}): ${reasons} ` +

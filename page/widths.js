@@ -4,6 +4,7 @@ const WIDTH = Math.round(104 * SCALE), HEIGHT = Math.round(26 * SCALE), SIDE = M
 const LEAST_WIDTH = Math.round(24 * SCALE), MOST_WIDTH = 900;
 let widths = new Map(JSON.parse(localStorage.getItem('widths') || '[]')), lefts = [];
 
+const focusGrid = () => grid.focus({ preventScroll: true });
 function layOut() {
   lefts = [0];
   for (let c = 0; c < COLUMNS; c++) lefts.push(lefts[c] + (widths.get(c) || WIDTH));

@@ -3,9 +3,9 @@
 /// The head of the response with the page, which ends where the connection does.
 pub const PAGE_HEAD: &[u8] = b"HTTP/1.1 200 OK\r
 content-type: text/html; charset=utf-8\r
-content-length: 70386\r
+content-length: 70688\r
 cache-control: no-store\r
-content-security-policy: default-src 'none'; script-src 'sha256-WWW7TYybXSRPAIJhGS6odyFwahdt/Cm4bCu7pyQGXJw='; style-src 'sha256-oPRYPCxMjMEtQgpusjODWdlFhQqjxS/HIDYDdTYGZwc='; connect-src 'self'; img-src data:; base-uri 'none'; form-action 'none'; frame-ancestors 'none'\r
+content-security-policy: default-src 'none'; script-src 'sha256-D0GBAKpbADM/Dilsk6w12cIdsYKnnnMv3sBJG7f5uyo='; style-src 'sha256-vLus3CIo93dbX4yk+MOsTFfbo2J32bgIpf8EMIHzUlk='; connect-src 'self'; img-src data:; base-uri 'none'; form-action 'none'; frame-ancestors 'none'\r
 x-content-type-options: nosniff\r
 x-frame-options: DENY\r
 referrer-policy: no-referrer\r
@@ -36,7 +36,7 @@ header,#find{display:flex;flex-wrap:wrap;align-items:center;gap:.4rem;padding:.4
 #name{width:6.5rem;text-align:center;font-weight:600;}
 #line{flex:1 1 8rem;min-width:6rem;font-family:ui-monospace,Menlo,Consolas,"DejaVu Sans Mono",monospace;}
 #name:focus,#line:focus,#sought:focus,#naming:focus{border-color:var(--accent);box-shadow:0 0 0 2px var(--on);}
-#value{max-width:30rem;overflow:hidden;white-space:nowrap;text-overflow:ellipsis;color:var(--faint);}
+#value{min-width:0;max-width:30rem;overflow:hidden;white-space:nowrap;text-overflow:ellipsis;color:var(--faint);}
 #value.fault{color:var(--fault);}
 .buttons{display:flex;gap:.4rem;}
 header button,#examples button,#find button,dialog button{height:1.9rem;padding:0 .7rem;border:1px solid var(--rule);border-radius:.3rem;background:var(--back);cursor:pointer;white-space:nowrap;}
@@ -58,7 +58,7 @@ button:disabled{opacity:.45;cursor:default;}
 .fault{color:var(--fault);text-align:center;font-weight:600;font-size:.75rem;}
 .cycle{background:var(--cycle);}
 .flash{animation:flash 1.4s ease-out;}
-@keyframes flash{from{background:var(--flash);}
+@keyframes flash{from{background-color:var(--flash);}
 }
 @media (prefers-reduced-motion:reduce){.flash{animation:none;}
 }
@@ -72,6 +72,7 @@ button:disabled{opacity:.45;cursor:default;}
 .mark{flex:none;padding:0 .45rem;border-radius:.6rem;background:var(--mark);font-size:.75rem;line-height:1.15rem;font-style:normal;}
 #current,#range,#cut{position:absolute;pointer-events:none;}
 #cut{border:2px dashed var(--accent);}
+#editor:focus ~ #handle{display:none;}
 #handle{position:absolute;z-index:2;background:var(--accent);border:1px solid var(--back);cursor:crosshair;touch-action:none;}
 #current{z-index:1;border:2px solid var(--accent);border-radius:2px;}
 #range{background:var(--accent);opacity:.14;}
@@ -106,6 +107,8 @@ footer{display:flex;gap:1rem;padding:.2rem .75rem;border-top:1px solid var(--rul
 .lost #grid{opacity:.55;}
 #hint{margin-left:auto;overflow:hidden;text-overflow:ellipsis;}
 #paper{display:none;}
+@media (min-width:700px){header{flex-wrap:nowrap;}
+}
 @media (max-width:400px){header{gap:.25rem;padding:.3rem;}
 header button{padding:0 .5rem;}
 .buttons{gap:.25rem;}
@@ -147,8 +150,8 @@ td{padding:2px 6px;border:1px solid #999;white-space:pre;}
 <div id="range"></div>
 <div id="cut" hidden></div>
 <div id="current"></div>
-<div id="handle" title="Drag to fill"></div>
 <input id="editor" aria-label="Entry" spellcheck="false" autocomplete="off" maxlength="600">
+<div id="handle" title="Drag to fill"></div>
 </div>
 </main>
 <section id="examples" hidden aria-label="Examples">
@@ -347,8 +350,8 @@ ALL)).keys()].map(cellAt);return cells.length?{...areaAround(cells),
 left:0,top:0}:null;}const SCALE=parseFloat(getComputedStyle(document.documentElement).fontSize)/16;
 const WIDTH=Math.round(104*SCALE),HEIGHT=Math.round(26*SCALE),SIDE=Math.round(48*SCALE);
 const LEAST_WIDTH=Math.round(24*SCALE),MOST_WIDTH=900;let widths=new Map(JSON.parse(localStorage.getItem('widths')||'[]')),
-lefts=[];function layOut(){lefts=[0];for(let c=0;c<COLUMNS;
-c++)lefts.push(lefts[c]+(widths.get(c)||WIDTH));
+lefts=[];const focusGrid=()=>grid.focus({preventScroll:true});function layOut(){
+lefts=[0];for(let c=0;c<COLUMNS;c++)lefts.push(lefts[c]+(widths.get(c)||WIDTH));
 Object.assign(space.style,{width:SIDE+lefts[COLUMNS]+'px',height:HEIGHT+ROWS*HEIGHT+'px'});
 }function columnAt(x){let column=0;while(column<COLUMNS-1&&lefts[column+1]<=x)column++;
 return column;}const widthOf=column=>lefts[column+1]-lefts[column];const pixels=area=>[SIDE+lefts[area.left],
@@ -415,7 +418,7 @@ return entry==='@tally'?'counter: + and \u2212 count':entry==='@choice'?'options
 const entry=heldAt(current),value=shownAt(current),isFault=entry[0]==='='&&FAULTS[value];
 const kind=kindOf(current,entry,value);if(document.activeElement!==$('name'))$('name').value=isSame(current,
 corner)?nameOf(current):areaName(selected());if(editing===null)line.value=textOf(current,
-entry);const note=entry===passedOf&&passedOver?', '+passedOver:'';$('value').textContent=entry[0]==='='?'= '+value+note:'';
+entry);const note=entry===passedOf&&passedOver?', '+passedOver:'';$('value').title=$('value').textContent=entry[0]==='='?'= '+value+note:'';
 $('value').className=isFault||note?'fault':'';const hint=entry[0]==='='&&!isFault?'':kind;
 if($('hint').textContent!==hint)$('hint').textContent=hint;if(editing===null&&marks.has(keyOf(...current)))marks.get(keyOf(...current)).isSeen=true;
 drawSums();}function fill(element,cell,isNew){const value=shownAt(cell),entry=heldAt(cell),
@@ -441,20 +444,22 @@ const list=made('span','marks',element);for(const option of readOptions(value))m
 'options');}let telling=null;function tell(text,cell=current,stays=false,isNote=false){
 const box=$('refusal'),element=cells.get(keyOf(...cell));box.textContent=text;
 box.className=isNote?'note':'';box.hidden=!text;clearTimeout(telling);if(!text)return;
-beside(box,(element||grid).getBoundingClientRect());if(!stays)telling=setTimeout(()=>tell(''),
-8000);}function beside(box,near){const below=near.bottom+4,isRoom=below+box.offsetHeight<innerHeight;
-box.style.left=Math.max(4,Math.min(near.left,innerWidth-box.offsetWidth-8))+'px';
-box.style.top=Math.max(4,isRoom?below:near.top-box.offsetHeight-4)+'px';
-}function question(text,answers){return new Promise(done=>{const box=$('question'),
-row=box.lastElementChild;box.firstElementChild.textContent=text;row.textContent='';let chosen=answers.length-1;
-answers.forEach((answer,i)=>{const element=made('button','',row);element.textContent=answer;
-element.onclick=()=>{chosen=i;box.close();};});box.onclose=()=>{
-done(chosen);if(editing===null)grid.focus({preventScroll:true});};
-box.showModal();row.lastElementChild.focus();});}const marks=new Map();
-function mark(cell,text,why){marks.set(keyOf(...cell),{text,
-why,isSeen:false});}function leaveMark(cell){const found=marks.get(keyOf(...cell));
-if(found&&found.isSeen)marks.delete(keyOf(...cell));}function report(refused,
-count,beyond,breaks){const reasons=[...new Set(refused.map(({why})=>why))].slice(0,
+beside(box,(element||grid).getBoundingClientRect(),true);if(!stays)telling=setTimeout(()=>tell(''),
+8000);}function beside(box,near,isAside){const below=near.bottom+4,above=near.top-box.offsetHeight-4,
+isRoom=below+box.offsetHeight<innerHeight;const isAbove=isAside?above>grid.getBoundingClientRect().top:!isRoom,
+left=isAside&&!isAbove?near.right+4:near.left;box.style.left=Math.max(4,
+Math.min(left,innerWidth-box.offsetWidth-8))+'px';box.style.top=Math.max(4,
+isAbove?above:Math.min(below,innerHeight-box.offsetHeight-4))+'px';}function question(text,
+answers){return new Promise(done=>{const box=$('question'),row=box.lastElementChild;
+box.firstElementChild.textContent=text;row.textContent='';const choose=i=>{box.close();
+focusGrid();done(i);};answers.forEach((answer,i)=>{const element=made('button',
+'',row);element.textContent=answer;element.onclick=()=>choose(i);});
+box.oncancel=event=>{event.preventDefault();choose(answers.length-1);};box.showModal();
+row.lastElementChild.focus();});}const marks=new Map();function mark(cell,
+text,why){marks.set(keyOf(...cell),{text,why,isSeen:false});
+}function leaveMark(cell){const found=marks.get(keyOf(...cell));if(found&&found.isSeen)marks.delete(keyOf(...cell));
+}function report(refused,count,beyond,breaks){const reasons=[...new Set(refused.map(({
+why})=>why.split('. ')[0].replace(/\.?$/,'.')))].slice(0,
 2).join(' ');const names=refused.slice(0,3).map(({cell})=>nameOf(cell)).join(', ')+(refused.length>3?', ..':'');
 const parts=[];if(refused.length)parts.push(`${refused.length} of ${several(count, 'cell')} refused (${names}): ${reasons} `+'Marked until you look at them; F2 there takes the text up again.');if(beyond)parts.push(`${several(beyond, 'cell')} beyond the sheet's end left out.`);
 if(breaks)parts.push(several(breaks,'line break')+(breaks>1?' became blanks.':' became a blank.'));
@@ -531,16 +536,16 @@ look();}const undo=()=>inTurn(()=>takeBack(done,undone,'undo'));
 const redo=()=>inTurn(()=>takeBack(undone,done,'redo'));let editing=null,
 begunWith='',isTyped=false,picked=null,pickedCell=null,homeColumn=null;const field=()=>editing==='line'?line:editor;
 function edit(text,where,wasTyped=false){if(editing!==null)return;if(!link.isHeard){
-tell(NO_LINK);return;}hideOptions();corner=current;[editing,begunWith,isTyped]=[where,
-heldAt(current),wasTyped];editor.value=text;if(line.value!==text)line.value=text;
+tell(NO_LINK);return;}hideOptions();tell('');corner=current;[editing,begunWith,
+isTyped]=[where,heldAt(current),wasTyped];editor.value=text;if(line.value!==text)line.value=text;
 if(where!=='cell')return;editor.style.display='block';placeEditor();editor.focus();
 editor.setSelectionRange(text.length,text.length);}function placeEditor(){const[x,y,
 width]=pixels(boxOf(current,current)),least=Math.max(width+1,180*SCALE);
 place(editor,x-1,y-1,least,HEIGHT+1);const room=Math.max(least,
 grid.scrollLeft+grid.clientWidth-x-8);editor.style.width=Math.max(least,Math.min(editor.scrollWidth+12,
 room))+'px';}function stopEditing(){editing=picked=pickedCell=null;editor.style.display='none';
-grid.focus({preventScroll:true});draw();}function moveAfter(cell,columns,rows){
-const home=homeColumn;homeColumn=columns?home===null?cell[0]:home:null;moveTo([rows&&home!==null?home:cell[0]+columns,
+focusGrid();draw();}function moveAfter(cell,columns,rows){const home=homeColumn;
+homeColumn=columns?home===null?cell[0]:home:null;moveTo([rows&&home!==null?home:cell[0]+columns,
 cell[1]+rows]);if(columns)homeColumn=home===null?cell[0]:home;
 }async function commit(columns,rows,isArrow){const text=field().value,cell=current,
 base=begunWith,was=textOf(cell,base);if(!link.isHeard&&text!==was){
@@ -591,14 +596,14 @@ option<64;option++){const label=made('label','',list),mark=made('input',
 '',label);label.append(names[option]?`${option} ${names[option]}`:option);mark.type='checkbox';mark.onchange=async()=>{
 if(!await step(mark.checked?'choose':'unchoose',cell,option))drawOptions();};
 }const note=noteFor(cell);naming.querySelector('input').value=note?areaName(note.area):'';
-drawOptions();options.hidden=false;beside(options,(cells.get(keyOf(...cell))||grid).getBoundingClientRect());
+drawOptions();tell('');options.hidden=false;beside(options,(cells.get(keyOf(...cell))||grid).getBoundingClientRect());
 list.querySelector('input').focus();}function drawOptions(){const on=new Set(readOptions(shownAt(current)));
 options.querySelectorAll('label input').forEach((mark,option)=>{mark.checked=on.has(String(option));
-});}function hideOptions(){if(options.hidden)return;options.hidden=true;grid.focus({
-preventScroll:true});}async function nameOptions(text){const area=readRange(text),cell=current,
-note=noteFor(cell),head=heldAt([cell[0],0]);if(!area){
-tell('Names are a row or a column of cells, as F1:K1.');return;}const told='options '+areaName(area),next=[cell[0]+1,
-cell[1]];const[at,entry]=note?[note.cell,fromEntry(heldAt(note.cell)).replace(NOTE,
+});}function hideOptions(){if(options.hidden)return;options.hidden=true;focusGrid();
+}async function nameOptions(text){const area=readRange(text),cell=current,note=noteFor(cell),
+head=heldAt([cell[0],0]);if(!area){tell('Names are a row or a column of cells, as F1:K1.');return;
+}const told='options '+areaName(area),next=[cell[0]+1,cell[1]];
+const[at,entry]=note?[note.cell,fromEntry(heldAt(note.cell)).replace(NOTE,
 told)]:cell[1]&&head[0]==="'"?[[cell[0],
 0],`${head.slice(1)}, ${told}`]:[next,told];if(!note&&at===next&&(!isInGrid(next)||heldAt(next))){
 tell(`Write "${told}" at the end of a text above ${nameOf(cell)}: the next cell has something.`);return;}hideOptions();await putMany([[at,entry]]);tell(`${nameOf(at)} has the note "${told}" now, which gives the options their names.`,
@@ -692,9 +697,8 @@ matches=keys.filter(key=>(values.get(key)||'').toLowerCase().includes(text)||fro
 way]=[text,-1,1];match=matches.length?(match+way+matches.length)%matches.length:-1;
 $('found').textContent=matches.length?`${match + 1} of ${matches.length}`:'nowhere';if(matches.length)moveTo(cellAt(matches[match]));
 }function openFind(){$('find').hidden=false;$('sought').focus();$('sought').select();
-}function closeFind(){$('find').hidden=true;sought='';grid.focus({preventScroll:true});
-}$('find').addEventListener('keydown',event=>{if(event.key==='Escape')closeFind();
-else if(event.key==='Enter'&&event.target.id==='sought')find(event.shiftKey?-1:1);
+}function closeFind(){$('find').hidden=true;sought='';focusGrid();}$('find').addEventListener('keydown',
+event=>{if(event.key==='Escape')closeFind();else if(event.key==='Enter'&&event.target.id==='sought')find(event.shiftKey?-1:1);
 else return;event.preventDefault();});$('next').onclick=()=>find(1);
 $('close').onclick=closeFind;const LARGEST_FILE=4000000;const csvField=text=>/[",\r\n]/.test(text)?'"'+text.replace(/"/g,
 '""')+'"':text;async function csvOf(word){const area=await usedArea(),
@@ -789,17 +793,16 @@ ROWS)];}function selectHead(head,isExtending){const n=+head.slice(1),
 isColumn=head[0]==='c',from=isExtending?current[isColumn?0:1]:n;
 if(isColumn)select([from,0],[n,ROWS-1]);else select([0,
 from],[COLUMNS-1,n]);}function pressHead(event,head){event.preventDefault();
-if(editing!==null)commit(0,0);grid.focus({preventScroll:true});
-if(head){selectHead(head,event.shiftKey);dragging={kind:'heads',head};}else COMMANDS.a();
-}function pressEdge(event,column){event.preventDefault();dragging={kind:'edge',column,from:event.clientX-widthOf(column)};
+if(editing!==null)commit(0,0);focusGrid();if(head){selectHead(head,
+event.shiftKey);dragging={kind:'heads',head};}else COMMANDS.a();}function pressEdge(event,
+column){event.preventDefault();dragging={kind:'edge',column,from:event.clientX-widthOf(column)};
 }function pressCell(event,cell){event.preventDefault();if(editing!==null){if(!isFormula(field().value)||isSame(cell,
 current)){commit(0,0);return;}picked=null;dragging={kind:'pick',from:cell};
-pick(cell);return;}grid.focus({preventScroll:true});const action=event.target.dataset.action,
-hadOptions=!options.hidden&&isSame(cell,current);homeColumn=null;bringIntoView(cell);select(event.shiftKey?current:cell,
-cell);if(action==='options'){if(!hadOptions)showOptions();}else if(action)step(action,
-cell,1);else dragging={kind:'select',from:cell};}grid.addEventListener('pointerdown',
-event=>{const cell=cellOf(event.target),{head,edge}=event.target.dataset;
-if(event.button!==0||event.pointerType==='touch'&&!edge&&event.target.id!=='handle')return;
+pick(cell);return;}focusGrid();const action=event.target.dataset.action,hadOptions=!options.hidden&&isSame(cell,
+current);homeColumn=null;bringIntoView(cell);select(event.shiftKey?current:cell,cell);if(action==='options'){
+if(!hadOptions)showOptions();}else if(action)step(action,cell,1);else dragging={
+kind:'select',from:cell};}grid.addEventListener('pointerdown',event=>{const cell=cellOf(event.target),
+{head,edge}=event.target.dataset;if(event.button!==0||event.pointerType==='touch'&&!edge&&event.target.id!=='handle')return;
 if(event.target.id==='handle'){event.preventDefault();dragging={kind:'fill',
 source:selected()};}else if(edge)pressEdge(event,+edge);else if(head||event.target.id==='corner')pressHead(event,
 head);else if(cell)pressCell(event,cell);});grid.addEventListener('click',event=>{
