@@ -1,6 +1,7 @@
 // What is known of the sheet: what cells show, and what they hold, each by its key. After a loss it stays until there
 // are replies again.
-let shown = new Map(), held = new Map(), seenAt = '', seenRange = '', isLooking = false, isStale = false, isEmpty = true;
+const shown = new Map(), held = new Map();
+let seenAt = '', seenRange = '', isLooking = false, isStale = false, isEmpty = true;
 const shownAt = cell => shown.get(keyOf(...cell)) || '';
 const heldAt = cell => held.get(keyOf(...cell)) || '';
 const isCounter = entry => entry === '@tally' || entry === '@choice';

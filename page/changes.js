@@ -1,6 +1,6 @@
 // Changes. Each is a line to the server; many are under way at a time, and what was done together is undone together.
 // What is done later waits for what was done before, so that it finds what that made.
-const LONGEST_ENTRY = 4096;
+const LONGEST_ENTRY = 4096, MANY = 20000;
 let turn = Promise.resolve();
 function inTurn(act) {
   const mine = turn.then(act);
@@ -56,8 +56,8 @@ function asksWhich(cell, text, other) {
     ['Mine', 'Theirs', 'Go on typing']);
 }
 /** Whether another entry than this one has come to a cell, and isn't the wanted one. */
-const isDisputed = (cell, was, base, text) => base !== undefined && was !== base && was !== own.get(keyOf(...cell)) &&
-  fromEntry(was) !== text && was !== toEntry(text);
+const isDisputed = (cell, was, base, text) => base !== undefined && was !== base &&
+  ![own.get(keyOf(...cell)), toEntry(text)].includes(was) && fromEntry(was) !== text;
 /**
  * Puts texts into cells, `wanted` being a cell, a text and perhaps why it can't be put, each; all in one act that is
  * undone by one step. `base` is what the one cell held when its text was begun. Returns what was refused, or null where
@@ -72,14 +72,16 @@ async function putNow(wanted, base) {
   const was = cell => before.get(keyOf(...cell)) || '';
   try {
     [before, values] = await readBoth(area);
-    const [[cell, text]] = inside, choice = isDisputed(cell, was(cell), base, text) && await asksWhich(cell, text, was(cell));
+    const [[cell, text]] = inside, other = was(cell);
+    const choice = isDisputed(cell, other, base, text) && await asksWhich(cell, text, other);
     if (choice === THEIRS) return refused;
     if (choice) return [{ cell, text, why: '' }];
     const isFull = at => isCounter(was(at)) && !/^(0|\{\})$/.test(values.get(keyOf(...at)));
     const left = new Set(await asksFor(inside.filter(([at, due]) => isFull(at) && due !== was(at)), values));
     const due = inside.filter(each => !left.has(each) && (each[1] || was(each[0])));
     await Promise.all(due.map(async ([at, wish, problem]) => {
-      const each = { cell: at, text: wish, before: was(at) }, why = problem || problemOf(wish) || await setCell(each, wish);
+      const each = { cell: at, text: wish, before: was(at) };
+      const why = problem || problemOf(wish) || await setCell(each, wish);
       if (why) refused.push({ cell: at, text: wish, why }); else steps.push(each);
     }));
     [after, values] = await readBoth(area);
@@ -101,13 +103,15 @@ function settle(step, after, values) {
   const key = keyOf(...step.cell), now = after ? after.get(key) : step.after;
   marks.delete(key);
   own.set(key, step.after);
-  for (const [into, text] of [[held, now], [shown, values.get(key)]]) if (text) into.set(key, text); else into.delete(key);
+  for (const [into, text] of [[held, now], [shown, values.get(key)]])
+    if (text) into.set(key, text); else into.delete(key);
   keepTyped(step.cell, step.text, step.after);
 }
 /** Puts many texts: what was refused is marked, and told at the end. */
 async function putMany(wanted, breaks = 0) {
   const beyond = wanted.filter(([cell]) => !isInGrid(cell)).length;
   if (!link.isHeard) { tell(NO_LINK); return; }
+  if (wanted.length > MANY && await question(`These are ${wanted.length} cells. Go on?`, ['Go on', 'Cancel'])) return;
   if (wanted.length > 200) $('progress').textContent = several(wanted.length, 'cell') + ' on their way';
   const refused = await put(wanted);
   $('progress').textContent = '';

@@ -27,13 +27,14 @@ const copiedEntries = () => {
   const area = copiedArea();
   return { left: area.left, top: area.top, rows: rowsOf(area, cell => textOf(cell, heldAt(cell))) };
 };
-/** The texts of a copy for its new place, with their references moved. */
-function movedRows({ left, top, rows }, [column, row]) {
-  return rows.map((texts, i) => texts.map((text, j) => {
-    const moved = isFormula(text) ? shifted(text, column - left, row - top) : text;
-    return [[column + j, row + i], moved === null ? text : moved, moved === null ? 'A reference would leave the sheet.' : ''];
-  })).flat();
+/** What `put` is given for a text that was so many columns and rows away: it with its references moved. */
+function moved(cell, text, columns, rows) {
+  const found = isFormula(text) ? shifted(text, columns, rows) : text;
+  return found === null ? [cell, text, 'A reference would leave the sheet.'] : [cell, found];
 }
+/** The texts of a copy for its new place. */
+const movedRows = ({ left, top, rows }, [column, row]) => rows.map((texts, i) => texts.map((text, j) =>
+  moved([column + j, row + i], text, column - left, row - top))).flat();
 /** Repeats the rows of a copy to fill a selection that is a multiple of it. */
 function repeated(copy, range) {
   const high = copy.rows.length, wide = copy.rows[0].length, found = [];
@@ -48,7 +49,8 @@ function repeated(copy, range) {
 function readFields(text, separator) {
   const rows = [[]];
   let breaks = 0, at = 0;
-  const end = text.replace(/\r?\n$/, '').length, isEnd = i => i >= end || text[i] === separator || /[\r\n]/.test(text[i]);
+  const end = text.replace(/\r?\n$/, '').length;
+  const isEnd = i => i >= end || text[i] === separator || /[\r\n]/.test(text[i]);
   while (at <= end) {
     const quote = /"((?:[^"]|"")*)"/y;
     quote.lastIndex = at;
@@ -64,7 +66,8 @@ function readFields(text, separator) {
   }
   return [rows, breaks];
 }
-const placed = (rows, [column, row]) => rows.map((texts, i) => texts.map((text, j) => [[column + j, row + i], text])).flat();
+const placed = (rows, [column, row]) =>
+  rows.map((texts, i) => texts.map((text, j) => [[column + j, row + i], text])).flat();
 /** Pastes a text; one that is a single field fills what is selected. */
 function pasteText(text) {
   const range = selected(), [rows, breaks] = readFields(text, '\t');
@@ -73,16 +76,13 @@ function pasteText(text) {
 }
 /** Moves what was cut: its entries stay as they are. Counters and sets stay where they are, with what they have. */
 async function moveCut(from, copy, to) {
-  const isHere = ([column, row]) => !isCounter(copy.rows[row][column]);
-  const offsets = rowsOf({ left: 0, top: 0, right: copy.rows[0].length - 1, bottom: copy.rows.length - 1 }, cell => cell).flat();
-  const moving = offsets.filter(isHere), stayed = offsets.length - moving.length;
-  const targets = moving.map(([j, i]) => [[to[0] + j, to[1] + i], copy.rows[i][j]]);
-  const covered = new Set(targets.map(([cell]) => keyOf(...cell)));
-  const emptied = moving.map(([j, i]) => [from.left + j, from.top + i]).filter(cell => !covered.has(keyOf(...cell)));
-  if (targets.some(([cell]) => !isInGrid(cell))) { tell('This would go beyond the end of the sheet: nothing was moved.'); return; }
-  await putMany([...targets, ...emptied.map(cell => [cell, ''])]);
-  if (stayed) tell(several(stayed, 'counter or set', 'counters and sets') + ' stayed, since counts and marks do not move.',
-    to, true, true);
+  const all = placed(copy.rows, to), targets = all.filter(([, text]) => !isCounter(text));
+  const covered = new Set(targets.map(([cell]) => keyOf(...cell))), stayed = all.length - targets.length;
+  const left = targets.map(([[column, row]]) => [from.left + column - to[0], from.top + row - to[1]]);
+  if (all.some(([cell]) => !isInGrid(cell))) { tell('This would leave the sheet: nothing was moved.'); return; }
+  await putMany([...targets, ...left.filter(cell => !covered.has(keyOf(...cell))).map(cell => [cell, ''])]);
+  const kinds = several(stayed, 'counter or set', 'counters and sets');
+  if (stayed) tell(kinds + ' stayed, since counts and marks do not move.', to, true, true);
 }
 function drawCut() {
   $('cut').hidden = !cutArea;

@@ -128,7 +128,8 @@ function kindOf(cell, entry, value) {
 function drawLine() {
   const entry = heldAt(current), value = shownAt(current), isFault = entry[0] === '=' && FAULTS[value];
   const kind = kindOf(current, entry, value);
-  if (document.activeElement !== $('name')) $('name').value = isSame(current, corner) ? nameOf(current) : areaName(selected());
+  const where = isSame(current, corner) ? nameOf(current) : areaName(selected());
+  if (document.activeElement !== $('name')) $('name').value = where;
   if (editing === null) line.value = textOf(current, entry);
   const note = entry === passedOf && passedOver ? ', ' + passedOver : '';
   $('value').title = $('value').textContent = entry[0] === '=' ? '= ' + value + note : '';

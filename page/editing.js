@@ -37,7 +37,7 @@ function moveAfter(cell, columns, rows) {
   moveTo([rows && home !== null ? home : cell[0] + columns, cell[1] + rows]);
   if (columns) homeColumn = home === null ? cell[0] : home;
 }
-// The editor closes at once; a refused entry comes back into it, or is kept for F2 where something else is done by then.
+// The editor closes at once; a refused entry comes back into it, or waits for F2 where something else is done by then.
 async function commit(columns, rows, isArrow) {
   const text = field().value, cell = current, base = begunWith, was = textOf(cell, base);
   if (!link.isHeard && text !== was) {
@@ -93,7 +93,8 @@ function pick(cell, from) {
   placeEditor();
 }
 /** Whether an arrow points at a cell, since a formula waits for one. */
-const isPicking = box => isFormula(box.value) && (picked || /[=+\-*(;,<>:]\s*$/.test(box.value.slice(0, box.selectionStart)));
+const isPicking = box => isFormula(box.value) &&
+  (picked || /[=+\-*(;,<>:]\s*$/.test(box.value.slice(0, box.selectionStart)));
 const ARROWS = { ArrowLeft: [-1, 0], ArrowRight: [1, 0], ArrowUp: [0, -1], ArrowDown: [0, 1] };
 function editorKey(event) {
   const back = event.shiftKey ? -1 : 1, arrow = ARROWS[event.key];

@@ -10,8 +10,8 @@ import re
 HERE = pathlib.Path(__file__).resolve().parent
 # The scripts, in the order in which they are put together to one.
 SCRIPTS = [f"{name}.js" for name in (
-    "names", "words", "formulas", "wire", "cells", "widths", "drawing", "telling", "changes", "undo", "editing", "options",
-    "clipboard", "filling", "sums", "finding", "files", "keys", "pointer", "start")]
+    "names", "words", "formulas", "wire", "cells", "widths", "drawing", "telling", "changes", "undo", "editing",
+    "options", "clipboard", "filling", "sums", "finding", "files", "keys", "pointer", "start")]
 MODULE = HERE.parent / "crates" / "ps_page" / "src" / "page.rt"
 
 
@@ -19,35 +19,41 @@ def hash_of(text):
     return "'sha256-" + base64.b64encode(hashlib.sha256(text.encode()).digest()).decode() + "'"
 
 
-# The parts of a script that stay as they are: texts, regular expressions and names; comments and blanks, which go.
-PARTS = re.compile(r"""
-    (?P<gone>//[^\n]*|/\*.*?\*/|\s+)
-    |(?P<kept>'(?:[^'\\]|\\.)*'|"(?:[^"\\]|\\.)*"|`(?:[^`\\$]|\\.|\$(?!\{)|\$\{(?:'[^']*'|[^{}`']|`[^`]*`|\{[^{}]*\})*\})*`)
-    |(?P<slash>/)|(?P<word>[\w$]+)|(?P<sign>.)""", re.VERBOSE | re.DOTALL)
+# The parts of a script: comments and blanks, texts, slashes, words and signs; and a pattern, which begins with a slash.
+TEXT = r"""'(?:[^'\\]|\\.)*'|"(?:[^"\\]|\\.)*\""""
+FILLED = r"\$\{(?:'[^']*'|[^{}`']|`[^`]*`|\{[^{}]*\})*\}"
+TEMPLATE = rf"`(?:[^`\\$]|\\.|\$(?!\{{)|{FILLED})*`"
+PARTS = re.compile(rf"(?P<gap>//[^\n]*|/\*.*?\*/|\s+)|{TEXT}|{TEMPLATE}|(?P<slash>/)|[\w$]+|.", re.DOTALL)
+PATTERN = re.compile(r"/(?:[^/\\\[\n]|\\.|\[(?:[^\]\\]|\\.)*\])+/[a-z]*")
+# What stands before a pattern, and not before a division.
+BEFORE_PATTERN = re.compile(r"[(,=:\[!&|?{};+\-*<>]$|^return$")
 # So many parts stand in a line at least, so that lines don't get too long.
 LINE_PARTS = 25
-PATTERN = re.compile(r"/(?:[^/\\\[\n]|\\.|\[(?:[^\]\\]|\\.)*\])+/[a-z]*")
+
+
+def needs_gap(first, second):
+    """Whether two parts would be another one without a blank between them."""
+    return bool(re.match(r"[\w$][\w$]|\+\+|--", first[-1] + second[0]))
 
 
 def compact(script):
     """A script without its comments and the blanks that it doesn't need, so that the page is small."""
-    out, at, was_gap, start = [], 0, False, 0
+    out, at, start, is_gap = [""], 0, 0, False
     while at < len(script):
         found = PARTS.match(script, at)
-        if found["slash"] and out and re.search(r"[(,=:\[!&|?{};+\-*<>]$|^return$", out[-1]):
+        if found["slash"] and BEFORE_PATTERN.search(out[-1]):
             found = PATTERN.match(script, at)
-        at = found.end()
-        part, is_gone = found[0], found.re is PARTS and found["gone"]
-        if is_gone:
-            was_gap = True
+        at, part = found.end(), found[0]
+        if found.re is PARTS and found["gap"]:
+            is_gap = True
             continue
-        if was_gap and out and (re.match(r"[\w$][\w$]", out[-1][-1] + part[0]) or out[-1][-1] + part[0] in ("++", "--")):
+        if is_gap and out[-1] and needs_gap(out[-1], part):
             out.append(" ")
-        elif was_gap and len(out) - start > LINE_PARTS and out[-1] in "{};,":
+        elif is_gap and len(out) - start > LINE_PARTS and out[-1] in "{};,":
             out.append("\n")
             start = len(out)
         out.append(part)
-        was_gap = False
+        is_gap = False
     return "".join(out)
 
 

@@ -4,7 +4,8 @@ const csvField = text => /[",\r\n]/.test(text) ? '"' + text.replace(/"/g, '""') 
 /** The used part of the sheet as CSV: by `rows` what it shows, by `entries` what it holds. */
 async function csvOf(word) {
   const area = await usedArea(), found = area ? await readArea(word, area) : new Map();
-  return area ? rowsOf(area, cell => csvField(found.get(keyOf(...cell)) || '')).map(row => row.join(',') + '\r\n').join('') : '';
+  const fieldOf = cell => csvField(found.get(keyOf(...cell)) || '');
+  return area ? rowsOf(area, fieldOf).map(row => row.join(',') + '\r\n').join('') : '';
 }
 async function saveCsv(word) {
   try {
@@ -28,13 +29,15 @@ async function openCsv(file) {
   const wanted = placed(rows, current), inside = wanted.filter(([cell]) => isInGrid(cell));
   const entries = await readArea('entries', areaAround(inside.map(([cell]) => cell))).catch(() => null);
   if (!entries) { tell(NO_LINK); return; }
-  const was = cell => entries.get(keyOf(...cell)) || '', isNew = ([cell, due]) => fromEntry(was(cell)) !== due && was(cell) !== due;
+  const was = cell => entries.get(keyOf(...cell)) || '';
+  const isNew = ([cell, due]) => fromEntry(was(cell)) !== due && was(cell) !== due;
   const changed = inside.filter(isNew), filled = changed.filter(([cell]) => was(cell));
   const size = `${several(rows.length, 'row')} and ${several(Math.max(...rows.map(row => row.length)), 'column')}`;
   const beyond = wanted.length - inside.length;
   const what = `${file.name}: ${size}, from ${nameOf(current)} on. ${several(changed.length, 'cell')} would change, ` +
-    `${filled.length} of them hold something now.` + (beyond ? ` ${several(beyond, 'cell')} lie beyond the sheet.` : '');
-  if (await question(what, ['Take in', 'Cancel']) === 0) await putMany(wanted.filter(each => !isInGrid(each[0]) || isNew(each)), breaks);
+    `${filled.length} of them hold something now.` + (beyond ? ` ${several(beyond, 'cell')} beyond the sheet.` : '');
+  const due = wanted.filter(each => !isInGrid(each[0]) || isNew(each));
+  if (await question(what, ['Take in', 'Cancel']) === 0) await putMany(due, breaks);
 }
 $('file').onchange = event => {
   if (event.target.files[0]) openCsv(event.target.files[0]);
@@ -55,7 +58,8 @@ async function layOutPaper() {
   for (const row of rowsOf(area, cell => cell)) {
     const line = made('tr', '', table);
     for (const cell of row) {
-      const key = keyOf(...cell), value = values.get(key) || '', names = entries.get(key) === '@choice' && namesFor(cell);
+      const key = keyOf(...cell), value = values.get(key) || '';
+      const names = entries.get(key) === '@choice' && namesFor(cell);
       made('td', isNumber(entries.get(key) || '', value) ? 'number' : '', line).textContent =
         names && value[0] === '{' ? readOptions(value).map(n => names[n] || n).join(', ') : value;
     }

@@ -8,8 +8,7 @@ async function fillArea(source, area) {
     const from = [source.left + (cell[0] - area.left) % wide, source.top + (cell[1] - area.top) % high];
     if (isSame(from, cell)) continue;
     const text = textOf(from, entries.get(keyOf(...from)) || '');
-    const moved = isFormula(text) ? shifted(text, cell[0] - from[0], cell[1] - from[1]) : text;
-    wanted.push([cell, moved === null ? text : moved, moved === null ? 'A reference would leave the sheet.' : '']);
+    wanted.push(moved(cell, text, cell[0] - from[0], cell[1] - from[1]));
   }
   await putMany(wanted);
 }

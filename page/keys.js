@@ -1,4 +1,4 @@
-// The keys of the grid. A move that has to ask the server first holds up the keys after it, so that none goes elsewhere.
+// The keys of the grid. A move that has to ask the server holds up the keys after it, so that none goes elsewhere.
 let isMoving = false, heldKeys = [];
 const isControl = event => event.ctrlKey || event.metaKey;
 function target(event) {
@@ -99,8 +99,9 @@ function gridKey(event) {
 }
 grid.addEventListener('keydown', event => { if (event.target === grid && editing === null) gridKey(event); });
 document.addEventListener('keydown', event => {
-  if (isControl(event) && /^[fp]$/.test(event.key) && event.target !== grid) { COMMANDS[event.key](); event.preventDefault(); }
-  if ((event.key === 'F6' || event.key === 'Escape') && $('bar').contains(event.target) && editing === null) grid.focus();
+  const { key, target } = event;
+  if (isControl(event) && /^[fp]$/.test(key) && target !== grid) { COMMANDS[key](); event.preventDefault(); }
+  if (/^(F6|Escape)$/.test(key) && $('bar').contains(target) && editing === null) grid.focus();
 });
 $('name').addEventListener('focus', event => {
   if (editing !== null) { commit(0, 0); event.target.focus(); }

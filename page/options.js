@@ -4,7 +4,8 @@ const NOTE = /\boptions ([A-Z]{1,2}\d+:[A-Z]{1,2}\d+)\)?$/;
 const nameLists = new Map();
 /** The cell with the note for a set of options, and the area that it tells; null where there is none. */
 function noteFor([column, row]) {
-  for (const cell of [[column + 1, row], ...cellsOf({ left: column, right: column, top: 0, bottom: row - 1 }).reverse()]) {
+  const above = cellsOf({ left: column, right: column, top: 0, bottom: row - 1 }).reverse();
+  for (const cell of [[column + 1, row], ...above]) {
     const found = NOTE.exec(heldAt(cell)), area = found && readRange(found[1]);
     if (area) return { cell, area };
   }
@@ -70,6 +71,10 @@ async function nameOptions(text) {
   hideOptions();
   await putMany([[at, entry]]);
   tell(`${nameOf(at)} has the note "${told}" now, which gives the options their names.`, at, false, true);
+}
+/** Puts the area that is pointed at into the field of the names. */
+function pickNames(cell, from) {
+  $('naming').value = areaName(boxOf(cell, from || cell));
 }
 options.addEventListener('keydown', event => {
   if (event.key === 'Escape') hideOptions();

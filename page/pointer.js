@@ -1,5 +1,5 @@
-// The pointer: it selects, points cells into a formula, fills, and moves the edges of columns. A finger scrolls instead;
-// its tap selects a cell, and its tap on the selected cell edits it.
+// The pointer: it selects, points cells into a formula, fills, and moves the edges of columns. A finger scrolls; its
+// tap selects a cell, and its tap on the selected cell edits it.
 let dragging = null;
 const cellOf = target => {
   const element = target.closest ? target.closest('.cell') : null;
@@ -28,11 +28,16 @@ function pressEdge(event, column) {
 }
 function pressCell(event, cell) {
   event.preventDefault();
-  if (editing !== null) {
-    if (!isFormula(field().value) || isSame(cell, current)) { commit(0, 0); return; }
-    picked = null;
+  if (editing !== null && isPicking(field()) && !isSame(cell, current)) {
     dragging = { kind: 'pick', from: cell };
     pick(cell);
+    return;
+  }
+  if (editing !== null) commit(0, 0);
+  if (editing !== null) return;
+  if (document.activeElement === $('naming')) {
+    dragging = { kind: 'names', from: cell };
+    pickNames(cell);
     return;
   }
   focusGrid();
@@ -67,6 +72,7 @@ addEventListener('pointermove', event => {
   const cell = cellNear(event), kind = dragging.kind;
   if (kind === 'edge') setWidth(dragging.column, event.clientX - dragging.from);
   else if (kind === 'pick') pick(cell, dragging.from);
+  else if (kind === 'names') pickNames(cell, dragging.from);
   else if (kind === 'heads') selectHead(dragging.head[0] + cell[dragging.head[0] === 'c' ? 0 : 1], true);
   else if (kind === 'select' && !isSame(cell, corner)) moveTo(cell, true);
   else if (kind === 'fill') {
@@ -79,7 +85,7 @@ addEventListener('pointermove', event => {
 for (const end of ['pointerup', 'pointercancel'])
   addEventListener(end, () => {
     const ended = dragging;
-    dragging = picked = null;
+    dragging = null;
     if (ended && ended.kind === 'edge') keepWidths();
     if (ended && ended.area && areaName(ended.area) !== areaName(ended.source)) fillArea(ended.source, ended.area);
   });

@@ -29,7 +29,11 @@ const CLICKS = {
   'print': printSheet, 'find-button': openFind, 'fit': () => fitWidth(current[0]), 'fill-down': fillDown,
   'fill-right': fillRight,
 };
-for (const [id, call] of Object.entries(CLICKS)) $(id).onclick = () => { if ($('more').matches(':popover-open')) $('more').hidePopover(); call(); };
+for (const [id, call] of Object.entries(CLICKS))
+  $(id).onclick = () => {
+    if ($('more').matches(':popover-open')) $('more').hidePopover();
+    call();
+  };
 $('help').onclose = () => grid.focus();
 $('more').addEventListener('toggle', event => {
   if (event.newState === 'open') beside($('more'), $('menu').getBoundingClientRect());

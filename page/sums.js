@@ -13,7 +13,8 @@ function drawSums() {
     const most = numbers.reduce((a, b) => a > b ? a : b, numbers[0]);
     if (numbers.length) text = `Sum ${numbers.reduce((a, b) => a + b)} \u00b7 Count ${numbers.length} \u00b7 ` +
       `Least ${least} \u00b7 Greatest ${most}`;
-    if (texts.length) text += ` (without ${several(texts.length, 'text')} that look${texts.length > 1 ? '' : 's'} like a number)`;
+    const look = several(texts.length, 'text that looks', 'texts that look') + ' like a number';
+    if (texts.length) text += ` (without ${look})`;
   }
   if (box.textContent !== text) box.textContent = text;
 }

@@ -11,10 +11,11 @@ function tell(text, cell = current, stays = false, isNote = false) {
   beside(box, (element || grid).getBoundingClientRect(), true);
   if (!stays) telling = setTimeout(() => tell(''), 8000);
 }
-/** Lays a box beside another one: below it, or where it has to leave what comes next in sight, above it or to its right. */
+/** Lays a box beside another one: below it, or where what comes next has to stay in sight, above it or to its right. */
 function beside(box, near, isAside) {
-  const below = near.bottom + 4, above = near.top - box.offsetHeight - 4, isRoom = below + box.offsetHeight < innerHeight;
-  const isAbove = isAside ? above > grid.getBoundingClientRect().top : !isRoom, left = isAside && !isAbove ? near.right + 4 : near.left;
+  const below = near.bottom + 4, above = near.top - box.offsetHeight - 4;
+  const isAbove = isAside ? above > grid.getBoundingClientRect().top : below + box.offsetHeight > innerHeight;
+  const left = isAside && !isAbove ? near.right + 4 : near.left;
   box.style.left = Math.max(4, Math.min(left, innerWidth - box.offsetWidth - 8)) + 'px';
   box.style.top = Math.max(4, isAbove ? above : Math.min(below, innerHeight - box.offsetHeight - 4)) + 'px';
 }
@@ -46,10 +47,11 @@ function leaveMark(cell) {
   const found = marks.get(keyOf(...cell));
   if (found && found.isSeen) marks.delete(keyOf(...cell));
 }
+const firstNames = list => list.slice(0, 3).map(nameOf).join(', ') + (list.length > 3 ? ', ..' : '');
 /** Tells how much of what was wanted was refused, and why: one line, which stays. */
 function report(refused, count, beyond, breaks) {
-  const reasons = [...new Set(refused.map(({ why }) => why.split('. ')[0].replace(/\.?$/, '.')))].slice(0, 2).join(' ');
-  const names = refused.slice(0, 3).map(({ cell }) => nameOf(cell)).join(', ') + (refused.length > 3 ? ', ..' : '');
+  const whys = refused.map(({ why }) => why.split('. ')[0].replace(/\.?$/, '.'));
+  const reasons = [...new Set(whys)].slice(0, 2).join(' '), names = firstNames(refused.map(({ cell }) => cell));
   const parts = [];
   if (refused.length) parts.push(`${refused.length} of ${several(count, 'cell')} refused (${names}): ${reasons} ` +
     'Marked until you look at them; F2 there takes the text up again.');

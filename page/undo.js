@@ -15,7 +15,7 @@ function drawButtons() {
   $('undo').disabled = !done.length;
   $('redo').disabled = !undone.length;
 }
-/** Takes back those entries of an act that are still there: the steps that did so, and the cells that others changed. */
+/** Takes back those entries of an act that are still there: the steps of that, and the cells that others changed. */
 async function setBack(steps) {
   const area = areaAround(steps.map(({ cell }) => cell)), back = [], others = [];
   const [now, values] = await readBoth(area);
@@ -46,8 +46,8 @@ async function takeBack(from, to, word) {
     if (back.length) to.push({ steps: back });
     const first = (back[0] || { cell: others[0] }).cell;
     moveTo(first);
-    if (others.length) tell(`${several(others.length, 'cell')} left alone (${others.slice(0, 3).map(nameOf).join(', ')}` +
-      `${others.length > 3 ? ', ..' : ''}): somebody has changed ${others.length > 1 ? 'them' : 'it'} since.`, first, true);
+    const which = `${several(others.length, 'cell')} left alone (${firstNames(others)})`;
+    if (others.length) tell(which + ': somebody has changed ' + (others[1] ? 'them' : 'it') + ' since.', first, true);
   } catch (error) {
     from.push(act);
     tell(NO_LINK);

@@ -54,7 +54,7 @@ function signHabit(text) {
   if (bare.endsWith('%')) return numeralHabit(bare.slice(0, -1).trim()) && 'numbers have no percent sign';
   return numeralHabit(bare);
 }
-/** Why a text that looks like a number or a formula is none, as `run --explain` says it; '' where it looks like none. */
+/** Why a text that looks like a number or a formula is none, as `run --explain` says it; '' where it isn't so. */
 function habitOf(text) {
   if (isUnderstood(text)) return '';
   const bare = text.trim();

@@ -115,6 +115,7 @@ class BrowserTest(ProgramTest):
         """Answers a question by the button of this name, and returns what was asked."""
         page.wait_for("!!document.querySelector('#question[open]')")
         asked = page.value("document.querySelector('#question p').textContent")
-        page.click(*page.middle(f"[...document.querySelectorAll('#question button')].find(b => b.textContent === '{name}')"))
+        buttons = "[...document.querySelectorAll('#question button')]"
+        page.click(*page.middle(f"{buttons}.find(button => button.textContent === '{name}')"))
         page.wait_for("!document.querySelector('#question[open]')")
         return asked

@@ -237,6 +237,34 @@ class Pointer(BrowserTest):
         page.key("Enter")
         self.assert_held("get B1", "val 17")
 
+    def test_another_cell_takes_the_place_of_the_picked_one(self):
+        page = self.page()
+        self.fill("set A1 5", "set A3 7")
+        page.click(*self.middle(page, 1, 0))
+        page.type("=2*")
+        page.click(*self.middle(page, 0, 0))
+        page.click(*self.middle(page, 0, 2))
+        self.assertEqual(page.value("document.getElementById('editor').value"), "=2*A3")
+        page.key("Enter")
+        self.assert_held("get B1", "val 14")
+
+    def test_a_click_elsewhere_ends_an_entry(self):
+        page = self.page()
+        for typed in ("text", "=1+2"):
+            page.click(*self.middle(page, 1, 1))
+            page.type(typed)
+            page.click(*self.middle(page, 3, 3))
+            page.wait_for("nameOf(current)", "D4")
+            page.wait_for("editing", None)
+        self.assert_held("entry B2", "entry =1+2")
+        # one that is refused waits at its cell
+        page.click(*self.middle(page, 0, 0))
+        page.type("=1//2")
+        page.click(*self.middle(page, 3, 3))
+        page.wait_for("document.querySelectorAll('#cell-0.refused').length", 1)
+        page.click(*self.middle(page, 0, 0), times=2)
+        page.wait_for("document.getElementById('editor').value", "=1//2")
+
 
 class Told(BrowserTest):
     words = ("--browsers", "2")
@@ -275,7 +303,8 @@ class Told(BrowserTest):
         self.client.ask("set A1 Friday")
         page.wait_for("shownAt([0, 0])", "Friday")
         page.click(*page.middle("document.getElementById('tally')"))
-        page.wait_for("document.getElementById('refusal').textContent", "A1: This cell holds something. Delete it first.")
+        page.wait_for("document.getElementById('refusal').textContent",
+                      "A1: This cell holds something. Delete it first.")
         self.assertEqual(self.client.ask("get A1"), "val Friday")
 
     def test_a_lost_connection(self):

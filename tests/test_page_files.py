@@ -55,7 +55,7 @@ class Tables(BrowserTest):
         page.wait_for("shownAt([1, 0])", "10")
         page.call("Browser.setDownloadBehavior", behavior="allow", downloadPath=str(folder))
         page.click(*page.middle("document.getElementById('menu')"))
-        page.wait_for("document.getElementById('more').matches(':popover-open')")
+        page.wait_for("document.getElementById('more').style.left !== ''")
         page.click(*page.middle("document.getElementById('save-rows')"))
         file = folder / "sheet.csv"
         page.wait_for("document.getElementById('more').matches(':popover-open')", False)
@@ -72,7 +72,8 @@ class Tables(BrowserTest):
         self.go(page, "B2")
         self.open(page, '\ufeffnew,7,"a ""b"", c"\r\n=B2,' + "x" * 65 + ",1\r\n")
         asked = self.answer(page, "Cancel")
-        self.assertIn("plan.csv: 2 rows and 3 columns, from B2 on. 5 cells would change, 1 of them hold something now.", asked)
+        self.assertIn("plan.csv: 2 rows and 3 columns, from B2 on. 5 cells would change, "
+                      "1 of them hold something now.", asked)
         self.assertEqual(self.client.ask("get B2"), "val old")
         self.open(page, '\ufeffnew,7,"a ""b"", c"\r\n=B2,' + "x" * 65 + ",1\r\n", "again.csv")
         self.answer(page, "Take in")
@@ -81,6 +82,14 @@ class Tables(BrowserTest):
         self.assertEqual(self.entries("B2:D3"), ["'new,7,\"'a \"\"b\"\", c\"", "=[.B2],,1"])
         page.key("z", CONTROL)
         self.assert_held("get B2", "val old")
+
+    def test_a_file_is_dropped(self):
+        page = self.page()
+        page.value("(() => { const data = new DataTransfer(); data.items.add(new File(['1,2\\n'], 'two.csv'));"
+                   " grid.dispatchEvent(new DragEvent('drop',"
+                   " { dataTransfer: data, bubbles: true, cancelable: true })); })()")
+        self.assertIn("two.csv: 1 row and 2 columns, from A1 on", self.answer(page, "Take in"))
+        self.assert_held("get B1", "val 2")
 
     def test_semicolons_and_entries_come_in(self):
         page = self.page()
@@ -148,7 +157,7 @@ class Widths(BrowserTest):
         page.wait_for("widthOf(1) > WIDTH * 1.5")
         wide = page.value("widthOf(1)")
         self.go(page, "B700")
-        self.assertLessEqual(page.value("(e => e.scrollWidth - e.clientWidth)(document.getElementById('cell-' + keyOf(1, 699)))"), 0)
+        page.wait_for("(e => e.scrollWidth <= e.clientWidth)(document.getElementById('cell-' + keyOf(1, 699)))")
         self.fill("set B700 x")
         page.key("ArrowUp", ALT | SHIFT)
         page.wait_for(f"widthOf(1) < {wide}")
@@ -172,10 +181,17 @@ class Names(BrowserTest):
         page.wait_for("document.querySelectorAll('#options label')[2].textContent", "2 Wed")
         page.click(*page.middle("document.querySelectorAll('#options label input')[2]"))
         self.assert_held("get B2", "val {1,2}")
-        # names may change, and the next cell's note goes before
+        # they may be pointed at, and change
+        page.click(*page.middle("document.getElementById('naming')"))
+        page.mouse("mousePressed", *self.middle(page, 5, 0), clickCount=1, buttons=1)
+        page.mouse("mouseMoved", *self.middle(page, 6, 0), buttons=1)
+        page.mouse("mouseMoved", *self.middle(page, 7, 0), buttons=1)
+        page.mouse("mouseReleased", *self.middle(page, 7, 0), clickCount=1)
+        page.wait_for("document.getElementById('naming').value", "F1:H1")
+        page.key("Escape")
         self.fill("set H1 Wednesday")
-        page.wait_for("[...document.querySelectorAll('#cell-' + keyOf(1, 1) + ' .mark')].map(m => m.textContent).join()",
-                      "Tue,Wednesday")
+        marks = "document.querySelectorAll('#cell-' + keyOf(1, 1) + ' .mark')"
+        page.wait_for(f"[...{marks}].map(mark => mark.textContent).join()", "Tue,Wednesday")
 
 
 class Titles(BrowserTest):

@@ -11,8 +11,8 @@ LOOK_ALIKE = (
     ("2026-11-29", DATES), ("29.11.2026", DATES), ("12:30", DATES), ("$5", "numbers have no sign of a currency"),
     ("1e3", "numbers are digits alone"), ("TRUE", "truth values are written =TRUE() and =FALSE()"),
     ("SUM(1;2)", "a formula begins with ="), ("@TALLY", "@tally, @choice and of:= are in small letters"),
-    ("99999999999999999999", "numbers are -9223372036854775808 to 9223372036854775807"), ("\u22125", "the minus sign is -"),
-    ("-.5", WHOLE), ("5 \u20ac", "numbers have no sign of a currency"),
+    ("99999999999999999999", "numbers are -9223372036854775808 to 9223372036854775807"),
+    ("\u22125", "the minus sign is -"), ("-.5", WHOLE), ("5 \u20ac", "numbers have no sign of a currency"),
 )
 # What the program itself says nothing of.
 BEYOND = {"3/4", "2026-11-29", "29.11.2026", "12:30"}
@@ -25,7 +25,8 @@ class LooksLikeANumber(BrowserTest):
         page.type("12.50")
         page.key("Enter")
         self.assert_held("entry A1", "entry '12.50")
-        page.wait_for("document.getElementById('refusal').textContent", "A1: 12.50 is kept as a text: numbers are whole")
+        page.wait_for("document.getElementById('refusal').textContent",
+                      "A1: 12.50 is kept as a text: numbers are whole")
         page.wait_for("document.querySelectorAll('#cell-0.looks').length", 1)
         page.key("ArrowUp")
         page.wait_for("document.getElementById('hint').textContent", "12.50 is kept as a text: numbers are whole")
@@ -54,7 +55,8 @@ class LooksLikeANumber(BrowserTest):
     def test_an_apostrophe_is_told_too(self):
         page = self.page()
         self.fill("set A1 '12")
-        page.wait_for("document.getElementById('hint').textContent", "12 is kept as a text: an apostrophe stands before it")
+        page.wait_for("document.getElementById('hint').textContent",
+                      "12 is kept as a text: an apostrophe stands before it")
 
     def test_a_sum_says_that_it_passes_it_over(self):
         page = self.page()

@@ -3,9 +3,9 @@
 /// The head of the response with the page, which ends where the connection does.
 pub const PAGE_HEAD: &[u8] = b"HTTP/1.1 200 OK\r
 content-type: text/html; charset=utf-8\r
-content-length: 70688\r
+content-length: 70789\r
 cache-control: no-store\r
-content-security-policy: default-src 'none'; script-src 'sha256-D0GBAKpbADM/Dilsk6w12cIdsYKnnnMv3sBJG7f5uyo='; style-src 'sha256-vLus3CIo93dbX4yk+MOsTFfbo2J32bgIpf8EMIHzUlk='; connect-src 'self'; img-src data:; base-uri 'none'; form-action 'none'; frame-ancestors 'none'\r
+content-security-policy: default-src 'none'; script-src 'sha256-XeumtKcx16w9mGZCe3Q5DkJLEP703YbZYtLQoz6Ocmk='; style-src 'sha256-vLus3CIo93dbX4yk+MOsTFfbo2J32bgIpf8EMIHzUlk='; connect-src 'self'; img-src data:; base-uri 'none'; form-action 'none'; frame-ancestors 'none'\r
 x-content-type-options: nosniff\r
 x-frame-options: DENY\r
 referrer-policy: no-referrer\r
@@ -178,9 +178,9 @@ td{padding:2px 6px;border:1px solid #999;white-space:pre;}
 <dialog id="help" aria-label="Help">
 <form method="dialog"><button>Close</button></form>
 <h2>How it works</h2>
-<p>Click a cell and type; <b>Enter</b> or <b>Tab</b> puts it in. What others change shows by itself. A cell holds a whole
-number, a text of up to 64 bytes, a formula, a counter or a set of options. Texts that look like numbers, as 12.50, 50%
-or 2026-11-29, have a mark in their corner: sums pass them over.</p>
+<p>Click a cell and type; <b>Enter</b> or <b>Tab</b> puts it in. What others change shows by itself. A cell holds a
+whole number, a text, a formula, a counter or a set of options. A text that looks like a number, as 12.50, 50% or
+2026-11-29, has a mark in its corner: sums pass it over.</p>
 <h2>Keys</h2>
 <dl>
 <dt>Arrows, Home, End, Page keys</dt><dd>move; with Shift they select, with Ctrl they go to the next edge</dd>
@@ -191,7 +191,7 @@ or 2026-11-29, have a mark in their corner: sums pass them over.</p>
 <dt>Ctrl+D, Ctrl+R</dt><dd>fill down, fill right; or drag the small square of the selection</dd>
 <dt>Ctrl+A, Ctrl+Space, Shift+Space</dt><dd>select all, columns, rows; or click the heads</dd>
 <dt>Ctrl+F, Ctrl+P</dt><dd>find in all cells, print</dd>
-<dt>Alt+Shift+Left, Right, Up</dt><dd>narrower, wider, the width that fits; or drag a head's edge, or double-click it</dd>
+<dt>Alt+Shift+Left, Right, Up</dt><dd>narrower, wider, as wide as it needs; or drag a head's edge, click it twice</dd>
 <dt>F6</dt><dd>to the bar above and back</dd>
 <dt>+, -</dt><dd>count, at a counter</dd>
 </dl>
@@ -204,28 +204,27 @@ or 2026-11-29, have a mark in their corner: sums pass them over.</p>
 <dt>=QUOTIENT(7;2)</dt><dd>a division: 3; MOD(7;2) is what is left, 1</dd>
 <dt>=ABS(A1)</dt><dd>without its sign</dd>
 </dl>
-<p>A copied formula points as far away as before. A $ before a column or a row holds it, as in =$A$1, but the sheet does
-not keep it: only this browser knows the $ that was typed in it. A cut moves the cell; formulas elsewhere still point to
-its old place, and counters and sets stay.</p>
+<p>A copied formula points as far away as before. A $ holds a column or a row, as in =$A$1, in this browser alone: the
+sheet does not keep it. A cut moves cells; formulas elsewhere still point to the old place, and counters and sets
+stay.</p>
 <h2>Counters and sets</h2>
 <p><b>Counter</b> makes a number that everybody raises and lowers at the same time, and no click is lost: for votes.
-<b>Options</b> makes a set of the options 0 to 63, put on and off by each; a formula sees how many are on. They get names
-from a row or column of cells: a text that ends with <i>options F1:K1</i>, in the next cell to the right or above in the
-column, tells which. What a counter or a set had is hidden when something else is put there, and comes back when the
-cell is made one again.</p>
+<b>Options</b> makes a set of the options 0 to 63, each on or off; a formula sees how many are on. A text that ends with
+<i>options F1:K1</i>, in the next cell to the right or above in the column, names them by these cells. Where something
+else is put over a counter or a set, what it had comes back when the cell is made one again.</p>
 <h2>Limits</h2>
-<p>Whole numbers of 64 bits, without decimals, dates or percent. Texts of up to 64 bytes, formulas of up to 256. Cells A1
-to CZ1024. Column widths are kept by this browser alone.</p>
+<p>Whole numbers of 64 bits, without decimals, dates or percent. Texts of up to 64 bytes, formulas of up to 256. Cells
+A1 to CZ1024. This browser alone keeps the widths of columns.</p>
 </dialog>
 <p id="refusal" role="alert" hidden></p>
 <footer><span id="link" role="status">connecting</span><span id="progress" role="status"></span><span id="sums"
   role="status"></span><span id="hint" role="status"></span></footer>
 <div id="paper"></div>
-<script>'use strict';const COLUMNS=104,ROWS=1024;const ALL={left:0,top:0,right:COLUMNS-1,
-bottom:ROWS-1};const $=id=>document.getElementById(id);const bound=(value,
-most)=>Math.max(0,Math.min(most-1,value));const keyOf=(column,
-row)=>row*COLUMNS+column;const cellAt=key=>[key%COLUMNS,Math.floor(key/COLUMNS)];
-const isSame=(a,b)=>a[0]===b[0]&&a[1]===b[1];
+<script>'use strict';const COLUMNS=104,ROWS=1024;const ALL={left:0,top:0,
+right:COLUMNS-1,bottom:ROWS-1};const $=id=>document.getElementById(id);
+const bound=(value,most)=>Math.max(0,Math.min(most-1,value));
+const keyOf=(column,row)=>row*COLUMNS+column;const cellAt=key=>[key%COLUMNS,
+Math.floor(key/COLUMNS)];const isSame=(a,b)=>a[0]===b[0]&&a[1]===b[1];
 const isInGrid=([column,row])=>column>=0&&row>=0&&column<COLUMNS&&row<ROWS;
 const columnName=c=>c<26?String.fromCharCode(65+c):columnName(Math.floor(c/26)-1)+columnName(c%26);
 const nameOf=([column,row])=>columnName(column)+(row+1);const readColumn=s=>[...s.toUpperCase()].reduce((n,
@@ -308,8 +307,8 @@ tellLink((reason||(was?'connection lost':'no connection'))+', trying again');set
 LONGEST_WAIT);}function tellLink(words){link.words=words;link.onLink();}setInterval(()=>{
 if(link.isUp&&!document.hidden)link.onChange();},POLL);setInterval(()=>{
 if(link.isUp)link.onChange();},20000);document.addEventListener('visibilitychange',()=>{
-if(link.isUp)link.onChange();});let shown=new Map(),held=new Map(),
-seenAt='',seenRange='',isLooking=false,isStale=false,isEmpty=true;const shownAt=cell=>shown.get(keyOf(...cell))||'';
+if(link.isUp)link.onChange();});const shown=new Map(),held=new Map();
+let seenAt='',seenRange='',isLooking=false,isStale=false,isEmpty=true;const shownAt=cell=>shown.get(keyOf(...cell))||'';
 const heldAt=cell=>held.get(keyOf(...cell))||'';const isCounter=entry=>entry==='@tally'||entry==='@choice';
 const isNumber=(entry,value)=>entry[0]!=="'"&&/^-?\d+$/.test(value);
 function readRecord(record){const fields=[];for(const found of(','+record).matchAll(/,(?:"((?:[^"]|"")*)"|([^,]*))/g))fields.push(found[1]===undefined?found[2]:found[1].replace(/""/g,
@@ -416,8 +415,8 @@ left+wide-6,top+high-6,10,10);drawCut();grid.setAttribute('aria-activedescendant
 if(mark)return`refused: ${mark.text}: ${mark.why} F2 takes it up again`;if(entry[0]==='=')return FAULTS[value]?value+' '+FAULTS[value]:'formula '+fromEntry(entry);
 return entry==='@tally'?'counter: + and \u2212 count':entry==='@choice'?'options: Enter shows them':noteOf(entry);}function drawLine(){
 const entry=heldAt(current),value=shownAt(current),isFault=entry[0]==='='&&FAULTS[value];
-const kind=kindOf(current,entry,value);if(document.activeElement!==$('name'))$('name').value=isSame(current,
-corner)?nameOf(current):areaName(selected());if(editing===null)line.value=textOf(current,
+const kind=kindOf(current,entry,value);const where=isSame(current,corner)?nameOf(current):areaName(selected());
+if(document.activeElement!==$('name'))$('name').value=where;if(editing===null)line.value=textOf(current,
 entry);const note=entry===passedOf&&passedOver?', '+passedOver:'';$('value').title=$('value').textContent=entry[0]==='='?'= '+value+note:'';
 $('value').className=isFault||note?'fault':'';const hint=entry[0]==='='&&!isFault?'':kind;
 if($('hint').textContent!==hint)$('hint').textContent=hint;if(editing===null&&marks.has(keyOf(...current)))marks.get(keyOf(...current)).isSeen=true;
@@ -445,28 +444,29 @@ const list=made('span','marks',element);for(const option of readOptions(value))m
 const box=$('refusal'),element=cells.get(keyOf(...cell));box.textContent=text;
 box.className=isNote?'note':'';box.hidden=!text;clearTimeout(telling);if(!text)return;
 beside(box,(element||grid).getBoundingClientRect(),true);if(!stays)telling=setTimeout(()=>tell(''),
-8000);}function beside(box,near,isAside){const below=near.bottom+4,above=near.top-box.offsetHeight-4,
-isRoom=below+box.offsetHeight<innerHeight;const isAbove=isAside?above>grid.getBoundingClientRect().top:!isRoom,
-left=isAside&&!isAbove?near.right+4:near.left;box.style.left=Math.max(4,
-Math.min(left,innerWidth-box.offsetWidth-8))+'px';box.style.top=Math.max(4,
-isAbove?above:Math.min(below,innerHeight-box.offsetHeight-4))+'px';}function question(text,
-answers){return new Promise(done=>{const box=$('question'),row=box.lastElementChild;
-box.firstElementChild.textContent=text;row.textContent='';const choose=i=>{box.close();
-focusGrid();done(i);};answers.forEach((answer,i)=>{const element=made('button',
-'',row);element.textContent=answer;element.onclick=()=>choose(i);});
-box.oncancel=event=>{event.preventDefault();choose(answers.length-1);};box.showModal();
-row.lastElementChild.focus();});}const marks=new Map();function mark(cell,
-text,why){marks.set(keyOf(...cell),{text,why,isSeen:false});
-}function leaveMark(cell){const found=marks.get(keyOf(...cell));if(found&&found.isSeen)marks.delete(keyOf(...cell));
-}function report(refused,count,beyond,breaks){const reasons=[...new Set(refused.map(({
-why})=>why.split('. ')[0].replace(/\.?$/,'.')))].slice(0,
-2).join(' ');const names=refused.slice(0,3).map(({cell})=>nameOf(cell)).join(', ')+(refused.length>3?', ..':'');
-const parts=[];if(refused.length)parts.push(`${refused.length} of ${several(count, 'cell')} refused (${names}): ${reasons} `+'Marked until you look at them; F2 there takes the text up again.');if(beyond)parts.push(`${several(beyond, 'cell')} beyond the sheet's end left out.`);
+8000);}function beside(box,near,isAside){const below=near.bottom+4,above=near.top-box.offsetHeight-4;
+const isAbove=isAside?above>grid.getBoundingClientRect().top:below+box.offsetHeight>innerHeight;const left=isAside&&!isAbove?near.right+4:near.left;
+box.style.left=Math.max(4,Math.min(left,innerWidth-box.offsetWidth-8))+'px';
+box.style.top=Math.max(4,isAbove?above:Math.min(below,innerHeight-box.offsetHeight-4))+'px';
+}function question(text,answers){return new Promise(done=>{const box=$('question'),
+row=box.lastElementChild;box.firstElementChild.textContent=text;row.textContent='';const choose=i=>{
+box.close();focusGrid();done(i);};answers.forEach((answer,i)=>{
+const element=made('button','',row);element.textContent=answer;element.onclick=()=>choose(i);
+});box.oncancel=event=>{event.preventDefault();choose(answers.length-1);
+};box.showModal();row.lastElementChild.focus();});}const marks=new Map();
+function mark(cell,text,why){marks.set(keyOf(...cell),{text,
+why,isSeen:false});}function leaveMark(cell){const found=marks.get(keyOf(...cell));
+if(found&&found.isSeen)marks.delete(keyOf(...cell));}const firstNames=list=>list.slice(0,
+3).map(nameOf).join(', ')+(list.length>3?', ..':'');function report(refused,
+count,beyond,breaks){const whys=refused.map(({why})=>why.split('. ')[0].replace(/\.?$/,
+'.'));const reasons=[...new Set(whys)].slice(0,2).join(' '),
+names=firstNames(refused.map(({cell})=>cell));const parts=[];
+if(refused.length)parts.push(`${refused.length} of ${several(count, 'cell')} refused (${names}): ${reasons} `+'Marked until you look at them; F2 there takes the text up again.');if(beyond)parts.push(`${several(beyond, 'cell')} beyond the sheet's end left out.`);
 if(breaks)parts.push(several(breaks,'line break')+(breaks>1?' became blanks.':' became a blank.'));
 if(parts.length)tell(parts.join(' '),refused.length?refused[0].cell:current,
-true,!refused.length);}const LONGEST_ENTRY=4096;let turn=Promise.resolve();function inTurn(act){
-const mine=turn.then(act);turn=mine.catch(()=>{});return mine;
-}async function outcome(text,wanted,into={}){try{const[reply]=await ask(text);
+true,!refused.length);}const LONGEST_ENTRY=4096,MANY=20000;let turn=Promise.resolve();
+function inTurn(act){const mine=turn.then(act);turn=mine.catch(()=>{});
+return mine;}async function outcome(text,wanted,into={}){try{const[reply]=await ask(text);
 into.version=+reply.slice(3);return reply.startsWith('ok')?'':refusalOf(reply,
 wanted);}catch(error){return LOST;}}async function setCell(step,text){
 const sent=outcome(`set ${nameOf(step.cell)} ${toEntry(text)}`,text,step);if(isCounter(text))step.value=(await ask('get '+nameOf(step.cell)).catch(()=>['']))[0].slice(4);
@@ -481,19 +481,20 @@ value=values.get(keyOf(...cell));const what=precious.length>1?`${precious.length
 const back='What was counted or chosen is hidden then, and comes back when the cell is made a counter or a set '+'again: by Undo, or emptied and then by its button.';return await question(`${what}. Replace ${precious.length > 1 ? 'them' : 'it'}? ${back}`,['Replace','Leave'])===0?[]:precious;
 }const MINE=0,THEIRS=1;function asksWhich(cell,text,other){const theirs=other?`"${fromEntry(other)}"`:'nothing';
 return question(`${nameOf(cell)}: somebody has put ${theirs} here while you typed "${text}". Which stays?`,['Mine','Theirs','Go on typing']);}const isDisputed=(cell,was,base,
-text)=>base!==undefined&&was!==base&&was!==own.get(keyOf(...cell))&&fromEntry(was)!==text&&was!==toEntry(text);
-const put=(wanted,base)=>inTurn(()=>putNow(wanted,base));async function putNow(wanted,
+text)=>base!==undefined&&was!==base&&![own.get(keyOf(...cell)),
+toEntry(text)].includes(was)&&fromEntry(was)!==text;const put=(wanted,
+base)=>inTurn(()=>putNow(wanted,base));async function putNow(wanted,
 base){const inside=wanted.filter(([cell])=>isInGrid(cell)),refused=[],
 steps=[];if(!inside.length)return refused;const area=areaAround(inside.map(([cell])=>cell));
 let before,after,values;const was=cell=>before.get(keyOf(...cell))||'';
 try{[before,values]=await readBoth(area);const[[cell,text]]=inside,
-choice=isDisputed(cell,was(cell),base,text)&&await asksWhich(cell,text,was(cell));
-if(choice===THEIRS)return refused;if(choice)return[{cell,text,why:''}];
-const isFull=at=>isCounter(was(at))&&!/^(0|\{\})$/.test(values.get(keyOf(...at)));
+other=was(cell);const choice=isDisputed(cell,other,base,text)&&await asksWhich(cell,
+text,other);if(choice===THEIRS)return refused;if(choice)return[{cell,
+text,why:''}];const isFull=at=>isCounter(was(at))&&!/^(0|\{\})$/.test(values.get(keyOf(...at)));
 const left=new Set(await asksFor(inside.filter(([at,due])=>isFull(at)&&due!==was(at)),
 values));const due=inside.filter(each=>!left.has(each)&&(each[1]||was(each[0])));
 await Promise.all(due.map(async([at,wish,problem])=>{const each={
-cell:at,text:wish,before:was(at)},why=problem||problemOf(wish)||await setCell(each,
+cell:at,text:wish,before:was(at)};const why=problem||problemOf(wish)||await setCell(each,
 wish);if(why)refused.push({cell:at,text:wish,why});else steps.push(each);
 }));[after,values]=await readBoth(area);}catch(error){if(error.message!=='lost')throw error;
 if(!before)return null;}for(const step of steps)settle(step,after,
@@ -504,7 +505,8 @@ marks.delete(key);own.set(key,step.after);for(const[into,text]of[[held,
 now],[shown,values.get(key)]])if(text)into.set(key,text);
 else into.delete(key);keepTyped(step.cell,step.text,step.after);}async function putMany(wanted,
 breaks=0){const beyond=wanted.filter(([cell])=>!isInGrid(cell)).length;
-if(!link.isHeard){tell(NO_LINK);return;}if(wanted.length>200)$('progress').textContent=several(wanted.length,
+if(!link.isHeard){tell(NO_LINK);return;}if(wanted.length>MANY&&await question(`These are ${wanted.length} cells. Go on?`,
+['Go on','Cancel']))return;if(wanted.length>200)$('progress').textContent=several(wanted.length,
 'cell')+' on their way';const refused=await put(wanted);$('progress').textContent='';if(refused===null){
 tell(LOST,current,true);return;}for(const{cell,text,why}of refused)mark(cell,
 text,why);draw();report(refused,wanted.length-beyond,beyond,breaks);}async function clearArea(area){
@@ -530,7 +532,7 @@ else back.push({cell,verb:OPPOSITE[verb],value});return[back,others];
 return;}const act=from.pop();if(!act){tell('There is nothing to '+word+'.',
 current,false,true);return;}try{const[back,others]=await(act.steps[0].verb?countBack:setBack)(act.steps);
 if(back.length)to.push({steps:back});const first=(back[0]||{
-cell:others[0]}).cell;moveTo(first);if(others.length)tell(`${several(others.length, 'cell')} left alone (${others.slice(0, 3).map(nameOf).join(', ')}`+`${others.length > 3 ? ', ..' : ''}): somebody has changed ${others.length > 1 ? 'them' : 'it'} since.`,
+cell:others[0]}).cell;moveTo(first);const which=`${several(others.length, 'cell')} left alone (${firstNames(others)})`;if(others.length)tell(which+': somebody has changed '+(others[1]?'them':'it')+' since.',
 first,true);}catch(error){from.push(act);tell(NO_LINK);}drawButtons();
 look();}const undo=()=>inTurn(()=>takeBack(done,undone,'undo'));
 const redo=()=>inTurn(()=>takeBack(undone,done,'redo'));let editing=null,
@@ -579,9 +581,9 @@ if(!isPicking(editor))commit(...arrow,true);else if(isInGrid(to))pick(to);
 [line,editor]]){box.addEventListener('keydown',editorKey);box.addEventListener('input',()=>{
 picked=pickedCell=null;other.value=box.value;if(box===editor)placeEditor();
 });}line.addEventListener('focus',()=>edit(line.value,'line'));const NOTE=/\boptions ([A-Z]{1,2}\d+:[A-Z]{1,2}\d+)\)?$/;
-const nameLists=new Map();function noteFor([column,row]){for(const cell of[[column+1,
-row],...cellsOf({left:column,right:column,top:0,bottom:row-1}).reverse()]){
-const found=NOTE.exec(heldAt(cell)),area=found&&readRange(found[1]);
+const nameLists=new Map();function noteFor([column,row]){const above=cellsOf({
+left:column,right:column,top:0,bottom:row-1}).reverse();for(const cell of[[column+1,
+row],...above]){const found=NOTE.exec(heldAt(cell)),area=found&&readRange(found[1]);
 if(area)return{cell,area};}return null;}function namesFor(cell){const note=noteFor(cell),
 names=note&&nameLists.get(areaName(note.area));return names||null;}async function lookAtNames(area){
 for(const cell of cellsOf(area).filter(each=>heldAt(each)==='@choice')){
@@ -607,7 +609,8 @@ const[at,entry]=note?[note.cell,fromEntry(heldAt(note.cell)).replace(NOTE,
 told)]:cell[1]&&head[0]==="'"?[[cell[0],
 0],`${head.slice(1)}, ${told}`]:[next,told];if(!note&&at===next&&(!isInGrid(next)||heldAt(next))){
 tell(`Write "${told}" at the end of a text above ${nameOf(cell)}: the next cell has something.`);return;}hideOptions();await putMany([[at,entry]]);tell(`${nameOf(at)} has the note "${told}" now, which gives the options their names.`,
-at,false,true);}options.addEventListener('keydown',event=>{if(event.key==='Escape')hideOptions();
+at,false,true);}function pickNames(cell,from){$('naming').value=areaName(boxOf(cell,
+from||cell));}options.addEventListener('keydown',event=>{if(event.key==='Escape')hideOptions();
 if(event.key==='Enter'&&event.target.id==='naming')nameOptions(event.target.value);
 });const FORM='application/x-sheet-entries';let cutArea=null,cutText='';const isAtGrid=()=>editing===null&&document.activeElement===grid;
 const isKnown=area=>seenRange===areaName(area)||seenAt===areaName(visible())&&isWithin(area,
@@ -622,17 +625,18 @@ rows.push([]);for(let c=area.left;c<=area.right;c++)rows[r-area.top].push(each([
 r]));}return rows;};const copied=()=>rowsOf(copiedArea(),
 cell=>quoted(shownAt(cell))).map(row=>row.join('\t')).join('\n');
 const copiedEntries=()=>{const area=copiedArea();return{left:area.left,top:area.top,
-rows:rowsOf(area,cell=>textOf(cell,heldAt(cell)))};};function movedRows({
-left,top,rows},[column,row]){return rows.map((texts,i)=>texts.map((text,
-j)=>{const moved=isFormula(text)?shifted(text,column-left,row-top):text;
-return[[column+j,row+i],moved===null?text:moved,moved===null?'A reference would leave the sheet.':''];
-})).flat();}function repeated(copy,range){const high=copy.rows.length,
-wide=copy.rows[0].length,found=[];const down=(range.bottom-range.top+1)/high,
-right=(range.right-range.left+1)/wide;const isMultiple=Number.isInteger(down)&&Number.isInteger(right);
-for(let i=0;i<(isMultiple?down:1);i++)for(let j=0;
-j<(isMultiple?right:1);j++)found.push(...movedRows(copy,[range.left+j*wide,
-range.top+i*high]));return found;}function readFields(text,separator){const rows=[[]];
-let breaks=0,at=0;const end=text.replace(/\r?\n$/,'').length,isEnd=i=>i>=end||text[i]===separator||/[\r\n]/.test(text[i]);
+rows:rowsOf(area,cell=>textOf(cell,heldAt(cell)))};};function moved(cell,
+text,columns,rows){const found=isFormula(text)?shifted(text,columns,rows):text;
+return found===null?[cell,text,'A reference would leave the sheet.']:[cell,found];}const movedRows=({
+left,top,rows},[column,row])=>rows.map((texts,i)=>texts.map((text,
+j)=>moved([column+j,row+i],text,column-left,row-top))).flat();
+function repeated(copy,range){const high=copy.rows.length,wide=copy.rows[0].length,
+found=[];const down=(range.bottom-range.top+1)/high,right=(range.right-range.left+1)/wide;
+const isMultiple=Number.isInteger(down)&&Number.isInteger(right);for(let i=0;
+i<(isMultiple?down:1);i++)for(let j=0;j<(isMultiple?right:1);
+j++)found.push(...movedRows(copy,[range.left+j*wide,range.top+i*high]));
+return found;}function readFields(text,separator){const rows=[[]];let breaks=0,
+at=0;const end=text.replace(/\r?\n$/,'').length;const isEnd=i=>i>=end||text[i]===separator||/[\r\n]/.test(text[i]);
 while(at<=end){const quote=/"((?:[^"]|"")*)"/y;quote.lastIndex=at;const found=quote.exec(text),
 isQuoted=found&&isEnd(quote.lastIndex);let stop=isQuoted?quote.lastIndex:at;while(!isEnd(stop))stop++;
 const field=isQuoted?found[1].replace(/""/g,'"'):text.slice(at,stop);
@@ -645,16 +649,13 @@ text])).flat();function pasteText(text){const range=selected(),[rows,
 breaks]=readFields(text,'\t');if(rows.length>1||rows[0].length>1)return putMany(placed(rows,
 [range.left,range.top]),breaks);return putMany(cellsOf(range).map(cell=>[cell,
 rows[0][0]]),breaks);}async function moveCut(from,copy,to){
-const isHere=([column,row])=>!isCounter(copy.rows[row][column]);
-const offsets=rowsOf({left:0,top:0,right:copy.rows[0].length-1,
-bottom:copy.rows.length-1},cell=>cell).flat();const moving=offsets.filter(isHere),
-stayed=offsets.length-moving.length;const targets=moving.map(([j,i])=>[[to[0]+j,
-to[1]+i],copy.rows[i][j]]);const covered=new Set(targets.map(([cell])=>keyOf(...cell)));
-const emptied=moving.map(([j,i])=>[from.left+j,from.top+i]).filter(cell=>!covered.has(keyOf(...cell)));
-if(targets.some(([cell])=>!isInGrid(cell))){tell('This would go beyond the end of the sheet: nothing was moved.');
-return;}await putMany([...targets,...emptied.map(cell=>[cell,
-''])]);if(stayed)tell(several(stayed,'counter or set','counters and sets')+' stayed, since counts and marks do not move.',to,true,
-true);}function drawCut(){$('cut').hidden=!cutArea;if(cutArea)place($('cut'),
+const all=placed(copy.rows,to),targets=all.filter(([,text])=>!isCounter(text));
+const covered=new Set(targets.map(([cell])=>keyOf(...cell))),
+stayed=all.length-targets.length;const left=targets.map(([[column,row]])=>[from.left+column-to[0],
+from.top+row-to[1]]);if(all.some(([cell])=>!isInGrid(cell))){
+tell('This would leave the sheet: nothing was moved.');return;}await putMany([...targets,...left.filter(cell=>!covered.has(keyOf(...cell))).map(cell=>[cell,
+''])]);const kinds=several(stayed,'counter or set','counters and sets');if(stayed)tell(kinds+' stayed, since counts and marks do not move.',
+to,true,true);}function drawCut(){$('cut').hidden=!cutArea;if(cutArea)place($('cut'),
 ...pixels(cutArea));}function dropCut(){if(cutArea){cutArea=null;drawCut();
 }}for(const kind of['copy','cut'])document.addEventListener(kind,event=>{if(!isAtGrid())return;
 event.preventDefault();if(!isKnown(selected())){tell('The cells are still being read: once more, please.');return;}const text=copied();
@@ -670,8 +671,7 @@ wanted=[];const entries=await readArea('entries',source).catch(()=>null);
 if(!entries){tell(NO_LINK);return;}for(const cell of cellsOf(area)){
 const from=[source.left+(cell[0]-area.left)%wide,source.top+(cell[1]-area.top)%high];
 if(isSame(from,cell))continue;const text=textOf(from,entries.get(keyOf(...from))||'');
-const moved=isFormula(text)?shifted(text,cell[0]-from[0],cell[1]-from[1]):text;
-wanted.push([cell,moved===null?text:moved,moved===null?'A reference would leave the sheet.':'']);
+wanted.push(moved(cell,text,cell[0]-from[0],cell[1]-from[1]));
 }await putMany(wanted);}function fillDown(){const area=selected(),isOne=area.top===area.bottom;
 const whole=isOne?{...area,top:Math.max(0,area.top-1)}
 :area;return fillArea({...whole,bottom:whole.top},whole);}function fillRight(){
@@ -687,12 +687,12 @@ if(!isWithin(boxOf(cell,cell),area))continue;if(isNumber(entry,value))numbers.pu
 else if(noteOf(entry))texts.push(cell);}const least=numbers.reduce((a,
 b)=>a<b?a:b,numbers[0]);const most=numbers.reduce((a,
 b)=>a>b?a:b,numbers[0]);if(numbers.length)text=`Sum ${numbers.reduce((a, b) => a + b)} \u00b7 Count ${numbers.length} \u00b7 `+`Least ${least} \u00b7 Greatest ${most}`;
-if(texts.length)text+=` (without ${several(texts.length, 'text')} that look${texts.length > 1 ? '' : 's'} like a number)`;}if(box.textContent!==text)box.textContent=text;
-}let matches=[],match=-1,sought='';async function find(way){
-const text=$('sought').value.toLowerCase();if(!text){$('found').textContent='';
-return;}try{const[entries,values]=await readBoth(ALL);const keys=[...new Set([...values.keys(),
-...entries.keys()])].sort((a,b)=>a-b);
-matches=keys.filter(key=>(values.get(key)||'').toLowerCase().includes(text)||fromEntry(entries.get(key)||'').toLowerCase().includes(text));
+const look=several(texts.length,'text that looks','texts that look')+' like a number';if(texts.length)text+=` (without ${look})`;
+}if(box.textContent!==text)box.textContent=text;}let matches=[],match=-1,
+sought='';async function find(way){const text=$('sought').value.toLowerCase();
+if(!text){$('found').textContent='';return;}try{const[entries,values]=await readBoth(ALL);
+const keys=[...new Set([...values.keys(),...entries.keys()])].sort((a,
+b)=>a-b);matches=keys.filter(key=>(values.get(key)||'').toLowerCase().includes(text)||fromEntry(entries.get(key)||'').toLowerCase().includes(text));
 }catch(error){tell(NO_LINK);return;}if(text!==sought)[sought,match,
 way]=[text,-1,1];match=matches.length?(match+way+matches.length)%matches.length:-1;
 $('found').textContent=matches.length?`${match + 1} of ${matches.length}`:'nowhere';if(matches.length)moveTo(cellAt(matches[match]));
@@ -702,8 +702,8 @@ event=>{if(event.key==='Escape')closeFind();else if(event.key==='Enter'&&event.t
 else return;event.preventDefault();});$('next').onclick=()=>find(1);
 $('close').onclick=closeFind;const LARGEST_FILE=4000000;const csvField=text=>/[",\r\n]/.test(text)?'"'+text.replace(/"/g,
 '""')+'"':text;async function csvOf(word){const area=await usedArea(),
-found=area?await readArea(word,area):new Map();return area?rowsOf(area,
-cell=>csvField(found.get(keyOf(...cell))||'')).map(row=>row.join(',')+'\r\n').join(''):'';
+found=area?await readArea(word,area):new Map();const fieldOf=cell=>csvField(found.get(keyOf(...cell))||'');
+return area?rowsOf(area,fieldOf).map(row=>row.join(',')+'\r\n').join(''):'';
 }async function saveCsv(word){try{const file=new Blob([await csvOf(word)],
 {type:'text/csv'}),anchor=document.createElement('a');Object.assign(anchor,{href:URL.createObjectURL(file),
 download:word==='rows'?'sheet.csv':'entries.csv'});anchor.click();setTimeout(()=>URL.revokeObjectURL(anchor.href),
@@ -714,19 +714,20 @@ b)=>first.split(b).length>first.split(a).length?b:a);
 }const text=(await file.text()).replace(/^\ufeff/,''),[rows,breaks]=readFields(text,
 separatorOf(text));const wanted=placed(rows,current),inside=wanted.filter(([cell])=>isInGrid(cell));
 const entries=await readArea('entries',areaAround(inside.map(([cell])=>cell))).catch(()=>null);
-if(!entries){tell(NO_LINK);return;}const was=cell=>entries.get(keyOf(...cell))||'',
-isNew=([cell,due])=>fromEntry(was(cell))!==due&&was(cell)!==due;
+if(!entries){tell(NO_LINK);return;}const was=cell=>entries.get(keyOf(...cell))||'';
+const isNew=([cell,due])=>fromEntry(was(cell))!==due&&was(cell)!==due;
 const changed=inside.filter(isNew),filled=changed.filter(([cell])=>was(cell));
-const size=`${several(rows.length, 'row')} and ${several(Math.max(...rows.map(row => row.length)), 'column')}`;const beyond=wanted.length-inside.length;const what=`${file.name}: ${size}, from ${nameOf(current)} on. ${several(changed.length, 'cell')} would change, `+`${filled.length} of them hold something now.`+(beyond?` ${several(beyond, 'cell')} lie beyond the sheet.`:'');
-if(await question(what,['Take in','Cancel'])===0)await putMany(wanted.filter(each=>!isInGrid(each[0])||isNew(each)),
-breaks);}$('file').onchange=event=>{if(event.target.files[0])openCsv(event.target.files[0]);
+const size=`${several(rows.length, 'row')} and ${several(Math.max(...rows.map(row => row.length)), 'column')}`;const beyond=wanted.length-inside.length;const what=`${file.name}: ${size}, from ${nameOf(current)} on. ${several(changed.length, 'cell')} would change, `+`${filled.length} of them hold something now.`+(beyond?` ${several(beyond, 'cell')} beyond the sheet.`:'');
+const due=wanted.filter(each=>!isInGrid(each[0])||isNew(each));
+if(await question(what,['Take in','Cancel'])===0)await putMany(due,breaks);
+}$('file').onchange=event=>{if(event.target.files[0])openCsv(event.target.files[0]);
 event.target.value='';};grid.addEventListener('dragover',event=>event.preventDefault());
 grid.addEventListener('drop',event=>{event.preventDefault();if(event.dataTransfer.files[0])openCsv(event.dataTransfer.files[0]);
 });async function layOutPaper(){const area=await usedArea(),paper=$('paper');
 paper.textContent='';if(!area)return;const[entries,values]=await readBoth(area);
 const table=made('table','',paper);for(const row of rowsOf(area,cell=>cell)){
 const line=made('tr','',table);for(const cell of row){const key=keyOf(...cell),
-value=values.get(key)||'',names=entries.get(key)==='@choice'&&namesFor(cell);
+value=values.get(key)||'';const names=entries.get(key)==='@choice'&&namesFor(cell);
 made('td',isNumber(entries.get(key)||'',value)?'number':'',line).textContent=names&&value[0]==='{'?readOptions(value).map(n=>names[n]||n).join(', '):value;
 }}}async function printSheet(){try{await layOutPaper();print();}catch(error){
 tell(NO_LINK);}}let isMoving=false,heldKeys=[];const isControl=event=>event.ctrlKey||event.metaKey;
@@ -777,8 +778,8 @@ setWidth(current[0],widthOf(current[0])+16*arrow[0]);keepWidths();
 return;}if(event.isComposing||event.key==='Shift'||event.key==='Control')return;
 const isTaken=event.altKey?widthKey(event):isControl(event)?controlKey(event):plainKey(event);
 if(isTaken)event.preventDefault();}grid.addEventListener('keydown',event=>{if(event.target===grid&&editing===null)gridKey(event);
-});document.addEventListener('keydown',event=>{if(isControl(event)&&/^[fp]$/.test(event.key)&&event.target!==grid){
-COMMANDS[event.key]();event.preventDefault();}if((event.key==='F6'||event.key==='Escape')&&$('bar').contains(event.target)&&editing===null)grid.focus();
+});document.addEventListener('keydown',event=>{const{key,target}=event;if(isControl(event)&&/^[fp]$/.test(key)&&target!==grid){
+COMMANDS[key]();event.preventDefault();}if(/^(F6|Escape)$/.test(key)&&$('bar').contains(target)&&editing===null)grid.focus();
 });$('name').addEventListener('focus',event=>{if(editing!==null){commit(0,
 0);event.target.focus();}event.target.select();});$('name').addEventListener('keydown',
 event=>{const to=event.key==='Enter'?readRange(event.target.value):null;
@@ -796,13 +797,15 @@ from],[COLUMNS-1,n]);}function pressHead(event,head){event.preventDefault();
 if(editing!==null)commit(0,0);focusGrid();if(head){selectHead(head,
 event.shiftKey);dragging={kind:'heads',head};}else COMMANDS.a();}function pressEdge(event,
 column){event.preventDefault();dragging={kind:'edge',column,from:event.clientX-widthOf(column)};
-}function pressCell(event,cell){event.preventDefault();if(editing!==null){if(!isFormula(field().value)||isSame(cell,
-current)){commit(0,0);return;}picked=null;dragging={kind:'pick',from:cell};
-pick(cell);return;}focusGrid();const action=event.target.dataset.action,hadOptions=!options.hidden&&isSame(cell,
-current);homeColumn=null;bringIntoView(cell);select(event.shiftKey?current:cell,cell);if(action==='options'){
-if(!hadOptions)showOptions();}else if(action)step(action,cell,1);else dragging={
-kind:'select',from:cell};}grid.addEventListener('pointerdown',event=>{const cell=cellOf(event.target),
-{head,edge}=event.target.dataset;if(event.button!==0||event.pointerType==='touch'&&!edge&&event.target.id!=='handle')return;
+}function pressCell(event,cell){event.preventDefault();if(editing!==null&&isPicking(field())&&!isSame(cell,
+current)){dragging={kind:'pick',from:cell};pick(cell);return;}if(editing!==null)commit(0,
+0);if(editing!==null)return;if(document.activeElement===$('naming')){
+dragging={kind:'names',from:cell};pickNames(cell);return;}focusGrid();const action=event.target.dataset.action,
+hadOptions=!options.hidden&&isSame(cell,current);homeColumn=null;bringIntoView(cell);select(event.shiftKey?current:cell,
+cell);if(action==='options'){if(!hadOptions)showOptions();}else if(action)step(action,
+cell,1);else dragging={kind:'select',from:cell};}grid.addEventListener('pointerdown',
+event=>{const cell=cellOf(event.target),{head,edge}=event.target.dataset;
+if(event.button!==0||event.pointerType==='touch'&&!edge&&event.target.id!=='handle')return;
 if(event.target.id==='handle'){event.preventDefault();dragging={kind:'fill',
 source:selected()};}else if(edge)pressEdge(event,+edge);else if(head||event.target.id==='corner')pressHead(event,
 head);else if(cell)pressCell(event,cell);});grid.addEventListener('click',event=>{
@@ -812,12 +815,12 @@ return;}if(!cell)return;const wasCurrent=isSame(cell,current)&&editing===null&&!
 pressCell(event,cell);dragging=null;if(wasCurrent)begin();});addEventListener('pointermove',
 event=>{if(!dragging)return;const cell=cellNear(event),kind=dragging.kind;
 if(kind==='edge')setWidth(dragging.column,event.clientX-dragging.from);else if(kind==='pick')pick(cell,
-dragging.from);else if(kind==='heads')selectHead(dragging.head[0]+cell[dragging.head[0]==='c'?0:1],
+dragging.from);else if(kind==='names')pickNames(cell,dragging.from);else if(kind==='heads')selectHead(dragging.head[0]+cell[dragging.head[0]==='c'?0:1],
 true);else if(kind==='select'&&!isSame(cell,corner))moveTo(cell,
 true);else if(kind==='fill'){dragging.area=fillTo(dragging.source,cell);
 bringIntoView(cell);[current,corner]=[[dragging.area.left,dragging.area.top],
 [dragging.area.right,dragging.area.bottom]];draw();}});for(const end of['pointerup',
-'pointercancel'])addEventListener(end,()=>{const ended=dragging;dragging=picked=null;if(ended&&ended.kind==='edge')keepWidths();
+'pointercancel'])addEventListener(end,()=>{const ended=dragging;dragging=null;if(ended&&ended.kind==='edge')keepWidths();
 if(ended&&ended.area&&areaName(ended.area)!==areaName(ended.source))fillArea(ended.source,
 ended.area);});grid.addEventListener('dblclick',event=>{if(event.target.dataset.edge)fitWidth(+event.target.dataset.edge);
 else if(cellOf(event.target)&&!event.target.dataset.action)begin();});
