@@ -57,5 +57,6 @@ function report(refused, count, beyond, breaks) {
     'Marked until you look at them; F2 there takes the text up again.');
   if (beyond) parts.push(`${several(beyond, 'cell')} beyond the sheet's end left out.`);
   if (breaks) parts.push(several(breaks, 'line break') + (breaks > 1 ? ' became blanks.' : ' became a blank.'));
-  if (parts.length) tell(parts.join(' '), refused.length ? refused[0].cell : current, true, !refused.length);
+  const first = refused.length ? refused[0].cell : current;
+  if (parts.length) tell(parts.join(' '), first, refused.length > 0, !refused.length);
 }

@@ -3,9 +3,9 @@
 /// The head of the response with the page, which ends where the connection does.
 pub const PAGE_HEAD: &[u8] = b"HTTP/1.1 200 OK\r
 content-type: text/html; charset=utf-8\r
-content-length: 70789\r
+content-length: 70819\r
 cache-control: no-store\r
-content-security-policy: default-src 'none'; script-src 'sha256-XeumtKcx16w9mGZCe3Q5DkJLEP703YbZYtLQoz6Ocmk='; style-src 'sha256-vLus3CIo93dbX4yk+MOsTFfbo2J32bgIpf8EMIHzUlk='; connect-src 'self'; img-src data:; base-uri 'none'; form-action 'none'; frame-ancestors 'none'\r
+content-security-policy: default-src 'none'; script-src 'sha256-l4aZeWjnwHZtjYj+yBfDm21uIOiL31Y+zVFNoL28Bto='; style-src 'sha256-vLus3CIo93dbX4yk+MOsTFfbo2J32bgIpf8EMIHzUlk='; connect-src 'self'; img-src data:; base-uri 'none'; form-action 'none'; frame-ancestors 'none'\r
 x-content-type-options: nosniff\r
 x-frame-options: DENY\r
 referrer-policy: no-referrer\r
@@ -463,8 +463,8 @@ count,beyond,breaks){const whys=refused.map(({why})=>why.split('. ')[0].replace(
 names=firstNames(refused.map(({cell})=>cell));const parts=[];
 if(refused.length)parts.push(`${refused.length} of ${several(count, 'cell')} refused (${names}): ${reasons} `+'Marked until you look at them; F2 there takes the text up again.');if(beyond)parts.push(`${several(beyond, 'cell')} beyond the sheet's end left out.`);
 if(breaks)parts.push(several(breaks,'line break')+(breaks>1?' became blanks.':' became a blank.'));
-if(parts.length)tell(parts.join(' '),refused.length?refused[0].cell:current,
-true,!refused.length);}const LONGEST_ENTRY=4096,MANY=20000;let turn=Promise.resolve();
+const first=refused.length?refused[0].cell:current;if(parts.length)tell(parts.join(' '),
+first,refused.length>0,!refused.length);}const LONGEST_ENTRY=4096,MANY=20000;let turn=Promise.resolve();
 function inTurn(act){const mine=turn.then(act);turn=mine.catch(()=>{});
 return mine;}async function outcome(text,wanted,into={}){try{const[reply]=await ask(text);
 into.version=+reply.slice(3);return reply.startsWith('ok')?'':refusalOf(reply,

@@ -1,0 +1,111 @@
+"""What a new user does on the page of `sheet page` by the recipe of docs/SERVING.md: a plan, a vote and a budget."""
+import unittest
+
+from browser import CONTROL
+from browser_page import BrowserTest
+
+
+class Tasks(BrowserTest):
+    def window(self, height):
+        """A page of the size of a picture."""
+        page = self.page()
+        page.call("Emulation.setDeviceMetricsOverride", width=760, height=height, deviceScaleFactor=1, mobile=False)
+        page.wait_for("innerHeight", height)
+        return page
+
+    def rows(self, page, *rows):
+        """Types rows from the current cell on: Tab between cells, Enter at the end of each row."""
+        for row in rows:
+            for text in row[:-1]:
+                page.type(text)
+                page.key("Tab")
+            page.type(row[-1])
+            page.key("Enter")
+
+    def keep(self, page, name):
+        """Keeps a picture once nothing flashes any more."""
+        page.value("new Promise(done => setTimeout(done, 1600))")
+        self.assertLess(len(self.keep_picture(page, name)), 60_000)
+
+    def test_a_plan(self):
+        page = self.window(330)
+        self.rows(page, ("Who", "Days", "Hours a day", "Hours"), ("Ann", "@choice", "6", "=B2*C2"),
+                  ("Bob", "@choice", "8"), ("Eve", "@choice", "4"))
+        self.assert_held("entry C4", "entry 4")
+        self.go(page, "F1")
+        self.rows(page, ("Mon", "Tue", "Wed", "Thu", "Fri"))
+        # the hours of the first row, filled down
+        self.go(page, "D2:D4")
+        page.key("d", CONTROL)
+        self.assert_held("entry D4", "entry =[.B4]*[.C4]")
+        self.go(page, "A6")
+        self.rows(page, ("All hours", "", "", "=SUM(D2:D4)"))
+        # the days have names
+        self.go(page, "B2")
+        page.wait_for("heldAt(current)", "@choice")
+        page.key("Enter")
+        page.click(*page.middle("document.getElementById('naming')"))
+        page.type("F1:J1")
+        page.key("Enter")
+        self.assert_held("entry B1", "entry 'Days, options F1:J1")
+        for row, days in ((2, (0, 1)), (3, (2,)), (4, (3, 4))):
+            self.go(page, f"B{row}")
+            page.wait_for("heldAt(current)", "@choice")
+            page.key("Enter")
+            for day in days:
+                page.click(*page.middle(f"document.querySelectorAll('#options label input')[{day}]"))
+            self.assert_held(f"get B{row}", "val {%s}" % ",".join(map(str, days)))
+            page.key("Escape")
+        self.assert_held("get D6", "val 28")
+        page.wait_for("document.querySelector('#cell-' + keyOf(1, 1) + ' .marks').textContent", "MonTue")
+        edge = "[...document.querySelectorAll('.edge')].find(edge => edge.dataset.edge === '1')"
+        page.click(*page.middle(edge), times=2)
+        page.wait_for("widthOf(1) > WIDTH")
+        self.addCleanup(lambda: page.value("localStorage.clear()"))
+        self.go(page, "D6")
+        self.keep(page, "plan")
+
+    def test_a_vote(self):
+        page, other = self.window(330), self.page()
+        page.click(*self.button(page, "vote"))
+        self.assert_held("entry B7", "entry =MAX([.B2:.B4])")
+        for at, clicks in ((page, (1, 3)), (other, (1, 1, 2))):
+            at.wait_for("document.querySelectorAll('.tally button').length", 6)
+            for row in clicks:
+                at.click(*self.middle(at, 1, row, "[data-action=add]"))
+        self.assert_held("get B6", "val 5")
+        # a click too many is taken back
+        other.key("z", CONTROL)
+        self.assert_held("get B6", "val 4")
+        page.wait_for("shownAt([1, 5])", "4")
+        page.wait_for("shownAt([1, 6])", "3" if self.client.ask("get B7") == "val 3" else "2")
+        self.go(page, "B2:B4")
+        page.wait_for("document.getElementById('sums').textContent.startsWith('Sum 4')")
+        self.keep(page, "vote")
+
+    def test_a_budget(self):
+        page = self.window(330)
+        self.paste(page, "What\tPrice in cents\tHow many\tCents\nCups\t250\t40\t=B2*C2\nCake\t1999\t3\n"
+                         "Napkins, \"red\"\t12.50\t100\n\n\"All\nof it\"\t\t\t=SUM(D2:D4)\n")
+        self.assert_held("entry D6", "entry =SUM([.D2:.D4])")
+        self.assertEqual(self.client.ask("get A6"), "val All of it")
+        self.go(page, "D2:D4")
+        page.key("d", CONTROL)
+        self.assert_held("entry D4", "entry =[.B4]*[.C4]")
+        # the price that is a text is found by its mark, and put right
+        self.assert_held("get D6", "val #VALUE!")
+        self.go(page, "B4")
+        page.wait_for("document.getElementById('hint').textContent", "12.50 is kept as a text: numbers are whole")
+        page.type("1250")
+        page.key("Enter")
+        self.assert_held("get D6", "val 140997")
+        self.go(page, "A8")
+        self.rows(page, ("There are", "", "", "150000"), ("Left", "", "", "=D8-D6"))
+        self.assert_held("get D9", "val 9003")
+        self.go(page, "D6")
+        page.wait_for("document.getElementById('value').textContent", "= 140997")
+        self.keep(page, "budget")
+
+
+if __name__ == "__main__":
+    unittest.main()
