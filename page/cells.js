@@ -1,6 +1,8 @@
 // What is known of the sheet: what cells show, and what they hold, each by its key. After a loss it stays until there
 // are replies again.
 const shown = new Map(), held = new Map();
+// (counts what is taken in, so that sums are worked out once for each change)
+let knownCount = 0;
 let seenAt = '', seenRange = '', isLooking = false, isStale = false, isEmpty = true;
 const shownAt = cell => shown.get(keyOf(...cell)) || '';
 const heldAt = cell => held.get(keyOf(...cell)) || '';
@@ -30,6 +32,7 @@ function takeIn(found, area, into, changed) {
       const text = found.get(key);
       if (into.get(key) === text) continue;
       if (text) into.set(key, text); else into.delete(key);
+      knownCount++;
       changed.add(key);
     }
 }

@@ -65,6 +65,7 @@ const isDisputed = (cell, was, base, text) => base !== undefined && was !== base
  */
 const put = (wanted, base) => inTurn(() => putNow(wanted, base));
 async function putNow(wanted, base) {
+  dropCut();
   const inside = wanted.filter(([cell]) => isInGrid(cell)), refused = [], steps = [];
   if (!inside.length) return refused;
   const area = areaAround(inside.map(([cell]) => cell));
@@ -105,6 +106,7 @@ function settle(step, after, values) {
   own.set(key, step.after);
   for (const [into, text] of [[held, now], [shown, values.get(key)]])
     if (text) into.set(key, text); else into.delete(key);
+  knownCount++;
   keepTyped(step.cell, step.text, step.after);
 }
 /** Puts many texts: what was refused is marked, and told at the end. */

@@ -35,6 +35,15 @@ function moved(cell, text, columns, rows) {
 /** The texts of a copy for its new place. */
 const movedRows = ({ left, top, rows }, [column, row]) => rows.map((texts, i) => texts.map((text, j) =>
   moved([column + j, row + i], text, column - left, row - top))).flat();
+/** The copy that a page like this one put there; null where it is none. */
+function readCopy(text) {
+  try {
+    const copy = JSON.parse(text), isRow = row => row.length && row.every(each => typeof each === 'string');
+    return copy.rows.length && copy.rows.every(isRow) ? copy : null;
+  } catch (error) {
+    return null;
+  }
+}
 /** Repeats the rows of a copy to fill a selection that is a multiple of it. */
 function repeated(copy, range) {
   const high = copy.rows.length, wide = copy.rows[0].length, found = [];
@@ -75,8 +84,11 @@ function pasteText(text) {
   return putMany(cellsOf(range).map(cell => [cell, rows[0][0]]), breaks);
 }
 /** Moves what was cut: its entries stay as they are. Counters and sets stay where they are, with what they have. */
-async function moveCut(from, copy, to) {
-  const all = placed(copy.rows, to), targets = all.filter(([, text]) => !isCounter(text));
+async function moveCut(from, to) {
+  const entries = await readArea('entries', from).catch(() => null);
+  if (!entries) { tell(NO_LINK); return; }
+  const rows = rowsOf(from, cell => textOf(cell, entries.get(keyOf(...cell)) || ''));
+  const all = placed(rows, to), targets = all.filter(([, text]) => !isCounter(text));
   const covered = new Set(targets.map(([cell]) => keyOf(...cell))), stayed = all.length - targets.length;
   const left = targets.map(([[column, row]]) => [from.left + column - to[0], from.top + row - to[1]]);
   if (all.some(([cell]) => !isInGrid(cell))) { tell('This would leave the sheet: nothing was moved.'); return; }
@@ -106,9 +118,9 @@ document.addEventListener('paste', event => {
   if (!isAtGrid()) return;
   event.preventDefault();
   const text = event.clipboardData.getData('text/plain'), own = event.clipboardData.getData(FORM), from = cutArea;
-  const copy = own && JSON.parse(own), range = selected();
+  const copy = readCopy(own), range = selected();
   dropCut();
   if (!copy) return pasteText(text);
-  if (from && text === cutText) return moveCut(from, copy, [range.left, range.top]);
+  if (from && text === cutText) return moveCut(from, [range.left, range.top]);
   return putMany(repeated(copy, range));
 });

@@ -15,7 +15,7 @@ async function find(way) {
   if (text !== sought) [sought, match, way] = [text, -1, 1];
   match = matches.length ? (match + way + matches.length) % matches.length : -1;
   $('found').textContent = matches.length ? `${match + 1} of ${matches.length}` : 'nowhere';
-  if (matches.length) moveTo(cellAt(matches[match]));
+  if (matches.length && editing === null) moveTo(cellAt(matches[match]));
 }
 function openFind() {
   $('find').hidden = false;

@@ -30,11 +30,11 @@ const rangesOf = entry => [...short(entry).matchAll(PLACES)].map(([place]) => pl
 
 // The formulas that were typed here with a $, which the sheet doesn't keep: cell by cell the typed text, and the entry
 // that it became. While the cell holds that entry, the text with its $ is shown and copied.
-const typed = new Map(JSON.parse(localStorage.getItem('typed') || '[]'));
+const typed = recall('typed');
 function keepTyped(cell, text, entry) {
   const key = keyOf(...cell);
   if (!isFormula(text) || !text.includes('$')) { if (!typed.delete(key)) return; } else typed.set(key, { text, entry });
-  localStorage.setItem('typed', JSON.stringify([...typed]));
+  keep('typed', typed);
 }
 /** What is typed to have this entry in this cell. */
 function textOf(cell, entry) {

@@ -88,7 +88,8 @@ function plainKey(event) {
 function widthKey(event) {
   const arrow = event.shiftKey && ARROWS[event.key];
   if (!arrow) return false;
-  if (arrow[1]) fitWidth(current[0]); else { setWidth(current[0], widthOf(current[0]) + 16 * arrow[0]); keepWidths(); }
+  if (arrow[1]) fitWidth(current[0]); else setWidth(current[0], widthOf(current[0]) + 16 * arrow[0]);
+  keep('widths', widths);
   return true;
 }
 function gridKey(event) {
@@ -100,6 +101,7 @@ function gridKey(event) {
 grid.addEventListener('keydown', event => { if (event.target === grid && editing === null) gridKey(event); });
 document.addEventListener('keydown', event => {
   const { key, target } = event;
+  if (target === document.body && editing === null) { focusGrid(); gridKey(event); return; }
   if (isControl(event) && /^[fp]$/.test(key) && target !== grid) { COMMANDS[key](); event.preventDefault(); }
   if (/^(F6|Escape)$/.test(key) && $('bar').contains(target) && editing === null) grid.focus();
 });

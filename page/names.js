@@ -4,6 +4,21 @@ const COLUMNS = 104, ROWS = 1024;
 const ALL = { left: 0, top: 0, right: COLUMNS - 1, bottom: ROWS - 1 };
 
 const $ = id => document.getElementById(id);
+/** What this browser keeps by a name; nothing where it keeps nothing. */
+function recall(name) {
+  try {
+    return new Map(JSON.parse(localStorage.getItem(name) || '[]'));
+  } catch (error) {
+    return new Map();
+  }
+}
+function keep(name, map) {
+  try {
+    localStorage.setItem(name, JSON.stringify([...map]));
+  } catch (error) {
+    // (it is kept as long as the page is open)
+  }
+}
 const bound = (value, most) => Math.max(0, Math.min(most - 1, value));
 const keyOf = (column, row) => row * COLUMNS + column;
 const cellAt = key => [key % COLUMNS, Math.floor(key / COLUMNS)];

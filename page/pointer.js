@@ -86,7 +86,7 @@ for (const end of ['pointerup', 'pointercancel'])
   addEventListener(end, () => {
     const ended = dragging;
     dragging = null;
-    if (ended && ended.kind === 'edge') keepWidths();
+    if (ended && ended.kind === 'edge') keep('widths', widths);
     if (ended && ended.area && areaName(ended.area) !== areaName(ended.source)) fillArea(ended.source, ended.area);
   });
 grid.addEventListener('dblclick', event => {

@@ -32,6 +32,7 @@ const CLICKS = {
 for (const [id, call] of Object.entries(CLICKS))
   $(id).onclick = () => {
     if ($('more').matches(':popover-open')) $('more').hidePopover();
+    focusGrid();
     call();
   };
 $('help').onclose = () => grid.focus();

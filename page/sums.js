@@ -1,6 +1,9 @@
 // Sum, count, least and greatest of what is selected, below the grid.
+let summed = '';
 function drawSums() {
-  const area = selected(), box = $('sums');
+  const area = selected(), box = $('sums'), what = [areaName(area), isKnown(area), knownCount].join(' ');
+  if (what === summed) return;
+  summed = what;
   let text = '';
   if (!isSame(current, corner) && isKnown(area)) {
     const numbers = [], texts = [];

@@ -19,13 +19,28 @@ function beside(box, near, isAside) {
   box.style.left = Math.max(4, Math.min(left, innerWidth - box.offsetWidth - 8)) + 'px';
   box.style.top = Math.max(4, isAbove ? above : Math.min(below, innerHeight - box.offsetHeight - 4)) + 'px';
 }
+/** Gives the keys back to what is edited, with the caret at its end, or to the grid. */
+function focusAgain() {
+  if (editing === null) { focusGrid(); return; }
+  field().focus();
+  field().setSelectionRange(field().value.length, field().value.length);
+}
+let asking = Promise.resolve();
 /** Asks, and promises the number of the answer; the last one is taken where the box is closed without any. */
 function question(text, answers) {
+  asking = asking.then(() => showQuestion(text, answers));
+  return asking;
+}
+function showQuestion(text, answers) {
   return new Promise(done => {
     const box = $('question'), row = box.lastElementChild;
     box.firstElementChild.textContent = text;
     row.textContent = '';
-    const choose = i => { box.close(); focusGrid(); done(i); };
+    const choose = i => {
+      box.close();
+      focusAgain();
+      done(i);
+    };
     answers.forEach((answer, i) => {
       const element = made('button', '', row);
       element.textContent = answer;

@@ -45,7 +45,7 @@ async function takeBack(from, to, word) {
     const [back, others] = await (act.steps[0].verb ? countBack : setBack)(act.steps);
     if (back.length) to.push({ steps: back });
     const first = (back[0] || { cell: others[0] }).cell;
-    moveTo(first);
+    if (editing === null) moveTo(first);
     const which = `${several(others.length, 'cell')} left alone (${firstNames(others)})`;
     if (others.length) tell(which + ': somebody has changed ' + (others[1] ? 'them' : 'it') + ' since.', first, true);
   } catch (error) {

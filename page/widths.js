@@ -2,7 +2,8 @@
 const SCALE = parseFloat(getComputedStyle(document.documentElement).fontSize) / 16;
 const WIDTH = Math.round(104 * SCALE), HEIGHT = Math.round(26 * SCALE), SIDE = Math.round(48 * SCALE);
 const LEAST_WIDTH = Math.round(24 * SCALE), MOST_WIDTH = 900;
-let widths = new Map(JSON.parse(localStorage.getItem('widths') || '[]')), lefts = [];
+const widths = recall('widths');
+let lefts = [];
 
 const focusGrid = () => grid.focus({ preventScroll: true });
 function layOut() {
@@ -29,9 +30,6 @@ function setWidth(column, width) {
   heads.clear();
   draw();
 }
-function keepWidths() {
-  localStorage.setItem('widths', JSON.stringify([...widths]));
-}
 /** Gives a column the width that the longest of what it shows wants. */
 async function fitWidth(column) {
   const found = await readArea('rows', { ...ALL, left: column, right: column });
@@ -39,5 +37,5 @@ async function fitWidth(column) {
   measure.font = getComputedStyle(document.body).font;
   const texts = [...found.values()].map(text => measure.measureText(text).width);
   if (texts.length) setWidth(column, Math.max(...texts) + 20 * SCALE); else setWidth(column, WIDTH);
-  keepWidths();
+  keep('widths', widths);
 }

@@ -109,6 +109,26 @@ class Cuts(BrowserTest):
         self.assert_held("entry B2", "entry 'text")
         self.assert_held("entry B3", "entry ")
 
+    def test_what_is_there_by_then_moves(self):
+        page = self.page()
+        self.fill("set A1 5")
+        page.wait_for("shownAt([0, 0])", "5")
+        page.key("x", CONTROL)
+        self.fill("set A1 6")
+        self.go(page, "C3")
+        page.key("v", CONTROL)
+        self.assert_held("get C3", "val 6")
+        self.assert_held("get A1", "val ")
+        # an edit ends a cut, so that nothing is moved away under it
+        page.wait_for("shownAt([2, 2])", "6")
+        page.key("x", CONTROL)
+        page.type("7")
+        page.key("Enter")
+        page.wait_for("document.getElementById('cut').hidden", True)
+        page.key("v", CONTROL)
+        self.assert_held("get C4", "val 6")
+        self.assertEqual(self.client.ask("get C3"), "val 7")
+
     def test_counters_stay_where_they_are(self):
         page = self.page()
         self.fill("set A1 Pizza", "set B1 @tally", "add B1 3")

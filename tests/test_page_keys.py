@@ -137,6 +137,33 @@ class Typing(BrowserTest):
         self.assert_held("get C5", "val y")
         self.assertEqual(page.value("nameOf(current)"), "C6")
 
+    def test_no_key_is_lost_after_a_click_elsewhere(self):
+        page = self.page()
+        page.type("5")
+        page.key("Enter")
+        page.wait_for("document.getElementById('undo').disabled", False)
+        for number, place in enumerate(("document.getElementById('undo')", "document.querySelector('footer')",
+                                        "document.getElementById('link')")):
+            page.click(*page.middle(place))
+            page.wait_for("nameOf(current)", f"A{number + 1}")
+            page.type(f"at {number}")
+            page.key("Enter")
+        self.assert_held("get A3", "val at 2")
+        self.assertEqual(self.entries("A1:A4"), ["'at 0", "'at 1", "'at 2", '""'])
+
+    def test_an_undo_that_comes_late_moves_no_editor(self):
+        page = self.page()
+        page.type("5")
+        page.key("Enter")
+        page.wait_for("document.getElementById('undo').disabled", False)
+        page.key("ArrowDown")
+        page.key("z", CONTROL)
+        page.type("seven")
+        page.key("Enter")
+        self.assert_held("get A1", "val ")
+        page.wait_for("editing", None)
+        page.wait_for("[...held.values()].join()", "'seven")
+
     def test_a_blank_is_typed_by_the_space_bar(self):
         page = self.page()
         page.type(" x")

@@ -51,6 +51,22 @@ class OneCell(BrowserTest):
         self.answer(page, "Mine")
         self.assert_held("get A1", "val mine")
 
+    def test_what_one_types_next_goes_on_after_the_question(self):
+        page = self.page()
+        page.type("mine")
+        page.value("link.onChange = () => {}")
+        self.fill("set A1 theirs")
+        # the question comes while the next entry is begun
+        page.value("(() => { const now = question; question = (...all) => new Promise(done => setTimeout(done, 500))"
+                   ".then(() => now(...all)); })()")
+        page.key("Enter")
+        page.type("next")
+        self.answer(page, "Mine")
+        page.type(" entry")
+        page.key("Enter")
+        self.assert_held("get A2", "val next entry")
+        self.assertEqual(self.client.ask("get A1"), "val mine")
+
     def test_the_same_entry_is_no_conflict(self):
         page = self.page()
         page.type("12")

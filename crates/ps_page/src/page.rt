@@ -3,9 +3,9 @@
 /// The head of the response with the page, which ends where the connection does.
 pub const PAGE_HEAD: &[u8] = b"HTTP/1.1 200 OK\r
 content-type: text/html; charset=utf-8\r
-content-length: 70819\r
+content-length: 71797\r
 cache-control: no-store\r
-content-security-policy: default-src 'none'; script-src 'sha256-l4aZeWjnwHZtjYj+yBfDm21uIOiL31Y+zVFNoL28Bto='; style-src 'sha256-vLus3CIo93dbX4yk+MOsTFfbo2J32bgIpf8EMIHzUlk='; connect-src 'self'; img-src data:; base-uri 'none'; form-action 'none'; frame-ancestors 'none'\r
+content-security-policy: default-src 'none'; script-src 'sha256-za0+AQub3lnxpxFlhwaMjqIhSKzqEpqBMwqA9nymMbU='; style-src 'sha256-vLus3CIo93dbX4yk+MOsTFfbo2J32bgIpf8EMIHzUlk='; connect-src 'self'; img-src data:; base-uri 'none'; form-action 'none'; frame-ancestors 'none'\r
 x-content-type-options: nosniff\r
 x-frame-options: DENY\r
 referrer-policy: no-referrer\r
@@ -222,8 +222,11 @@ A1 to CZ1024. This browser alone keeps the widths of columns.</p>
 <div id="paper"></div>
 <script>'use strict';const COLUMNS=104,ROWS=1024;const ALL={left:0,top:0,
 right:COLUMNS-1,bottom:ROWS-1};const $=id=>document.getElementById(id);
-const bound=(value,most)=>Math.max(0,Math.min(most-1,value));
-const keyOf=(column,row)=>row*COLUMNS+column;const cellAt=key=>[key%COLUMNS,
+function recall(name){try{return new Map(JSON.parse(localStorage.getItem(name)||'[]'));
+}catch(error){return new Map();}}function keep(name,map){try{
+localStorage.setItem(name,JSON.stringify([...map]));}catch(error){}
+}const bound=(value,most)=>Math.max(0,Math.min(most-1,
+value));const keyOf=(column,row)=>row*COLUMNS+column;const cellAt=key=>[key%COLUMNS,
 Math.floor(key/COLUMNS)];const isSame=(a,b)=>a[0]===b[0]&&a[1]===b[1];
 const isInGrid=([column,row])=>column>=0&&row>=0&&column<COLUMNS&&row<ROWS;
 const columnName=c=>c<26?String.fromCharCode(65+c):columnName(Math.floor(c/26)-1)+columnName(c%26);
@@ -284,10 +287,9 @@ function shifted(text,columns,rows){let isLost=false;const moved=short(text).rep
 row-1+(holdsRow?0:rows)];isLost=isLost||!isInGrid(cell);return holdsColumn+columnName(Math.max(0,
 cell[0]))+holdsRow+(cell[1]+1);});return isLost?null:moved;
 }const rangesOf=entry=>[...short(entry).matchAll(PLACES)].map(([place])=>place.includes(':')&&readRange(place)).filter(Boolean);
-const typed=new Map(JSON.parse(localStorage.getItem('typed')||'[]'));function keepTyped(cell,
-text,entry){const key=keyOf(...cell);if(!isFormula(text)||!text.includes('$')){
-if(!typed.delete(key))return;}else typed.set(key,{text,entry});
-localStorage.setItem('typed',JSON.stringify([...typed]));}function textOf(cell,
+const typed=recall('typed');function keepTyped(cell,text,entry){const key=keyOf(...cell);
+if(!isFormula(text)||!text.includes('$')){if(!typed.delete(key))return;
+}else typed.set(key,{text,entry});keep('typed',typed);}function textOf(cell,
 entry){const kept=typed.get(keyOf(...cell));return kept&&kept.entry===entry?kept.text:fromEntry(entry);
 }const POLL=200,FIRST_WAIT=500,LONGEST_WAIT=5000,MOST_UNDER_WAY=250;const ENDS={'no server':'the server does not answer',
 'no room':'all places are taken'};const link={isUp:false,isHeard:false,words:'connecting',onLink(){},
@@ -308,10 +310,11 @@ LONGEST_WAIT);}function tellLink(words){link.words=words;link.onLink();}setInter
 if(link.isUp&&!document.hidden)link.onChange();},POLL);setInterval(()=>{
 if(link.isUp)link.onChange();},20000);document.addEventListener('visibilitychange',()=>{
 if(link.isUp)link.onChange();});const shown=new Map(),held=new Map();
-let seenAt='',seenRange='',isLooking=false,isStale=false,isEmpty=true;const shownAt=cell=>shown.get(keyOf(...cell))||'';
-const heldAt=cell=>held.get(keyOf(...cell))||'';const isCounter=entry=>entry==='@tally'||entry==='@choice';
-const isNumber=(entry,value)=>entry[0]!=="'"&&/^-?\d+$/.test(value);
-function readRecord(record){const fields=[];for(const found of(','+record).matchAll(/,(?:"((?:[^"]|"")*)"|([^,]*))/g))fields.push(found[1]===undefined?found[2]:found[1].replace(/""/g,
+let knownCount=0;let seenAt='',seenRange='',isLooking=false,isStale=false,isEmpty=true;
+const shownAt=cell=>shown.get(keyOf(...cell))||'';const heldAt=cell=>held.get(keyOf(...cell))||'';
+const isCounter=entry=>entry==='@tally'||entry==='@choice';const isNumber=(entry,
+value)=>entry[0]!=="'"&&/^-?\d+$/.test(value);function readRecord(record){
+const fields=[];for(const found of(','+record).matchAll(/,(?:"((?:[^"]|"")*)"|([^,]*))/g))fields.push(found[1]===undefined?found[2]:found[1].replace(/""/g,
 '"'));return fields;}async function readArea(word,area){const[first,...records]=await ask(word+' '+areaName(area)),
 found=new Map();if(!first.startsWith(word))throw new Error(first);
 records.forEach((record,i)=>{if(!/[^,]/.test(record))return;readRecord(record).forEach((text,
@@ -320,7 +323,7 @@ text);});});return found;}function takeIn(found,area,into,changed){
 for(let row=area.top;row<=area.bottom;row++)for(let key=keyOf(area.left,
 row);key<=keyOf(area.right,row);key++){const text=found.get(key);
 if(into.get(key)===text)continue;if(text)into.set(key,text);
-else into.delete(key);changed.add(key);}}async function take(area,
+else into.delete(key);knownCount++;changed.add(key);}}async function take(area,
 changed=new Set()){const[values,entries]=await Promise.all([readArea('rows',
 area),readArea('entries',area)]);if(seenAt===''){shown.clear();
 held.clear();isEmpty=true;}takeIn(values,area,shown,changed);takeIn(entries,
@@ -348,22 +351,22 @@ while(isStale);}catch(error){if(error.message!=='lost')console.error(error);
 ALL)).keys()].map(cellAt);return cells.length?{...areaAround(cells),
 left:0,top:0}:null;}const SCALE=parseFloat(getComputedStyle(document.documentElement).fontSize)/16;
 const WIDTH=Math.round(104*SCALE),HEIGHT=Math.round(26*SCALE),SIDE=Math.round(48*SCALE);
-const LEAST_WIDTH=Math.round(24*SCALE),MOST_WIDTH=900;let widths=new Map(JSON.parse(localStorage.getItem('widths')||'[]')),
-lefts=[];const focusGrid=()=>grid.focus({preventScroll:true});function layOut(){
-lefts=[0];for(let c=0;c<COLUMNS;c++)lefts.push(lefts[c]+(widths.get(c)||WIDTH));
+const LEAST_WIDTH=Math.round(24*SCALE),MOST_WIDTH=900;const widths=recall('widths');
+let lefts=[];const focusGrid=()=>grid.focus({preventScroll:true});
+function layOut(){lefts=[0];for(let c=0;c<COLUMNS;c++)lefts.push(lefts[c]+(widths.get(c)||WIDTH));
 Object.assign(space.style,{width:SIDE+lefts[COLUMNS]+'px',height:HEIGHT+ROWS*HEIGHT+'px'});
 }function columnAt(x){let column=0;while(column<COLUMNS-1&&lefts[column+1]<=x)column++;
 return column;}const widthOf=column=>lefts[column+1]-lefts[column];const pixels=area=>[SIDE+lefts[area.left],
 HEIGHT+area.top*HEIGHT,lefts[area.right+1]-lefts[area.left],(area.bottom-area.top+1)*HEIGHT];
 function setWidth(column,width){widths.set(column,Math.max(LEAST_WIDTH,Math.min(MOST_WIDTH,
 Math.round(width))));layOut();for(const elements of[cells,heads])for(const element of elements.values())element.remove();
-cells.clear();heads.clear();draw();}function keepWidths(){localStorage.setItem('widths',
-JSON.stringify([...widths]));}async function fitWidth(column){const found=await readArea('rows',
-{...ALL,left:column,right:column});const measure=document.createElement('canvas').getContext('2d');
-measure.font=getComputedStyle(document.body).font;const texts=[...found.values()].map(text=>measure.measureText(text).width);
+cells.clear();heads.clear();draw();}async function fitWidth(column){
+const found=await readArea('rows',{...ALL,left:column,right:column});
+const measure=document.createElement('canvas').getContext('2d');measure.font=getComputedStyle(document.body).font;
+const texts=[...found.values()].map(text=>measure.measureText(text).width);
 if(texts.length)setWidth(column,Math.max(...texts)+20*SCALE);else setWidth(column,
-WIDTH);keepWidths();}let current=[0,0],corner=[0,0];
-const selected=()=>boxOf(current,corner);function visible(){const width=Math.max(grid.clientWidth-SIDE,
+WIDTH);keep('widths',widths);}let current=[0,0],corner=[0,
+0];const selected=()=>boxOf(current,corner);function visible(){const width=Math.max(grid.clientWidth-SIDE,
 WIDTH),height=Math.max(grid.clientHeight-HEIGHT,HEIGHT);return{left:columnAt(grid.scrollLeft),
 top:bound(Math.floor(grid.scrollTop/HEIGHT),ROWS),right:columnAt(grid.scrollLeft+width-1),
 bottom:bound(Math.floor((grid.scrollTop+height-1)/HEIGHT),ROWS),};
@@ -448,9 +451,12 @@ beside(box,(element||grid).getBoundingClientRect(),true);if(!stays)telling=setTi
 const isAbove=isAside?above>grid.getBoundingClientRect().top:below+box.offsetHeight>innerHeight;const left=isAside&&!isAbove?near.right+4:near.left;
 box.style.left=Math.max(4,Math.min(left,innerWidth-box.offsetWidth-8))+'px';
 box.style.top=Math.max(4,isAbove?above:Math.min(below,innerHeight-box.offsetHeight-4))+'px';
-}function question(text,answers){return new Promise(done=>{const box=$('question'),
+}function focusAgain(){if(editing===null){focusGrid();return;}field().focus();
+field().setSelectionRange(field().value.length,field().value.length);}let asking=Promise.resolve();
+function question(text,answers){asking=asking.then(()=>showQuestion(text,answers));
+return asking;}function showQuestion(text,answers){return new Promise(done=>{const box=$('question'),
 row=box.lastElementChild;box.firstElementChild.textContent=text;row.textContent='';const choose=i=>{
-box.close();focusGrid();done(i);};answers.forEach((answer,i)=>{
+box.close();focusAgain();done(i);};answers.forEach((answer,i)=>{
 const element=made('button','',row);element.textContent=answer;element.onclick=()=>choose(i);
 });box.oncancel=event=>{event.preventDefault();choose(answers.length-1);
 };box.showModal();row.lastElementChild.focus();});}const marks=new Map();
@@ -484,8 +490,8 @@ return question(`${nameOf(cell)}: somebody has put ${theirs} here while you type
 text)=>base!==undefined&&was!==base&&![own.get(keyOf(...cell)),
 toEntry(text)].includes(was)&&fromEntry(was)!==text;const put=(wanted,
 base)=>inTurn(()=>putNow(wanted,base));async function putNow(wanted,
-base){const inside=wanted.filter(([cell])=>isInGrid(cell)),refused=[],
-steps=[];if(!inside.length)return refused;const area=areaAround(inside.map(([cell])=>cell));
+base){dropCut();const inside=wanted.filter(([cell])=>isInGrid(cell)),
+refused=[],steps=[];if(!inside.length)return refused;const area=areaAround(inside.map(([cell])=>cell));
 let before,after,values;const was=cell=>before.get(keyOf(...cell))||'';
 try{[before,values]=await readBoth(area);const[[cell,text]]=inside,
 other=was(cell);const choice=isDisputed(cell,other,base,text)&&await asksWhich(cell,
@@ -503,8 +509,8 @@ area),readArea('rows',area)]);const own=new Map();function settle(step,
 after,values){const key=keyOf(...step.cell),now=after?after.get(key):step.after;
 marks.delete(key);own.set(key,step.after);for(const[into,text]of[[held,
 now],[shown,values.get(key)]])if(text)into.set(key,text);
-else into.delete(key);keepTyped(step.cell,step.text,step.after);}async function putMany(wanted,
-breaks=0){const beyond=wanted.filter(([cell])=>!isInGrid(cell)).length;
+else into.delete(key);knownCount++;keepTyped(step.cell,step.text,step.after);
+}async function putMany(wanted,breaks=0){const beyond=wanted.filter(([cell])=>!isInGrid(cell)).length;
 if(!link.isHeard){tell(NO_LINK);return;}if(wanted.length>MANY&&await question(`These are ${wanted.length} cells. Go on?`,
 ['Go on','Cancel']))return;if(wanted.length>200)$('progress').textContent=several(wanted.length,
 'cell')+' on their way';const refused=await put(wanted);$('progress').textContent='';if(refused===null){
@@ -532,8 +538,9 @@ else back.push({cell,verb:OPPOSITE[verb],value});return[back,others];
 return;}const act=from.pop();if(!act){tell('There is nothing to '+word+'.',
 current,false,true);return;}try{const[back,others]=await(act.steps[0].verb?countBack:setBack)(act.steps);
 if(back.length)to.push({steps:back});const first=(back[0]||{
-cell:others[0]}).cell;moveTo(first);const which=`${several(others.length, 'cell')} left alone (${firstNames(others)})`;if(others.length)tell(which+': somebody has changed '+(others[1]?'them':'it')+' since.',
-first,true);}catch(error){from.push(act);tell(NO_LINK);}drawButtons();
+cell:others[0]}).cell;if(editing===null)moveTo(first);const which=`${several(others.length, 'cell')} left alone (${firstNames(others)})`;
+if(others.length)tell(which+': somebody has changed '+(others[1]?'them':'it')+' since.',first,
+true);}catch(error){from.push(act);tell(NO_LINK);}drawButtons();
 look();}const undo=()=>inTurn(()=>takeBack(done,undone,'undo'));
 const redo=()=>inTurn(()=>takeBack(undone,done,'redo'));let editing=null,
 begunWith='',isTyped=false,picked=null,pickedCell=null,homeColumn=null;const field=()=>editing==='line'?line:editor;
@@ -630,7 +637,9 @@ text,columns,rows){const found=isFormula(text)?shifted(text,columns,rows):text;
 return found===null?[cell,text,'A reference would leave the sheet.']:[cell,found];}const movedRows=({
 left,top,rows},[column,row])=>rows.map((texts,i)=>texts.map((text,
 j)=>moved([column+j,row+i],text,column-left,row-top))).flat();
-function repeated(copy,range){const high=copy.rows.length,wide=copy.rows[0].length,
+function readCopy(text){try{const copy=JSON.parse(text),isRow=row=>row.length&&row.every(each=>typeof each==='string');
+return copy.rows.length&&copy.rows.every(isRow)?copy:null;}catch(error){
+return null;}}function repeated(copy,range){const high=copy.rows.length,wide=copy.rows[0].length,
 found=[];const down=(range.bottom-range.top+1)/high,right=(range.right-range.left+1)/wide;
 const isMultiple=Number.isInteger(down)&&Number.isInteger(right);for(let i=0;
 i<(isMultiple?down:1);i++)for(let j=0;j<(isMultiple?right:1);
@@ -648,8 +657,10 @@ i)=>texts.map((text,j)=>[[column+j,row+i],
 text])).flat();function pasteText(text){const range=selected(),[rows,
 breaks]=readFields(text,'\t');if(rows.length>1||rows[0].length>1)return putMany(placed(rows,
 [range.left,range.top]),breaks);return putMany(cellsOf(range).map(cell=>[cell,
-rows[0][0]]),breaks);}async function moveCut(from,copy,to){
-const all=placed(copy.rows,to),targets=all.filter(([,text])=>!isCounter(text));
+rows[0][0]]),breaks);}async function moveCut(from,to){const entries=await readArea('entries',
+from).catch(()=>null);if(!entries){tell(NO_LINK);return;}
+const rows=rowsOf(from,cell=>textOf(cell,entries.get(keyOf(...cell))||''));
+const all=placed(rows,to),targets=all.filter(([,text])=>!isCounter(text));
 const covered=new Set(targets.map(([cell])=>keyOf(...cell))),
 stayed=all.length-targets.length;const left=targets.map(([[column,row]])=>[from.left+column-to[0],
 from.top+row-to[1]]);if(all.some(([cell])=>!isInGrid(cell))){
@@ -663,10 +674,10 @@ event.clipboardData.setData('text/plain',text);event.clipboardData.setData(FORM,
 [cutArea,cutText]=kind==='cut'?[copiedArea(),text]:[null,''];
 drawCut();});document.addEventListener('paste',event=>{if(!isAtGrid())return;
 event.preventDefault();const text=event.clipboardData.getData('text/plain'),own=event.clipboardData.getData(FORM),
-from=cutArea;const copy=own&&JSON.parse(own),range=selected();dropCut();
-if(!copy)return pasteText(text);if(from&&text===cutText)return moveCut(from,
-copy,[range.left,range.top]);return putMany(repeated(copy,range));});
-async function fillArea(source,area){const wide=source.right-source.left+1,high=source.bottom-source.top+1,
+from=cutArea;const copy=readCopy(own),range=selected();dropCut();if(!copy)return pasteText(text);
+if(from&&text===cutText)return moveCut(from,[range.left,range.top]);
+return putMany(repeated(copy,range));});async function fillArea(source,area){
+const wide=source.right-source.left+1,high=source.bottom-source.top+1,
 wanted=[];const entries=await readArea('entries',source).catch(()=>null);
 if(!entries){tell(NO_LINK);return;}for(const cell of cellsOf(area)){
 const from=[source.left+(cell[0]-area.left)%wide,source.top+(cell[1]-area.top)%high];
@@ -680,22 +691,24 @@ const area=selected(),isOne=area.left===area.right;const whole=isOne?{
 ...whole,right:whole.left},whole);}function fillTo(source,[column,row]){
 const down=row-source.bottom,right=column-source.right;if(down<=0&&right<=0)return source;
 return down>=right?{...source,bottom:row}:{...source,right:column};
-}function drawSums(){const area=selected(),box=$('sums');let text='';
-if(!isSame(current,corner)&&isKnown(area)){const numbers=[],texts=[];
-for(const[key,value]of shown){const cell=cellAt(key),entry=held.get(key)||'';
-if(!isWithin(boxOf(cell,cell),area))continue;if(isNumber(entry,value))numbers.push(BigInt(value));
-else if(noteOf(entry))texts.push(cell);}const least=numbers.reduce((a,
-b)=>a<b?a:b,numbers[0]);const most=numbers.reduce((a,
-b)=>a>b?a:b,numbers[0]);if(numbers.length)text=`Sum ${numbers.reduce((a, b) => a + b)} \u00b7 Count ${numbers.length} \u00b7 `+`Least ${least} \u00b7 Greatest ${most}`;
-const look=several(texts.length,'text that looks','texts that look')+' like a number';if(texts.length)text+=` (without ${look})`;
-}if(box.textContent!==text)box.textContent=text;}let matches=[],match=-1,
-sought='';async function find(way){const text=$('sought').value.toLowerCase();
-if(!text){$('found').textContent='';return;}try{const[entries,values]=await readBoth(ALL);
-const keys=[...new Set([...values.keys(),...entries.keys()])].sort((a,
-b)=>a-b);matches=keys.filter(key=>(values.get(key)||'').toLowerCase().includes(text)||fromEntry(entries.get(key)||'').toLowerCase().includes(text));
+}let summed='';function drawSums(){const area=selected(),box=$('sums'),
+what=[areaName(area),isKnown(area),knownCount].join(' ');if(what===summed)return;
+summed=what;let text='';if(!isSame(current,corner)&&isKnown(area)){
+const numbers=[],texts=[];for(const[key,value]of shown){const cell=cellAt(key),
+entry=held.get(key)||'';if(!isWithin(boxOf(cell,cell),area))continue;
+if(isNumber(entry,value))numbers.push(BigInt(value));else if(noteOf(entry))texts.push(cell);
+}const least=numbers.reduce((a,b)=>a<b?a:b,numbers[0]);
+const most=numbers.reduce((a,b)=>a>b?a:b,numbers[0]);
+if(numbers.length)text=`Sum ${numbers.reduce((a, b) => a + b)} \u00b7 Count ${numbers.length} \u00b7 `+`Least ${least} \u00b7 Greatest ${most}`;const look=several(texts.length,'text that looks','texts that look')+' like a number';
+if(texts.length)text+=` (without ${look})`;}if(box.textContent!==text)box.textContent=text;
+}let matches=[],match=-1,sought='';async function find(way){
+const text=$('sought').value.toLowerCase();if(!text){$('found').textContent='';
+return;}try{const[entries,values]=await readBoth(ALL);const keys=[...new Set([...values.keys(),
+...entries.keys()])].sort((a,b)=>a-b);
+matches=keys.filter(key=>(values.get(key)||'').toLowerCase().includes(text)||fromEntry(entries.get(key)||'').toLowerCase().includes(text));
 }catch(error){tell(NO_LINK);return;}if(text!==sought)[sought,match,
 way]=[text,-1,1];match=matches.length?(match+way+matches.length)%matches.length:-1;
-$('found').textContent=matches.length?`${match + 1} of ${matches.length}`:'nowhere';if(matches.length)moveTo(cellAt(matches[match]));
+$('found').textContent=matches.length?`${match + 1} of ${matches.length}`:'nowhere';if(matches.length&&editing===null)moveTo(cellAt(matches[match]));
 }function openFind(){$('find').hidden=false;$('sought').focus();$('sought').select();
 }function closeFind(){$('find').hidden=true;sought='';focusGrid();}$('find').addEventListener('keydown',
 event=>{if(event.key==='Escape')closeFind();else if(event.key==='Enter'&&event.target.id==='sought')find(event.shiftKey?-1:1);
@@ -772,13 +785,14 @@ else if(key===' '&&event.shiftKey)select([0,current[1]],
 [COLUMNS-1,corner[1]]);else if(isTally&&(key==='+'||key==='-'))step(key==='+'?'add':'sub',
 current,1);else if(key.length===1)edit(key,'cell',true);
 else return false;return true;}function widthKey(event){const arrow=event.shiftKey&&ARROWS[event.key];
-if(!arrow)return false;if(arrow[1])fitWidth(current[0]);else{
-setWidth(current[0],widthOf(current[0])+16*arrow[0]);keepWidths();
-}return true;}function gridKey(event){if(isMoving){heldKeys.push(event);event.preventDefault();
+if(!arrow)return false;if(arrow[1])fitWidth(current[0]);else setWidth(current[0],
+widthOf(current[0])+16*arrow[0]);keep('widths',widths);return true;
+}function gridKey(event){if(isMoving){heldKeys.push(event);event.preventDefault();
 return;}if(event.isComposing||event.key==='Shift'||event.key==='Control')return;
 const isTaken=event.altKey?widthKey(event):isControl(event)?controlKey(event):plainKey(event);
 if(isTaken)event.preventDefault();}grid.addEventListener('keydown',event=>{if(event.target===grid&&editing===null)gridKey(event);
-});document.addEventListener('keydown',event=>{const{key,target}=event;if(isControl(event)&&/^[fp]$/.test(key)&&target!==grid){
+});document.addEventListener('keydown',event=>{const{key,target}=event;if(target===document.body&&editing===null){
+focusGrid();gridKey(event);return;}if(isControl(event)&&/^[fp]$/.test(key)&&target!==grid){
 COMMANDS[key]();event.preventDefault();}if(/^(F6|Escape)$/.test(key)&&$('bar').contains(target)&&editing===null)grid.focus();
 });$('name').addEventListener('focus',event=>{if(editing!==null){commit(0,
 0);event.target.focus();}event.target.select();});$('name').addEventListener('keydown',
@@ -820,8 +834,8 @@ true);else if(kind==='select'&&!isSame(cell,corner))moveTo(cell,
 true);else if(kind==='fill'){dragging.area=fillTo(dragging.source,cell);
 bringIntoView(cell);[current,corner]=[[dragging.area.left,dragging.area.top],
 [dragging.area.right,dragging.area.bottom]];draw();}});for(const end of['pointerup',
-'pointercancel'])addEventListener(end,()=>{const ended=dragging;dragging=null;if(ended&&ended.kind==='edge')keepWidths();
-if(ended&&ended.area&&areaName(ended.area)!==areaName(ended.source))fillArea(ended.source,
+'pointercancel'])addEventListener(end,()=>{const ended=dragging;dragging=null;if(ended&&ended.kind==='edge')keep('widths',
+widths);if(ended&&ended.area&&areaName(ended.area)!==areaName(ended.source))fillArea(ended.source,
 ended.area);});grid.addEventListener('dblclick',event=>{if(event.target.dataset.edge)fitWidth(+event.target.dataset.edge);
 else if(cellOf(event.target)&&!event.target.dataset.action)begin();});
 document.addEventListener('pointerdown',event=>{if(!options.contains(event.target)&&!grid.contains(event.target))hideOptions();
@@ -839,8 +853,8 @@ const CLICKS={tally:()=>make('@tally'),choice:()=>make('@choice'),
 undo,redo,'help-button':openHelp,'open-csv':()=>$('file').click(),'save-rows':()=>saveCsv('rows'),
 'save-entries':()=>saveCsv('entries'),'print':printSheet,'find-button':openFind,'fit':()=>fitWidth(current[0]),
 'fill-down':fillDown,'fill-right':fillRight,};for(const[id,call]of Object.entries(CLICKS))$(id).onclick=()=>{
-if($('more').matches(':popover-open'))$('more').hidePopover();call();};
-$('help').onclose=()=>grid.focus();$('more').addEventListener('toggle',
+if($('more').matches(':popover-open'))$('more').hidePopover();focusGrid();call();
+};$('help').onclose=()=>grid.focus();$('more').addEventListener('toggle',
 event=>{if(event.newState==='open')beside($('more'),$('menu').getBoundingClientRect());
 });function redraw(){draw();if(link.isUp)look();}grid.addEventListener('scroll',
 redraw);addEventListener('resize',redraw);link.onLink=()=>{document.body.classList.toggle('lost',
