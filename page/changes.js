@@ -1,10 +1,11 @@
 // Changes. Each is a line to the server; many are under way at a time, and what was done together is undone together.
 // What is done later waits for what was done before, so that it finds what that made.
 const LONGEST_ENTRY = 4096, MANY = 20000;
-let turn = Promise.resolve();
+let turn = Promise.resolve(), acting = 0;
 function inTurn(act) {
-  const mine = turn.then(act);
-  turn = mine.catch(() => {});
+  const mine = turn.then(act), end = () => { acting--; };
+  acting++;
+  turn = mine.then(end, end);
   return mine;
 }
 
@@ -109,13 +110,24 @@ function settle(step, after, values) {
   knownCount++;
   keepTyped(step.cell, step.text, step.after);
 }
-/** Puts many texts: what was refused is marked, and told at the end. */
-async function putMany(wanted, breaks = 0) {
-  const beyond = wanted.filter(([cell]) => !isInGrid(cell)).length;
+/**
+ * Puts many texts, which `find` gives or finds once all acts before are done: what was refused is marked, and told at
+ * the end.
+ */
+const putMany = (find, breaks = 0) => inTurn(async () => {
   if (!link.isHeard) { tell(NO_LINK); return; }
+  try {
+    await putFound(Array.isArray(find) ? find : await find(), breaks);
+  } catch (error) {
+    if (error.message !== 'lost') throw error;
+    tell(NO_LINK);
+  }
+});
+async function putFound(wanted, breaks) {
+  const beyond = wanted.filter(([cell]) => !isInGrid(cell)).length;
   if (wanted.length > MANY && await question(`These are ${wanted.length} cells. Go on?`, ['Go on', 'Cancel'])) return;
   if (wanted.length > 200) $('progress').textContent = several(wanted.length, 'cell') + ' on their way';
-  const refused = await put(wanted);
+  const refused = await putNow(wanted);
   $('progress').textContent = '';
   if (refused === null) { tell(LOST, current, true); return; }
   for (const { cell, text, why } of refused) mark(cell, text, why);
@@ -123,13 +135,8 @@ async function putMany(wanted, breaks = 0) {
   report(refused, wanted.length - beyond, beyond, breaks);
 }
 /** Empties an area. */
-async function clearArea(area) {
-  try {
-    await putMany([...(await readArea('entries', area)).keys()].map(key => [cellAt(key), '']));
-  } catch (error) {
-    tell(NO_LINK);
-  }
-}
+const clearArea = area =>
+  putMany(async () => [...(await readArea('entries', area)).keys()].map(key => [cellAt(key), '']));
 /** Counts, or puts a mark on or off: a line that has an opposite. */
 async function step(verb, cell, value) {
   const why = await inTurn(() => outcome(`${verb} ${nameOf(cell)} ${value}`));

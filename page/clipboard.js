@@ -85,14 +85,17 @@ function pasteText(text) {
 }
 /** Moves what was cut: its entries stay as they are. Counters and sets stay where they are, with what they have. */
 async function moveCut(from, to) {
-  const entries = await readArea('entries', from).catch(() => null);
-  if (!entries) { tell(NO_LINK); return; }
-  const rows = rowsOf(from, cell => textOf(cell, entries.get(keyOf(...cell)) || ''));
-  const all = placed(rows, to), targets = all.filter(([, text]) => !isCounter(text));
-  const covered = new Set(targets.map(([cell]) => keyOf(...cell))), stayed = all.length - targets.length;
-  const left = targets.map(([[column, row]]) => [from.left + column - to[0], from.top + row - to[1]]);
-  if (all.some(([cell]) => !isInGrid(cell))) { tell('This would leave the sheet: nothing was moved.'); return; }
-  await putMany([...targets, ...left.filter(cell => !covered.has(keyOf(...cell))).map(cell => [cell, ''])]);
+  let stayed = 0;
+  await putMany(async () => {
+    const entries = await readArea('entries', from);
+    const all = placed(rowsOf(from, cell => textOf(cell, entries.get(keyOf(...cell)) || '')), to);
+    const targets = all.filter(([, text]) => !isCounter(text));
+    const covered = new Set(targets.map(([cell]) => keyOf(...cell)));
+    const left = targets.map(([[column, row]]) => [from.left + column - to[0], from.top + row - to[1]]);
+    if (all.some(([cell]) => !isInGrid(cell))) { tell('This would leave the sheet: nothing was moved.'); return []; }
+    stayed = all.length - targets.length;
+    return [...targets, ...left.filter(cell => !covered.has(keyOf(...cell))).map(cell => [cell, ''])];
+  });
   const kinds = several(stayed, 'counter or set', 'counters and sets');
   if (stayed) tell(kinds + ' stayed, since counts and marks do not move.', to, true, true);
 }
@@ -107,7 +110,7 @@ for (const kind of ['copy', 'cut'])
   document.addEventListener(kind, event => {
     if (!isAtGrid()) return;
     event.preventDefault();
-    if (!isKnown(selected())) { tell('The cells are still being read: once more, please.'); return; }
+    if (acting || !isKnown(selected())) { tell('The cells are still being read: once more, please.'); return; }
     const text = copied();
     event.clipboardData.setData('text/plain', text);
     event.clipboardData.setData(FORM, JSON.stringify(copiedEntries()));

@@ -1,17 +1,16 @@
 // Filling: the cells of an area take the texts of its first rows or columns, again and again, with references moved.
 /** Puts what `source` holds into the rest of `area`, which goes on below it or to its right. */
-async function fillArea(source, area) {
+const fillArea = (source, area) => putMany(async () => {
   const wide = source.right - source.left + 1, high = source.bottom - source.top + 1, wanted = [];
-  const entries = await readArea('entries', source).catch(() => null);
-  if (!entries) { tell(NO_LINK); return; }
+  const entries = await readArea('entries', source);
   for (const cell of cellsOf(area)) {
     const from = [source.left + (cell[0] - area.left) % wide, source.top + (cell[1] - area.top) % high];
     if (isSame(from, cell)) continue;
     const text = textOf(from, entries.get(keyOf(...from)) || '');
     wanted.push(moved(cell, text, cell[0] - from[0], cell[1] - from[1]));
   }
-  await putMany(wanted);
-}
+  return wanted;
+});
 /** Fills down from the first row of what is selected, or from the row above it. */
 function fillDown() {
   const area = selected(), isOne = area.top === area.bottom;

@@ -3,9 +3,9 @@
 /// The head of the response with the page, which ends where the connection does.
 pub const PAGE_HEAD: &[u8] = b"HTTP/1.1 200 OK\r
 content-type: text/html; charset=utf-8\r
-content-length: 71797\r
+content-length: 71916\r
 cache-control: no-store\r
-content-security-policy: default-src 'none'; script-src 'sha256-za0+AQub3lnxpxFlhwaMjqIhSKzqEpqBMwqA9nymMbU='; style-src 'sha256-vLus3CIo93dbX4yk+MOsTFfbo2J32bgIpf8EMIHzUlk='; connect-src 'self'; img-src data:; base-uri 'none'; form-action 'none'; frame-ancestors 'none'\r
+content-security-policy: default-src 'none'; script-src 'sha256-/18/PTwifJqmRHIH/+ZZaablETYqdZJSvd+cvKJIDpA='; style-src 'sha256-vLus3CIo93dbX4yk+MOsTFfbo2J32bgIpf8EMIHzUlk='; connect-src 'self'; img-src data:; base-uri 'none'; form-action 'none'; frame-ancestors 'none'\r
 x-content-type-options: nosniff\r
 x-frame-options: DENY\r
 referrer-policy: no-referrer\r
@@ -470,9 +470,10 @@ names=firstNames(refused.map(({cell})=>cell));const parts=[];
 if(refused.length)parts.push(`${refused.length} of ${several(count, 'cell')} refused (${names}): ${reasons} `+'Marked until you look at them; F2 there takes the text up again.');if(beyond)parts.push(`${several(beyond, 'cell')} beyond the sheet's end left out.`);
 if(breaks)parts.push(several(breaks,'line break')+(breaks>1?' became blanks.':' became a blank.'));
 const first=refused.length?refused[0].cell:current;if(parts.length)tell(parts.join(' '),
-first,refused.length>0,!refused.length);}const LONGEST_ENTRY=4096,MANY=20000;let turn=Promise.resolve();
-function inTurn(act){const mine=turn.then(act);turn=mine.catch(()=>{});
-return mine;}async function outcome(text,wanted,into={}){try{const[reply]=await ask(text);
+first,refused.length>0,!refused.length);}const LONGEST_ENTRY=4096,MANY=20000;let turn=Promise.resolve(),
+acting=0;function inTurn(act){const mine=turn.then(act),end=()=>{
+acting--;};acting++;turn=mine.then(end,end);return mine;}
+async function outcome(text,wanted,into={}){try{const[reply]=await ask(text);
 into.version=+reply.slice(3);return reply.startsWith('ok')?'':refusalOf(reply,
 wanted);}catch(error){return LOST;}}async function setCell(step,text){
 const sent=outcome(`set ${nameOf(step.cell)} ${toEntry(text)}`,text,step);if(isCounter(text))step.value=(await ask('get '+nameOf(step.cell)).catch(()=>['']))[0].slice(4);
@@ -510,14 +511,15 @@ after,values){const key=keyOf(...step.cell),now=after?after.get(key):step.after;
 marks.delete(key);own.set(key,step.after);for(const[into,text]of[[held,
 now],[shown,values.get(key)]])if(text)into.set(key,text);
 else into.delete(key);knownCount++;keepTyped(step.cell,step.text,step.after);
-}async function putMany(wanted,breaks=0){const beyond=wanted.filter(([cell])=>!isInGrid(cell)).length;
-if(!link.isHeard){tell(NO_LINK);return;}if(wanted.length>MANY&&await question(`These are ${wanted.length} cells. Go on?`,
-['Go on','Cancel']))return;if(wanted.length>200)$('progress').textContent=several(wanted.length,
-'cell')+' on their way';const refused=await put(wanted);$('progress').textContent='';if(refused===null){
+}const putMany=(find,breaks=0)=>inTurn(async()=>{if(!link.isHeard){
+tell(NO_LINK);return;}try{await putFound(Array.isArray(find)?find:await find(),
+breaks);}catch(error){if(error.message!=='lost')throw error;tell(NO_LINK);
+}});async function putFound(wanted,breaks){const beyond=wanted.filter(([cell])=>!isInGrid(cell)).length;
+if(wanted.length>MANY&&await question(`These are ${wanted.length} cells. Go on?`,['Go on','Cancel']))return;if(wanted.length>200)$('progress').textContent=several(wanted.length,
+'cell')+' on their way';const refused=await putNow(wanted);$('progress').textContent='';if(refused===null){
 tell(LOST,current,true);return;}for(const{cell,text,why}of refused)mark(cell,
-text,why);draw();report(refused,wanted.length-beyond,beyond,breaks);}async function clearArea(area){
-try{await putMany([...(await readArea('entries',area)).keys()].map(key=>[cellAt(key),
-'']));}catch(error){tell(NO_LINK);}}async function step(verb,
+text,why);draw();report(refused,wanted.length-beyond,beyond,breaks);}const clearArea=area=>putMany(async()=>[...(await readArea('entries',
+area)).keys()].map(key=>[cellAt(key),'']));async function step(verb,
 cell,value){const why=await inTurn(()=>outcome(`${verb} ${nameOf(cell)} ${value}`));if(why)tell(nameOf(cell)+': '+why,
 cell,why===LOST);else remember({steps:[{cell,verb,value}]});
 look();return!why;}const MOST_ACTS=200,OPPOSITE={add:'sub',sub:'add',
@@ -657,33 +659,33 @@ i)=>texts.map((text,j)=>[[column+j,row+i],
 text])).flat();function pasteText(text){const range=selected(),[rows,
 breaks]=readFields(text,'\t');if(rows.length>1||rows[0].length>1)return putMany(placed(rows,
 [range.left,range.top]),breaks);return putMany(cellsOf(range).map(cell=>[cell,
-rows[0][0]]),breaks);}async function moveCut(from,to){const entries=await readArea('entries',
-from).catch(()=>null);if(!entries){tell(NO_LINK);return;}
-const rows=rowsOf(from,cell=>textOf(cell,entries.get(keyOf(...cell))||''));
-const all=placed(rows,to),targets=all.filter(([,text])=>!isCounter(text));
-const covered=new Set(targets.map(([cell])=>keyOf(...cell))),
-stayed=all.length-targets.length;const left=targets.map(([[column,row]])=>[from.left+column-to[0],
+rows[0][0]]),breaks);}async function moveCut(from,to){let stayed=0;
+await putMany(async()=>{const entries=await readArea('entries',from);const all=placed(rowsOf(from,
+cell=>textOf(cell,entries.get(keyOf(...cell))||'')),to);
+const targets=all.filter(([,text])=>!isCounter(text));const covered=new Set(targets.map(([cell])=>keyOf(...cell)));
+const left=targets.map(([[column,row]])=>[from.left+column-to[0],
 from.top+row-to[1]]);if(all.some(([cell])=>!isInGrid(cell))){
-tell('This would leave the sheet: nothing was moved.');return;}await putMany([...targets,...left.filter(cell=>!covered.has(keyOf(...cell))).map(cell=>[cell,
-''])]);const kinds=several(stayed,'counter or set','counters and sets');if(stayed)tell(kinds+' stayed, since counts and marks do not move.',
+tell('This would leave the sheet: nothing was moved.');return[];}stayed=all.length-targets.length;return[...targets,
+...left.filter(cell=>!covered.has(keyOf(...cell))).map(cell=>[cell,
+''])];});const kinds=several(stayed,'counter or set','counters and sets');if(stayed)tell(kinds+' stayed, since counts and marks do not move.',
 to,true,true);}function drawCut(){$('cut').hidden=!cutArea;if(cutArea)place($('cut'),
 ...pixels(cutArea));}function dropCut(){if(cutArea){cutArea=null;drawCut();
 }}for(const kind of['copy','cut'])document.addEventListener(kind,event=>{if(!isAtGrid())return;
-event.preventDefault();if(!isKnown(selected())){tell('The cells are still being read: once more, please.');return;}const text=copied();
-event.clipboardData.setData('text/plain',text);event.clipboardData.setData(FORM,JSON.stringify(copiedEntries()));
-[cutArea,cutText]=kind==='cut'?[copiedArea(),text]:[null,''];
-drawCut();});document.addEventListener('paste',event=>{if(!isAtGrid())return;
-event.preventDefault();const text=event.clipboardData.getData('text/plain'),own=event.clipboardData.getData(FORM),
-from=cutArea;const copy=readCopy(own),range=selected();dropCut();if(!copy)return pasteText(text);
-if(from&&text===cutText)return moveCut(from,[range.left,range.top]);
-return putMany(repeated(copy,range));});async function fillArea(source,area){
-const wide=source.right-source.left+1,high=source.bottom-source.top+1,
-wanted=[];const entries=await readArea('entries',source).catch(()=>null);
-if(!entries){tell(NO_LINK);return;}for(const cell of cellsOf(area)){
-const from=[source.left+(cell[0]-area.left)%wide,source.top+(cell[1]-area.top)%high];
-if(isSame(from,cell))continue;const text=textOf(from,entries.get(keyOf(...from))||'');
-wanted.push(moved(cell,text,cell[0]-from[0],cell[1]-from[1]));
-}await putMany(wanted);}function fillDown(){const area=selected(),isOne=area.top===area.bottom;
+event.preventDefault();if(acting||!isKnown(selected())){tell('The cells are still being read: once more, please.');return;
+}const text=copied();event.clipboardData.setData('text/plain',text);event.clipboardData.setData(FORM,
+JSON.stringify(copiedEntries()));[cutArea,cutText]=kind==='cut'?[copiedArea(),
+text]:[null,''];drawCut();});document.addEventListener('paste',event=>{
+if(!isAtGrid())return;event.preventDefault();const text=event.clipboardData.getData('text/plain'),
+own=event.clipboardData.getData(FORM),from=cutArea;const copy=readCopy(own),range=selected();
+dropCut();if(!copy)return pasteText(text);if(from&&text===cutText)return moveCut(from,
+[range.left,range.top]);return putMany(repeated(copy,range));});
+const fillArea=(source,area)=>putMany(async()=>{const wide=source.right-source.left+1,
+high=source.bottom-source.top+1,wanted=[];const entries=await readArea('entries',
+source);for(const cell of cellsOf(area)){const from=[source.left+(cell[0]-area.left)%wide,
+source.top+(cell[1]-area.top)%high];if(isSame(from,cell))continue;
+const text=textOf(from,entries.get(keyOf(...from))||'');wanted.push(moved(cell,
+text,cell[0]-from[0],cell[1]-from[1]));}return wanted;
+});function fillDown(){const area=selected(),isOne=area.top===area.bottom;
 const whole=isOne?{...area,top:Math.max(0,area.top-1)}
 :area;return fillArea({...whole,bottom:whole.top},whole);}function fillRight(){
 const area=selected(),isOne=area.left===area.right;const whole=isOne?{
