@@ -162,6 +162,15 @@ class Fills(BrowserTest):
         page.key("z", CONTROL)
         self.assert_held("entry D2", "entry ")
 
+    def test_a_fill_has_the_entry_before_it(self):
+        page = self.page()
+        # one key after another without a pause
+        for text in ("5", "=A1*2"):
+            page.type(text)
+            page.key("ArrowDown")
+        page.key("d", CONTROL)
+        self.assert_held("entry A3", "entry =[.A2]*2")
+
     def test_the_handle_is_dragged(self):
         page = self.page()
         self.fill("set A1 1", "set A2 2", "set B1 =[.A1]", "set B2 x")

@@ -28,6 +28,8 @@ class OneCell(BrowserTest):
     def test_theirs_stays(self):
         page = self.conflict()
         self.answer(page, "Theirs")
+        page.wait_for("acting", 0)
+        self.assertEqual(page.value("[editing, marks.size]"), [None, 0])
         self.assertEqual(self.client.ask("get A1"), "val theirs")
 
     def test_typing_goes_on(self):

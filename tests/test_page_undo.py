@@ -34,6 +34,15 @@ class Undo(BrowserTest):
         page.click(*page.middle("document.getElementById('redo')"))
         self.assert_held("entry A2", "entry 6")
 
+    def test_an_entry_that_is_under_way_is_undone(self):
+        page = self.page()
+        self.put(page, "5")
+        # one key after another without a pause
+        self.put(page, "6")
+        page.key("z", CONTROL)
+        page.wait_for("acting", 0)
+        self.assertEqual(self.entries("A1:A2"), ["5", '""'])
+
     def test_what_others_changed_since_stays(self):
         page = self.page()
         self.paste(page, "1\n2\n3\n")
