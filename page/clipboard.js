@@ -1,7 +1,7 @@
 // Copy, cut and paste. What is copied goes out as the text that cells show, and for this page as entries beside it,
 // whose references move along; what was cut moves as it is.
 const FORM = 'application/x-sheet-entries';
-let cutArea = null, cutText = '';
+let cutArea = null, lastText = null, lastCopy = '';
 const isAtGrid = () => editing === null && document.activeElement === grid;
 /** Whether all of an area was read, as it lies in view or was asked for since it is selected. */
 const isKnown = area => seenRange === areaName(area) || seenAt === areaName(visible()) && isWithin(area, visible());
@@ -111,19 +111,20 @@ for (const kind of ['copy', 'cut'])
     if (!isAtGrid()) return;
     event.preventDefault();
     if (acting || !isKnown(selected())) { tell('The cells are still being read: once more, please.'); return; }
-    const text = copied();
-    event.clipboardData.setData('text/plain', text);
-    event.clipboardData.setData(FORM, JSON.stringify(copiedEntries()));
-    [cutArea, cutText] = kind === 'cut' ? [copiedArea(), text] : [null, ''];
+    [lastText, lastCopy] = [copied(), JSON.stringify(copiedEntries())];
+    event.clipboardData.setData('text/plain', lastText);
+    event.clipboardData.setData(FORM, lastCopy);
+    cutArea = kind === 'cut' ? copiedArea() : null;
     drawCut();
   });
 document.addEventListener('paste', event => {
   if (!isAtGrid()) return;
   event.preventDefault();
-  const text = event.clipboardData.getData('text/plain'), own = event.clipboardData.getData(FORM), from = cutArea;
-  const copy = readCopy(own), range = selected();
+  const text = event.clipboardData.getData('text/plain'), isLast = text === lastText, from = cutArea;
+  // (a clipboard may drop the second form)
+  const copy = readCopy(event.clipboardData.getData(FORM) || isLast && lastCopy), range = selected();
   dropCut();
   if (!copy) return pasteText(text);
-  if (from && text === cutText) return moveCut(from, [range.left, range.top]);
+  if (from && isLast) return moveCut(from, [range.left, range.top]);
   return putMany(repeated(copy, range));
 });

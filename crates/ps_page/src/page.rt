@@ -3,9 +3,9 @@
 /// The head of the response with the page, which ends where the connection does.
 pub const PAGE_HEAD: &[u8] = b"HTTP/1.1 200 OK\r
 content-type: text/html; charset=utf-8\r
-content-length: 71916\r
+content-length: 71958\r
 cache-control: no-store\r
-content-security-policy: default-src 'none'; script-src 'sha256-/18/PTwifJqmRHIH/+ZZaablETYqdZJSvd+cvKJIDpA='; style-src 'sha256-vLus3CIo93dbX4yk+MOsTFfbo2J32bgIpf8EMIHzUlk='; connect-src 'self'; img-src data:; base-uri 'none'; form-action 'none'; frame-ancestors 'none'\r
+content-security-policy: default-src 'none'; script-src 'sha256-rTIuxxOS5lO4ZHpryAXG7AMK8Iim1Q/MKtcsunrlTj8='; style-src 'sha256-vLus3CIo93dbX4yk+MOsTFfbo2J32bgIpf8EMIHzUlk='; connect-src 'self'; img-src data:; base-uri 'none'; form-action 'none'; frame-ancestors 'none'\r
 x-content-type-options: nosniff\r
 x-frame-options: DENY\r
 referrer-policy: no-referrer\r
@@ -621,7 +621,7 @@ tell(`Write "${told}" at the end of a text above ${nameOf(cell)}: the next cell 
 at,false,true);}function pickNames(cell,from){$('naming').value=areaName(boxOf(cell,
 from||cell));}options.addEventListener('keydown',event=>{if(event.key==='Escape')hideOptions();
 if(event.key==='Enter'&&event.target.id==='naming')nameOptions(event.target.value);
-});const FORM='application/x-sheet-entries';let cutArea=null,cutText='';const isAtGrid=()=>editing===null&&document.activeElement===grid;
+});const FORM='application/x-sheet-entries';let cutArea=null,lastText=null,lastCopy='';const isAtGrid=()=>editing===null&&document.activeElement===grid;
 const isKnown=area=>seenRange===areaName(area)||seenAt===areaName(visible())&&isWithin(area,
 visible());const quoted=text=>/^"|[\t\r\n]/.test(text)?'"'+text.replace(/"/g,
 '""')+'"':text;function copiedArea(){const area=selected(),isWhole=area.right===COLUMNS-1||area.bottom===ROWS-1;
@@ -672,12 +672,12 @@ to,true,true);}function drawCut(){$('cut').hidden=!cutArea;if(cutArea)place($('c
 ...pixels(cutArea));}function dropCut(){if(cutArea){cutArea=null;drawCut();
 }}for(const kind of['copy','cut'])document.addEventListener(kind,event=>{if(!isAtGrid())return;
 event.preventDefault();if(acting||!isKnown(selected())){tell('The cells are still being read: once more, please.');return;
-}const text=copied();event.clipboardData.setData('text/plain',text);event.clipboardData.setData(FORM,
-JSON.stringify(copiedEntries()));[cutArea,cutText]=kind==='cut'?[copiedArea(),
-text]:[null,''];drawCut();});document.addEventListener('paste',event=>{
-if(!isAtGrid())return;event.preventDefault();const text=event.clipboardData.getData('text/plain'),
-own=event.clipboardData.getData(FORM),from=cutArea;const copy=readCopy(own),range=selected();
-dropCut();if(!copy)return pasteText(text);if(from&&text===cutText)return moveCut(from,
+}[lastText,lastCopy]=[copied(),JSON.stringify(copiedEntries())];event.clipboardData.setData('text/plain',
+lastText);event.clipboardData.setData(FORM,lastCopy);cutArea=kind==='cut'?copiedArea():null;
+drawCut();});document.addEventListener('paste',event=>{if(!isAtGrid())return;
+event.preventDefault();const text=event.clipboardData.getData('text/plain'),isLast=text===lastText,
+from=cutArea;const copy=readCopy(event.clipboardData.getData(FORM)||isLast&&lastCopy),
+range=selected();dropCut();if(!copy)return pasteText(text);if(from&&isLast)return moveCut(from,
 [range.left,range.top]);return putMany(repeated(copy,range));});
 const fillArea=(source,area)=>putMany(async()=>{const wide=source.right-source.left+1,
 high=source.bottom-source.top+1,wanted=[];const entries=await readArea('entries',
