@@ -1,3 +1,4 @@
 mod Attending
 mod Backs
 mod Causes
+mod GuardLemmas

@@ -1,4 +1,5 @@
 pub mod Commands
+pub mod Guards
 pub mod Kept
 pub mod Sessions
 pub mod Status

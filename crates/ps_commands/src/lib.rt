@@ -19,6 +19,8 @@
 //! `ps_session`), and at the end of [`serve_kept_on`] the journal has all of the sheet. A [`FileNotTaken`] says why a
 //! file isn't taken. A [`Warner`] tells once that the replica of a kept sheet makes changes elsewhere, too.
 //!
+//! What begins with a request of HTTP is no session: [`admit`] lets none of it through to a seat.
+//!
 //! From a source of `set A1 5` and `get A1`, [`answer_lines`] writes `ok 1` and `val 5` on its sink; from one of
 //! `2,=[.A1]*3`, [`table_on`] writes `2,6`.
 //!
@@ -34,6 +36,7 @@ mod elsewhere;
 mod explain;
 mod fault;
 mod follow;
+mod guard;
 mod kept;
 mod listening;
 mod notice;
@@ -57,6 +60,7 @@ pub use elsewhere::{KeptOnlooker, NumberElsewhere, Warner, tell_opened};
 pub use explain::Onlooker;
 pub use fault::{ProgramFault, status_of};
 pub use follow::follow_on;
+pub use guard::{FRONT_LIMIT, Unadmitted, admit};
 pub use kept::{FileNotTaken, KeptTrouble, OpenedFile, keep_sheet, open_kept_sheet};
 pub use listening::{serve, serve_kept};
 pub use page::open_page;

@@ -1,0 +1,26 @@
+-- What comes to a server's port and is no session: what begins with a request of HTTP (RFC 9112).
+use Rattle.std.specs.Prelude.{◌≡◌, ◌&&◌, ℕ, Bool, true, false, not, List, [], ◌∷◌, ◌++◌, Option, Some, None, codes}
+use Rattle.std.specs.Prelude.{nat_eq, nat_le}
+use Rattle.std.specs.List.{starts_with}
+use Rattle.ps_lines.specs.Feeding.{HasNoFeed}
+use Rattle.ps_lines.specs.Words.{after_word}
+
+-- the first byte is a small letter
+abbrev pub begins_small : List ℕ → Bool
+begins_small [] = false
+begins_small (b ∷ bs) = nat_le 97 b && nat_le b 122
+
+-- a request line: a method, a target, and the protocol's name with its version. A method in small letters is none that
+-- a page can have sent without asking first, and each line that a session carries out begins with one
+abbrev pub is_request_line : List ℕ → Bool
+is_request_line line = not (begins_small line) && starts_with nat_eq (after_word (after_word line)) (codes "HTTP/")
+
+-- the first line is one
+abbrev pub IsRequest : List ℕ → Type 0
+IsRequest bytes = (line : List ℕ) × (more : List ℕ) × HasNoFeed line × (is_request_line line ≡ true)
+    × (bytes ≡ line ++ 10 ∷ more)
+
+-- .. of what a reader has still to give, where it tells that
+abbrev pub BeginsRequest : Option (List ℕ) → Type 0
+BeginsRequest None = ⊥
+BeginsRequest (Some bytes) = IsRequest bytes
