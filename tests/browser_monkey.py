@@ -12,7 +12,7 @@ TEXTS = ("5", "-17", "007", "apples", "12.50", "a,b", "it's", "=A1+B2", "=SUM(A1
 ENDS = ("Enter", "Tab", "ArrowDown", "ArrowRight", "Escape")
 # A text whose apostrophe has to stay, since it would be another entry without.
 NEEDED = re.compile(r"'([+-]?\d+$|=|of:=|@tally$|@choice$|'|$)")
-REFERENCE = re.compile(r"(\$?)([A-Z])(\$?)(\d)")
+REFERENCE = re.compile(r"(\$?)([A-Z])(\$?)(\d+)")
 
 
 def name_of(cell):
@@ -31,8 +31,8 @@ def canonical(text):
     if not text.startswith("="):
         return "'" + text
     bare = text.replace("$", "")
-    bare = re.sub(r"([A-Z]\d):([A-Z]\d)", r"[.\1:.\2]", bare)
-    return re.sub(r"(?<![.A-Z])([A-Z]\d)", r"[.\1]", bare)
+    bare = re.sub(r"([A-Z]\d+):([A-Z]\d+)", r"[.\1:.\2]", bare)
+    return re.sub(r"(?<![.A-Z])([A-Z]\d+)", r"[.\1]", bare)
 
 
 def moved(text, columns, rows):

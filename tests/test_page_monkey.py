@@ -21,6 +21,9 @@ class ByChance(BrowserTest):
             with self.subTest(seed=seed):
                 pages = [self.page(), self.page()]
                 monkey = Monkey(seed, self, pages)
+                for page in pages:
+                    # (what the browser keeps from the sheet before)
+                    page.value("[localStorage.clear(), typed.clear()].length")
                 for column in range(COLUMNS + 3):
                     for row in range(ROWS + 6):
                         self.client.ask(f"set {name_of((column, row))} ")
