@@ -34,9 +34,10 @@ use ps_session::{HeldOutput, Resources};
 use ps_words::{Options, RunOptions, ServeOptions, TableOptions, TalkOptions, read_words};
 use std::fs::File;
 use std::io;
-use std::io::{IsTerminal, Stdout, Write};
+use std::io::{IsTerminal, PipeReader, Stdout, Write, pipe};
 use std::marker::Brand;
 use std::net::{Net, TcpListener, TcpStream};
+use std::os::fd::{AsRawFd, RawFd};
 use std::process::ExitCode;
 use std::rt::Files;
 use std::sync::Wait;
@@ -44,11 +45,30 @@ use std::sync::ledger::{Blank, Ledger};
 use std::thread::Threads;
 use std::time::Clock;
 
+/// The descriptor of standard error.
+const LAST_STREAM: RawFd = 2;
+
 /// Runs the command that the words name, and reports what ends it early.
 fn main(rt: HostRuntime) -> ExitCode {
+    // before anything else is opened, and until the end
+    let _held = [held_end(&rt), held_end(&rt), held_end(&rt)];
     match start(&rt, &rt) {
         Ok(code) => code,
         Err(fault) => report(&rt, &fault, false),
+    }
+}
+
+/// An end of a pipe that has the first of the descriptors 0 to 2 which is closed, if one is. So no file and no
+/// connection is taken for standard input, output or error: reading it is at its end at once, and writing to it fails.
+fn held_end(rt: &HostRuntime) -> Option<PipeReader> {
+    let Ok((reader, writer)) = pipe(rt) else {
+        return None;
+    };
+    drop(writer);
+    if reader.as_raw_fd() <= LAST_STREAM {
+        Some(reader)
+    } else {
+        None
     }
 }
 

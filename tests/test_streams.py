@@ -1,0 +1,99 @@
+"""Standard input, output and error that are closed when the program starts: no file and no connection takes their
+places."""
+import itertools
+import os
+import subprocess
+
+from program import LIMIT, SHEET, ProgramTest, lines, run
+from servers import Client, free_port, serving
+
+STREAMS = {0: "input", 1: "output", 2: "error"}
+EACH = [closed for count in range(len(STREAMS) + 1) for closed in itertools.combinations(STREAMS, count)]
+LINE = b"set A1 5\n"
+PUSHED = b'push [["A1",[1,1,"5"],[],[]]]\n'
+
+
+def opened(words, closed):
+    """The program under way with these words and these streams closed."""
+    return subprocess.Popen([SHEET, *words], stdin=subprocess.PIPE, stdout=subprocess.PIPE, stderr=subprocess.PIPE,
+                            preexec_fn=lambda: [os.close(stream) for stream in closed])
+
+
+class Closed(ProgramTest):
+    def ended(self, closed, *words, given=LINE):
+        """The exit status of the program with these words and these streams closed, and what it wrote."""
+        with opened(words, closed) as session:
+            output, error = session.communicate(given, timeout=LIMIT)
+            self.assertTrue(1 not in closed or output == b"", output)
+            self.assertTrue(2 not in closed or error == b"", error)
+            return session.returncode, output
+
+    def each(self):
+        """Each combination of closed streams, as a subtest."""
+        for closed in EACH:
+            with self.subTest(closed=[STREAMS[stream] for stream in closed]):
+                yield closed
+
+    def assert_ends(self, closed, *words, given, written):
+        """The program writes this, and ends well; or with 1 where it can't write it; and without input it is at its end."""
+        status, output = self.ended(closed, *words, given=given)
+        due = b"" if 0 in closed and given else written
+        self.assertEqual((status, output), (1, b"") if due and 1 in closed else (0, due))
+
+    def test_run(self):
+        for closed in self.each():
+            self.assert_ends(closed, "run", given=LINE, written=b"ok 1\n")
+
+    def test_run_of_a_kept_sheet(self):
+        for closed in self.each():
+            file = self.folder() / "kept.lines"
+            self.assert_ends(closed, "run", "--keep", str(file), given=LINE, written=b"ok 1\n")
+            self.assertEqual(file.read_bytes(), b"replica 1\n" + (b"" if 0 in closed else PUSHED))
+            # and the next start takes it
+            self.assertEqual(run("run", "--keep", str(file)).status, 0)
+
+    def test_table_and_squash(self):
+        for closed in self.each():
+            self.assert_ends(closed, "table", given=b"2,=[.A1]*3\n", written=b"2,6\n")
+            self.assert_ends(closed, "squash", given=PUSHED, written=PUSHED)
+
+    def test_serve(self):
+        for closed in self.each():
+            for kept in (False, True):
+                file, port = self.folder() / "kept.lines", free_port()
+                words = ["serve", "--port", str(port), "--sessions", "1", *(["--keep", str(file)] if kept else [])]
+                with opened(words, closed) as server:
+                    if 1 not in closed:
+                        self.assertEqual(server.stdout.readline(), lines(f"listening {port}"))
+                        client = Client(port)
+                        self.assertEqual(client.ask("set A1 5"), "ok 1")
+                        client.leave()
+                    output, _ = server.communicate(timeout=LIMIT)
+                    self.assertEqual((server.returncode, output), (1, b"") if 1 in closed else (0, lines("closed 1")))
+                if kept:
+                    self.assertEqual(file.read_bytes(), b"replica 1\n" + (b"" if 1 in closed else PUSHED))
+
+    def test_sync_follow_and_talk(self):
+        with serving(None) as first, serving(None, "--replica", "2") as second:
+            self.assertEqual(first.client().ask("set A1 5"), "ok 1")
+            there = str(first.port)
+            for closed in self.each():
+                self.assert_ends(closed, "sync", "--from", there, "--to", str(second.port), given=b"", written=b"synced 1\n")
+                self.assert_ends(closed, "follow", "--from", there, "--until-now", given=b"", written=PUSHED)
+                self.assert_ends(closed, "talk", "--to", there, given=b"get A1\n", written=b"val 5\n")
+
+    def test_page(self):
+        with serving(None) as server:
+            for closed in self.each():
+                port = free_port()
+                with opened(["page", "--from", str(server.port), "--port", str(port)], closed) as session:
+                    if 1 in closed:
+                        self.assertEqual(session.wait(timeout=LIMIT), 1)
+                    else:
+                        self.assertEqual(session.stdout.readline(), lines(f"page http://127.0.0.1:{port}/"))
+                        session.kill()
+
+    def test_help_and_words_that_are_none(self):
+        for closed in self.each():
+            self.assertEqual(self.ended(closed, "--version", given=b"")[0], 1 if 1 in closed else 0)
+            self.assertEqual(self.ended(closed, "fly", given=b"")[0], 1 if 2 in closed else 2)
