@@ -139,8 +139,18 @@ def main(file):
     return int(failed is not None)
 
 
+def compile_program(file):
+    """Compiles the program by the kit's file, over the libraries that are there, to an object in its folder `out/`."""
+    rtlib = load(file)
+    rtlib.guarded()
+    program = rtlib.Crate(str(TOP / "crates" / crates.PROGRAM), str(TOP), {})
+    return program.compile(["--backend", "llvm"], f"out/{crates.PROGRAM}.o")
+
+
 if __name__ == "__main__":
     of_kit = tools.folder() / "bin/rtlib.py"
+    if sys.argv[1:] == ["--object"]:
+        sys.exit(compile_program(of_kit))
     try:
         sys.exit(main(of_kit) if of_kit.is_file() else 0)
     except (AttributeError, TypeError) as error:

@@ -2,12 +2,14 @@
 import re
 import subprocess
 import sys
+import tempfile
 from pathlib import Path
 
 import crates
 import tools
 from tools import Fault
 
+TRIPLE = "x86_64-unknown-linux-gnu"
 BEGUN = re.compile(r"\w+: chose --jobs \d+ for (.+)\n?")
 # The libraries side by side, and then what is left: the program, with what the first wouldn't build.
 COMMANDS = [[sys.executable, "-B", Path(__file__).with_name("libraries.py")], ["rt", "run", "--", "--help"]]
@@ -50,15 +52,27 @@ def run(words, folder, out, shown):
 
 
 def object_of(top):
-    """Returns the bytes of the object that the proved program is linked of, which `rt` is made to compile once more.
-
-    What lies there already may be of an earlier build: the gate keeps no object.
+    """Compiles the proved program once more, over the libraries that the gate or a build has left, and returns the bytes
+    of the object. It is that of the proved program: the kit links it to the same bytes.
     """
-    out = top / "crates" / crates.PROGRAM / "out"
-    made = out / f"{crates.PROGRAM}.o"
+    crate = top / "crates" / crates.PROGRAM
+    made = crate / f"out/{crates.PROGRAM}.o"
     made.unlink(missing_ok=True)
-    # (with a flag, rt compiles what it has compiled before)
-    tools.call(["rt", "run", "--backend", "llvm", "--", "--help"], cwd=out.parent)
+    tools.call([sys.executable, "-B", Path(__file__).with_name("libraries.py"), "--object"], cwd=crate)
     if not made.is_file():
-        raise Fault("rt run left no object")
-    return made.read_bytes()
+        raise Fault("no object was made")
+    found = made.read_bytes()
+    if linked(found) != (crate / "out" / crates.PROGRAM).read_bytes():
+        raise Fault("its object makes another program than the proved one")
+    return found
+
+
+def linked(made):
+    """Returns the bytes of the program that the kit links of this object."""
+    kit = tools.folder()
+    with tempfile.TemporaryDirectory(prefix="sheet-linked-") as room:
+        of, program = Path(room) / "sheet.o", Path(room) / "sheet"
+        of.write_bytes(made)
+        words = ["--target", TRIPLE, "--toolchain", kit / "toolchain", "-o", program, of]
+        tools.call([kit / "bin/rattle-link", *words, kit / "c/libos_c.a", kit / "c/liblibc_c.a"])
+        return program.read_bytes()

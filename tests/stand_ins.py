@@ -52,6 +52,41 @@ done
 cp "$made" "$program"
 chmod +x "$program"
 """
+# What stands in for the kit's linker, and for its file, by which the program is compiled once more.
+LINK = """\
+#!/bin/sh
+while [ $# != 0 ]; do
+    [ "$1" = -o ] && program=$2
+    case $1 in *.o) made=$1 ;; esac
+    shift
+done
+cp "$made" "$program"
+"""
+OF_KIT = """\
+import shutil
+
+
+class Crate:
+    def __init__(self, folder, root, known):
+        self.folder = folder
+
+    def below(self):
+        return []
+
+    def stamp(self):
+        return ""
+
+    def compile(self, flags, to):
+        return int(not shutil.copy(self.folder + "/src/main.rt", self.folder + "/" + to))
+
+
+def guarded():
+    return []
+
+
+def lock(crates):
+    return []
+"""
 # What stands in for a tool that fails.
 BREAKS = """\
 #!/bin/sh
@@ -81,6 +116,8 @@ class StandIns(ProgramTest):
             shutil.copy(TOP / "release" / name, self.top / "release")
         self.use(BUILDS)
         self.use(COMPILER, "bin/cc")
+        self.use(LINK, "bin/rattle-link")
+        self.use(OF_KIT, "bin/rtlib.py")
 
     def write(self, name, text):
         """Writes this file of the repository."""

@@ -7,7 +7,7 @@ from unittest import mock
 
 import compared
 from program import Ended, lines
-from stand_ins import BREAKS, BUILDS, FAILS, PROVED, SOURCE, StandIns
+from stand_ins import BREAKS, FAILS, LINK, SOURCE, StandIns
 
 FILES = ("sheet.o.xz", "sums")
 
@@ -60,15 +60,15 @@ class Make(StandIns):
         self.use(FAILS)
         self.assert_makes_nothing(b"release/make: nothing is made, since the program isn't proved\n")
 
-    def test_nothing_is_made_where_there_is_no_object(self):
+    def test_nothing_is_made_where_the_object_is_of_another_program(self):
         self.release()
-        self.use(BUILDS.replace("mkdir -p out\n", "mkdir -p out\nrm -f out/sheet.o\n").replace("out/sheet.o out", "src/main.rt out")
-                 .replace("cp src/main.rt out/sheet.o\n", ""))
-        self.assert_makes_nothing(b"release/make: nothing is made, since rt run left no object\n")
+        self.use(LINK + 'echo more >> "$program"\n', "bin/rattle-link")
+        why = b"release/make: nothing is made, since its object makes another program than the proved one\n"
+        self.assert_makes_nothing(why)
 
     def test_nothing_is_made_where_a_source_changes_meanwhile(self):
         self.release()
-        self.use(BUILDS + f"date +%N > {self.top}/crates/low/src/lib.rt\n")
+        self.use(LINK + f"date +%N > {self.top}/crates/low/src/lib.rt\n", "bin/rattle-link")
         self.assert_makes_nothing(b"release/make: nothing is made, since a source has changed meanwhile\n")
 
 
@@ -110,13 +110,14 @@ class Compared(StandIns):
         (self.top / "release/sheet.o.xz").write_bytes(lzma.compress(SOURCE.encode() + b"\n"))
         self.assert_differs("the released object isn't that of the proved build")
 
-    def test_an_object_of_an_earlier_build_is_not_taken(self):
-        (self.top / "crates/sheet/out/sheet.o").write_bytes(b"of an earlier build")
-        self.assertIsNone(compared.difference(self.top))
+    def test_a_program_that_was_not_proved(self):
+        file = self.top / "crates/sheet/out/sheet"
+        file.write_bytes(file.read_bytes() + b"# proved\n")
+        self.assert_differs("the released object isn't that of the proved build")
 
     def test_a_tool_that_fails(self):
-        self.use(BREAKS)
-        self.assert_differs("the released object can't be compared: rt ended with status 7: it is too hot")
+        self.use(BREAKS, "bin/rattle-link")
+        self.assert_differs("the released object can't be compared: rattle-link ended with status 7: it is too hot")
 
     def test_no_proved_build(self):
         shutil.rmtree(self.top / "crates/sheet/out")
