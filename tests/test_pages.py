@@ -1,6 +1,5 @@
 """The pages: links that lead somewhere, and the length of those that have one."""
 import re
-import subprocess
 import unittest
 
 from program import TOP
@@ -12,8 +11,7 @@ SENTENCE = 35
 
 def pages():
     """The pages of the repository."""
-    names = subprocess.run(["git", "ls-files", "*.md"], cwd=TOP, stdout=subprocess.PIPE, text=True).stdout.split()
-    return [TOP / name for name in names] or sorted(TOP.glob("**/*.md"))
+    return sorted(file for file in TOP.rglob("*.md") if "out" not in file.parts)
 
 
 def anchors(text):
