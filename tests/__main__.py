@@ -4,8 +4,8 @@
 The latter needs no kit: it tests the program that `./sheet` links of the released object.
 `./test --wrong` tries the wrong bodies alone, and `./test --wrong CRATE` those of a crate, over what is proved already.
 The last line is `N passed, M failed` over everything that ran, and the exit status is 0 only where nothing failed.
-Tests that want a browser are left out where there is none, and by `./test --program` those that want the tests of the
-crates, which `rt ci` builds: then `, K skipped` follows.
+Tests that want a browser are left out where there is none, and by `./test --program` those that want git or the tests of
+the crates, which `rt ci` builds: then `, K skipped` follows.
 `./test --hunt MINUTES` looks for trouble by chance (`hunt/`, `docs/HUNT.md`), and ends in the same way.
 """
 import os
@@ -18,7 +18,7 @@ from typing import NamedTuple
 
 import compared
 import wrong
-from program import NO_BROWSER, NO_TESTS, TOP
+from program import NO_BROWSER, NO_GIT, NO_TESTS, TOP
 from wrong import Fault
 
 # The tests of worked rows and of starts, which are also run on the program that the kit links.
@@ -202,7 +202,7 @@ def main(words):
         tally = tally.and_also(released())
     if words[:1] != ["--wrong"]:
         # (the gate has built the tests of the crates)
-        reasons = (NO_BROWSER, NO_TESTS) if words else (NO_BROWSER,)
+        reasons = (NO_BROWSER, NO_GIT, NO_TESTS) if words else (NO_BROWSER,)
         tally = tally.and_also(program("".join(words[1:]), reasons))
     if not words:
         tally = tally.and_also(rows_of_proved())

@@ -18,6 +18,8 @@ DEVICE_FAILED = b"err 20 device\n"
 NO_BROWSER = "there is no browser: apt-get install -y chromium"
 # .. and why a test may be left out that runs the tests of a crate.
 NO_TESTS = "the tests of the crates aren't built: rt ci"
+# .. and why a recipe may be.
+NO_GIT = "there is no git: apt-get install -y git"
 
 
 class Ended(NamedTuple):

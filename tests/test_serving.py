@@ -3,10 +3,11 @@ import csv
 import io
 import os
 import re
+import shutil
 import socket
 import subprocess
 
-from program import LIMIT, SHEET, TOP, Ended, ProgramTest, lines, run, started
+from program import LIMIT, NO_GIT, SHEET, TOP, Ended, ProgramTest, lines, run, started
 from servers import HERE, free_port
 from sizes import COLUMNS, LONGEST_DELTA, name
 
@@ -37,16 +38,27 @@ class Recipes(Pasting):
     def test_each_writes_the_block_after_it(self):
         self.assertEqual(len(RECIPES), 11)
         for commands, shown in RECIPES:
-            with self.subTest(commands=commands):
-                self.assertTrue(commands.startswith("bash\n"))
-                self.assertTrue(shown.startswith("text\n"))
-                commands, shown = commands.removeprefix("bash\n"), shown.removeprefix("text\n")
-                ended, wanted = self.pasted(commands, shown)
-                if PAUSE in commands and ended != wanted:
-                    # what comes meanwhile may take longer on a machine that does much else
-                    self.forget()
-                    ended, wanted = self.pasted(commands.replace(PAUSE, LONGER), shown)
-                self.assertEqual(ended, wanted)
+            if "git " not in commands:
+                self.assert_writes(commands, shown)
+
+    def test_the_one_over_git_writes_the_block_after_it(self):
+        if shutil.which("git") is None:
+            self.skipTest(NO_GIT)
+        [(commands, shown)] = [recipe for recipe in RECIPES if "git " in recipe[0]]
+        self.assert_writes(commands, shown)
+
+    def assert_writes(self, commands, shown):
+        """This block of commands writes this block of text."""
+        with self.subTest(commands=commands):
+            self.assertTrue(commands.startswith("bash\n"))
+            self.assertTrue(shown.startswith("text\n"))
+            commands, shown = commands.removeprefix("bash\n"), shown.removeprefix("text\n")
+            ended, wanted = self.pasted(commands, shown)
+            if PAUSE in commands and ended != wanted:
+                # what comes meanwhile may take longer on a machine that does much else
+                self.forget()
+                ended, wanted = self.pasted(commands.replace(PAUSE, LONGER), shown)
+            self.assertEqual(ended, wanted)
 
     def forget(self):
         """Takes away the sheets that are kept, which the recipe begins without."""
