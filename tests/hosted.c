@@ -2,6 +2,7 @@
  * It ends with status 1 at the first that doesn't. */
 #include "../release/host.c"
 #include <fcntl.h>
+#include <malloc.h>
 #include <pthread.h>
 #include <stdio.h>
 #include <sys/socket.h>
@@ -99,6 +100,24 @@ static void of_memory(uint64_t align)
     rattle_dealloc(one.at);
 }
 
+static size_t bytes_in_use(void)
+{
+    struct mallinfo2 info = mallinfo2();
+    return info.uordblks + info.hblkhd;
+}
+
+/* what grows leaves nothing behind: of 64 blocks of 1 MB one is in use at a time, and then none */
+static void of_growth(uint64_t align)
+{
+    enum { MEGABYTE = 1000000 };
+    size_t before = bytes_in_use();
+    struct made made = rattle_alloc(MEGABYTE, align);
+    for (int i = 1; i <= 64; i++)
+        made = rattle_realloc(made.at, MEGABYTE + i - 1, MEGABYTE + i, align);
+    rattle_dealloc(made.at);
+    holds("what grew came back", bytes_in_use() < before + MEGABYTE);
+}
+
 static void *set_elsewhere(void *unused)
 {
     rattle_set_errno(7);
@@ -141,6 +160,8 @@ int main(int count_of, char **words)
     of_memory(16);
     of_memory(64);
     of_memory(4096);
+    of_growth(16);
+    of_growth(64);
     of_errors();
     of_sockets();
     puts("all hold");
