@@ -4,8 +4,7 @@ const shown = new Map(), held = new Map();
 // (counts what is taken in, so that sums are worked out once for each change)
 let knownCount = 0;
 let seenAt = '', seenRange = '', isLooking = false, isStale = false, isEmpty = true;
-const shownAt = cell => shown.get(keyOf(...cell)) || '';
-const heldAt = cell => held.get(keyOf(...cell)) || '';
+const shownAt = cell => textIn(shown, cell), heldAt = cell => textIn(held, cell);
 const isCounter = entry => entry === '@tally' || entry === '@choice';
 const isNumber = (entry, value) => entry[0] !== "'" && /^-?\d+$/.test(value);
 
@@ -55,12 +54,7 @@ async function lookOnce() {
   if (isWithin(boxOf([0, 0], [0, 0]), area)) drawTitle();
   // (once a sheet isn't empty, it never is again)
   if (isEmpty) isEmpty = !held.size && (await ask('pull 0 1'))[0] === 'end 0';
-  $('examples').hidden = !isEmpty || editing !== null;
-}
-/** The title of the window: the text in the first cell, and the port, by which sheets are told apart. */
-function drawTitle() {
-  const text = heldAt([0, 0])[0] === "'" ? shownAt([0, 0]) + ' - sheet ' : 'Sheet ';
-  if (document.title !== text + location.port) document.title = text + location.port;
+  $('examples').hidden = !isEmpty || !!editing;
 }
 // What is selected and can't be seen is asked for when it is selected, and now and then, so that a copy has it.
 let seenSelected = 0;
@@ -80,7 +74,7 @@ async function lookAtRanges(area) {
   for (const range of ranges)
     for (const [key, text] of isWithin(range, area) ? held : await readArea('entries', range)) {
       const cell = cellAt(key);
-      if (isWithin(boxOf(cell, cell), range) && noteOf(text)) texts.push(nameOf(cell));
+      if (isIn(cell, range) && noteOf(text)) texts.push(nameOf(cell));
     }
   const names = [...new Set(texts)];
   passedOver = names.length ? 'without ' + (names.length > 4 ? several(names.length, 'text') : names.join(', ')) +

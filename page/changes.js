@@ -15,7 +15,7 @@ async function outcome(text, wanted, into = {}) {
     const [reply] = await ask(text);
     into.version = +reply.slice(3);
     return reply.startsWith('ok') ? '' : refusalOf(reply, wanted);
-  } catch (error) {
+  } catch {
     return LOST;
   }
 }
@@ -71,7 +71,7 @@ async function putNow(wanted, base) {
   if (!inside.length) return refused;
   const area = areaAround(inside.map(([cell]) => cell));
   let before, after, values;
-  const was = cell => before.get(keyOf(...cell)) || '';
+  const was = cell => textIn(before, cell);
   try {
     [before, values] = await readBoth(area);
     const [[cell, text]] = inside, other = was(cell);

@@ -2,7 +2,7 @@
 // whose references move along; what was cut moves as it is.
 const FORM = 'application/x-sheet-entries';
 let cutArea = null, lastText = null, lastCopy = '';
-const isAtGrid = () => editing === null && document.activeElement === grid;
+const isAtGrid = () => !editing && document.activeElement === grid;
 /** Whether all of an area was read, as it lies in view or was asked for since it is selected. */
 const isKnown = area => seenRange === areaName(area) || seenAt === areaName(visible()) && isWithin(area, visible());
 const quoted = text => /^"|[\t\r\n]/.test(text) ? '"' + text.replace(/"/g, '""') + '"' : text;
@@ -10,18 +10,10 @@ const quoted = text => /^"|[\t\r\n]/.test(text) ? '"' + text.replace(/"/g, '""')
 function copiedArea() {
   const area = selected(), isWhole = area.right === COLUMNS - 1 || area.bottom === ROWS - 1;
   if (!isWhole) return area;
-  const used = [...held.keys()].map(cellAt).filter(cell => isWithin(boxOf(cell, cell), area));
+  const used = [...held.keys()].map(cellAt).filter(cell => isIn(cell, area));
   const inner = used.length ? areaAround(used) : { right: area.left, bottom: area.top };
   return { ...area, right: Math.max(area.left, inner.right), bottom: Math.max(area.top, inner.bottom) };
 }
-const rowsOf = (area, each) => {
-  const rows = [];
-  for (let r = area.top; r <= area.bottom; r++) {
-    rows.push([]);
-    for (let c = area.left; c <= area.right; c++) rows[r - area.top].push(each([c, r]));
-  }
-  return rows;
-};
 const copied = () => rowsOf(copiedArea(), cell => quoted(shownAt(cell))).map(row => row.join('\t')).join('\n');
 const copiedEntries = () => {
   const area = copiedArea();
@@ -40,7 +32,7 @@ function readCopy(text) {
   try {
     const copy = JSON.parse(text), isRow = row => row.length && row.every(each => typeof each === 'string');
     return copy.rows.length && copy.rows.every(isRow) ? copy : null;
-  } catch (error) {
+  } catch {
     return null;
   }
 }
@@ -88,7 +80,7 @@ async function moveCut(from, to) {
   let stayed = 0;
   await putMany(async () => {
     const entries = await readArea('entries', from);
-    const all = placed(rowsOf(from, cell => textOf(cell, entries.get(keyOf(...cell)) || '')), to);
+    const all = placed(rowsOf(from, cell => textOf(cell, textIn(entries, cell))), to);
     const targets = all.filter(([, text]) => !isCounter(text));
     const covered = new Set(targets.map(([cell]) => keyOf(...cell)));
     const left = targets.map(([[column, row]]) => [from.left + column - to[0], from.top + row - to[1]]);
@@ -107,9 +99,9 @@ function dropCut() {
   if (cutArea) { cutArea = null; drawCut(); }
 }
 for (const kind of ['copy', 'cut'])
-  document.addEventListener(kind, event => {
+  on(document, kind, event => {
     if (!isAtGrid()) return;
-    event.preventDefault();
+    claim(event);
     if (acting || !isKnown(selected())) { tell('The cells are still being read: once more, please.'); return; }
     [lastText, lastCopy] = [copied(), JSON.stringify(copiedEntries())];
     event.clipboardData.setData('text/plain', lastText);
@@ -117,9 +109,9 @@ for (const kind of ['copy', 'cut'])
     cutArea = kind === 'cut' ? copiedArea() : null;
     drawCut();
   });
-document.addEventListener('paste', event => {
+on(document, 'paste', event => {
   if (!isAtGrid()) return;
-  event.preventDefault();
+  claim(event);
   const text = event.clipboardData.getData('text/plain'), isLast = text === lastText, from = cutArea;
   // (a clipboard may drop the second form)
   const copy = readCopy(event.clipboardData.getData(FORM) || isLast && lastCopy), range = selected();

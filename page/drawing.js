@@ -9,7 +9,7 @@ function visible() {
     bottom: bound(Math.floor((grid.scrollTop + height - 1) / HEIGHT), ROWS),
   };
 }
-function bringIntoView([column, row]) {
+function reveal([column, row]) {
   const x = lefts[column], y = row * HEIGHT, width = grid.clientWidth - SIDE, height = grid.clientHeight - HEIGHT;
   if (x < grid.scrollLeft || widthOf(column) > width) grid.scrollLeft = x;
   else if (lefts[column + 1] > grid.scrollLeft + width) grid.scrollLeft = lefts[column + 1] - width;
@@ -26,7 +26,7 @@ function select(from, to = from) {
 }
 function moveTo([column, row], isExtending) {
   const to = [bound(column, COLUMNS), bound(row, ROWS)];
-  bringIntoView(to);
+  reveal(to);
   select(isExtending ? current : to, to);
 }
 
@@ -45,8 +45,7 @@ function drawHead(key, parent, name, text, box, isOn) {
   let element = heads.get(key);
   if (!element) {
     element = made('div', name, parent);
-    element.textContent = text;
-    element.setAttribute('role', name === 'column' ? 'columnheader' : 'rowheader');
+    Object.assign(element, { textContent: text, role: name + 'header' });
     element.dataset.head = key;
     if (name === 'column') made('i', 'edge', element).dataset.edge = key.slice(1);
     place(element, ...box);
@@ -69,7 +68,7 @@ function sweepAround(area) {
   const isRow = row => row >= area.top && row <= area.bottom;
   const isColumn = column => column >= area.left && column <= area.right;
   sweep(heads, key => (key[0] === 'c' ? isColumn : isRow)(+key.slice(1)));
-  sweep(cells, key => isRow(Math.floor(key / COLUMNS)) && isColumn(key % COLUMNS));
+  sweep(cells, key => isIn(cellAt(key), area));
   sweep(rowElements, isRow);
 }
 function sweep(elements, isKept) {
@@ -79,8 +78,7 @@ function rowElement(row) {
   let element = rowElements.get(row);
   if (!element) {
     element = made('div', 'cells', space, $('range'));
-    element.setAttribute('role', 'row');
-    element.setAttribute('aria-rowindex', row + 2);
+    Object.assign(element, { role: 'row', ariaRowIndex: row + 2 });
     rowElements.set(row, element);
   }
   return element;
@@ -90,11 +88,9 @@ function cellElement(column, row) {
   let element = cells.get(key);
   if (!element) {
     element = made('div', 'cell', rowElement(row));
-    element.id = 'cell-' + key;
+    Object.assign(element, { id: 'cell-' + key, role: 'gridcell', ariaColIndex: column + 2 });
     element.dataset.key = key;
     element.style.lineHeight = HEIGHT - 1 + 'px';
-    element.setAttribute('role', 'gridcell');
-    element.setAttribute('aria-colindex', column + 2);
     place(element, SIDE + lefts[column], HEIGHT + row * HEIGHT, widthOf(column), HEIGHT);
     cells.set(key, element);
   }
@@ -104,9 +100,7 @@ function draw(changed = new Set()) {
   const area = visible(), range = selected();
   drawHeads(area, range);
   sweepAround(area);
-  for (let r = area.top; r <= area.bottom; r++)
-    for (let c = area.left; c <= area.right; c++)
-      fill(cellElement(c, r), [c, r], changed.has(keyOf(c, r)));
+  for (const cell of cellsOf(area)) fill(cellElement(...cell), cell, changed.has(keyOf(...cell)));
   const [x, y, width, height] = pixels(boxOf(current, current)), [left, top, wide, high] = pixels(range);
   place($('current'), x - 1, y - 1, width + 1, height + 1);
   place($('range'), left, top, wide - 1, high - 1);
@@ -130,26 +124,26 @@ function drawLine() {
   const kind = kindOf(current, entry, value);
   const where = isSame(current, corner) ? nameOf(current) : areaName(selected());
   if (document.activeElement !== $('name')) $('name').value = where;
-  if (editing === null) line.value = textOf(current, entry);
+  if (!editing) line.value = textOf(current, entry);
   const note = entry === passedOf && passedOver ? ', ' + passedOver : '';
   $('value').title = $('value').textContent = entry[0] === '=' ? '= ' + value + note : '';
   $('value').className = isFault || note ? 'fault' : '';
   const hint = entry[0] === '=' && !isFault ? '' : kind;
   if ($('hint').textContent !== hint) $('hint').textContent = hint;
-  if (editing === null && marks.has(keyOf(...current))) marks.get(keyOf(...current)).isSeen = true;
+  if (!editing && marks.has(keyOf(...current))) marks.get(keyOf(...current)).isSeen = true;
   drawSums();
 }
 function fill(element, cell, isNew) {
   const value = shownAt(cell), entry = heldAt(cell), mark = marks.get(keyOf(...cell));
   if (isNew) { element.classList.remove('flash'); void element.offsetWidth; element.classList.add('flash'); }
   const isSelected = String(isSame(cell, current));
-  if (element.ariaSelected !== isSelected) element.setAttribute('aria-selected', isSelected);
+  if (element.ariaSelected !== isSelected) element.ariaSelected = isSelected;
   const names = entry === '@choice' ? namesFor(cell) : null;
   if (element.value === value && element.entry === entry && element.mark === mark && element.names === names) return;
   Object.assign(element, { value, entry, mark, names });
   const kind = kindOf(cell, entry, value);
   element.title = mark || noteOf(entry) || FAULTS[value] && entry[0] === '=' ? kind : value.length > 12 ? value : '';
-  element.setAttribute('aria-label', [value, nameOf(cell), kind].filter(Boolean).join(', '));
+  element.ariaLabel = [value, nameOf(cell), kind].filter(Boolean).join(', ');
   element.textContent = '';
   const more = (isNew ? ' flash' : '') + (mark ? ' refused' : noteOf(entry) ? ' looks' : '');
   if (entry === '@tally' && /^-?\d+$/.test(value)) fillTally(element, value, more);

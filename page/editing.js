@@ -1,9 +1,9 @@
 // Editing, in the cell or in the line above the grid. `begunWith` is what the cell held when that began; `isTyped` says
 // that a key began it, so that the arrows end it; `picked` is where in the text a cell was last pointed into.
-let editing = null, begunWith = '', isTyped = false, picked = null, pickedCell = null, homeColumn = null;
+let editing = null, begunWith = '', isTyped = false, picked = null, pickedCell = null, home = null;
 const field = () => editing === 'line' ? line : editor;
 function edit(text, where, wasTyped = false) {
-  if (editing !== null) return;
+  if (editing) return;
   if (!link.isHeard) { tell(NO_LINK); return; }
   hideOptions();
   tell('');
@@ -32,10 +32,9 @@ function stopEditing() {
 }
 /** Where one is after an entry: Enter goes back to the column where a row of Tabs began. */
 function moveAfter(cell, columns, rows) {
-  const home = homeColumn;
-  homeColumn = columns ? home === null ? cell[0] : home : null;
-  moveTo([rows && home !== null ? home : cell[0] + columns, cell[1] + rows]);
-  if (columns) homeColumn = home === null ? cell[0] : home;
+  const first = home === null ? cell[0] : home;
+  moveTo([rows ? first : cell[0] + columns, cell[1] + rows]);
+  home = columns ? first : null;
 }
 // The editor closes at once; a refused entry comes back into it, or waits for F2 where something else is done by then.
 async function commit(columns, rows, isArrow) {
@@ -46,18 +45,18 @@ async function commit(columns, rows, isArrow) {
   }
   stopEditing();
   tell('');
-  if (isArrow) homeColumn = null;
+  if (isArrow) home = null;
   moveAfter(cell, columns, rows);
-  if (isArrow) homeColumn = null;
+  if (isArrow) home = null;
   if (text === was) return;
   const to = current, [refused] = await put([[cell, text]], base) || [{ cell, text, why: LOST }];
   if (refused) takeUpAgain(refused, to); else tellNote(cell, text);
 }
 function takeUpAgain({ cell, text, why }, to) {
-  if (editing !== null || current !== to || !link.isHeard) mark(cell, text, why || 'It was not put here.');
+  if (editing || current !== to || !link.isHeard) mark(cell, text, why || 'It was not put here.');
   else {
     select(cell);
-    bringIntoView(cell);
+    reveal(cell);
     edit(text, 'cell');
   }
   draw();
@@ -71,7 +70,7 @@ function tellNote(cell, text) {
 /** Tells what came into the cell while one types there. */
 function tellMeanwhile() {
   const entry = heldAt(current);
-  if (editing === null || entry === begunWith || !$('refusal').hidden) return;
+  if (!editing || entry === begunWith || !$('refusal').hidden) return;
   tell(`Somebody has put ${entry ? '"' + fromEntry(entry) + '"' : 'nothing'} here meanwhile. Enter asks which stays.`,
     current, true, true);
 }
@@ -108,14 +107,14 @@ function editorKey(event) {
     const [column, row] = pickedCell || current, to = [column + arrow[0], row + arrow[1]];
     if (!isPicking(editor)) commit(...arrow, true); else if (isInGrid(to)) pick(to);
   } else return;
-  event.preventDefault();
+  claim(event);
 }
 for (const [box, other] of [[editor, line], [line, editor]]) {
-  box.addEventListener('keydown', editorKey);
-  box.addEventListener('input', () => {
+  on(box, 'keydown', editorKey);
+  on(box, 'input', () => {
     picked = pickedCell = null;
     other.value = box.value;
     if (box === editor) placeEditor();
   });
 }
-line.addEventListener('focus', () => edit(line.value, 'line'));
+on(line, 'focus', () => edit(line.value, 'line'));

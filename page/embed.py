@@ -7,11 +7,13 @@ import hashlib
 import pathlib
 import re
 
+from shorten import short_page, short_script, short_style
+
 HERE = pathlib.Path(__file__).resolve().parent
 # The scripts, in the order in which they are put together to one.
 SCRIPTS = [f"{name}.js" for name in (
-    "names", "words", "formulas", "wire", "cells", "widths", "drawing", "telling", "changes", "undo", "editing",
-    "options", "clipboard", "filling", "sums", "finding", "files", "keys", "pointer", "start")]
+    "names", "words", "formulas", "wire", "cells", "title", "widths", "drawing", "telling", "changes", "undo",
+    "editing", "options", "clipboard", "filling", "sums", "finding", "files", "keys", "pointer", "start")]
 MODULE = HERE.parent / "crates" / "ps_page" / "src" / "page.rt"
 
 
@@ -19,50 +21,11 @@ def hash_of(text):
     return "'sha256-" + base64.b64encode(hashlib.sha256(text.encode()).digest()).decode() + "'"
 
 
-# The parts of a script: comments and blanks, texts, slashes, words and signs; and a pattern, which begins with a slash.
-TEXT = r"""'(?:[^'\\]|\\.)*'|"(?:[^"\\]|\\.)*\""""
-FILLED = r"\$\{(?:'[^']*'|[^{}`']|`[^`]*`|\{[^{}]*\})*\}"
-TEMPLATE = rf"`(?:[^`\\$]|\\.|\$(?!\{{)|{FILLED})*`"
-PARTS = re.compile(rf"(?P<gap>//[^\n]*|/\*.*?\*/|\s+)|{TEXT}|{TEMPLATE}|(?P<slash>/)|[\w$]+|.", re.DOTALL)
-PATTERN = re.compile(r"/(?:[^/\\\[\n]|\\.|\[(?:[^\]\\]|\\.)*\])+/[a-z]*")
-# What stands before a pattern, and not before a division.
-BEFORE_PATTERN = re.compile(r"[(,=:\[!&|?{};+\-*<>]$|^return$")
-# So many parts stand in a line at least, so that lines don't get too long.
-LINE_PARTS = 25
-
-
-def needs_gap(first, second):
-    """Whether two parts would be another one without a blank between them."""
-    return bool(re.match(r"[\w$][\w$]|\+\+|--", first[-1] + second[0]))
-
-
-def compact(script):
-    """A script without its comments and the blanks that it doesn't need, so that the page is small."""
-    out, at, start, is_gap = [""], 0, 0, False
-    while at < len(script):
-        found = PARTS.match(script, at)
-        if found["slash"] and BEFORE_PATTERN.search(out[-1]):
-            found = PATTERN.match(script, at)
-        at, part = found.end(), found[0]
-        if found.re is PARTS and found["gap"]:
-            is_gap = True
-            continue
-        if is_gap and out[-1] and needs_gap(out[-1], part):
-            out.append(" ")
-        elif is_gap and len(out) - start > LINE_PARTS and out[-1] in "{};,":
-            out.append("\n")
-            start = len(out)
-        out.append(part)
-        is_gap = False
-    return "".join(out)
-
-
 def assembled():
     """The page with style and scripts in it, and the content policy that names both by their hashes."""
-    style = re.sub(r"\s*([{};:,>])\s*", r"\1", re.sub(r"\s+", " ", (HERE / "page.css").read_text()))
-    style = style.replace("}", "}\n")
-    script = compact("\n".join((HERE / name).read_text() for name in SCRIPTS))
-    page = (HERE / "page.html").read_text().replace("{style}", style).replace("{script}", script)
+    style = short_style((HERE / "page.css").read_text())
+    script = short_script("\n".join((HERE / name).read_text() for name in SCRIPTS))
+    page = short_page((HERE / "page.html").read_text()).replace("{style}", style).replace("{script}", script)
     if not page.isascii() or '"##' in page or "\r" in page:
         raise SystemExit("the page has to be ASCII, with line feeds alone and no quote before ##")
     policy = (f"default-src 'none'; script-src {hash_of(script)}; style-src {hash_of(style)}; connect-src 'self'; "

@@ -4,16 +4,17 @@ const csvField = text => /[",\r\n]/.test(text) ? '"' + text.replace(/"/g, '""') 
 /** The used part of the sheet as CSV: by `rows` what it shows, by `entries` what it holds. */
 async function csvOf(word) {
   const area = await usedArea(), found = area ? await readArea(word, area) : new Map();
-  const fieldOf = cell => csvField(found.get(keyOf(...cell)) || '');
+  const fieldOf = cell => csvField(textIn(found, cell));
   return area ? rowsOf(area, fieldOf).map(row => row.join(',') + '\r\n').join('') : '';
 }
 async function saveCsv(word) {
   try {
     const file = new Blob([await csvOf(word)], { type: 'text/csv' }), anchor = document.createElement('a');
-    Object.assign(anchor, { href: URL.createObjectURL(file), download: word === 'rows' ? 'sheet.csv' : 'entries.csv' });
+    const name = (givenTitle() || 'sheet') + (word === 'rows' ? '' : '-entries');
+    Object.assign(anchor, { href: URL.createObjectURL(file), download: name + '.csv' });
     anchor.click();
     setTimeout(() => URL.revokeObjectURL(anchor.href), 10000);
-  } catch (error) {
+  } catch {
     tell(NO_LINK);
   }
 }
@@ -25,11 +26,11 @@ function separatorOf(text) {
 /** Takes in a file: it tells first what would change, and then what was refused. */
 async function openCsv(file) {
   if (file.size > LARGEST_FILE) { tell('The file is too large: at most 4 MB are taken in.'); return; }
-  const text = (await file.text()).replace(/^\ufeff/, ''), [rows, breaks] = readFields(text, separatorOf(text));
+  const text = new TextDecoder().decode(await file.arrayBuffer()), [rows, breaks] = readFields(text, separatorOf(text));
   const wanted = placed(rows, current), inside = wanted.filter(([cell]) => isInGrid(cell));
   const entries = await readArea('entries', areaAround(inside.map(([cell]) => cell))).catch(() => null);
   if (!entries) { tell(NO_LINK); return; }
-  const was = cell => entries.get(keyOf(...cell)) || '';
+  const was = cell => textIn(entries, cell);
   const isNew = ([cell, due]) => fromEntry(was(cell)) !== due && was(cell) !== due;
   const changed = inside.filter(isNew), filled = changed.filter(([cell]) => was(cell));
   const size = `${several(rows.length, 'row')} and ${several(Math.max(...rows.map(row => row.length)), 'column')}`;
@@ -43,9 +44,9 @@ $('file').onchange = event => {
   if (event.target.files[0]) openCsv(event.target.files[0]);
   event.target.value = '';
 };
-grid.addEventListener('dragover', event => event.preventDefault());
-grid.addEventListener('drop', event => {
-  event.preventDefault();
+on(grid, 'dragover', event => claim(event));
+on(grid, 'drop', event => {
+  claim(event);
   if (event.dataTransfer.files[0]) openCsv(event.dataTransfer.files[0]);
 });
 /** Lays out the used part on paper, as a plain table. */
@@ -58,9 +59,8 @@ async function layOutPaper() {
   for (const row of rowsOf(area, cell => cell)) {
     const line = made('tr', '', table);
     for (const cell of row) {
-      const key = keyOf(...cell), value = values.get(key) || '';
-      const names = entries.get(key) === '@choice' && namesFor(cell);
-      made('td', isNumber(entries.get(key) || '', value) ? 'number' : '', line).textContent =
+      const entry = textIn(entries, cell), value = textIn(values, cell), names = entry === '@choice' && namesFor(cell);
+      made('td', isNumber(entry, value) ? 'number' : '', line).textContent =
         names && value[0] === '{' ? readOptions(value).map(n => names[n] || n).join(', ') : value;
     }
   }
@@ -69,7 +69,7 @@ async function printSheet() {
   try {
     await layOutPaper();
     print();
-  } catch (error) {
+  } catch {
     tell(NO_LINK);
   }
 }

@@ -6,7 +6,7 @@ const fillArea = (source, area) => putMany(async () => {
   for (const cell of cellsOf(area)) {
     const from = [source.left + (cell[0] - area.left) % wide, source.top + (cell[1] - area.top) % high];
     if (isSame(from, cell)) continue;
-    const text = textOf(from, entries.get(keyOf(...from)) || '');
+    const text = textOf(from, textIn(entries, from));
     wanted.push(moved(cell, text, cell[0] - from[0], cell[1] - from[1]));
   }
   return wanted;

@@ -8,14 +8,14 @@ async function find(way) {
     const keys = [...new Set([...values.keys(), ...entries.keys()])].sort((a, b) => a - b);
     matches = keys.filter(key => (values.get(key) || '').toLowerCase().includes(text) ||
       fromEntry(entries.get(key) || '').toLowerCase().includes(text));
-  } catch (error) {
+  } catch {
     tell(NO_LINK);
     return;
   }
   if (text !== sought) [sought, match, way] = [text, -1, 1];
   match = matches.length ? (match + way + matches.length) % matches.length : -1;
   $('found').textContent = matches.length ? `${match + 1} of ${matches.length}` : 'nowhere';
-  if (matches.length && editing === null) moveTo(cellAt(matches[match]));
+  if (matches.length && !editing) moveTo(cellAt(matches[match]));
 }
 function openFind() {
   $('find').hidden = false;
@@ -27,11 +27,11 @@ function closeFind() {
   sought = '';
   focusGrid();
 }
-$('find').addEventListener('keydown', event => {
+on($('find'), 'keydown', event => {
   if (event.key === 'Escape') closeFind();
   else if (event.key === 'Enter' && event.target.id === 'sought') find(event.shiftKey ? -1 : 1);
   else return;
-  event.preventDefault();
+  claim(event);
 });
 $('next').onclick = () => find(1);
 $('close').onclick = closeFind;

@@ -30,14 +30,14 @@ const rangesOf = entry => [...short(entry).matchAll(PLACES)].map(([place]) => pl
 
 // The formulas that were typed here with a $, which the sheet doesn't keep: cell by cell the typed text, and the entry
 // that it became. While the cell holds that entry, the text with its $ is shown and copied.
-const typed = recall('typed');
+const typed = recall('formulas');
 function keepTyped(cell, text, entry) {
   const key = keyOf(...cell);
-  if (!isFormula(text) || !text.includes('$')) { if (!typed.delete(key)) return; } else typed.set(key, { text, entry });
-  keep('typed', typed);
+  if (!isFormula(text) || !text.includes('$')) { if (!typed.delete(key)) return; } else typed.set(key, [text, entry]);
+  keep('formulas', typed);
 }
 /** What is typed to have this entry in this cell. */
 function textOf(cell, entry) {
-  const kept = typed.get(keyOf(...cell));
-  return kept && kept.entry === entry ? kept.text : fromEntry(entry);
+  const [text, kept] = typed.get(keyOf(...cell)) || [];
+  return kept === entry ? text : fromEntry(entry);
 }

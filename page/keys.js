@@ -34,7 +34,7 @@ async function moveFar(finding, isExtending) {
   isMoving = true;
   try {
     moveTo(await finding, isExtending);
-  } catch (error) {
+  } catch {
     tell(NO_LINK);
   }
   isMoving = false;
@@ -42,7 +42,7 @@ async function moveFar(finding, isExtending) {
 }
 /** Does what a held key would have done. */
 function replay(event) {
-  if (editing === null) gridKey(event);
+  if (!editing) gridKey(event);
   else if (event.key.length > 1) editorKey(event);
   else if (!isControl(event)) {
     editor.setRangeText(event.key, editor.selectionStart, editor.selectionEnd, 'end');
@@ -50,8 +50,8 @@ function replay(event) {
   }
 }
 const COMMANDS = {
-  a: () => select([0, 0], [COLUMNS - 1, ROWS - 1]), z: () => undo(), y: () => redo(), d: () => fillDown(),
-  r: () => fillRight(), f: () => openFind(), p: () => printSheet(), Z: () => redo(),
+  a: () => select([0, 0], [COLUMNS - 1, ROWS - 1]), z: undo, y: redo, d: fillDown, r: fillRight, f: openFind,
+  p: printSheet, Z: redo,
 };
 /** Does what a key with Control does, unless the browser does it. */
 function controlKey(event) {
@@ -68,7 +68,7 @@ function controlKey(event) {
 function plainKey(event) {
   const key = event.key, to = target(event), isTally = heldAt(current) === '@tally';
   if (to) {
-    if (key !== 'Tab') homeColumn = null; else if (homeColumn === null) homeColumn = current[0];
+    if (key !== 'Tab') home = null; else if (home === null) home = current[0];
     moveTo(to, event.shiftKey && key !== 'Tab');
   }
   else if (key === 'End') moveFar(endFrom(event.shiftKey ? corner : current, false), event.shiftKey);
@@ -93,29 +93,29 @@ function widthKey(event) {
   return true;
 }
 function gridKey(event) {
-  if (isMoving) { heldKeys.push(event); event.preventDefault(); return; }
+  if (isMoving) { heldKeys.push(event); claim(event); return; }
   if (event.isComposing || event.key === 'Shift' || event.key === 'Control') return;
   const isTaken = event.altKey ? widthKey(event) : isControl(event) ? controlKey(event) : plainKey(event);
-  if (isTaken) event.preventDefault();
+  if (isTaken) claim(event);
 }
-grid.addEventListener('keydown', event => { if (event.target === grid && editing === null) gridKey(event); });
-document.addEventListener('keydown', event => {
+on(grid, 'keydown', event => { if (event.target === grid && !editing) gridKey(event); });
+on(document, 'keydown', event => {
   const { key, target } = event;
-  if (target === document.body && editing === null) { focusGrid(); gridKey(event); return; }
-  if (isControl(event) && /^[fp]$/.test(key) && target !== grid) { COMMANDS[key](); event.preventDefault(); }
-  if (/^(F6|Escape)$/.test(key) && $('bar').contains(target) && editing === null) grid.focus();
+  if (target === document.body && !editing) { focusGrid(); gridKey(event); return; }
+  if (isControl(event) && /^[fp]$/.test(key) && target !== grid) { COMMANDS[key](); claim(event); }
+  if (/^(F6|Escape)$/.test(key) && $('bar').contains(target) && !editing) grid.focus();
 });
-$('name').addEventListener('focus', event => {
-  if (editing !== null) { commit(0, 0); event.target.focus(); }
+on($('name'), 'focus', event => {
+  if (editing) { commit(0, 0); event.target.focus(); }
   event.target.select();
 });
-$('name').addEventListener('keydown', event => {
+on($('name'), 'keydown', event => {
   const to = event.key === 'Enter' ? readRange(event.target.value) : null;
   if (event.key === 'Enter' && !to) tell(REFUSALS[1]);
   if (!to && event.key !== 'Escape') return;
-  event.preventDefault();
+  claim(event);
   grid.focus();
   if (!to) { draw(); return; }
-  bringIntoView([to.left, to.top]);
+  reveal([to.left, to.top]);
   select([to.left, to.top], [to.right, to.bottom]);
 });

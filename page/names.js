@@ -4,18 +4,21 @@ const COLUMNS = 104, ROWS = 1024;
 const ALL = { left: 0, top: 0, right: COLUMNS - 1, bottom: ROWS - 1 };
 
 const $ = id => document.getElementById(id);
+const on = (target, kind, call) => target.addEventListener(kind, call);
+/** Takes an event, so that the browser does nothing at it. */
+const claim = event => event.preventDefault();
 /** What this browser keeps by a name; nothing where it keeps nothing. */
 function recall(name) {
   try {
     return new Map(JSON.parse(localStorage.getItem(name) || '[]'));
-  } catch (error) {
+  } catch {
     return new Map();
   }
 }
 function keep(name, map) {
   try {
     localStorage.setItem(name, JSON.stringify([...map]));
-  } catch (error) {
+  } catch {
     // (it is kept as long as the page is open)
   }
 }
@@ -40,24 +43,25 @@ const boxOf = (a, b) => ({
 const areaName = area => nameOf([area.left, area.top]) + ':' + nameOf([area.right, area.bottom]);
 const isWithin = (inner, area) => inner.left >= area.left && inner.right <= area.right && inner.top >= area.top &&
   inner.bottom <= area.bottom;
+const isIn = (cell, area) => isWithin(boxOf(cell, cell), area);
 /** The area that a text names: two cells with a colon between them, or one cell. */
 function readRange(text) {
   const [first, last] = text.split(':').map(readName);
   return first && (text.includes(':') ? last && boxOf(first, last) : boxOf(first, first));
 }
 /** The smallest area with all of these cells. */
-function areaAround(cells) {
-  const area = { left: COLUMNS, top: ROWS, right: 0, bottom: 0 };
-  for (const [column, row] of cells) {
-    area.left = Math.min(area.left, column);
-    area.right = Math.max(area.right, column);
-    area.top = Math.min(area.top, row);
-    area.bottom = Math.max(area.bottom, row);
+const areaAround = cells => cells.reduce(({ left, top, right, bottom }, [column, row]) => ({
+  left: Math.min(left, column), top: Math.min(top, row), right: Math.max(right, column), bottom: Math.max(bottom, row),
+}), { left: COLUMNS, top: ROWS, right: 0, bottom: 0 });
+/** What `each` gives for the cells of an area, row by row. */
+function rowsOf(area, each) {
+  const rows = [];
+  for (let r = area.top; r <= area.bottom; r++) {
+    rows.push([]);
+    for (let c = area.left; c <= area.right; c++) rows[r - area.top].push(each([c, r]));
   }
-  return area;
+  return rows;
 }
-function cellsOf(area) {
-  const cells = [];
-  for (let r = area.top; r <= area.bottom; r++) for (let c = area.left; c <= area.right; c++) cells.push([c, r]);
-  return cells;
-}
+const cellsOf = area => rowsOf(area, cell => cell).flat();
+/** What a map from keys to texts has for a cell. */
+const textIn = (map, cell) => map.get(keyOf(...cell)) || '';

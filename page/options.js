@@ -4,12 +4,13 @@ const NOTE = /\boptions ([A-Z]{1,2}\d+:[A-Z]{1,2}\d+)\)?$/;
 const nameLists = new Map();
 /** The cell with the note for a set of options, and the area that it tells; null where there is none. */
 function noteFor([column, row]) {
-  const above = cellsOf({ left: column, right: column, top: 0, bottom: row - 1 }).reverse();
-  for (const cell of [[column + 1, row], ...above]) {
-    const found = NOTE.exec(heldAt(cell)), area = found && readRange(found[1]);
-    if (area) return { cell, area };
-  }
-  return null;
+  let note = noteAt([column + 1, row]);
+  while (!note && row--) note = noteAt([column, row]);
+  return note;
+}
+function noteAt(cell) {
+  const found = NOTE.exec(heldAt(cell)), area = found && readRange(found[1]);
+  return area && { cell, area };
 }
 function namesFor(cell) {
   const note = noteFor(cell), names = note && nameLists.get(areaName(note.area));
@@ -21,7 +22,7 @@ async function lookAtNames(area) {
     const note = noteFor(cell), where = note && areaName(note.area);
     if (!note) continue;
     const texts = isWithin(note.area, area) ? shown : await readArea('rows', note.area);
-    const names = cellsOf(note.area).slice(0, 64).map(each => texts.get(keyOf(...each)) || '');
+    const names = cellsOf(note.area).slice(0, 64).map(each => textIn(texts, each));
     if (String(nameLists.get(where)) !== String(names)) { nameLists.set(where, names); draw(); }
   }
 }
@@ -44,7 +45,7 @@ function showOptions() {
   drawOptions();
   tell('');
   options.hidden = false;
-  beside(options, (cells.get(keyOf(...cell)) || grid).getBoundingClientRect());
+  beside(options, cells.get(keyOf(...cell)));
   list.querySelector('input').focus();
 }
 /** Puts the marks on that the current cell shows, as they were chosen here or by others. */
@@ -76,7 +77,7 @@ async function nameOptions(text) {
 function pickNames(cell, from) {
   $('naming').value = areaName(boxOf(cell, from || cell));
 }
-options.addEventListener('keydown', event => {
+on(options, 'keydown', event => {
   if (event.key === 'Escape') hideOptions();
   if (event.key === 'Enter' && event.target.id === 'naming') nameOptions(event.target.value);
 });

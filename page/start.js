@@ -14,7 +14,7 @@ $('vote').onclick = () => fillIn(VOTE);
 $('plan').onclick = () => fillIn(PLAN);
 async function make(entry) {
   const entryNow = heldAt(current), cell = current;
-  if (editing !== null) { commit(0, 0); return; }
+  if (editing) { commit(0, 0); return; }
   if (!entryNow) await putMany([[cell, entry]]);
   else if (entryNow !== entry) tell(nameOf(cell) + ': This cell holds something. Delete it first.');
   grid.focus();
@@ -36,15 +36,15 @@ for (const [id, call] of Object.entries(CLICKS))
     call();
   };
 $('help').onclose = () => grid.focus();
-$('more').addEventListener('toggle', event => {
-  if (event.newState === 'open') beside($('more'), $('menu').getBoundingClientRect());
+on($('more'), 'toggle', event => {
+  if (event.newState === 'open') beside($('more'), $('menu'));
 });
 function redraw() {
   draw();
   if (link.isUp) look();
 }
-grid.addEventListener('scroll', redraw);
-addEventListener('resize', redraw);
+on(grid, 'scroll', redraw);
+on(window, 'resize', redraw);
 link.onLink = () => {
   document.body.classList.toggle('lost', !link.isHeard);
   $('link').textContent = link.words;

@@ -9,13 +9,12 @@ function drawSums() {
     const numbers = [], texts = [];
     for (const [key, value] of shown) {
       const cell = cellAt(key), entry = held.get(key) || '';
-      if (!isWithin(boxOf(cell, cell), area)) continue;
+      if (!isIn(cell, area)) continue;
       if (isNumber(entry, value)) numbers.push(BigInt(value)); else if (noteOf(entry)) texts.push(cell);
     }
-    const least = numbers.reduce((a, b) => a < b ? a : b, numbers[0]);
-    const most = numbers.reduce((a, b) => a > b ? a : b, numbers[0]);
+    numbers.sort((a, b) => a < b ? -1 : a > b ? 1 : 0);
     if (numbers.length) text = `Sum ${numbers.reduce((a, b) => a + b)} \u00b7 Count ${numbers.length} \u00b7 ` +
-      `Least ${least} \u00b7 Greatest ${most}`;
+      `Least ${numbers[0]} \u00b7 Greatest ${numbers.at(-1)}`;
     const look = several(texts.length, 'text that looks', 'texts that look') + ' like a number';
     if (texts.length) text += ` (without ${look})`;
   }

@@ -8,20 +8,24 @@ function tell(text, cell = current, stays = false, isNote = false) {
   box.hidden = !text;
   clearTimeout(telling);
   if (!text) return;
-  beside(box, (element || grid).getBoundingClientRect(), true);
+  beside(box, element, true);
   if (!stays) telling = setTimeout(() => tell(''), 8000);
 }
-/** Lays a box beside another one: below it, or where what comes next has to stay in sight, above it or to its right. */
-function beside(box, near, isAside) {
-  const below = near.bottom + 4, above = near.top - box.offsetHeight - 4;
-  const isAbove = isAside ? above > grid.getBoundingClientRect().top : below + box.offsetHeight > innerHeight;
+const boundsOf = element => element.getBoundingClientRect();
+/**
+ * Lays a box beside an element, or the grid: below it, or where what comes next has to stay in sight, above it or to
+ * its right.
+ */
+function beside(box, element, isAside) {
+  const near = boundsOf(element || grid), below = near.bottom + 4, above = near.top - box.offsetHeight - 4;
+  const isAbove = isAside ? above > boundsOf(grid).top : below + box.offsetHeight > innerHeight;
   const left = isAside && !isAbove ? near.right + 4 : near.left;
   box.style.left = Math.max(4, Math.min(left, innerWidth - box.offsetWidth - 8)) + 'px';
   box.style.top = Math.max(4, isAbove ? above : Math.min(below, innerHeight - box.offsetHeight - 4)) + 'px';
 }
 /** Gives the keys back to what is edited, with the caret at its end, or to the grid. */
 function focusAgain() {
-  if (editing === null) { focusGrid(); return; }
+  if (!editing) { focusGrid(); return; }
   field().focus();
   field().setSelectionRange(field().value.length, field().value.length);
 }
@@ -46,7 +50,7 @@ function showQuestion(text, answers) {
       element.textContent = answer;
       element.onclick = () => choose(i);
     });
-    box.oncancel = event => { event.preventDefault(); choose(answers.length - 1); };
+    box.oncancel = event => { claim(event); choose(answers.length - 1); };
     box.showModal();
     row.lastElementChild.focus();
   });

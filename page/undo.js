@@ -20,13 +20,13 @@ async function setBack(steps) {
   const area = areaAround(steps.map(({ cell }) => cell)), back = [], others = [];
   const [now, values] = await readBoth(area);
   await Promise.all(steps.map(async ({ cell, before, after, value }) => {
-    const key = keyOf(...cell), isSameCount = !isCounter(after) || (values.get(key) || '') === value;
-    const isOurs = (now.get(key) || '') === after && isSameCount;
-    if (isOurs && !await outcome(`set ${nameOf(cell)} ${before}`)) back.push({ cell, before: after, after: before });
-    else others.push(cell);
+    const isOurs = textIn(now, cell) === after && (!isCounter(after) || textIn(values, cell) === value);
+    if (!isOurs || await outcome(`set ${nameOf(cell)} ${before}`)) { others.push(cell); return; }
+    own.set(keyOf(...cell), before);
+    back.push({ cell, before: after, after: before });
   }));
   const later = await readArea('rows', area);
-  for (const each of back) each.value = later.get(keyOf(...each.cell)) || '';
+  for (const each of back) each.value = textIn(later, each.cell);
   return [back, others];
 }
 async function countBack(steps) {
@@ -45,10 +45,10 @@ async function takeBack(from, to, word) {
     const [back, others] = await (act.steps[0].verb ? countBack : setBack)(act.steps);
     if (back.length) to.push({ steps: back });
     const first = (back[0] || { cell: others[0] }).cell;
-    if (editing === null) moveTo(first);
+    if (!editing) moveTo(first);
     const which = `${several(others.length, 'cell')} left alone (${firstNames(others)})`;
     if (others.length) tell(which + ': somebody has changed ' + (others[1] ? 'them' : 'it') + ' since.', first, true);
-  } catch (error) {
+  } catch {
     from.push(act);
     tell(NO_LINK);
   }

@@ -47,4 +47,4 @@ function tellLink(words) {
 // A server says nothing by itself yet, so that something has changed is supposed several times a second.
 setInterval(() => { if (link.isUp && !document.hidden) link.onChange(); }, POLL);
 setInterval(() => { if (link.isUp) link.onChange(); }, 20000);
-document.addEventListener('visibilitychange', () => { if (link.isUp) link.onChange(); });
+on(document, 'visibilitychange', () => { if (link.isUp) link.onChange(); });

@@ -1,12 +1,13 @@
-"""The whole test of the repository: the merge gate, the wrong bodies, the released object, and the tests of the program.
+"""The whole test of the repository: the merge gate, the mutants, the released object, and the tests of the program.
 
 `./test` has all of it, `./test --program` the latter alone, and `./test --program TEXT` those whose name has the text.
 The latter needs no kit: it tests the program that `./sheet` links of the released object.
-`./test --wrong` tries the wrong bodies alone, and `./test --wrong CRATE` those of a crate, over what is proved already.
+`./test --wrong` tries the mutants alone, and `./test --wrong CRATE` those of a crate, over what is proved already.
 The last line is `N passed, M failed` over everything that ran, and the exit status is 0 only where nothing failed.
 Tests that want a browser are left out where there is none, and by `./test --program` those that want git or the tests of
 the crates, which `rt ci` builds: then `, K skipped` follows.
-`./test --hunt MINUTES` looks for trouble by chance (`hunt/`, `docs/HUNT.md`), and ends in the same way.
+`./test --hunt MINUTES` looks for trouble by chance (`hunt/`, `docs/TESTING.md`), and ends in the same way.
+`./test --list` runs nothing. It prints what each test shows, and the function whose proof each mutant has to break.
 """
 import os
 import re
@@ -24,7 +25,8 @@ from wrong import Fault
 # The tests of worked rows and of starts, which are also run on the program that the kit links.
 ROWS = ("test_start", "test_transcripts")
 USAGE = (
-    "usage: ./test, or ./test --program [TEXT], or ./test --wrong [CRATE], or ./test --hunt MINUTES [--seed NUMBER]"
+    "usage: ./test, or ./test --program [TEXT], or ./test --wrong [CRATE], or ./test --list,"
+    " or ./test --hunt MINUTES [--seed NUMBER]"
 )
 
 class Tally(NamedTuple):
@@ -158,12 +160,12 @@ def rows_of_proved():
 
 
 def refused(crate=""):
-    """Tries the wrong bodies of every crate, or of one, which the prover has to refuse."""
+    """Tries the mutants of every crate, or of one, which the prover has to refuse."""
     try:
         tally = Tally(*wrong.all_tried(TOP, crate))
     except (Fault, OSError) as fault:
-        return failed(f"the wrong bodies can't be tried: {fault}")
-    return tally if tally != Tally(0, 0) else failed("there is no wrong body to try")
+        return failed(f"the mutants can't be tried: {fault}")
+    return tally if tally != Tally(0, 0) else failed("there is no mutant to try")
 
 
 def program(text, reasons):
@@ -185,6 +187,11 @@ def program(text, reasons):
 
 def main(words):
     """Runs what the words ask for, and returns the exit status."""
+    if words == ["--list"]:
+        # (read only here, since this file's own test has no lists beside it)
+        import lists
+        sys.stdout.write(lists.text(TOP))
+        return 0
     if words[:1] == ["--hunt"]:
         if not is_built():
             print(failed("the program isn't built, so there is no hunt"))

@@ -134,10 +134,12 @@ class Page:
 class Browser:
     """A browser, of which nothing is left once the block is left."""
 
-    def __init__(self):
+    def __init__(self, core=None):
+        """Starts a browser with a new profile, on one core where that is named."""
+        words = ["taskset", "-c", str(core)] if core is not None else []
         self.folder = tempfile.TemporaryDirectory(prefix="sheet-browser-", ignore_cleanup_errors=True)
         self.process = subprocess.Popen(
-            [program(), "--headless=new", "--no-sandbox", "--disable-gpu", "--disable-dev-shm-usage", "--no-first-run",
+            [*words, program(), "--headless=new", "--no-sandbox", "--disable-gpu", "--disable-dev-shm-usage", "--no-first-run",
              "--disable-background-networking", "--disable-extensions", "--disable-renderer-backgrounding",
              "--disable-backgrounding-occluded-windows", "--disable-background-timer-throttling",
              "--remote-debugging-port=0", f"--user-data-dir={self.folder.name}", "--window-size=1200,720",

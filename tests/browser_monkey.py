@@ -5,10 +5,13 @@ The model knows cells as texts, and of formulas no more than how a copy moves th
 import random
 import re
 
+from browser_page import middle_of, paste_text
+
 COLUMNS, ROWS = 4, 6
 LONG = "a text that has more than sixty-four bytes, as a note may have which nobody cut in time"
 TEXTS = ("5", "-17", "007", "apples", "12.50", "a,b", "it's", "=A1+B2", "=SUM(A1:B3)", "=$A$1+B$2", "=1+", "=A1/2",
          LONG, "'42", "@tally", "+3", "x y", "=D6*2")
+KINDS = ("type", "type", "type", "delete", "paste", "copy", "cut", "down", "right", "undo", "undo", "redo")
 ENDS = ("Enter", "Tab", "ArrowDown", "ArrowRight", "Escape")
 # A text whose apostrophe has to stay, since it would be another entry without.
 NEEDED = re.compile(r"'([+-]?\d+$|=|of:=|@tally$|@choice$|'|$)")
@@ -111,11 +114,17 @@ class Model:
         return [[self.held.get((column, row), "") for column in range(COLUMNS)] for row in range(ROWS)]
 
 
-class Monkey:
-    """Steps by chance, at pages and in the model at once."""
+def steps(chance, pages, count):
+    """So many steps by chance: what is done, at which page, and the seed of how it is done."""
+    return [(chance.choice(KINDS), chance.randrange(pages), chance.randrange(1_000_000)) for _ in range(count)]
 
-    def __init__(self, seed, test, pages):
-        self.chance, self.test, self.pages, self.model = random.Random(seed), test, pages, Model(len(pages))
+
+class Monkey:
+    """Takes steps at pages and in the model at once. Each has its own seed, so that any may be left out."""
+
+    def __init__(self, pages):
+        self.chance, self.pages, self.model = random.Random(), pages, Model(len(pages))
+        # what the last step was
         self.told = []
 
     def cell(self):
@@ -131,9 +140,9 @@ class Monkey:
     def select(self, page, area):
         """Selects an area by the pointer."""
         first, last = (area[0][0], area[1][0]), (area[0][1], area[1][1])
-        page.click(*self.test.middle(page, *first))
+        page.click(*middle_of(page, *first))
         if first != last:
-            page.click(*self.test.middle(page, *last), modifiers=8)
+            page.click(*middle_of(page, *last), modifiers=8)
 
     def settle(self):
         """Waits until all that was asked for is done, and each page knows it."""
@@ -148,12 +157,10 @@ class Monkey:
         asked = "document.querySelector('#asked').textContent"
         page.wait_for(f"acting && document.querySelector('#question[open]') ? {asked} : acting", 0)
 
-    def step(self):
+    def step(self, kind, number, seed):
         """One step of one page."""
-        number = self.chance.randrange(len(self.pages))
-        kind = self.chance.choice(("type", "type", "type", "delete", "paste", "copy", "cut", "down", "right", "undo",
-                                   "undo", "redo"))
-        self.told.append(f"{number} {kind}")
+        self.chance = random.Random(seed)
+        self.told = [f"page {number}", kind]
         getattr(self, kind)(number, self.pages[number])
         # a page may go on at once, but another one begins with what is there
         self.settle()
@@ -192,7 +199,7 @@ class Monkey:
         self.select(page, [(cell[0], cell[0]), (cell[1], cell[1])])
         rows = [[self.chance.choice((*TEXTS, "")) for _ in range(wide)] for _ in range(high)]
         self.told.append(f"{name_of(cell)} {rows}")
-        self.test.paste(page, "\n".join("\t".join(row) for row in rows) + "\n")
+        paste_text(page, "\n".join("\t".join(row) for row in rows) + "\n")
         self.model.put(number, [((cell[0] + j, cell[1] + i), text) for i, row in enumerate(rows)
                                 for j, text in enumerate(row)])
 

@@ -15,6 +15,26 @@ SESSIONS = 16
 PICTURES = os.environ.get("SHEET_PICTURES")
 
 
+def middle_of(page, column, row, part=""):
+    """Where the middle of a cell, or of a part of it, is."""
+    return page.middle(f"document.querySelector('#cell-' + keyOf({column}, {row}) + ' {part}'.trimEnd())")
+
+
+def paste_text(page, text):
+    """Pastes a text that comes from elsewhere."""
+    page.value("(() => { const data = new DataTransfer(); data.setData('text/plain', %s); document.dispatchEvent("
+               "new ClipboardEvent('paste', { clipboardData: data, bubbles: true, cancelable: true })); })()"
+               % json.dumps(text))
+
+
+def connected(browser, gateway):
+    """A page in a browser, once it is connected and has seen the sheet."""
+    page = browser.page(gateway.url)
+    page.wait_for("document.getElementById('link').textContent", "connected")
+    page.wait_for("seenAt !== ''")
+    return page
+
+
 class BrowserTest(ProgramTest):
     """A test of the page, for which one browser is started."""
 
@@ -40,11 +60,9 @@ class BrowserTest(ProgramTest):
 
     def page(self):
         """A page that is connected, and at whose end nothing went wrong."""
-        page = self.browser.page(self.gateway.url)
+        page = connected(self.browser, self.gateway)
         self.addCleanup(page.close)
         self.addCleanup(lambda: self.assertEqual(page.problems, []))
-        page.wait_for("document.getElementById('link').textContent", "connected")
-        page.wait_for("seenAt !== ''")
         return page
 
     def assert_shows(self, page, cell, text):
@@ -58,7 +76,7 @@ class BrowserTest(ProgramTest):
 
     def middle(self, page, column, row, part=""):
         """Where the middle of a cell, or of a part of it, is."""
-        return page.middle(f"document.querySelector('#cell-' + keyOf({column}, {row}) + ' {part}'.trimEnd())")
+        return middle_of(page, column, row, part)
 
     def button(self, page, name):
         """Where the button of an example is, once the page knows that the sheet is empty."""
@@ -96,9 +114,7 @@ class BrowserTest(ProgramTest):
 
     def paste(self, page, text):
         """Pastes a text that comes from elsewhere."""
-        page.value("(() => { const data = new DataTransfer(); data.setData('text/plain', %s); document.dispatchEvent("
-                   "new ClipboardEvent('paste', { clipboardData: data, bubbles: true, cancelable: true })); })()"
-                   % json.dumps(text))
+        paste_text(page, text)
 
     def copied(self, page, kind="copy", form="text/plain"):
         """What a copy, or a cut, of what is selected hands to the clipboard."""

@@ -1,4 +1,4 @@
-"""Wrong bodies: edits of `wrong/CRATE/`, each of which makes one function of the crate wrong.
+"""Mutants: edits of `wrong/CRATE/`. Each makes one function of the crate wrong.
 
 A file has a line `function: PATH`, the function that the prover then has to refuse, by its path below the crate as a
 check prints it, then `file: PATH` and pairs of lines `old: TEXT` and `new: TEXT`. Each old text is one line or a piece
@@ -23,7 +23,7 @@ class Change(NamedTuple):
 
 
 class Edit(NamedTuple):
-    """A wrong body, with its file's name, the function that it makes wrong, and its changes in their order."""
+    """A mutant, with its file's name, the function that it makes wrong, and its changes in their order."""
 
     name: str
     function: str
@@ -92,6 +92,6 @@ def rounds(edits, folder):
 
 
 def of_crates(top):
-    """Returns the files of the wrong bodies below this folder, by crate."""
+    """Returns the files of the mutants below this folder, by crate."""
     folders = sorted(it for it in (top / "tests/wrong").iterdir() if it.is_dir())
     return {folder.name: sorted(folder.glob(f"*{SUFFIX}")) for folder in folders}

@@ -12,6 +12,8 @@ ROWS = 962
 # tried.
 BOUND = 0.1
 TRIES = 10
+# .. and the longest for a delta line of any length that is refused.
+REFUSED = 0.05
 STACK_KB = 2_048
 ENDLESS_KB = 1_024
 # In this the dearest table is refused for what is at fault in it.
@@ -83,19 +85,57 @@ def processor_time(process):
         return time.monotonic()
 
 
+def repeated(part, begin="[", end="]"):
+    """The longest delta line that has this part again and again."""
+    count = (LONGEST_DELTA - len(begin) - len(end) + 1) // (len(part) + 1)
+    return f"{begin}{','.join([part] * count)}{end}"
+
+
+def out_of_order(state):
+    """The longest delta line of cells with this state whose last cell stands there twice."""
+    cells, length = [], 2
+    for index in range(COLUMNS * 1024):
+        cell = f'["{name(index % COLUMNS, index // COLUMNS + 1)}",{state}]'
+        length += len(cell) + 1
+        if length + len(cell) > LONGEST_DELTA:
+            break
+        cells.append(cell)
+    return f"[{','.join([*cells, cells[-1]])}]"
+
+
+def refused_lines():
+    """Delta lines of the greatest length that are refused late: after all their cells, as JSON, or as a tree."""
+    for content in (
+        "1", "'a", "=[.A1]", "=1+1", f"=1{'+1' * 110}", f"={'-' * 200}1", f"={'(' * 120}1{')' * 120}", r"'\"a",
+    ):
+        yield out_of_order(f'[1,2,"{content}"],[],[]')
+    yield out_of_order(f"null,[{','.join(f'[{replica},1,1]' for replica in range(1, 33))}],[]")
+    yield repeated("[0,1,1,0]", '[["A1",null,[],[', "]]]")
+    yield from (repeated(part) for part in ("1", "1.5", "[]", '""', '{"a":1}', "[" * 100 + "]" * 100))
+    yield "{" + ",".join(f'"{key:05}":1' for key in range(26_000, 0, -1)) + "}"
+    yield from ("[" * LONGEST_DELTA, "1" * LONGEST_DELTA, f"0.{'1' * (LONGEST_DELTA - 2)}")
+
+
 class Time(ProgramTest):
-    def assert_in_time(self, peer, line, replies):
-        """One of several tries of this line has all its lines of replies within the bound. A `#` in it is another
-        number each time, so that each try has as much to do."""
+    def assert_in_time(self, peer, line, replies, bound=BOUND, expected="(?!err)"):
+        """One of several tries of this line has all its lines of replies within the bound, the first of which is as
+        expected. A `#` in it is another number each time, so that each try has as much to do."""
         tries = []
-        while len(tries) < TRIES and min(tries, default=BOUND) >= BOUND:
+        while len(tries) < TRIES and min(tries, default=bound) >= bound:
             asked = line.replace("#", str(len(tries) + 1))
             begun, had = time.monotonic(), processor_time(peer.session.pid)
-            self.assertNotIn("err", peer.ask(asked))
+            self.assertRegex(peer.ask(asked), f"^{expected}")
             for _ in range(replies - 1):
                 peer.reply()
             tries += [time.monotonic() - begun, processor_time(peer.session.pid) - had]
-        self.assertLess(min(tries), BOUND, line[:60])
+        self.assertLess(min(tries), bound, line[:60])
+
+    def test_the_longest_delta_lines_that_are_refused(self):
+        with peers.on_pipes("run") as peer:
+            for line in refused_lines():
+                with self.subTest(line[:60]):
+                    self.assertLessEqual(len(line), LONGEST_DELTA)
+                    self.assert_in_time(peer, f"push {line}", 1, REFUSED, "err 14 delta$")
 
     def test_lines_on_a_sheet_of_100_048_cells(self):
         rows = range(2, ROWS + 2)

@@ -1,4 +1,4 @@
-"""How wrong bodies are read and applied, and how those that are not refused are told."""
+"""How mutants are read and applied, and how those that are not refused are told."""
 import unittest
 from pathlib import Path
 from tempfile import TemporaryDirectory

@@ -6,7 +6,7 @@ from browser import SHIFT
 from browser_page import BrowserTest
 
 # All that stands in the page at most, in bytes.
-MOST_BYTES = 72_000
+MOST_BYTES = 60_000
 CONTRAST = """(() => {
   const canvas = document.createElement('canvas').getContext('2d', { willReadFrequently: true });
   const rgb = color => { canvas.clearRect(0, 0, 1, 1); canvas.fillStyle = color; canvas.fillRect(0, 0, 1, 1);
@@ -21,7 +21,8 @@ CONTRAST = """(() => {
     const own = [...element.childNodes].some(node => node.nodeType === 3 && node.data.trim());
     if (!own && element.tagName !== 'INPUT' || element.disabled || !element.checkVisibility()) continue;
     if (element.tagName === 'SCRIPT' || element.tagName === 'STYLE') continue;
-    const [a, b] = [light(rgb(getComputedStyle(element).color)), light(backOf(element))].sort((x, y) => y - x);
+    const shown = element.placeholder && !element.value ? '::placeholder' : null;
+    const [a, b] = [light(rgb(getComputedStyle(element, shown).color)), light(backOf(element))].sort((x, y) => y - x);
     const ratio = (a + 0.05) / (b + 0.05);
     if (ratio < 4.5) low.push([element.tagName, element.id, element.className, element.textContent, ratio].join(' '));
   }
@@ -188,6 +189,9 @@ class Screens(FoundTest):
                                                               {"name": "prefers-reduced-motion", "value": "reduce"}])
             page.wait_for("matchMedia('(prefers-color-scheme: %s)').matches" % scheme)
             self.assertEqual(page.value(CONTRAST), [], scheme)
+            page.value("document.getElementById('more').showPopover()")
+            self.assertEqual(page.value(CONTRAST), [], f"the menu, {scheme}")
+            page.value("document.getElementById('more').hidePopover()")
         page.key("?")
         page.wait_for("document.getElementById('help').open")
         self.assertEqual(page.value(CONTRAST), [])

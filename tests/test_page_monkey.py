@@ -1,39 +1,38 @@
-"""A monkey at two pages of `sheet page`, beside a plain model: the sheet holds all that was done there."""
-import csv
-import os
+"""The hunt at two pages of `sheet page`: it finds faults that are planted in the page, and none in the page itself."""
 import unittest
 
-from browser_monkey import COLUMNS, ROWS, Monkey, name_of
-from browser_page import BrowserTest
+import browser
+from hunt import finds
+from hunt.finds import Hunt
+from hunt.parts import Pages
+from program import NO_BROWSER, ProgramTest
 
-# SHEET_MONKEY=SEED:STEPS has it go on from another seed, for so many steps.
-SEED, STEPS = map(int, os.environ.get("SHEET_MONKEY", "11:25").split(":"))
+SEED = 11
+# Each planted fault has to be found among so many plans.
+FEW_PLANS = 8
+# A copy whose references stay, a paste that isn't cut into cells, an undo that does nothing.
+FAULTS = ("moved = (cell, text) => [cell, text]", "readFields = text => [[[text.trim()]], 0]",
+          "setBack = async () => [[], []]")
 
 
-class ByChance(BrowserTest):
-    def held(self):
-        """What the server holds in the corner of the sheet where the monkey is."""
-        rows = self.entries(f"A1:{name_of((COLUMNS - 1, ROWS - 1))}")
-        return list(csv.reader(rows))
+class Planted(ProgramTest):
+    def setUp(self):
+        if browser.program() is None:
+            self.skipTest(NO_BROWSER)
 
-    def test_two_pages_hold_what_was_done_there(self):
-        for seed in range(SEED, SEED + 2):
-            with self.subTest(seed=seed):
-                pages = [self.page(), self.page()]
-                monkey = Monkey(seed, self, pages)
-                for page in pages:
-                    # (what the browser keeps from the sheet before)
-                    page.value("[localStorage.clear(), typed.clear()].length")
-                for column in range(COLUMNS + 3):
-                    for row in range(ROWS + 6):
-                        self.client.ask(f"set {name_of((column, row))} ")
-                monkey.settle()
-                for _ in range(STEPS):
-                    try:
-                        monkey.step()
-                        self.assertEqual(self.held(), monkey.model.rows())
-                    except AssertionError as error:
-                        raise AssertionError(f"{error}, at the end of {monkey.told}") from error
+    def test_each_fault_is_found(self):
+        for fault in FAULTS:
+            with self.subTest(fault=fault):
+                part = Pages(fault)
+                find = Hunt(SEED, [part]).first(part, FEW_PLANS)
+                self.assertIsNotNone(find)
+                # what is written down shows it again, and nothing in a page without the fault
+                folder, about = finds.write_down(find, SEED, len(find.plan.parts), self.folder())
+                self.assertIn("of seed 11", about)
+                name, plan = finds.read(folder / "plan")
+                self.assertEqual(name, "pages")
+                self.assertIsNotNone(part.trouble(plan))
+                self.assertIsNone(Pages().trouble(plan))
 
 
 if __name__ == "__main__":

@@ -43,6 +43,19 @@ class Undo(BrowserTest):
         page.wait_for("acting", 0)
         self.assertEqual(self.entries("A1:A2"), ["5", '""'])
 
+    def test_what_an_undo_put_back_is_no_conflict(self):
+        page = self.page()
+        self.put(page, "5")
+        page.wait_for("document.getElementById('undo').disabled", False)
+        # the page looks at the sheet late, so that it still shows what was undone
+        page.value("link.onChange = look = async () => {}, 1")
+        page.wait_for("isLooking", False)
+        page.key("z", CONTROL)
+        page.wait_for("[done.length, nameOf(current)].join()", "0,A1")
+        self.assertEqual(page.value("heldAt([0, 0])"), "5")
+        self.put(page, "seven")
+        self.assert_held("get A1", "val seven")
+
     def test_what_others_changed_since_stays(self):
         page = self.page()
         self.paste(page, "1\n2\n3\n")

@@ -18,7 +18,8 @@ TESTS = {
     ),
     "checks_sheet": (
         "csv::refused_import", "face::refused_append", "face::waiting::refused_post", "sheet::refused::refused_edit",
-        "sheet::refused::refused_open", "sheet::refused::refused_prepare", "sheet::refused::refused_receive",
+        "sheet::refused::refused_merge", "sheet::refused::refused_open", "sheet::refused::refused_prepare",
+        "sheet::refused::refused_receive",
     ),
     "checks_sessions": (
         "desk::memory::refused_edit", "desk::memory::refused_open", "desk::memory::refused_pull",

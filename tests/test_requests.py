@@ -4,9 +4,11 @@ No clause says that a read, a refused edit, and a change that is made or given u
 can be seen from outside: lines that take none make no request, however many there are; each request of an edit is one
 whose refusal is the reply to it, so none is made once something has changed; and after a request that was refused
 there is no other. A number that is set in a cell of a plain sheet, and an amount that is added to a counter or taken
-off it, ask for the room of the history alone, which doubles. A pull makes as many for a delta of many cells as for one
-of a single cell.
+off it, ask for the room of the history alone, which doubles. A pull makes no more for a delta of many cells than for one
+of a single cell, but for the room of its text, which doubles.
 """
+import math
+
 from program import Ended, ProgramTest, lines
 from shortage import ALL, build, each, run_short, serve_short
 from sizes import pushes
@@ -30,6 +32,8 @@ WITHOUT = {
     "pull 10": "end 10", "pull 10 16": "end 10", "pull 11": "err 17 version", "pull 0 17": "err 17 version",
 }
 TIMES = 1_000
+# The room that a text has at first, in bytes.
+FIRST_ROOM = 128
 # Edits and a pushed delta. (`sub` and `unchoose` aren't among them: of a merged list the room that is left over is
 # given back, which is a request too, and where that is refused they make do.)
 CHANGES = (
@@ -87,16 +91,19 @@ class Requests(ProgramTest):
                     self.assertEqual(replies, [*opening, *[reply] * TIMES])
                     self.assertEqual(found - requests, 0)
 
-    def test_a_pull_makes_the_same_requests_whatever_its_delta_holds(self):
+    def test_a_pull_makes_the_same_requests_whatever_its_delta_holds_but_for_its_text(self):
         # one cell, and 104 that a line has room for
-        changes = ('push [["A1",[1,2,"5"],[],[]]]', *pushes(lambda column, row: f"=[.A{row}]+{column}", (2,)))
+        one, row = 'push [["A1",[1,2,"5"],[],[]]]', *pushes(lambda column, row: f"=[.A{row}]+{column}", (2,))
+        # how often the room of the longer text doubles
+        doubled = math.ceil(math.log2(len(row) / FIRST_ROOM))
         for how in self.each_way():
-            requests = set()
-            for change in changes:
-                few, many = (how((change, *["pull 0"] * times))() for times in (TIMES // 2, TIMES))
-                self.assertEqual(many[0][1:], [f"delta 1 {change.removeprefix('push ')}"] * TIMES)
-                requests.add((many[1] - few[1]) / (TIMES - TIMES // 2))
-            self.assertEqual(len(requests), 1, requests)
+            self.assertLessEqual(self.requests_of_a_pull(how, row) - self.requests_of_a_pull(how, one), doubled)
+
+    def requests_of_a_pull(self, how, change):
+        """How many requests each pull of this change makes."""
+        few, many = (how((change, *["pull 0"] * times))() for times in (TIMES // 2, TIMES))
+        self.assertEqual(many[0][1:], [f"delta 1 {change.removeprefix('push ')}"] * TIMES)
+        return (many[1] - few[1]) / (TIMES - TIMES // 2)
 
     def assert_requests_come_first(self, how, opening, changes, looks, quiet=()):
         """Each request of one of these changes comes before anything changes, and none after one that is refused.

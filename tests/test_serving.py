@@ -1,4 +1,4 @@
-"""The recipes of `docs/SERVING.md`: each block of commands writes the block after it, and keeping loses nothing."""
+"""The recipes of `docs/USING.md`: each block of commands writes the block after it, and keeping loses nothing."""
 import csv
 import io
 import os
@@ -7,14 +7,14 @@ import shutil
 import socket
 import subprocess
 
+from pages import functions, recipes
 from program import LIMIT, NO_GIT, SHEET, TOP, Ended, ProgramTest, lines, run, started
 from servers import HERE, free_port
 from sizes import COLUMNS, LONGEST_DELTA, name
 
-BLOCKS = (TOP / "docs/SERVING.md").read_text().split("```")[1::2]
 # What the page has first: the functions that its recipes call.
-FUNCTIONS = BLOCKS[0].removeprefix("bash\n")
-RECIPES = list(zip(BLOCKS[1::2], BLOCKS[2::2]))
+FUNCTIONS = functions("docs/USING.md")
+RECIPES = recipes("docs/USING.md", "bash")
 # How long recipes wait for what goes on beside them, and how long they wait when they are tried again.
 PAUSE, LONGER = "sleep 2 &&\n", "sleep 15 &&\n"
 
@@ -50,9 +50,6 @@ class Recipes(Pasting):
     def assert_writes(self, commands, shown):
         """This block of commands writes this block of text."""
         with self.subTest(commands=commands):
-            self.assertTrue(commands.startswith("bash\n"))
-            self.assertTrue(shown.startswith("text\n"))
-            commands, shown = commands.removeprefix("bash\n"), shown.removeprefix("text\n")
             ended, wanted = self.pasted(commands, shown)
             if PAUSE in commands and ended != wanted:
                 # what comes meanwhile may take longer on a machine that does much else
@@ -72,11 +69,11 @@ class Recipes(Pasting):
         return self.paste(commands), Ended(0, shown.encode())
 
     def test_one_whose_port_is_taken_ends_and_says_nothing_to_who_has_it(self):
-        recipes = [commands.removeprefix("bash\n") for commands, _ in RECIPES if "start " in commands]
-        self.assertEqual(len(recipes), 4)
+        starting = [commands for commands, _ in RECIPES if "start " in commands]
+        self.assertEqual(len(starting), 4)
         with socket.create_server((HERE, 0)) as listener:
             port = str(listener.getsockname()[1])
-            for commands in recipes:
+            for commands in starting:
                 with self.subTest(commands=commands):
                     ended = self.paste(commands.replace("7001", port).replace("7002", str(free_port())))
                     self.assertEqual(ended, Ended(1, b"", b"err 20 device\n"))

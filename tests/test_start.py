@@ -3,6 +3,7 @@ import os
 import re
 import subprocess
 
+from pages import recipes
 from program import LIMIT, SHEET, TOP, Ended, ProgramTest, lines, run
 
 FIRST_EXAMPLE = r"printf 'set A1 5\nset B1 =[.A1]*2\nget B1\n' | ./sheet run"
@@ -52,26 +53,22 @@ class Examples(ProgramTest):
         self.assertEqual(shell(TABLE_EXAMPLE), Ended(0, lines("2,6", '"x,y",0')))
 
     def test_two_replicas_that_edit_apart_and_meet(self):
-        # the first block of the page, and what the block after it shows
-        command, shown = (TOP / "README.md").read_text().split("```")[1:4:2]
-        self.assertEqual((command, shown[:5]), (f"sh{TWO_REPLICAS}", "text\n"))
+        [(command, shown)] = recipes("README.md", "sh")
+        self.assertEqual(command, TWO_REPLICAS.removeprefix("\n"))
         folder, elsewhere = self.folder(), self.folder()
         os.symlink(SHEET, folder / "sheet")
         ended = shell(TWO_REPLICAS, folder, {**os.environ, "TMPDIR": str(elsewhere)})
-        self.assertEqual(ended, Ended(0, shown.removeprefix("text\n").encode()))
+        self.assertEqual(ended, Ended(0, shown.encode()))
         # nothing is written into the folder of the program
         self.assertEqual([file.name for file in folder.iterdir()], ["sheet"])
 
-    def test_each_command_of_the_page_on_replicas_writes_the_block_after_it(self):
-        blocks = (TOP / "docs/REPLICAS.md").read_text().split("```")[1::2]
-        pairs = list(zip(blocks[::2], blocks[1::2]))
-        self.assertEqual(len(pairs), 4)
-        for command, shown in pairs:
+    def test_each_session_of_two_replicas_writes_the_block_after_it(self):
+        sessions = recipes("docs/USING.md", "sh")
+        self.assertEqual(len(sessions), 4)
+        for command, shown in sessions:
             with self.subTest(command=command):
-                self.assertTrue(command.startswith("sh\n./sheet run"))
-                self.assertTrue(shown.startswith("text\n"))
-                shown = shown.removeprefix("text\n").encode()
-                self.assertEqual(shell(command.removeprefix("sh\n")), Ended(0, shown))
+                self.assertTrue(command.startswith("./sheet run"))
+                self.assertEqual(shell(command), Ended(0, shown.encode()))
 
 
 class Launcher(ProgramTest):
@@ -97,7 +94,7 @@ class Help(ProgramTest):
 
     def test_help_lists_the_refusals(self):
         listed = (TOP / "docs/FORMATS.md").read_text().split("## Refusals\n\n")[1].split("\n\n")[0]
-        refusals = [refusal.split() for refusal in listed.split("·")]
+        refusals = [refusal.split() for refusal in listed.split(",")]
         self.assertEqual([int(number) for number, _ in refusals], list(range(1, 22)))
         self.assert_tells(["--help"], *(f"\n  {number:>2} {name:11} " for number, name in refusals))
 
@@ -167,17 +164,18 @@ class Help(ProgramTest):
         told = run("run", "--help").output.decode()
         # columns for lines, for what they do and for their replies
         table = told.split("has a reply on standard output:\n\n")[1].split("\n\n")[0].split("\n")
-        pushed, = [row for row in table if row.startswith("  push ")]
-        table.remove(pushed)
+        taken = [row for row in table if row.startswith(("  push ", "  merge "))]
+        table = [row for row in table if row not in taken]
         asked = [line for row in table for line in re.split("  +", row[2:24].strip())]
         due = [reply for row in table for reply in re.split(", then |, (?=ok )", row[53:])]
         replies = run("run", given=lines(*asked)).output.decode().splitlines()
         for reply, wanted in zip(replies, due, strict=True):
             shown = wanted.removesuffix(" ..")
             self.assertEqual(reply if shown == wanted else reply[:len(shown)], shown)
-        # what a pull told, at another replica
+        # what a pull told, at another replica: pushed, and merged, when all of it is known
         delta, = [reply.split(" ", 2)[2] for reply in replies if reply.startswith("delta ")]
-        self.assertEqual(run("run", "--replica", "2", given=lines(f"push {delta}")), Ended(0, lines(pushed[53:])))
+        again = [f"{row.split()[0]} {delta}" for row in taken]
+        self.assertEqual(run("run", "--replica", "2", given=lines(*again)), Ended(0, lines(*(row[53:] for row in taken))))
 
     def test_the_examples_of_the_help_write_what_it_tells(self):
         told = run("table", "--help").output.decode()

@@ -46,7 +46,7 @@ class Whole(ProgramTest):
         (self.top / "tests/compared.py").write_text(f"def difference(top):\n    return {why}\n")
 
     def use_wrong(self, counts):
-        """Has so many wrong bodies be refused, and so many not."""
+        """Has so many mutants be refused, and so many not."""
         lines = ["Fault = ValueError", "", "", "def all_tried(top, crate):", "    print('wrong', crate)", f"    return {counts}"]
         (self.top / "tests/wrong.py").write_text("\n".join(lines) + "\n")
 
@@ -145,7 +145,10 @@ class Whole(ProgramTest):
         self.assert_fails("0 passed, 1 failed", "--program", "nonsense")
 
     def test_other_words_are_refused(self):
-        usage = "usage: ./test, or ./test --program [TEXT], or ./test --wrong [CRATE], or ./test --hunt MINUTES [--seed NUMBER]\n"
+        usage = (
+            "usage: ./test, or ./test --program [TEXT], or ./test --wrong [CRATE], or ./test --list,"
+            " or ./test --hunt MINUTES [--seed NUMBER]\n"
+        )
         for words in (["program"], ["--program", "a", "b"]):
             with self.subTest(words=words):
                 self.assertEqual(self.start(*words), Ended(2, "", usage))

@@ -1,4 +1,4 @@
-"""Tries the wrong bodies (`edits.py`): the prover has to refuse each, over the libraries that the gate has proved.
+"""Tries the mutants (`edits.py`): the prover has to refuse each, over the libraries that the gate has proved.
 
 Those of a crate that change different functions are tried at once, in a copy of the crate, by checks of these functions
 alone; what such a check doesn't refuse is tried once more by itself. What a crate's checks prove is kept between them.
@@ -125,7 +125,7 @@ def tried(top, kit, name, bodies):
     """Tries these edits of a crate, and shows what each came to. Returns how many were refused, and how many weren't."""
     with tempfile.TemporaryDirectory(prefix="sheet-wrong-") as room:
         faults = Crate(top, kit, name, Path(room)).faults(bodies)
-    said = [f"wrong body {name}/{it.stem}: {faults.get(it.stem, 'refused')}\n" for it in bodies]
+    said = [f"mutant {name}/{it.stem}: {faults.get(it.stem, 'refused')}\n" for it in bodies]
     # written at once, since crates are tried side by side
     sys.stdout.write("".join(said))
     sys.stdout.flush()
@@ -133,7 +133,7 @@ def tried(top, kit, name, bodies):
 
 
 def all_tried(top, only=""):
-    """Tries the wrong bodies of every crate, or of one. Returns how many were refused, and how many weren't."""
+    """Tries the mutants of every crate, or of one. Returns how many were refused, and how many weren't."""
     kit = tools.folder()
     chosen = {name: bodies for name, bodies in edits.of_crates(top).items() if bodies and only in ("", name)}
     # the crates that stand on most take longest

@@ -11,5 +11,5 @@ over `processes`. Sessions: `sessions_by_chance` makes plans of them, which `ses
 `finds` runs plans and keeps those that show a trouble, `plans` writes them down, `shrink` makes them smaller. `faults`,
 `replica_faults` and `session_faults` have what is planted for the hunt's own tests, over `desks`.
 
-`command` is `./test --hunt MINUTES`; `docs/HUNT.md` tells more.
+`command` is `./test --hunt MINUTES`; `docs/TESTING.md` tells more.
 """

@@ -16,7 +16,7 @@ NAMES = [part.name for part in PARTS]
 
 def asked(words):
     """What the words ask for."""
-    parser = argparse.ArgumentParser(prog="./test", description="Looks for trouble by chance; docs/HUNT.md.")
+    parser = argparse.ArgumentParser(prog="./test", description="Looks for trouble by chance; docs/TESTING.md.")
     parser.add_argument("--hunt", metavar="MINUTES", type=float, nargs="?", help="how long")
     parser.add_argument("--seed", metavar="NUMBER", type=int, help="which plans; any where it isn't given")
     parser.add_argument("--only", metavar="PART", choices=NAMES, help=f"one part alone: {', '.join(NAMES)}")
@@ -87,8 +87,13 @@ def main(words):
         return count
     seed = random.randrange(1_000_000) if ask.seed is None else ask.seed
     print(f"hunt: seed {seed}", flush=True)
-    hunt = Hunt(seed, [part() for part in PARTS if ask.only in (None, part.name)])
-    count = hunted(hunt, ask.hunt * 60)
+    asked_for = [part for part in PARTS if ask.only in (None, part.name)]
+    lacking = [part for part in asked_for if part.lacks()]
+    for part in lacking:
+        print(f"hunt: no {part.name}, since {part.lacks()}")
+    hunt = Hunt(seed, [part() for part in asked_for if part not in lacking])
+    count = hunted(hunt, ask.hunt * 60) if hunt.parts else 0
     print(hunt.told())
-    print(f"{sum(hunt.numbers.values()) - count} passed, {count} failed")
+    skipped = f", {len(lacking)} skipped" if lacking else ""
+    print(f"{sum(hunt.numbers.values()) - count} passed, {count} failed{skipped}")
     return 1 if count else 0

@@ -1,7 +1,12 @@
 """The parts of the hunt: each makes plans by chance, and tells what is wrong with what comes of one."""
 import tempfile
 
-from . import channels, processes, replicas, replicas_by_chance, runs, sessions, sessions_by_chance, shortages, themes
+import browser
+from program import NO_BROWSER
+
+from . import (
+    channels, pages, processes, replicas, replicas_by_chance, runs, sessions, sessions_by_chance, shortages, themes,
+)
 
 DIFFERS = """\
 $ ./sheet {words}
@@ -28,6 +33,11 @@ class Part:
 
     def __init__(self):
         self.counts = {}
+
+    @classmethod
+    def lacks(cls):
+        """Why it can't hunt on this machine, or nothing."""
+        return None
 
     def told(self):
         """What it has counted."""
@@ -123,4 +133,24 @@ class Faults(Part):
         return sessions.trouble(plan, shortages.serve(self.library), None, self.counts)
 
 
-PARTS = (Scripts, Replicas, Sessions, Faults)
+class Pages(Part):
+    """Two browsers at the page of one server."""
+
+    name = "pages"
+
+    def __init__(self, fault=None):
+        super().__init__()
+        self.fault = fault
+
+    @classmethod
+    def lacks(cls):
+        return None if browser.program() else NO_BROWSER
+
+    def plan(self, seed, number):
+        return pages.plan(seed, number)
+
+    def trouble(self, plan):
+        return pages.trouble(plan, self.counts, self.fault)
+
+
+PARTS = (Scripts, Replicas, Sessions, Faults, Pages)

@@ -3,12 +3,12 @@ ghost use Rattle.std.specs.Prelude.{◌≡◌};
 ghost use Rattle.ps_grid.specs.Blanks.{IsBlankOf};
 ghost use Rattle.ps_desk.specs.Opening.{IsNamed};
 
-use ps_commands::{Counts, DeskSeat, attend_lines};
 use ps_desk::{Desk, DeskName, Parts};
 use ps_device::{Reading, Writing};
 use ps_eval::Meter;
 use ps_grid::Refusal;
-use ps_session::HeldOutput;
+use ps_server::{Counts, DeskSeat, attend_lines};
+use ps_session::{HeldOutput, Resources};
 use ps_sheet::Sheet;
 use std::alloc::Global;
 use std::marker::Brand;
@@ -43,7 +43,8 @@ fn answered<L: DeskName, R: Threads + Wait + Sync, I: Ledger, O: Ledger, N: Ledg
     let mut sink = HeldOutput::<Writing<&mut Vec<u8>, O>, N>::new(alloc, writing, counts.held);
     let mut meter = Meter::<M>::new(counts.evaluations);
     let at = DeskSeat { desk: &desk, pass };
-    let attended = attend_lines(rt, alloc, &mut source, &mut sink, at, &mut meter);
+    let resources = Resources { threads: rt, alloc };
+    let attended = attend_lines(resources, &mut source, &mut sink, at, &mut meter);
     drop(sink);
     Ok((written, attended.ended.ok()))
 }

@@ -2,11 +2,13 @@
 ghost use Rattle.std.specs.Prelude.{◌≡◌};
 ghost use Rattle.ps_grid.specs.Blanks.{IsBlankOf};
 
-use ps_commands::{Counts, Onlooker, ProgramFault, table_on};
+use ps_commands::{Onlooker, ProgramFault, table_on};
 use ps_device::{MemorySink, Reading};
 use ps_eval::Meter;
 use ps_grid::Refusal;
 use ps_lines::{Outcome, Watcher};
+use ps_server::Counts;
+use ps_session::Resources;
 use ps_words::TableOptions;
 use std::alloc::Global;
 use std::marker::Brand;
@@ -58,8 +60,7 @@ fn told_counted<R: Threads + Sync, I: Ledger, O: Ledger, M: Ledger>(
         explain: true,
     };
     let _ = table_on(
-        rt,
-        alloc,
+        Resources { threads: rt, alloc },
         &mut source,
         &mut sink,
         &mut meter,

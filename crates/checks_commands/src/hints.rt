@@ -293,7 +293,7 @@ const LINES: [(&str, Refusal, &str); 34] = [
         "walk A1",
         Refusal::Command,
         "16 command: walk is no verb; the verbs are get, set, add, sub, choose, unchoose, rows, \
-            entry, entries, push, pull, replica",
+            entry, entries, push, merge, pull, replica",
     ),
     (
         "add A1",

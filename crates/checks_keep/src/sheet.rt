@@ -115,6 +115,10 @@ fn obey<L: Ledger, R: Threads + Sync>(
             Ok(_) => Ok(()),
             Err(refusal) => Err(refusal),
         },
+        Ok(Change::Merge(delta)) => match sheet.merge(rt, alloc, delta, meter) {
+            Ok(_) => Ok(()),
+            Err(refusal) => Err(refusal),
+        },
         Err(refusal) => Err(refusal),
     }
 }

@@ -44,7 +44,7 @@ fn edit_down<L: DeskName, D: Device + Drop, W: Wait + Drop, T: Abort + Threads +
     let mut failed = false;
     for row in 1..=rows {
         let number = enter(rt, alloc, seat, column, row);
-        if own.sync(alloc, &*seat).is_err() {
+        if own.sync(alloc, seat).is_err() {
             failed = true;
         } else {
             assert!(rt; !failed);
@@ -77,12 +77,12 @@ fn session<L: DeskName, D: Device + Drop, W: Wait + Drop, T: Abort + Threads + W
         Job::Together(all) => {
             enter(rt, alloc, &mut seat, column, 1);
             all.wait(rt);
-            assert!(rt; own.sync(alloc, &seat).is_ok());
+            assert!(rt; own.sync(alloc, &mut seat).is_ok());
         }
         Job::Meanwhile(meeting) => {
             if column == 0 {
                 enter(rt, alloc, &mut seat, column, 1);
-                assert!(rt; own.sync(alloc, &seat).is_ok());
+                assert!(rt; own.sync(alloc, &mut seat).is_ok());
             } else {
                 meeting.wait(rt);
                 enter(rt, alloc, &mut seat, column, 1);

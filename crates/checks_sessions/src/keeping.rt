@@ -7,7 +7,7 @@ use ps_device::{Failed, Reading, Writing};
 use ps_eval::Meter;
 use ps_grid::Refusal;
 use ps_lines::Unwatched;
-use ps_session::{HeldOutput, Keeper, Resources, RunFault, run_kept};
+use ps_session::{HeldBack, HeldOutput, Keeper, Resources, RunFault, converse};
 use ps_sheet::Sheet;
 use std::alloc::Global;
 use std::io;
@@ -32,7 +32,7 @@ impl Keeper<Sheet> for Counting {
 
     ghost can_fail = { ⊤ };
 
-    fn sync(&mut self, _alloc: Global, board: &Sheet) -> Result<(), Failed> {
+    fn sync(&mut self, _alloc: Global, board: &mut Sheet) -> Result<(), Failed> {
         self.syncs = self.syncs.saturating_add(1);
         if self.syncs == self.fails_at {
             return Err(Failed);
@@ -140,7 +140,16 @@ fn kept_counted<R: Threads + Sync, T: Read + Drop, J: Ledger, K: Ledger, N: Ledg
         fails_at: plan.fails_at,
         kept: 0,
     };
-    let ended = run_kept(
+    let ended = converse::<
+        R,
+        Reading<T, J>,
+        Sheet,
+        Meter<L>,
+        Unwatched,
+        HeldOutput<Writing<&mut Recorder, K>, N>,
+        HeldBack,
+        Counting,
+    >(
         Resources { threads: rt, alloc },
         &mut source,
         &mut sink,

@@ -230,6 +230,60 @@ fn hidden_parts_are_touched(rt: HostRuntime) -> Result<(), Refusal> {
     Ok(())
 }
 
+// The parts of a choice's pair of a replica, of an option: whether it is removed.
+fn is_removed(state: &CellState) -> bool {
+    let (_, _, choice) = state.parts();
+    choice.parts().len() == 1 && choice.options() == 0
+}
+
+// Whether of three cells of a delta the counter, the pair that is removed and the number are new, and nothing else.
+fn has_news(parts: &[(Cell, CellState)], cells: &[Cell]) -> bool {
+    parts.len() == 3
+        && cells == [parts[0].0, parts[1].0, parts[2].0].as_slice()
+        && parts[0].1.register.is_empty()
+        && parts[0].1.tally.value() == 6
+        && is_removed(&parts[1].1)
+        && number_of(&parts[2].1) == Some(9)
+}
+
+// Whether that is what is new of the delta, and nothing is once it is joined.
+fn tells_news(
+    rt: &impl Abort,
+    alloc: Global,
+    grid: &mut Grid,
+    delta: &Delta,
+) -> Result<bool, Refusal> {
+    let news = grid.news(alloc, delta)?.expect(rt, "news");
+    let cells = [cell(rt, 3), cell(rt, 4), cell(rt, 6)];
+    let is_told = has_news(news.parts(), cells.as_slice());
+    grid.join(alloc, &news)?;
+    Ok(is_told && grid.covers(delta) && grid.news(alloc, delta)?.is_none())
+}
+
+/// New of a delta is a count that is greater, a pair that is removed, and a number in a cell that had none; a number
+/// that is there, an older one and an added pair that is there aren't.
+#[test]
+fn news_are_what_is_not_there(rt: HostRuntime) -> Result<(), Refusal> {
+    let alloc = rt.alloc();
+    let before = [
+        (3, Added(1, 5)),
+        (4, Chosen(1, false)),
+        (5, Assigned(2, 9, 7)),
+        (7, Chosen(2, true)),
+    ];
+    let parts = [
+        (3, Added(1, 6)),
+        (4, Chosen(1, true)),
+        (5, Assigned(1, 9, 8)),
+        (6, Assigned(1, 1, 9)),
+        (7, Chosen(2, false)),
+    ];
+    let mut grid = grid_of(&rt, alloc, &[&before])?;
+    let delta = delta_of(&rt, alloc, &parts)?;
+    assert!(rt; tells_news(&rt, alloc, &mut grid, &delta)?);
+    Ok(())
+}
+
 // Joins a state into another one and says whether it is below it then, by the trait alone.
 fn is_joined<J: Join>(alloc: Global, state: &mut J, other: &J) -> Result<bool, Refusal> {
     state.join(alloc, other)?;

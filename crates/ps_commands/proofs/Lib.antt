@@ -1,4 +1,1 @@
-mod Attending
-mod Backs
 mod Causes
-mod GuardLemmas

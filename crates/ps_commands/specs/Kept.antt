@@ -1,24 +1,17 @@
 -- A sheet that is kept in a file, and why a file isn't taken.
-use Rattle.std.specs.Prelude.{◌≡◌, ◌⊎◌, ℕ, List, ⊤, false}
+use Rattle.std.specs.Prelude.{◌≡◌, ◌⊎◌, ℕ, List, ⊤}
 use Rattle.ps_grid.specs.declared.refusal.Refusal.TheVariants.{Device, Memory}
-use Rattle.ps_delta.specs.Deltas.{Entries}
 use Rattle.ps_sheet.specs.Sheet.{IsSheet, SheetView}
-use Rattle.ps_keep.specs.Journals.{IsJournal, JournalView}
-use Rattle.ps_kept.specs.Kept.{IsKept, IsNoted, TellHistory}
-use Rattle.ps_kept.specs.Starts.{IsFaultOf}
+use Rattle.ps_keep.specs.Journals.{JournalView}
+use Rattle.ps_kept.specs.Kept.{IsKept, IsNoted}
+use Rattle.ps_kept.specs.Starts.{IsFaultOf, Reads}
 use Rattle.ps_kept.specs.declared.fault.KeepFault.TheVariants as keeps
+use Rattle.ps_server.specs.Kept.{KeepsHistory}
 use Rattle.ps_commands.specs.declared.fault.ProgramFault.{ProgramFault}
 use Rattle.ps_commands.specs.declared.fault.ProgramFault.TheVariants.{KeptFailed, Refused}
 use Rattle.ps_commands.specs.declared.kept.FileNotTaken.{FileNotTaken}
 use Rattle.ps_commands.specs.declared.kept.KeptTrouble.{KeptTrouble}
 use Rattle.ps_commands.specs.declared.kept.KeptTrouble.TheVariants as troubles
-
--- KEEPS: the journal has this history of a replica on the disk, has noted nothing else, and hasn't failed
-pub record KeepsHistory (replica : ℕ) (history : List Entries) (journal : JournalView) : Type 0 where
-  pub is_journal : IsJournal journal
-  pub told : TellHistory replica journal.lines history
-  pub kept : journal.kept ≡ journal.lines
-  pub goes_on : journal.has_failed ≡ false
 
 -- a sheet of this replica, with so many workers, and the journal that keeps it
 pub record IsKeptSheet (replica workers : ℕ) (sheet : SheetView) (journal : JournalView) : Type 0 where
@@ -28,6 +21,13 @@ pub record IsKeptSheet (replica workers : ℕ) (sheet : SheetView) (journal : Jo
   pub holds : KeepsHistory replica sheet.history journal
   pub noted : IsNoted replica sheet.history journal
   pub kept : IsKept replica sheet.history journal
+
+-- a sheet of this replica, whose history a start reads of the bytes of a file
+pub record IsReadSheet (replica : ℕ) (sheet : SheetView) : Type 0 where
+  pub is_sheet : IsSheet sheet
+  pub replica_asked : sheet.replica ≡ replica
+  pub bytes : List ℕ
+  pub read : Reads replica bytes sheet.history
 
 -- the fault tells of this trouble, or that there was no memory to tell of it
 abbrev pub TellsTrouble : KeptTrouble → ProgramFault → Type 0

@@ -6,11 +6,11 @@ use crate::fault::ProgramFault;
 use crate::kept::OpenedFile;
 use crate::notice::tell_line;
 use ps_lines::{Outcome, Watcher};
+use ps_server::Warn;
 use ps_sheet::Sheet;
 use std::alloc::Global;
 use std::fmt;
 use std::io::Write;
-use std::sync::atomic::{AtomicBool, Ordering};
 
 /// That a replica makes changes elsewhere, too: a line for standard error, without its line feed.
 #[derive(Clone, Copy, Debug)]
@@ -47,11 +47,13 @@ impl<'a, W: Write + Drop> Warner<'a, W> {
     pub fn new(alloc: Global, left: Option<(NumberElsewhere<'a>, W)>) -> Warner<'a, W> {
         Warner { alloc, left }
     }
+}
 
+impl<W: Write + Drop> Warn for Warner<'_, W> {
     /// Tells it, where it wasn't told yet.
     ///
     /// Cost: constant, and what the writer takes.
-    pub fn warn(&mut self) {
+    fn warn(&mut self) {
         if let Some((number, mut out)) = self.left.take() {
             tell_line(self.alloc, &number, &mut out);
         }
@@ -103,22 +105,6 @@ impl<W: Write + Drop> Watcher for KeptOnlooker<'_, W> {
         self.onlooker.saw(line, outcome);
         if let Outcome::Elsewhere = outcome {
             self.warner.warn();
-        }
-    }
-}
-
-/// Looks on at a session of a kept desk, and raises a mark where it is pushed changes of the replica's own that the
-/// sheet hadn't.
-#[derive(Clone, Copy)]
-pub(crate) struct Marker<'a> {
-    /// the mark of all its sessions
-    pub(crate) mark: &'a AtomicBool,
-}
-
-impl Watcher for Marker<'_> {
-    fn saw(&mut self, _line: &[u8], outcome: Outcome) {
-        if let Outcome::Elsewhere = outcome {
-            self.mark.store(true, Ordering::SeqCst);
         }
     }
 }

@@ -10,6 +10,7 @@ use ps_eval::Meter;
 use ps_grid::Refusal;
 use ps_keep::{FileFault, Found, FoundFile, KeptFile};
 use ps_kept::{KeepFault, SheetKeeper, open_kept};
+use ps_session::Resources;
 use ps_sheet::Sheet;
 use ps_words::SheetOptions;
 use std::alloc::{AllocError, Global};
@@ -111,8 +112,7 @@ fn open_file<R: Files<File = File>>(
 ///
 /// Cost: that of [`open_kept`].
 pub fn keep_sheet<R: Threads + Sync, F: Found + Drop, L: Ledger>(
-    rt: &R,
-    alloc: Global,
+    resources: Resources<'_, R>,
     found: F,
     path: &str,
     options: SheetOptions,
@@ -122,8 +122,9 @@ pub fn keep_sheet<R: Threads + Sync, F: Found + Drop, L: Ledger>(
     ensures kept { IfOk result (λ r. IsKeptSheet options.replica options.workers r.0 r.1) }
     ensures refused { IfErr result (IsFileRefusal options.replica (F.bytes found)) }
 {
+    let Resources { threads, alloc } = resources;
     let workers = usize::from(options.workers);
-    let fault = match open_kept(rt, alloc, found, options.replica, workers, meter) {
+    let fault = match open_kept(threads, alloc, found, options.replica, workers, meter) {
         Ok(kept) => return Ok(kept),
         Err((fault, back)) => {
             drop(back);
@@ -147,8 +148,7 @@ pub fn keep_sheet<R: Threads + Sync, F: Found + Drop, L: Ledger>(
 ///
 /// Cost: that of [`keep_sheet`], and the memory of the file's bytes.
 pub fn open_kept_sheet<R: Files<File = File> + Threads + Sync, L: Ledger>(
-    rt: &R,
-    alloc: Global,
+    resources: Resources<'_, R>,
     path: &str,
     options: SheetOptions,
     meter: &mut Meter<L>,
@@ -158,11 +158,11 @@ pub fn open_kept_sheet<R: Files<File = File> + Threads + Sync, L: Ledger>(
     ensures refused { IfErr result (λ f. (f ≡ Refused Refusal.Device) ⊎ TellsTrouble KeptTrouble.Busy f
         ⊎ ((bytes : List ℕ) × IsFileRefusal options.replica bytes f)) }
 {
-    let found = match open_file(rt, alloc, path) {
+    let found = match open_file(resources.threads, resources.alloc, path) {
         Ok(found) => found,
         Err(fault) => return Err(fault),
     };
-    keep_sheet(rt, alloc, found, path, options, meter)
+    keep_sheet(resources, found, path, options, meter)
 }
 
 /// What was opened: a line for standard error, without its line feed.

@@ -5,8 +5,9 @@ ghost use Rattle.ps_grid.specs.declared.refusal.Refusal.TheVariants.{Device};
 ghost use Rattle.ps_sheet.specs.Sheet.{SheetView};
 ghost use Rattle.ps_keep.specs.Journals.{IsJournal};
 ghost use Rattle.ps_kept.specs.Kept.{TellHistory};
+ghost use Rattle.ps_server.specs.Sessions.{IsServed};
 ghost use Rattle.ps_commands.specs.Commands.{IsOpened, closed_text, listening_text};
-ghost use Rattle.ps_commands.specs.Sessions.{IsServed};
+ghost use Rattle.ps_commands.specs.Kept.{IsReadSheet};
 ghost use Rattle.ps_commands.specs.Status.{HasNoPort, IsServerFault};
 ghost use Rattle.ps_commands.specs.declared.fault.ProgramFault.TheVariants.{Refused};
 
@@ -16,13 +17,13 @@ use crate::kept::open_kept_sheet;
 use crate::notice::tell;
 use crate::port::listen;
 use crate::run::open_sheet;
-use crate::server::{Closed, serve_kept_on, serve_on};
-use crate::serving::{Entrance, Serving};
 use ps_device::Sink;
 use ps_eval::Meter;
 use ps_keep::{Journal, KeptFile};
+use ps_server::{Closed, ServerOptions, serve_kept_on, serve_on};
+use ps_session::Resources;
+use ps_sheet::Sheet;
 use ps_words::ServeOptions;
-use std::alloc::Global;
 use std::fs::File;
 use std::io::Write;
 use std::net::{Net, TcpListener, TcpStream};
@@ -32,12 +33,13 @@ use std::sync::ledger::Ledger;
 use std::thread::Threads;
 use std::time::{Clock, Duration};
 
-/// How the seats are given, as the words ask for it.
-fn serving_of(options: ServeOptions<'_>) -> Serving
+/// What is asked of the server of this listener, by the words.
+fn server_options<'a>(listener: &'a TcpListener, options: ServeOptions<'_>) -> ServerOptions<'a>
     ensures sessions { result.sessions ≡ options.entry.sessions }
     ensures seats { result.seats ≡ options.entry.seats }
 {
-    Serving {
+    ServerOptions {
+        listener,
         sessions: options.sessions.map(u64::from),
         seats: usize::from(options.seats),
         wait: Duration::from_secs(u64::from(options.wait)),
@@ -47,42 +49,45 @@ fn serving_of(options: ServeOptions<'_>) -> Serving
     }
 }
 
-/// Writes `listening` and the port, and gives the entrance by which sessions come in then: this listener, and the seats
-/// as the words ask for them. Refused as `Device` where the output fails.
-fn open_entrance<'a, K: Sink>(
-    listener: &'a TcpListener,
-    options: ServeOptions<'_>,
-    out: &mut K,
-) -> Result<Entrance<'a>, ProgramFault>
-    ensures sessions { IfOk result (λ entrance. entrance.serving.sessions ≡ options.entry.sessions) }
-    ensures seats { IfOk result (λ entrance. entrance.serving.seats ≡ options.entry.seats) }
-    ensures told { OnOk result (Appends (K.contents out.old) (K.contents out.new)
-        (listening_text options.entry.port)) }
+/// Writes `listening` and the port. Refused as `Device` where the output fails.
+fn tell_listening<K: Sink>(port: u16, out: &mut K) -> Result<(), ProgramFault>
+    ensures told { OnOk result (Appends (K.contents out.old) (K.contents out.new) (listening_text port)) }
     ensures flushed { OnOk result (K.waiting out.new ≡ []) }
     ensures calm { OnOk result (K.failures out.new ≡ K.failures out.old) }
     ensures failed { OnErr result (K.failures out.old < K.failures out.new) }
     ensures refused { IfErr result (λ f. f ≡ Refused Device) }
 {
-    match tell(b"listening ", u64::from(options.port), out) {
-        Ok(()) => Ok(Entrance {
-            listener,
-            serving: serving_of(options),
-        }),
-        Err(fault) => Err(fault),
-    }
+    tell(b"listening ", u64::from(port), out)
+}
+
+/// Writes `closed` and the version of the sheet that a server closed. Refused as `Device` where the output fails.
+fn tell_closed<K: Sink>(sheet: &Sheet, out: &mut K) -> Result<(), ProgramFault>
+    ensures told { OnOk result (Appends (K.contents out.old) (K.contents out.new)
+        (closed_text (length sheet.now.history))) }
+    ensures flushed { OnOk result (K.waiting out.new ≡ []) }
+    ensures calm { OnOk result (K.failures out.new ≡ K.failures out.old) }
+    ensures failed { OnErr result (K.failures out.old < K.failures out.new) }
+    ensures refused { IfErr result (λ f. f ≡ Refused Device) }
+{
+    tell(b"closed ", sheet.version(), out)
 }
 
 /// Listens on a port of this machine, opens an empty sheet of the replica that was asked for, writes `listening` and
-/// the port, and serves sessions on the sheet as [`serve_on`] does. Returns the sheet that it closed.
+/// the port, serves sessions on the sheet as [`serve_on`] does, and writes `closed` and the version. Returns the sheet
+/// that it closed.
 ///
 /// A port that can't be listened on is a fault of its own, at which nothing is written. Refused as `Memory` where there
-/// is none for the sheet; else as [`serve_on`] is.
+/// is none for the sheet, and as `Device` where `out` fails; else as [`serve_on`] is.
 ///
 /// Cost: that of opening a sheet, and of [`serve_on`].
 pub fn serve<
     R: Net<Listener = TcpListener, Stream = TcpStream> + Threads + Wait + Clock + Sync,
     K: Sink,
->(rt: &R, alloc: Global, options: ServeOptions<'_>, out: &mut K) -> Result<Closed, ProgramFault>
+>(
+    resources: Resources<'_, R>,
+    options: ServeOptions<'_>,
+    out: &mut K,
+) -> Result<Closed, ProgramFault>
     ensures asked { IfOk result (λ closed. options.entry.sessions ≡ Some closed.sessions) }
     ensures served { IfOk result (λ closed. (first : SheetView) × IsOpened options.entry.sheet.replica first
         × IsServed options.entry.seats closed.sessions first closed.sheet) }
@@ -97,18 +102,22 @@ pub fn serve<
     ensures refused { IfErr result (λ f. IsServerFault f ⊎ HasNoPort options.entry.port f) }
     ensures unheard { IfErr result (λ f. HasNoPort options.entry.port f → out.new ≡ out.old) }
 {
-    let listener = listen(rt, options.port)?;
-    let sheet = open_sheet(alloc, options.sheet)?;
-    let entrance = match open_entrance(&listener, options, out) {
-        Ok(entrance) => entrance,
+    let listener = listen(resources.threads, options.port)?;
+    let sheet = open_sheet(resources.alloc, options.sheet)?;
+    match tell_listening(options.port, out) {
+        Ok(()) => {}
         Err(fault) => return Err(fault),
-    };
-    serve_on(rt, alloc, entrance, sheet, out)
+    }
+    let closed = serve_on(resources, server_options(&listener, options), sheet)?;
+    match tell_closed(&closed.sheet, out) {
+        Ok(()) => Ok(closed),
+        Err(fault) => Err(fault),
+    }
 }
 
 /// Listens on a port of this machine, opens the sheet of the replica that was asked for from the file of this path, and
-/// writes `listening` and the port; then tells what it opened, and serves sessions on the sheet as [`serve_kept_on`]
-/// does, whose warner tells the same writer.
+/// writes `listening` and the port; then tells what it opened, serves sessions on the sheet as [`serve_kept_on`] does,
+/// whose warner tells the same writer, and writes `closed` and the version.
 ///
 /// A port that can't be listened on, and a file that isn't taken, are faults of their own, at which nothing is written.
 ///
@@ -126,8 +135,7 @@ pub fn serve_kept<
     L: Ledger,
     W: Write + Drop,
 >(
-    rt: &R,
-    alloc: Global,
+    resources: Resources<'_, R>,
     options: ServeOptions<'_>,
     path: &str,
     out: &mut K,
@@ -135,27 +143,32 @@ pub fn serve_kept<
     meter: &mut Meter<L>,
 ) -> Result<Closed<Journal<KeptFile>>, ProgramFault>
     ensures asked { IfOk result (λ closed. options.entry.sessions ≡ Some closed.sessions) }
+    ensures served { IfOk result (λ closed. (first : SheetView) × IsReadSheet options.entry.sheet.replica first
+        × IsServed options.entry.seats closed.sessions first closed.sheet) }
     ensures kept { IfOk result (λ closed. TellHistory closed.sheet.replica closed.journal.kept closed.sheet.history) }
     ensures journal { IfOk result (λ closed. IsJournal closed.journal) }
     ensures told { IfOk result (λ closed. Appends (K.contents out.old) (K.contents out.new)
         (listening_text options.entry.port ++ closed_text (length closed.sheet.history))) }
     ensures flushed { OnOk result (K.waiting out.new ≡ []) }
     ensures calm { OnOk result (K.failures out.new ≡ K.failures out.old) }
+    ensures untold { IfErr result (λ f. (out.new ≡ out.old)
+        ⊎ (Appends (K.contents out.old) (K.contents out.new) (listening_text options.entry.port)
+        × (K.waiting out.new ≡ []) × (K.failures out.new ≡ K.failures out.old))
+        ⊎ ((f ≡ Refused Device) × (K.failures out.old < K.failures out.new))) }
+    ensures unheard { IfErr result (λ f. HasNoPort options.entry.port f → out.new ≡ out.old) }
 {
-    let listener = listen(rt, options.port)?;
-    let (sheet, keeper) = open_kept_sheet(rt, alloc, path, options.sheet, meter)?;
-    let entrance = match open_entrance(&listener, options, out) {
-        Ok(entrance) => entrance,
+    let listener = listen(resources.threads, options.port)?;
+    let (sheet, keeper) = open_kept_sheet(resources, path, options.sheet, meter)?;
+    match tell_listening(options.port, out) {
+        Ok(()) => {}
         Err(fault) => return Err(fault),
-    };
-    let mut warner = tell_opened(alloc, path, &sheet, told);
-    serve_kept_on(
-        rt,
-        alloc,
-        entrance,
-        sheet,
-        keeper.into_journal(),
-        out,
-        &mut warner,
-    )
+    }
+    let mut warner = tell_opened(resources.alloc, path, &sheet, told);
+    let journal = keeper.into_journal();
+    let asked = server_options(&listener, options);
+    let closed = serve_kept_on(resources, asked, sheet, journal, &mut warner)?;
+    match tell_closed(&closed.sheet, out) {
+        Ok(()) => Ok(closed),
+        Err(fault) => Err(fault),
+    }
 }

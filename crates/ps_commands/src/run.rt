@@ -18,7 +18,7 @@ use ps_grid::Refusal;
 use ps_keep::Device;
 use ps_kept::{SheetKeeper, longer_histories_fit};
 use ps_lines::Watcher;
-use ps_session::{HeldOutput, Resources, run_kept, run_watched};
+use ps_session::{AtOnce, HeldBack, HeldOutput, Resources, Unkept, converse};
 use ps_sheet::Sheet;
 use ps_words::SheetOptions;
 use std::alloc::Global;
@@ -45,11 +45,10 @@ pub fn open_sheet(alloc: Global, options: SheetOptions) -> Result<Sheet, Refusal
 /// read and answered then is the transcript of the same empty sheet; the replies that were due before a read that
 /// failed are handed on still.
 ///
-/// Cost: that of opening a sheet, and of [`run_watched`]. The memory of the sheet isn't given back, for the program
+/// Cost: that of opening a sheet, and of [`converse`]. The memory of the sheet isn't given back, for the program
 /// ends next.
 pub fn answer_lines<R: Threads + Sync, S: Source, K: Sink, L: Ledger, W: Watcher>(
-    rt: &R,
-    alloc: Global,
+    resources: Resources<'_, R>,
     source: &mut S,
     sink: &mut K,
     meter: &mut Meter<L>,
@@ -74,8 +73,16 @@ pub fn answer_lines<R: Threads + Sync, S: Source, K: Sink, L: Ledger, W: Watcher
         × Stopped SheetLines (IsAtEnd (S.remaining source.new)) first (K.contents sink.old) read
         last (K.contents sink.new))) }
 {
-    let mut sheet = open_sheet(alloc, options)?;
-    let done = run_watched(rt, alloc, source, sink, &mut sheet, meter, watcher);
+    let mut sheet = open_sheet(resources.alloc, options)?;
+    let done = converse::<R, S, Sheet, Meter<L>, W, K, AtOnce, Unkept>(
+        resources,
+        source,
+        sink,
+        &mut sheet,
+        meter,
+        watcher,
+        &mut Unkept,
+    );
     leave_unfreed(sheet);
     done?;
     Ok(())
@@ -91,7 +98,7 @@ pub fn answer_lines<R: Threads + Sync, S: Source, K: Sink, L: Ledger, W: Watcher
 /// Refused as `Memory` where there is none to begin with, and as `Device` where the source, the sink or the keeper
 /// fails, after which nothing more is handed on.
 ///
-/// Cost: that of [`run_kept`]. The memory of the sheet isn't given back, for the program ends next.
+/// Cost: that of [`converse`]. The memory of the sheet isn't given back, for the program ends next.
 pub fn answer_kept<
     R: Threads + Sync,
     S: Source,
@@ -130,7 +137,10 @@ pub fn answer_kept<
     // for the law that what is noted is a beginning of a longer history still
     longer_histories_fit();
     let mut sheet = sheet;
-    let done = run_kept(resources, source, sink, &mut sheet, meter, watcher, keeper);
+    let sheet_now = &mut sheet;
+    let done = converse::<R, S, Sheet, Meter<L>, W, HeldOutput<K, N>, HeldBack, SheetKeeper<D>>(
+        resources, source, sink, sheet_now, meter, watcher, keeper,
+    );
     leave_unfreed(sheet);
     done?;
     Ok(())

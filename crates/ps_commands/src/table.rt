@@ -12,6 +12,7 @@ use ps_csv::{Imported, TableWatcher, export, export_entries, import_watched};
 use ps_device::{Failed, Sink, Source, hand_on};
 use ps_eval::Meter;
 use ps_grid::{Cell, Rect, Refusal};
+use ps_session::Resources;
 use ps_sheet::Sheet;
 use ps_words::TableOptions;
 use std::alloc::Global;
@@ -32,8 +33,7 @@ use std::thread::Threads;
 /// Cost: that of an import and an export, and the watcher's own. The memory of the sheet isn't given back, for the
 /// program ends next.
 pub fn table_on<R: Threads + Sync, S: Source, K: Sink, L: Ledger, W: TableWatcher>(
-    rt: &R,
-    alloc: Global,
+    resources: Resources<'_, R>,
     source: &mut S,
     sink: &mut K,
     meter: &mut Meter<L>,
@@ -55,8 +55,8 @@ pub fn table_on<R: Threads + Sync, S: Source, K: Sink, L: Ledger, W: TableWatche
         × Appends (K.contents sink.old) (K.contents sink.new) (take count text)) }
     ensures unwritten { IfErr result (λ f. f ≢ Refused Refusal.Device → sink.new ≡ sink.old) }
 {
-    let (sheet, imported) = taken_in(rt, alloc, source, meter, options, watcher)?;
-    let done = put_table(alloc, &sheet, options.entries, imported, sink);
+    let (sheet, imported) = taken_in(resources, source, meter, options, watcher)?;
+    let done = put_table(resources.alloc, &sheet, options.entries, imported, sink);
     leave_unfreed(sheet);
     match done {
         Ok(()) => Ok(()),
@@ -67,8 +67,7 @@ pub fn table_on<R: Threads + Sync, S: Source, K: Sink, L: Ledger, W: TableWatche
 /// An empty sheet of replica 1 with so many workers that took in a table of entries, with the table's records and
 /// fields.
 fn taken_in<R: Threads + Sync, S: Source, L: Ledger, W: TableWatcher>(
-    rt: &R,
-    alloc: Global,
+    resources: Resources<'_, R>,
     source: &mut S,
     meter: &mut Meter<L>,
     options: TableOptions,
@@ -84,8 +83,9 @@ fn taken_in<R: Threads + Sync, S: Source, L: Ledger, W: TableWatcher>(
     ensures refused { IfErr result (λ f. IsCauseOf (S.remaining source.old) (S.remaining source.new) f) }
     ensures device { result ≡ Err (Refused Refusal.Device) → S.failures source.old < S.failures source.new }
 {
+    let Resources { threads, alloc } = resources;
     let mut sheet = Sheet::open(alloc, 1, usize::from(options.workers))?;
-    match import_watched(rt, alloc, source, &mut sheet, meter, watcher) {
+    match import_watched(threads, alloc, source, &mut sheet, meter, watcher) {
         Ok(imported) => Ok((sheet, imported)),
         Err(fault) => Err(fault_of_import(fault)),
     }

@@ -2,9 +2,11 @@ pub mod BlockLemmas
 pub mod CellLists
 pub mod ChangeLemmas
 pub mod EntryLemmas
+pub mod FirstLemmas
 pub mod GridLemmas
 pub mod HistoryLemmas
 pub mod JoiningLemmas
 pub mod PlaceLemmas
 pub mod StateLemmas
+pub mod NewsLemmas
 pub mod WalkLemmas

@@ -1,6 +1,7 @@
 -- What holds of joins of states and of histories.
 use Rattle.std.specs.Prelude.{◌≡◌, ◌↔◌, List, [], ◌∷◌, ◌++◌, Contains}
 use Rattle.std.specs.List.{AllZip}
+use Rattle.ps_lattice.specs.News.{HasNothingOf, IsNewsOf}
 use Rattle.ps_delta.specs.State.{State, empty_state, joined_state, IsBelow}
 use Rattle.ps_delta.specs.Deltas.{Entries, state_of, joined_history}
 
@@ -34,3 +35,12 @@ GroupsJoin = (groups : List (List Entries)) (joins : List Entries) → AllZip Is
 abbrev pub CoveredChangesNothing : Type 0
 CoveredChangesNothing = (h : List Entries) (d : Entries) → IsBelow (state_of d) (joined_history h)
     → joined_history (h ++ d ∷ []) ≡ joined_history h
+
+-- what is new of d to s is below d, nothing that s has is needed for it, and there is no other such
+pub record IsLeastNews (s d n : State) : Type 0 where
+  pub below : IsBelow n d
+  pub nothing : HasNothingOf joined_state s n
+  pub once : (m : State) → IsNewsOf joined_state s d m → n ≡ m
+
+abbrev pub NewsIsLeast : Type 0
+NewsIsLeast = (s d n : State) → IsNewsOf joined_state s d n → IsLeastNews s d n

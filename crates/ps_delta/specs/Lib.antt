@@ -1,5 +1,6 @@
 pub mod Batches
 pub mod CellLaws
+pub mod CellNews
 pub mod Changes
 pub mod Deltas
 pub mod Inside

@@ -1,6 +1,7 @@
 //! Cell states in blocks.
 
-ghost use Rattle.std.specs.Prelude.{◌≡◌, ◌<◌, ◌≤◌, ℕ, [], IfOk, IfErr, OnOk, length, slice_index_or, slice_set};
+ghost use Rattle.std.specs.Prelude.{◌≡◌, ◌↔◌, ◌<◌, ◌≤◌, ℕ, [], IsTrue, IfOk, IfErr, OnOk, length, slice_index_or};
+ghost use Rattle.std.specs.Prelude.{slice_set};
 ghost use Rattle.ps_grid.specs.declared.refusal.Refusal.{Refusal};
 ghost use Rattle.ps_delta.specs.State.{empty_cell};
 
@@ -42,6 +43,13 @@ impl Block {
         Block {
             cells: Vec::new(alloc),
         }
+    }
+
+    /// Whether no cell of the block was ever changed.
+    pub(crate) fn is_unmade(&self) -> bool
+        ensures { IsTrue result ↔ (self.now ≡ []) }
+    {
+        self.cells.is_empty()
     }
 
     /// The state at a place, or the other one where the block doesn't reach that far.

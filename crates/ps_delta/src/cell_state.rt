@@ -2,6 +2,7 @@
 
 ghost use Rattle.std.specs.Prelude.{◌≡◌, ◌↔◌, IsTrue, IfOk, IfErr};
 ghost use Rattle.ps_grid.specs.declared.refusal.Refusal.{Refusal};
+ghost use Rattle.ps_lattice.specs.News.{IsNewsOf};
 ghost use Rattle.ps_delta.specs.State.{empty_cell, joined_cell};
 
 use ps_content::Content;
@@ -88,6 +89,22 @@ impl CellState {
             register: self.register.joined(alloc, &other.register)?,
             tally: self.tally.joined(alloc, &other.tally)?,
             choice: self.choice.joined(alloc, &other.choice)?,
+        })
+    }
+
+    /// What of the delta's state is new to this state: what is new to its register, to its counter and to its set.
+    ///
+    /// Refused only when out of memory.
+    ///
+    /// Cost: for each part of the delta's state a search here.
+    pub fn news(&self, alloc: Global, delta: &CellState) -> Result<CellState, Refusal>
+        ensures ok { IfOk result (λ s. IsNewsOf joined_cell self.now delta.now s) }
+        ensures memory { IfErr result (λ e. e ≡ Refusal.Memory) }
+    {
+        Ok(CellState {
+            register: self.register.news(alloc, &delta.register)?,
+            tally: self.tally.news(alloc, &delta.tally)?,
+            choice: self.choice.news(alloc, &delta.choice)?,
         })
     }
 }

@@ -104,6 +104,24 @@ impl Delta {
         })
     }
 
+    /// The delta of the cells, as by `new`, where they are in order and none has an empty state.
+    pub(crate) fn of_list(
+        alloc: Global,
+        cells: Vec<(Cell, CellState)>,
+    ) -> Result<Option<Delta>, Refusal>
+        requires { AreEntries cells.items × AreInGrid cells.items }
+        ensures made { IfOk result (λ o. SomeIff o (0 < length cells.items) cells.items) }
+        ensures memory { IfErr result (λ e. e ≡ Refusal.Memory) }
+        ensures asked { OnErr result (0 < length cells.items) }
+    {
+        if cells.is_empty() {
+            return Ok(None);
+        }
+        Ok(Some(Delta {
+            cells: DeltaCells::new(alloc, cells)?,
+        }))
+    }
+
     /// The cells with their states.
     ///
     /// Cost: constant.

@@ -33,6 +33,8 @@ pub enum Change {
     Edit(Edit),
     /// A delta made elsewhere.
     Delta(Delta),
+    /// A delta made elsewhere, of which only the news is taken.
+    Merge(Delta),
 }
 
 /// Cells with contents, ascending and distinct, at least one. A contract sees it as the list of them.

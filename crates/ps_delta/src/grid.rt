@@ -1,13 +1,17 @@
 //! The state of a sheet.
 
-ghost use Rattle.std.specs.Prelude.{◌≡◌, ◌↔◌, ℕ, IsTrue, IfOk, IfErr, OnOk, OnErr};
+ghost use Rattle.std.specs.Prelude.{◌≡◌, ◌↔◌, ℕ, [], ◌∷◌, IsTrue, IfOk, IfErr, OnOk, OnErr};
 ghost use Rattle.std.specs.List.Sorted.{IsStrictlyIncreasing};
+ghost use Rattle.std.specs.Option.{IfSome, is_none};
+ghost use Rattle.ps_lattice.specs.News.{IsNewsOf};
 ghost use Rattle.ps_grid.specs.declared.refusal.Refusal.{Refusal};
 ghost use Rattle.ps_delta.specs.State.{AreTouched, empty_state, HasPlace, IsBelow};
 ghost use Rattle.ps_delta.specs.State.{IsInGrid, joined_blocks, joined_state};
 ghost use Rattle.ps_delta.specs.State.{state_at, with_cell};
-ghost use Rattle.ps_delta.specs.Deltas.{cells_of, overlaid, state_of};
+ghost use Rattle.ps_delta.specs.Deltas.{AreEntries, AreInGrid, IsDelta, cells_of, overlaid, state_of};
 ghost use Rattle.ps_delta.specs.Changes.{AreChangesBy, HasRoomFor, entries_from};
+ghost use Rattle.std.specs.Prelude.{length};
+ghost use Rattle.ps_delta.specs.declared.grid.TheConstants.{BLOCKS};
 
 use crate::block::{BLOCK, Block};
 use crate::cell_state::CellState;
@@ -76,6 +80,14 @@ impl Grid {
         self.blocks[index / BLOCK].at(index % BLOCK, &self.empty)
     }
 
+    /// Returns all blocks of the grid.
+    pub(crate) fn blocks(&self) -> &[Block]
+        ensures same { result.now ≡ self.now }
+        ensures all { length self.now ≡ BLOCKS }
+    {
+        &self.blocks
+    }
+
     /// Joins the delta into the grid.
     ///
     /// It is for whoever keeps a grid alone. A sheet uses its two halves, `changes_by` and `exchange`, since it takes a
@@ -128,6 +140,71 @@ impl Grid {
                 touched.add(change.0);
             }
         }
+    }
+
+    /// What of the delta is new to the grid: the least delta whose join with the grid is that of this one; none where
+    /// this one is below the grid.
+    ///
+    /// Refused only when out of memory.
+    ///
+    /// Cost: for each cell of the delta its counts and pairs, each with a search among those that the cell has here. It
+    /// takes no memory where the delta is below the grid.
+    pub fn news(&self, alloc: Global, delta: &Delta) -> Result<Option<Delta>, Refusal>
+        ensures news { IfOk result (λ o. IfSome o (λ d.
+            IsNewsOf joined_state (state_at self.now) (state_of delta.now) (state_of d))) }
+        ensures delta { IfOk result (λ o. IfSome o IsDelta) }
+        ensures none { IfOk result (λ o. IsTrue (is_none o) ↔ IsBelow (state_of delta.now) (state_at self.now)) }
+        ensures memory { IfErr result (λ e. e ≡ Refusal.Memory) }
+        ensures asked { OnErr result (¬ IsBelow (state_of delta.now) (state_at self.now)) }
+    {
+        let parts = delta.parts();
+        if parts.len() == 1 {
+            return self.news_of_one(alloc, &parts[0]);
+        }
+        let cells = self.news_of(alloc, parts)?;
+        Delta::of_list(alloc, cells)
+    }
+
+    /// What of one entry is new to its cell.
+    #[inline(always)]
+    fn news_of_one(&self, alloc: Global, part: &(Cell, CellState)) -> Result<Option<Delta>, Refusal>
+        ensures news { IfOk result (λ o. IfSome o (λ d.
+            IsNewsOf joined_state (state_at self.now) (state_of (part.now ∷ [])) (state_of d))) }
+        ensures delta { IfOk result (λ o. IfSome o IsDelta) }
+        ensures none { IfOk result (λ o. IsTrue (is_none o) ↔ IsBelow (state_of (part.now ∷ [])) (state_at self.now)) }
+        ensures memory { IfErr result (λ e. e ≡ Refusal.Memory) }
+        ensures asked { OnErr result (¬ IsBelow (state_of (part.now ∷ [])) (state_at self.now)) }
+    {
+        let here = self.at(part.0);
+        if part.1.below(here) {
+            return Ok(None);
+        }
+        let new = here.news(alloc, &part.1)?;
+        Ok(Some(Delta::of_filled(part.0, new)))
+    }
+
+    /// What of each entry is new to its cell, where something is.
+    fn news_of(
+        &self,
+        alloc: Global,
+        parts: &[(Cell, CellState)],
+    ) -> Result<Vec<(Cell, CellState)>, Refusal>
+        requires { IsDelta parts.now × AreInGrid parts.now }
+        ensures news { IfOk result (λ v. IsNewsOf joined_state (state_at self.now) (state_of parts.now)
+            (state_of v.items)) }
+        ensures entries { IfOk result (λ v. AreEntries v.items × AreInGrid v.items) }
+        ensures memory { IfErr result (λ e. e ≡ Refusal.Memory) }
+        ensures asked { OnErr result (¬ IsBelow (state_of parts.now) (state_at self.now)) }
+    {
+        let mut cells = Vec::new(alloc);
+        for part in parts {
+            let here = self.at(part.0);
+            if !part.1.below(here) {
+                let new = here.news(alloc, &part.1)?;
+                cells.push((part.0, new))?;
+            }
+        }
+        Ok(cells)
     }
 
     /// Lists the cells that a join of the delta would change, ascending, each with the state that it would have. They

@@ -3,7 +3,7 @@
 //! They are part of the public interface. The program calls `grids_are_shared` alone.
 
 ghost use Rattle.std.specs.Thread.{IsSync};
-ghost use Rattle.ps_delta.specs.Laws.{CoveredChangesNothing, GroupsJoin, HistoryIsASet, StatesJoin};
+ghost use Rattle.ps_delta.specs.Laws.{CoveredChangesNothing, GroupsJoin, HistoryIsASet, NewsIsLeast, StatesJoin};
 ghost use Rattle.ps_delta.specs.contracts.grid.Grid as grid;
 
 use crate::block::Block;
@@ -36,6 +36,13 @@ pub fn groups_join()
 /// Cost: none.
 pub fn covered_changes_nothing()
     ensures { CoveredChangesNothing }
+{}
+
+/// What is new of a delta is below the delta, nothing that the state has is needed for it, and there is no other.
+///
+/// Cost: none.
+pub fn news_is_least()
+    ensures { NewsIsLeast }
 {}
 
 /// A type whose values several threads may look at together.

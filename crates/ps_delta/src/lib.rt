@@ -27,6 +27,7 @@ mod cell_state;
 mod delta;
 mod delta_cells;
 mod edit;
+mod entries;
 mod grid;
 mod joining;
 mod laws;
@@ -38,6 +39,7 @@ pub use delta::Delta;
 pub use edit::{Batch, Change, Edit};
 pub use grid::Grid;
 pub use laws::{
-    covered_changes_nothing, grids_are_shared, groups_join, history_is_a_set, states_join,
+    covered_changes_nothing, grids_are_shared, groups_join, history_is_a_set, news_is_least,
+    states_join,
 };
 pub use touched::Touched;

@@ -8,13 +8,16 @@ use Rattle.ps_delta.specs.Deltas.{Entries, joined_history}
 use Rattle.ps_delta.specs.declared.edit.Change.TheVariants as changes
 use Rattle.ps_delta.specs.declared.edit.Edit.{Edit}
 use Rattle.ps_sheet.specs.Edits.{EditsAreFresh, delta_of_edit}
+use Rattle.ps_sheet.specs.Merges.{IsMergedAs}
 use Rattle.ps_sheet.specs.Prepared.{IsRefusedBy, IsToAppend}
 use Rattle.ps_face.specs.Legal.{IsLegal, history_of}
 use Rattle.ps_lines.specs.Replies.{done_text, refusal_text}
+use Rattle.ps_session.specs.Boards.{merged_text}
+use Rattle.ps_session.specs.declared.board.Merged.{Merged}
 use Rattle.ps_desk.specs.declared.receipt.Standing.{Standing}
 use Rattle.ps_desk.specs.Passes.{PassView}
-use Rattle.ps_desk.specs.Receipts.{Stands, with_delta}
-use Rattle.ps_desk.specs.Seats.{GoesOn, IsEdited, IsLacking, IsRefused, IsTakenIn}
+use Rattle.ps_desk.specs.Receipts.{Stands, merged_of, with_delta}
+use Rattle.ps_desk.specs.Seats.{GoesOn, IsEdited, IsLacking, IsMergedIn, IsRefused, IsTakenIn}
 use Rattle.ps_desk.proofs.Receipted.{Makes, edit_stands}
 
 module _ (r : ℕ) (h : List Entries) (old new : PassView) (legal : IsLegal h new.list)
@@ -71,6 +74,23 @@ module _ (r : ℕ) (h : List Entries) (old new : PassView) (legal : IsLegal h ne
       receipt = with_delta s stands.delta;
       tells = stands.tells;
       told = refl;
+      counted = counted;
+      entered = same.1;
+    },
+    record { later = later; appended = omega (arith, counted); seat = same.0 },
+  )
+
+  -- a delta that was merged
+  pub merged_in : (delta : Entries) (s : Standing) (m : Merged) → m ≡ merged_of s.number s.fresh
+      → Stands (λ t d. IsMergedAs t delta d) h old.list new.list old.seat s
+      → new.appended ≡ old.appended + (if s.fresh then 1 else 0)
+      → IsMergedIn h delta old (merged_text m) new × GoesOn old new
+  merged_in delta s m is stands counted = (
+    record {
+      legal = legal;
+      receipt = with_delta s stands.delta;
+      tells = stands.tells;
+      told = ap merged_text is;
       counted = counted;
       entered = same.1;
     },

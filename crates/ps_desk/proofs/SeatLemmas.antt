@@ -10,8 +10,8 @@ use Rattle.ps_lines.specs.PullReplies.{HandsOn}
 use Rattle.ps_lines.specs.Commands.{Read, ReadsLine}
 use Rattle.ps_lines.specs.Replies.{refusal_text, replica_text}
 use Rattle.ps_lines.specs.declared.command.Command.{Command}
-use Rattle.ps_lines.specs.declared.command.Command.TheVariants.{Edit, Entries as AllEntries, Entry, Get, Pull, Push}
-use Rattle.ps_lines.specs.declared.command.Command.TheVariants.{Replica, Rows}
+use Rattle.ps_lines.specs.declared.command.Command.TheVariants.{Edit, Entries as AllEntries, Entry, Get, Merge}
+use Rattle.ps_lines.specs.declared.command.Command.TheVariants.{Pull, Push, Replica, Rows}
 use Rattle.ps_session.proofs.AnswerLemmas.{memory_or_other}
 use Rattle.ps_lines.proofs.PulledDeltas.{hands_out}
 use Rattle.ps_desk.specs.Passes.{PassView}
@@ -120,6 +120,9 @@ module _ (r : ℕ) (h : List Entries) where
   answer_of old new line text (Ok (Push delta)) reads did =
       answer_of_command old new line text (Push delta) reads
       (subst (λ (t : List ℕ). Does (Ok (Push delta)) old t new) (sym did.2) did.1.0) did.1.1
+  answer_of old new line text (Ok (Merge delta)) reads did =
+      answer_of_command old new line text (Merge delta) reads
+      (subst (λ (t : List ℕ). Does (Ok (Merge delta)) old t new) (sym did.2) did.1.0) did.1.1
   answer_of old new line text (Ok (Replica named)) reads did =
       answer_of_command old new line text (Replica named) reads
       (inl (did.1.1, did.2 ∙ ap replica_text did.1.0)) (subst (GoesOn old) (sym did.1.1) (goes_itself old))
@@ -130,8 +133,3 @@ module _ (r : ℕ) (h : List Entries) where
   pub seat_answers : (old new : PassView) (line text : List ℕ) → BoardAnswers (SeatCalls r h) old line text new
       → SeatAnswers r h old line text new
   seat_answers old new line text answers = answer_of old new line text answers.asked answers.reads answers.obeyed
-
-  -- and go on from what the pass had seen
-  pub answers_go_on : (old new : PassView) (line text : List ℕ) → BoardAnswers (SeatCalls r h) old line text new
-      → GoesOn old new
-  answers_go_on old new line text answers = goes_on r h old new line text (seat_answers old new line text answers)

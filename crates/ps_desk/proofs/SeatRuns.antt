@@ -4,7 +4,7 @@
 --
 --     let told = c.talk.ensures in
 --     let more : GoesOn c.new-seat.result c.talk.new.board =
---     talked GoesOn goes_itself goes_trans (BoardAnswers (SeatCalls r h)) (answers_go_on r h) _ _ _ _ _ _ _ _
+--     talked GoesOn goes_itself goes_trans (SeatAnswers r h) (goes_on r h) _ _ _ _ _ _ _ _
 --     c.talk.result
 --     told.transcribed told.sink told.source told.keep told.memory in
 use Rattle.std.proofs.Common.{◌∙◌, inl, inr, refl, arith, ℕ, List}

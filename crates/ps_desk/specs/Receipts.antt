@@ -1,10 +1,12 @@
 -- What a receipt tells of the published list.
-use Rattle.std.specs.Prelude.{◌≡◌, ℕ, ◌+◌, List, [], ◌∷◌, ◌++◌, length, MatchBool}
+use Rattle.std.specs.Prelude.{◌≡◌, ℕ, ◌+◌, Bool, true, false, List, [], ◌∷◌, ◌++◌, length, MatchBool}
 use mathlib.Core.List.{IsPrefix}
 use Rattle.ps_delta.specs.State.{State, IsBelow}
 use Rattle.ps_delta.specs.Deltas.{Entries, IsDelta, state_of, joined_history}
 use Rattle.ps_face.specs.declared.patch.Note.{Note}
 use Rattle.ps_face.specs.Legal.{history_of}
+use Rattle.ps_session.specs.declared.board.Merged.{Merged}
+use Rattle.ps_session.specs.declared.board.Merged.TheVariants.{Known, New}
 use Rattle.ps_desk.specs.declared.receipt.Receipt.{Receipt}
 use Rattle.ps_desk.specs.declared.receipt.Standing.{Standing}
 
@@ -37,6 +39,11 @@ IsReceipt Made h seen now seat r = MatchBool r.fresh (IsAppended Made h seen now
 -- the receipt of a change that stands there, with this delta
 abbrev pub with_delta : Standing → Entries → Receipt
 with_delta s d = record { number = s.number; delta = d; fresh = s.fresh }
+
+-- what a merge came to: the number of what was appended, or the length of the history where nothing was
+abbrev pub merged_of : ℕ → Bool → Merged
+merged_of number true = New number
+merged_of number false = Known number
 
 -- STANDS: with a delta it is a receipt
 pub record Stands (Made : State → Entries → Type 0) (h : List Entries) (seen now : List Note) (seat : ℕ)

@@ -11,21 +11,23 @@ use Rattle.ps_eval.specs.Items.{Assignment}
 use Rattle.ps_delta.specs.Deltas.{Entries, joined_history}
 use Rattle.ps_cells.specs.Settled.{IsSettled}
 use Rattle.ps_sheet.specs.Edits.{delta_of_edit}
+use Rattle.ps_sheet.specs.Merges.{IsMergedAs}
 use Rattle.ps_delta.specs.declared.edit.Edit.{Edit as SheetEdit}
 use Rattle.ps_csv.specs.Exports.{Holdings, entry_text, exported, exported_entries, held_in}
 use Rattle.ps_face.specs.Legal.{IsLegal, history_of}
 use Rattle.ps_session.specs.Answers.{TakesMemory}
-use Rattle.ps_session.specs.Boards.{BoardAnswers, Calls, told}
+use Rattle.ps_session.specs.Boards.{Calls, merged_text, told}
+use Rattle.ps_session.specs.declared.board.Merged.{Merged}
 use Rattle.ps_lines.specs.Commands.{Read, ReadsLine}
 use Rattle.ps_lines.specs.PullReplies.{HandsOut}
 use Rattle.ps_lines.specs.Replies.{done_text, entries_reply, entry_reply, refusal_text, replica_text, rows_text}
 use Rattle.ps_lines.specs.Replies.{value_text}
 use Rattle.ps_lines.specs.Streams.{Answering, Lines}
 use Rattle.ps_lines.specs.declared.command.Command.{Command}
-use Rattle.ps_lines.specs.declared.command.Command.TheVariants.{Edit, Entries as AllEntries, Entry, Get, Pull, Push}
-use Rattle.ps_lines.specs.declared.command.Command.TheVariants.{Replica, Rows}
+use Rattle.ps_lines.specs.declared.command.Command.TheVariants.{Edit, Entries as AllEntries, Entry, Get, Merge}
+use Rattle.ps_lines.specs.declared.command.Command.TheVariants.{Pull, Push, Replica, Rows}
 use Rattle.ps_desk.specs.Passes.{PassView}
-use Rattle.ps_desk.specs.Receipts.{IsAppended, IsReceipt}
+use Rattle.ps_desk.specs.Receipts.{IsAppended, IsReceipt, merged_of}
 use Rattle.ps_desk.specs.declared.receipt.Receipt.{Receipt}
 
 -- an edit was made: a patch of this seat, with the edit's delta over all that came before it, ends the list, and the
@@ -92,6 +94,17 @@ pub record IsTakenIn (h : List Entries) (delta : Entries) (old : PassView) (text
     pub counted : new.appended ≡ old.appended + (if receipt.fresh then 1 else 0)
     pub entered : new.enters ≡ old.enters
 
+-- a delta was merged: its news was appended, or it has none and is included, and the reply says which of the two, and
+-- has the receipt's number
+pub record IsMergedIn (h : List Entries) (delta : Entries) (old : PassView) (text : List ℕ) (new : PassView) : Type 0
+  where
+    pub legal : IsLegal h new.list
+    pub receipt : Receipt
+    pub tells : IsReceipt (λ s d. IsMergedAs s delta d) h old.list new.list old.seat receipt
+    pub told : text ≡ merged_text (merged_of receipt.number receipt.fresh)
+    pub counted : new.appended ≡ old.appended + (if receipt.fresh then 1 else 0)
+    pub entered : new.enters ≡ old.enters
+
 -- what a session does where a line asks for this: the reply, and its pass afterwards
 abbrev pub SeatObeys : ℕ → List Entries → Read Command → PassView → List ℕ → PassView → Type 0
 SeatObeys r h (Ok (Edit edit)) old text new = IsEdited r h edit old text new ⊎ IsRefused r h edit old text new
@@ -104,6 +117,7 @@ SeatObeys r h (Ok (AllEntries first last)) old text new = IsHeld h
     (λ held. entries_reply ((spanned first last).height) (exported_entries held (spanned first last))) old text new
 SeatObeys r h (Ok (Pull from most)) old text new = IsHandedOut h from (unwrap_or most 1) old text new
 SeatObeys r h (Ok (Push delta)) old text new = IsTakenIn h delta old text new
+SeatObeys r h (Ok (Merge delta)) old text new = IsMergedIn h delta old text new
 SeatObeys r h (Ok (Replica named)) old text new = (new ≡ old) × (text ≡ replica_text r)
 SeatObeys r h (Err refusal) old text new = (new ≡ old) × (text ≡ refusal_text refusal)
 
@@ -146,6 +160,11 @@ abbrev pub SeatReceives : List Entries → PassView → Entries → Read ℕ →
 SeatReceives h old delta answer new =
     (IsTakenIn h delta old (told done_text answer) new ⊎ IsLacking ⊤ old (told done_text answer) new) × GoesOn old new
 
+abbrev pub SeatMerges : List Entries → PassView → Entries → Read Merged → PassView → Type 0
+SeatMerges h old delta answer new =
+    (IsMergedIn h delta old (told merged_text answer) new ⊎ IsLacking ⊤ old (told merged_text answer) new)
+    × GoesOn old new
+
 abbrev pub SeatShows : List Entries → PassView → ℕ → Read Value → PassView → Type 0
 SeatShows h old cell answer new =
     (IsLook h (λ v. value_text (v cell)) old (told value_text answer) new ⊎ IsGone old (told value_text answer) new)
@@ -185,6 +204,7 @@ abbrev pub SeatCalls : ℕ → List Entries → Calls PassView
 SeatCalls r h = record {
   edits = SeatEdits r h;
   receives = SeatReceives h;
+  merges = SeatMerges h;
   shows = SeatShows h;
   tables = SeatTables h;
   holds = SeatHolds h;
@@ -217,9 +237,3 @@ SeatAnswers r h old line text new = SeatServes r h old line text new ⊎ SeatLac
 -- .. and a line as it stands between line feeds
 abbrev pub SeatLines : ℕ → List Entries → Answering PassView
 SeatLines r h = Lines (SeatAnswers r h)
-
--- LAW: what a session is answered by the calls of a seat is the answer of a seat
-abbrev pub SeatsAnswerLines : Type 0
-SeatsAnswerLines =
-    (r : ℕ) (h : List Entries) (old new : PassView) (line text : List ℕ)
-    → BoardAnswers (SeatCalls r h) old line text new → SeatAnswers r h old line text new

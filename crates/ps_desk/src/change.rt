@@ -21,6 +21,7 @@ use crate::pass::Pass;
 use crate::patch::{patch_of_listed, patch_of_one};
 use crate::receipt::Standing;
 use crate::showing::Showing;
+use crate::shown_place::ShownPlace;
 use ps_delta::Delta;
 use ps_face::{FaceWriter, Patch};
 use ps_grid::{Cell, Refusal, Twin};
@@ -38,6 +39,28 @@ pub(crate) fn make_way<L: DeskName, W: Wait + Drop>(copies: &mut FaceWriter<L, W
 {
     match showing {
         Showing::AtOnce => copies.show(),
+        Showing::Later => {}
+    }
+}
+
+/// Has the pass take note that all is shown, where a change was shown at once.
+#[inline(always)]
+pub(crate) fn note_shown<L: DeskName, W: Wait + Drop, V: Wait>(
+    wait: &V,
+    copies: &FaceWriter<L, W>,
+    pass: &mut Pass<L>,
+    showing: Showing,
+)
+    requires shown { showing ≡ AtOnce → copies.now.shown ≡ copies.now.list }
+    ensures { pass.new ≡ pass.old }
+{
+    match showing {
+        Showing::AtOnce => {
+            // for the fact that the list is legal
+            let _ = copies.front();
+            let shown = ShownPlace::new(&copies.shown());
+            let _ = pass.note_shown(wait, &shown);
+        }
         Showing::Later => {}
     }
 }

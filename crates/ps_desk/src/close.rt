@@ -9,7 +9,7 @@ ghost use Rattle.ps_desk.specs.Closing.{EndsAt, HistoryBegins, IsClosed, appende
 use crate::desk::Desk;
 use crate::name::DeskName;
 use crate::pass::Pass;
-use crate::place::Place;
+use crate::shown_place::ShownPlace;
 use ps_face::BookPrefix;
 use ps_sheet::Sheet;
 use std::sync::Wait;
@@ -31,17 +31,20 @@ impl<L: DeskName, W: Wait + Drop> Desk<L, W> {
         ensures one { IsClosed L.opening result.history passes.items }
         ensures sheet { IsSheet result }
     {
-        // for the fact that there is a seat
-        let _ = self.seats();
-        let mut place = passes[0].place();
-        self.close_at(wait, passes, &mut place)
+        let (sheet, _) = self.end(wait, passes);
+        sheet
     }
 
-    /// Ends the desk as [`Desk::close`] does, for somebody else who has seen its list up to a place. The place is then
-    /// the end of the list, which the history of the sheet stands for.
+    /// Ends the desk as [`Desk::close`] does, for somebody else who has seen what is shown up to a place. The place is
+    /// then the end of the list, which the history of the sheet stands for.
     ///
     /// Cost: that of freeing the published copies.
-    pub fn close_at<V: Wait>(self, wait: &V, passes: Vec<Pass<L>>, place: &mut Place<L>) -> Sheet
+    pub fn close_at<V: Wait>(
+        self,
+        wait: &V,
+        passes: Vec<Pass<L>>,
+        place: &mut ShownPlace<L>,
+    ) -> Sheet
         requires passes { vec_len passes ≡ self }
         ensures replica { result.replica ≡ L.replica }
         ensures begins { HistoryBegins L.opening result.history passes.items }
@@ -51,10 +54,25 @@ impl<L: DeskName, W: Wait + Drop> Desk<L, W> {
         ensures later { IsPrefix place.old place.new }
         ensures end { result.history ≡ history_of L.opening place.new }
     {
-        let state = self.into_state();
+        let (sheet, shown) = self.end(wait, passes);
+        place.catch_up(wait, shown);
+        sheet
+    }
+
+    /// Ends the desk, and gives its sheet back with the end of its list, all of which was shown.
+    fn end<V: Wait>(self, wait: &V, passes: Vec<Pass<L>>) -> (Sheet, ShownPlace<L>)
+        requires passes { vec_len passes ≡ self }
+        ensures replica { result.0.replica ≡ L.replica }
+        ensures begins { HistoryBegins L.opening result.0.history passes.items }
+        ensures grown { length result.0.history ≡ length L.opening + appended_of passes.items }
+        ensures one { IsClosed L.opening result.0.history passes.items }
+        ensures sheet { IsSheet result.0 }
+        ensures end { result.0.history ≡ history_of L.opening result.1 }
+    {
+        let mut state = self.into_state();
+        let shown = state.show();
         let mut all = gather(wait, state.front(), passes);
-        place.catch_up(wait, state.front());
-        state.end(&mut all)
+        (state.end(&mut all), shown)
     }
 }
 

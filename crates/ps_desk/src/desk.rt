@@ -18,9 +18,9 @@ ghost use Rattle.ps_desk.specs.Receipts.{IsAppended, IsReceipt, Stands};
 use crate::change::share;
 use crate::name::DeskName;
 use crate::pass::Pass;
-use crate::place::Place;
 use crate::receipt::{Receipt, Standing};
 use crate::showing::Showing;
+use crate::shown_place::ShownPlace;
 use crate::state::DeskState;
 use ps_delta::{Change, Delta, Edit};
 use ps_eval::Meter;
@@ -199,17 +199,21 @@ impl<L: DeskName, W: Wait + Drop> Desk<L, W> {
         state.make(rt, wait, alloc, pass, change, meter, showing)
     }
 
-    /// Shows to those who look all changes that wait for it, of whichever session. They wait where they were made at a
-    /// [`crate::Seat`], each directly after another one, and the session has neither looked since nor handed its
-    /// replies on; every other call of a desk that brings a pass to the end of the list shows them as well.
+    /// Shows to those who look all changes that wait for it, of whichever session, and returns the token for all that
+    /// the pass has seen.
     ///
-    /// It may wait for other calls, and for those that still read what was shown before. No clause says what others are
-    /// shown: each knows it by what its pass sees.
+    /// Changes wait where they were made at a [`crate::Seat`], each directly after another one, and the session has
+    /// neither looked since nor sent its replies. Every other call of a desk that brings a pass to the end of the list
+    /// shows them as well. It may wait for other calls, and for those that still read what was shown before.
     ///
     /// Cost: that of publishing, which is a constant for each seat; constant where nothing waits.
-    pub fn show<V: Wait>(&self, wait: &V) {
+    pub fn show<V: Wait>(&self, wait: &V, pass: &mut Pass<L>) -> ShownPlace<L>
+        ensures shown { result ≡ pass.old.list }
+        ensures same { pass.new ≡ pass.old }
+    {
         let mut state = self.state.lock(wait);
-        state.show();
+        let shown = state.show();
+        pass.note_shown(wait, &shown)
     }
 
     /// The deltas of the history after the number `from`, in order, at most so many. The pass has then seen all that is
@@ -239,8 +243,9 @@ impl<L: DeskName, W: Wait + Drop> Desk<L, W> {
             × (pass.new.enters ≡ pass.old.enters) }
     {
         let mut state = self.state.lock(wait);
-        state.show();
+        let shown = state.show();
         pass.catch_up(wait, state.front());
+        let _ = pass.note_shown(wait, &shown);
         state.deltas_after(alloc, from, at_most)
     }
 
@@ -255,7 +260,7 @@ impl<L: DeskName, W: Wait + Drop> Desk<L, W> {
         &self,
         wait: &V,
         alloc: Global,
-        place: &mut Place<L>,
+        place: &mut ShownPlace<L>,
         from: u64,
     ) -> Result<Vec<Delta>, Refusal>
         ensures later { IsPrefix place.old place.new }
@@ -267,8 +272,8 @@ impl<L: DeskName, W: Wait + Drop> Desk<L, W> {
         ensures asked { IfErr result (λ e. e ≡ Memory → from < length (history_of L.opening place.new)) }
     {
         let mut state = self.state.lock(wait);
-        state.show();
-        place.catch_up(wait, state.front());
+        let shown = state.show();
+        place.catch_up(wait, shown);
         state.deltas_after(alloc, from, usize::MAX)
     }
 
@@ -305,9 +310,9 @@ impl<L: DeskName, W: Wait + Drop> Desk<L, W> {
             × (pass.new.enters ≡ pass.old.enters) }
     {
         let mut state = self.state.lock(wait);
-        state.show();
-        let front = state.front();
-        pass.catch_up(wait, front);
+        let shown = state.show();
+        pass.catch_up(wait, state.front());
+        let _ = pass.note_shown(wait, &shown);
         state.entry(alloc, cell)
     }
 
@@ -333,9 +338,9 @@ impl<L: DeskName, W: Wait + Drop> Desk<L, W> {
             × (pass.new.enters ≡ pass.old.enters) }
     {
         let mut state = self.state.lock(wait);
-        state.show();
-        let front = state.front();
-        pass.catch_up(wait, front);
+        let shown = state.show();
+        pass.catch_up(wait, state.front());
+        let _ = pass.note_shown(wait, &shown);
         state.entries(alloc, rect)
     }
 }

@@ -22,8 +22,12 @@
 //! after a line is what it has seen before the next (`specs/Seats.antt`). What a whole session leaves of its pass goes
 //! on from what it was (`GoesOn`), whatever the session came to: the lemmas of `proofs/SeatRuns.antt`.
 //!
-//! Somebody who isn't at one of the seats, as a journal, follows the list from [`Place`] to place: [`Desk::later`]
-//! hands out the deltas after a number, and no pass sees more for it. [`Desk::close_at`] brings such a place to the end
+//! A [`Place`] is a beginning of the list, and a [`ShownPlace`] one that is shown to all who look: only a look at the
+//! copies makes such a token, and a call that shows what waits. A session sends no reply before its [`Publisher`] has a
+//! token for all that the session has seen, so what a reply tells of is there for everybody.
+//!
+//! Somebody who isn't at one of the seats, as a journal, follows what is shown from place to place: [`Desk::later`]
+//! returns the deltas after a number, and no pass sees more for it. [`Desk::close_at`] brings such a place to the end
 //! of the list that is closed.
 //!
 //! A desk is opened from [`Parts`], which are made before its name is picked; [`Desk::open`] is called in a function
@@ -41,27 +45,29 @@
 mod change;
 mod close;
 mod desk;
-mod laws;
 mod name;
 mod open;
 mod parts;
 mod pass;
 mod patch;
 mod place;
+mod publisher;
 mod receipt;
 mod seat;
 mod shot;
 mod showing;
+mod shown_place;
 mod state;
 mod threads;
 
 pub use desk::Desk;
-pub use laws::seats_answer_lines;
 pub use name::DeskName;
 pub use parts::Parts;
 pub use pass::Pass;
 pub use place::Place;
+pub use publisher::Publisher;
 pub use receipt::Receipt;
 pub use seat::Seat;
 pub use shot::Shot;
+pub use shown_place::ShownPlace;
 pub use threads::desk_is_sync;

@@ -10,6 +10,7 @@ use crate::desk::Desk;
 use crate::name::DeskName;
 use crate::parts::Parts;
 use crate::pass::Pass;
+use crate::shown_place::ShownPlace;
 use crate::state::DeskState;
 use ps_face::{FaceReader, FaceWriter, NewBook};
 use ps_grid::Refusal;
@@ -80,7 +81,10 @@ fn open_copies<L: DeskName, W: Wait + Drop>(
         sheet.version(),
         seats,
     )?;
-    let passes = make_passes(alloc, readers, all, seats)?;
+    // for the fact that the empty list is legal
+    let _ = copies.front();
+    let shown = ShownPlace::new(&copies.shown());
+    let passes = make_passes(alloc, readers, &shown, all, seats)?;
     Ok((copies, passes))
 }
 
@@ -88,6 +92,7 @@ fn open_copies<L: DeskName, W: Wait + Drop>(
 fn make_passes<L: DeskName>(
     alloc: Global,
     mut readers: Vec<FaceReader<L>>,
+    shown: &ShownPlace<L>,
     mut all: Share<L>,
     seats: usize,
 ) -> Result<Vec<Pass<L>>, Refusal>
@@ -101,7 +106,8 @@ fn make_passes<L: DeskName>(
     let mut passes = Vec::with_capacity(alloc, seats)?;
     for seat in 0..seats {
         let reader = readers.pop().unwrap();
-        passes.push(Pass::new(reader, all.split_off(1, 0), seat as u64))?;
+        let share = all.split_off(1, 0);
+        passes.push(Pass::new(reader, shown.again(), share, seat as u64))?;
     }
     Ok(passes)
 }

@@ -1,6 +1,6 @@
 //! A session's pass.
 
-ghost use Rattle.std.specs.Prelude.{◌≡◌, ◌+◌, ◌<◌, ◌≤◌, ◌^◌, length, IfNone, IfSome, IsSome};
+ghost use Rattle.std.specs.Prelude.{◌≡◌, ◌≢◌, ◌+◌, ◌<◌, ◌≤◌, ◌^◌, [], length, IfNone, IfSome, IsSome};
 ghost use mathlib.Core.List.{IsPrefix};
 ghost use Rattle.ps_grid.specs.Rectangle.{LiesInGrid};
 ghost use Rattle.ps_grid.specs.declared.size.TheConstants.{CELLS};
@@ -13,6 +13,7 @@ ghost use Rattle.ps_desk.specs.Seats.{GoesOn, Tabled};
 use crate::name::DeskName;
 use crate::place::Place;
 use crate::shot::Shot;
+use crate::shown_place::ShownPlace;
 use ps_csv::exported_text;
 use ps_face::{BookPrefix, FaceReader, Seen};
 use ps_grid::{Cell, Rect, Refusal};
@@ -27,6 +28,8 @@ use std::sync::ledger::{Book, Share};
 pub struct Pass<L: DeskName> {
     /// out while a copy is read
     reader: Option<FaceReader<L>>,
+    /// how far the list is known to be shown to all
+    shown: ShownPlace<L>,
     /// this seat's part of what was appended
     share: Share<L>,
     appended: u64,
@@ -54,13 +57,19 @@ impl<L: DeskName> Model for Pass<L> {
 
 impl<L: DeskName> Pass<L> {
     /// A pass that has seen nothing and appended nothing.
-    pub(crate) fn new(reader: FaceReader<L>, share: Share<L>, seat: u64) -> Pass<L>
+    pub(crate) fn new(
+        reader: FaceReader<L>,
+        shown: ShownPlace<L>,
+        share: Share<L>,
+        seat: u64,
+    ) -> Pass<L>
         requires parts { share.parts ≡ 1 }
         requires amount { share.amount ≡ 0 }
         ensures { result ≡ record { list = reader.list; enters = reader.enters; appended = 0; seat = seat } }
     {
         Pass {
             reader: Some(reader),
+            shown,
             share,
             appended: 0,
             seat,
@@ -99,6 +108,7 @@ impl<L: DeskName> Pass<L> {
         };
         // for the fact that the cell is in the grid
         let _ = cell.index();
+        self.shown = ShownPlace::new(&seen.shown());
         self.reader = Some(seen.leave());
         Some(shot)
     }
@@ -124,6 +134,7 @@ impl<L: DeskName> Pass<L> {
         let seen = enter(&mut self.reader)?;
         let version = seen.version();
         copy_all(&seen, values);
+        self.shown = ShownPlace::new(&seen.shown());
         self.reader = Some(seen.leave());
         Some(version)
     }
@@ -142,6 +153,7 @@ impl<L: DeskName> Pass<L> {
             return Err(Refusal::Seat);
         };
         let table = exported_text(alloc, &seen, rect);
+        self.shown = ShownPlace::new(&seen.shown());
         self.reader = Some(seen.leave());
         table
     }
@@ -164,16 +176,37 @@ impl<L: DeskName> Pass<L> {
         Place::new(self.reader.as_ref().unwrap().front().again())
     }
 
-    /// Has seen the list up to a place too, or further where it had. It is part of the public interface, for who
-    /// hands places from one pass to another.
-    ///
-    /// Cost: constant, no memory.
-    pub fn learn(&mut self, place: &Place<L>)
+    /// The token for all that the pass has seen, where that is known to be shown to all. It always is of nothing.
+    pub fn shown(&self) -> Option<ShownPlace<L>>
+        ensures shown { IfSome result (λ shown. shown ≡ self.now.list) }
+        ensures unknown { IfNone result (self.now.list ≢ []) }
+    {
+        self.shown.part(self.place())
+    }
+
+    /// Takes note that all that the pass has seen is shown, with more. No run meets a token of less, for which it would
+    /// wait for ever.
+    pub(crate) fn note_shown<V: Wait>(&mut self, wait: &V, shown: &ShownPlace<L>) -> ShownPlace<L>
+        ensures shown { result ≡ self.old.list }
+        ensures same { self.new ≡ self.old }
+    {
+        let Some(own) = shown.part(self.place()) else {
+            for _ in wait.forever() {}
+            unreachable!()
+        };
+        self.shown = own.again();
+        own
+    }
+
+    /// Has seen the list up to a place that is shown, or further where it had, so that each look from then on has that,
+    /// too. It is part of the public interface, for who hands places from one pass to another.
+    pub fn learn(&mut self, shown: &ShownPlace<L>)
         ensures later { IsPrefix self.old.list self.new.list }
-        ensures seen { IsPrefix place.now self.new.list }
+        ensures seen { IsPrefix shown.now self.new.list }
         ensures pass { self.new ≡ record self.old { list = self.new.list } }
     {
         let mut reader = self.reader.take().unwrap();
+        let place = shown.place();
         if !place.front.begins(reader.front()) {
             let _ = reader.learn(&place.front);
         }

@@ -7,7 +7,6 @@ ghost use Rattle.ps_face.specs.Legal.{IsLegal};
 use crate::name::DeskName;
 use ps_face::BookPrefix;
 use std::marker::{Model, PhantomData};
-use std::sync::Wait;
 
 /// A beginning of the published list of a desk, as a token: how far somebody has come who isn't at one of its seats. It
 /// shows no values. A contract sees it as that list.
@@ -68,19 +67,5 @@ impl<L: DeskName> Place<L> {
         ensures legal { IsLegal L.opening self.now }
     {
         self.front.begins(&other.front)
-    }
-
-    /// Comes to the end of the list. No run meets a place that is beyond it, for which it would wait for ever.
-    pub(crate) fn catch_up<V: Wait>(&mut self, wait: &V, front: &BookPrefix)
-        requires book { front.now.book ≡ L.book }
-        requires legal { IsLegal L.opening front.now.list }
-        ensures later { IsPrefix self.old front.now.list }
-        ensures all { self.new ≡ front.now.list }
-    {
-        if !self.front.begins(front) {
-            for _ in wait.forever() {}
-            unreachable!()
-        }
-        self.front = front.again();
     }
 }

@@ -1,9 +1,10 @@
 //! What a session is told of a change.
 
 ghost use Rattle.std.specs.Prelude.{◌≡◌};
-ghost use Rattle.ps_desk.specs.Receipts.{with_delta};
+ghost use Rattle.ps_desk.specs.Receipts.{merged_of, with_delta};
 
 use ps_delta::Delta;
+use ps_session::Merged;
 
 /// What a change came to: its delta, and where that stands in the history.
 #[derive(Drop)]
@@ -27,6 +28,17 @@ pub(crate) struct Standing {
 }
 
 impl Standing {
+    /// What a merge came to that stands so.
+    pub(crate) fn merged(&self) -> Merged
+        ensures { result ≡ merged_of self.now.number self.now.fresh }
+    {
+        if self.fresh {
+            Merged::New(self.number)
+        } else {
+            Merged::Known(self.number)
+        }
+    }
+
     /// The receipt, with its delta.
     pub(crate) fn with_delta(self, delta: Delta) -> Receipt
         ensures { result ≡ with_delta self delta }

@@ -6,11 +6,12 @@ use crate::desk::Desk;
 use crate::name::DeskName;
 use crate::pass::Pass;
 use crate::place::Place;
-use crate::showing::Recent;
+use crate::showing::Stream;
+use crate::shown_place::ShownPlace;
 use ps_delta::{Change, Delta, Edit};
 use ps_eval::Meter;
 use ps_grid::{Cell, Rect, Refusal};
-use ps_session::Board;
+use ps_session::{Board, Merged};
 use ps_sheet::edits_are_fresh;
 use ps_value::Value;
 use std::alloc::Global;
@@ -26,7 +27,8 @@ pub struct Seat<'a, L: DeskName, W: Wait + Drop, V: Wait> {
     /// by which it waits for the desk's lock
     wait: &'a V,
     pass: Pass<L>,
-    recent: Recent,
+    /// how its changes follow each other
+    stream: Stream,
 }
 
 impl<'a, L: DeskName, W: Wait + Drop, V: Wait> Model for Seat<'a, L, W, V> {
@@ -52,7 +54,7 @@ impl<'a, L: DeskName, W: Wait + Drop, V: Wait> Seat<'a, L, W, V> {
             desk,
             wait,
             pass,
-            recent: Recent::Shown,
+            stream: Stream::new(),
         }
     }
 
@@ -65,33 +67,57 @@ impl<'a, L: DeskName, W: Wait + Drop, V: Wait> Seat<'a, L, W, V> {
         self.pass.place()
     }
 
-    /// Gives the pass back, once all that the session changed is shown.
+    /// Shows all that the session has seen to those who look, what it changed with it, and returns the token for that.
     ///
-    /// Cost: constant, or that of [`Desk::show`] where changes wait.
+    /// Cost: constant, or that of [`Desk::show`] where some of it waits to be shown.
+    pub fn show(&mut self) -> ShownPlace<L>
+        ensures shown { result ≡ self.old.list }
+        ensures same { self.new ≡ self.old }
+    {
+        self.stream.has_changed = false;
+        match self.pass.shown() {
+            Some(shown) => shown,
+            None => self.desk.show(self.wait, &mut self.pass),
+        }
+    }
+
+    /// Has a keeper show what the session changes before its replies are sent, so that changes that directly follow
+    /// each other can be shown together. Without one each is shown at once.
+    pub fn leave_to_keeper(&mut self)
+        ensures same { self.new ≡ self.old }
+    {
+        self.stream.is_kept = true;
+    }
+
+    /// Takes note that all that the session has seen is shown, with more. No run meets a token of less, for which it
+    /// would wait for ever.
+    pub fn note_shown(&mut self, shown: &ShownPlace<L>)
+        ensures same { self.new ≡ self.old }
+    {
+        self.stream.has_changed = false;
+        let _ = self.pass.note_shown(self.wait, shown);
+    }
+
+    /// Gives the pass back, once all that the session has seen is shown.
+    ///
+    /// Cost: constant, or that of [`Desk::show`] where some of it waits to be shown.
     pub fn leave(mut self) -> Pass<L>
         ensures { result ≡ self.entry }
     {
-        self.show_waiting();
+        let _ = self.show();
         let Seat { pass, .. } = self;
         pass
-    }
-
-    /// Shows to those who look what the session changed and isn't shown.
-    #[inline(always)]
-    fn show_waiting(&mut self)
-        ensures same { self.new ≡ self.old }
-    {
-        if matches!(self.recent, Recent::Waiting) {
-            self.desk.show(self.wait);
-        }
-        self.recent = Recent::Shown;
     }
 }
 
 impl<L: DeskName, W: Wait + Drop, V: Wait, M: Ledger> Board<Meter<M>> for Seat<'_, L, W, V> {
-    ghost use Rattle.ps_desk.specs.Seats.{SeatCalls};
+    ghost use Rattle.ps_desk.specs.Seats.{SeatAnswers, SeatCalls};
 
     ghost calls = { SeatCalls L.replica L.opening };
+
+    ghost answers = { SeatAnswers L.replica L.opening };
+
+    fn calls_answer_lines() {}
 
     fn apply_edit<R: Threads + Sync>(
         &mut self,
@@ -102,7 +128,7 @@ impl<L: DeskName, W: Wait + Drop, V: Wait, M: Ledger> Board<Meter<M>> for Seat<'
     ) -> Result<u64, Refusal> {
         let change = Change::Edit(edit);
         let desk = self.desk;
-        let showing = self.recent.next();
+        let showing = self.stream.next();
         let made = desk.change(rt, self.wait, alloc, &mut self.pass, change, meter, showing)?;
         // for the fact that an edit's delta is never below the state
         edits_are_fresh();
@@ -122,13 +148,27 @@ impl<L: DeskName, W: Wait + Drop, V: Wait, M: Ledger> Board<Meter<M>> for Seat<'
     ) -> Result<u64, Refusal> {
         let change = Change::Delta(delta);
         let desk = self.desk;
-        let showing = self.recent.next();
+        let showing = self.stream.next();
         let taken = desk.change(rt, self.wait, alloc, &mut self.pass, change, meter, showing)?;
         Ok(taken.number)
     }
 
+    fn apply_merge<R: Threads + Sync>(
+        &mut self,
+        rt: &R,
+        alloc: Global,
+        delta: Delta,
+        meter: &mut Meter<M>,
+    ) -> Result<Merged, Refusal> {
+        let change = Change::Merge(delta);
+        let desk = self.desk;
+        let showing = self.stream.next();
+        let made = desk.change(rt, self.wait, alloc, &mut self.pass, change, meter, showing)?;
+        Ok(made.merged())
+    }
+
     fn value(&mut self, cell: Cell) -> Result<Value, Refusal> {
-        self.show_waiting();
+        let _ = self.show();
         match self.pass.read(cell) {
             Some(shot) => Ok(shot.value),
             None => Err(Refusal::Seat),
@@ -136,32 +176,28 @@ impl<L: DeskName, W: Wait + Drop, V: Wait, M: Ledger> Board<Meter<M>> for Seat<'
     }
 
     fn table(&mut self, alloc: Global, rect: Rect) -> Result<Vec<u8>, Refusal> {
-        self.show_waiting();
+        let _ = self.show();
         // for the fact that it lies in the grid
         let _ = rect.area();
         self.pass.table(alloc, rect)
     }
 
     fn entry(&mut self, alloc: Global, cell: Cell) -> Result<Vec<u8>, Refusal> {
-        self.recent = Recent::Shown;
+        self.stream.has_changed = false;
         self.desk.entry(self.wait, alloc, &mut self.pass, cell)
     }
 
     fn entries(&mut self, alloc: Global, rect: Rect) -> Result<Vec<u8>, Refusal> {
-        self.recent = Recent::Shown;
+        self.stream.has_changed = false;
         self.desk.entries(self.wait, alloc, &mut self.pass, rect)
     }
 
     fn pull(&mut self, alloc: Global, from: u64, most: usize) -> Result<Vec<Delta>, Refusal> {
-        self.recent = Recent::Shown;
+        self.stream.has_changed = false;
         self.desk.pull(self.wait, alloc, &mut self.pass, from, most)
     }
 
     fn replica(&mut self) -> u8 {
         self.desk.replica()
-    }
-
-    fn show(&mut self) {
-        self.show_waiting();
     }
 }

@@ -9,31 +9,33 @@ pub(crate) enum Showing {
     Later,
 }
 
-/// How far a session is with showing what it changed. A change that directly follows another one waits, so that those
-/// of a stream are shown together.
+/// How a session's changes follow each other.
 #[derive(Clone, Copy)]
-pub(crate) enum Recent {
-    /// All that it changed is shown: its next change is shown at once.
-    Shown,
-    /// All is shown, and it has just made a change: one that follows waits.
-    Changed,
-    /// Changes may wait to be shown: one that follows waits, too.
-    Waiting,
+pub(crate) struct Stream {
+    /// A keeper shows what the session changed before its replies are sent.
+    pub(crate) is_kept: bool,
+    /// The session has changed something, and has neither looked since nor sent its replies.
+    pub(crate) has_changed: bool,
 }
 
-impl Recent {
-    /// Goes on to what holds once the session's next change is made, and tells when that is shown.
+impl Stream {
+    /// A session that has changed nothing, and has no keeper.
+    pub(crate) fn new() -> Stream {
+        Stream {
+            is_kept: false,
+            has_changed: false,
+        }
+    }
+
+    /// When the next change is shown. Where a keeper shows what waits, one that directly follows another one waits.
     #[inline(always)]
     pub(crate) fn next(&mut self) -> Showing {
-        match self {
-            Recent::Shown => {
-                *self = Recent::Changed;
-                Showing::AtOnce
-            }
-            Recent::Changed | Recent::Waiting => {
-                *self = Recent::Waiting;
-                Showing::Later
-            }
+        let waits = self.is_kept && self.has_changed;
+        self.has_changed = true;
+        if waits {
+            Showing::Later
+        } else {
+            Showing::AtOnce
         }
     }
 }

@@ -13,11 +13,12 @@ ghost use Rattle.ps_face.specs.Legal.{IsLegal, history_of};
 ghost use Rattle.ps_desk.specs.Receipts.{Stands};
 ghost use Rattle.ps_desk.specs.declared.showing.Showing.TheVariants.{AtOnce};
 
-use crate::change::{finish, make_way, share};
+use crate::change::{finish, make_way, note_shown, share};
 use crate::name::DeskName;
 use crate::pass::Pass;
 use crate::receipt::Standing;
 use crate::showing::Showing;
+use crate::shown_place::ShownPlace;
 use ps_content::Content;
 use ps_csv::{Holds, entries_text, entry_of};
 use ps_delta::{Change, Delta};
@@ -34,7 +35,9 @@ use std::sync::ledger::{Book, Ledger, Share};
 use std::thread::Threads;
 
 /// The sheet, the writer of its published copies, and the book of what was appended. A contract sees it as that writer.
-/// Nothing is staged in the sheet between two calls.
+///
+/// Nothing is staged in the sheet between two calls. What is shown is a beginning of the list, which has more only where
+/// changes wait.
 #[derive(Drop)]
 pub(crate) struct DeskState<L: DeskName, W: Wait + Drop> {
     sheet: Staging,
@@ -47,6 +50,7 @@ impl<L: DeskName, W: Wait + Drop> Model for DeskState<L, W> {
     ghost use Rattle.std.specs.Coded.{codes};
     ghost use Rattle.ps_face.specs.contracts.patch.Note as note;
     ghost use Rattle.ps_face.specs.Published.{Published};
+    ghost use mathlib.Core.List.{IsPrefix};
     ghost use Rattle.ps_desk.specs.UnderLock.{IsUnderLock};
 
     ghost Value = { Published };
@@ -56,7 +60,8 @@ impl<L: DeskName, W: Wait + Drop> Model for DeskState<L, W> {
     ghost view = { λ d. d.copies };
 
     ghost invariant = { λ d. (d.sheet.staged ≡ None)
-        × IsUnderLock L.replica L.opening d.sheet.replica d.sheet.history d.copies d.book.total };
+        × IsUnderLock L.replica L.opening d.sheet.replica d.sheet.history d.copies d.book.total
+        × IsPrefix d.copies.shown d.copies.list };
 }
 
 impl<L: DeskName, W: Wait + Drop> DeskState<L, W> {
@@ -68,6 +73,8 @@ impl<L: DeskName, W: Wait + Drop> DeskState<L, W> {
         requires book { book.total ≡ 0 }
         ensures { result ≡ record { list = []; shown = []; pending = [] } }
     {
+        // for the fact that what is shown is a beginning of the list
+        let _ = copies.front();
         DeskState {
             sheet: Staging::new(sheet),
             copies,
@@ -84,10 +91,14 @@ impl<L: DeskName, W: Wait + Drop> DeskState<L, W> {
     }
 
     /// Shows all of the published list to those who look.
-    pub(crate) fn show(&mut self)
-        ensures { self.new ≡ record self.old { shown = self.old.list } }
+    pub(crate) fn show(&mut self) -> ShownPlace<L>
+        ensures copies { self.new ≡ record self.old { shown = self.old.list } }
+        ensures shown { result ≡ self.new.list }
     {
         self.copies.show();
+        // for the fact that the list is legal
+        let _ = self.copies.front();
+        ShownPlace::new(&self.copies.shown())
     }
 
     /// Ends it, where the shares of all passes are gathered.
@@ -150,6 +161,7 @@ impl<L: DeskName, W: Wait + Drop> DeskState<L, W> {
         // for the fact that it is a delta
         let _ = sheet.delta().parts();
         let standing = finish(wait, alloc, sheet, copies, book, pass, showing);
+        note_shown(wait, copies, pass, showing);
         // for the fact that the list is legal
         let _ = copies.front();
         standing

@@ -22,7 +22,8 @@
 //!
 //! What a reader knows of the list is a [`BookPrefix`], a token of no bytes with the length of a beginning. The writer
 //! has one for the whole list, and [`FaceReader::learn`] hands it to a reader without a step on the copies, so that
-//! what the reader sees from then on is no older. While a patch waits that it was told of, it can't enter.
+//! what the reader sees from then on is no older. While a patch waits that it was told of, it can't enter. A
+//! [`ShownPrefix`] is such a token for what readers were shown: only the writer and a reader that reads make one.
 //!
 //! Cost: opening copies what is shown twice. A patch costs its changes, twice, and once more where it is posted. What
 //! shows it costs a constant for each reader, however many patches it shows, so patches that are posted and shown
@@ -38,6 +39,7 @@ mod name;
 mod patch;
 mod reader;
 mod rule;
+mod shown_prefix;
 mod threads;
 mod waiting;
 mod writer;
@@ -47,6 +49,7 @@ pub use name::Named;
 pub use patch::{Note, Patch};
 pub use reader::{FaceReader, Seen};
 pub use rule::View;
+pub use shown_prefix::ShownPrefix;
 pub use threads::writer_is_send;
 pub use waiting::MOST_WAITING;
 pub use writer::FaceWriter;

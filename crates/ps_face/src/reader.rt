@@ -10,6 +10,7 @@ use crate::book::BookPrefix;
 use crate::face::Face;
 use crate::name::Named;
 use crate::rule::{Enter, Law, View};
+use crate::shown_prefix::ShownPrefix;
 use left_right::reader::{Reader, Reading};
 use ps_eval::Look;
 use ps_grid::Cell;
@@ -156,6 +157,13 @@ impl<L: Named> Seen<L> {
         ensures whole { Shows (history_of L.opening self.now.list) self.now.values }
     {
         self.reading.get().at(cell)
+    }
+
+    /// The list that the copy is of, which readers are shown.
+    pub fn shown(&self) -> ShownPrefix
+        ensures shown { result ≡ record { book = L.book; list = self.now.list } }
+    {
+        ShownPrefix::of(self.reading.get().front())
     }
 
     /// Ends the reading.

@@ -2,6 +2,7 @@
 
 ghost use Rattle.std.specs.Prelude.{◌≡◌, ◌⊎◌, ◌+◌, ◌<◌, ◌≤◌, ◌++◌, ◌∷◌, [], All, IfOk, IfErr, MatchResult, OnOk, OnErr};
 ghost use Rattle.std.specs.Prelude.{IsOk, drop, false, fold, length, map, vec_len};
+ghost use mathlib.Core.List.{IsPrefix};
 ghost use Rattle.ps_grid.specs.declared.parties.TheConstants.{SEATS as MOST};
 ghost use Rattle.ps_grid.specs.declared.refusal.Refusal.TheVariants.{Memory, Seat};
 ghost use Rattle.ps_delta.specs.State.{IsInGrid};
@@ -19,6 +20,7 @@ use crate::name::Named;
 use crate::patch::{KeptPatch, Patch};
 use crate::reader::FaceReader;
 use crate::rule::{Law, Publish, View};
+use crate::shown_prefix::ShownPrefix;
 use crate::waiting::{MOST_WAITING, Waiting};
 use core::mem::replace_with;
 use left_right::writer::Writer;
@@ -248,8 +250,17 @@ impl<L: Named, R: Wait + Drop> FaceWriter<L, R> {
     pub fn front(&self) -> &BookPrefix
         ensures front { result.now ≡ record { book = L.book; list = self.now.list } }
         ensures legal { IsLegal L.opening self.now.list }
+        ensures within { IsPrefix self.now.shown self.now.list }
     {
         &self.front
+    }
+
+    /// The published list, once readers are shown all of it.
+    pub fn shown(&self) -> ShownPrefix
+        requires all { self.now.shown ≡ self.now.list }
+        ensures shown { result ≡ record { book = L.book; list = self.now.shown } }
+    {
+        ShownPrefix::of(&self.front)
     }
 }
 

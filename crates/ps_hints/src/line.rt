@@ -114,6 +114,7 @@ fn names_rectangle(verb: Verb) -> bool {
         | Verb::Unchoose
         | Verb::Entry
         | Verb::Push
+        | Verb::Merge
         | Verb::Pull
         | Verb::Replica => false,
     }

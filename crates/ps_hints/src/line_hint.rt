@@ -82,6 +82,7 @@ fn form_of(verb: Verb) -> &'static str {
         Verb::Entry => "entry <cell>",
         Verb::Entries => "entries <cell>:<cell>",
         Verb::Push => "push <delta line>",
+        Verb::Merge => "merge <delta line>",
         Verb::Pull => "pull <from> or pull <from> <most>",
         Verb::Replica => "replica or replica <number>",
     }

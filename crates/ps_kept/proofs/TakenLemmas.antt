@@ -1,10 +1,13 @@
 -- What a line of a kept file says, and what its delta comes to.
-use Rattle.std.proofs.Common.{◌≡◌, ◌≢◌, ◌<◌, ◌≤◌, ℕ, List, [], ◌∷◌, ◌++◌, length, length-append, inl, inr}
-use Rattle.std.proofs.Common.{ap, subst, sym, arith}
+use Rattle.std.proofs.Common.{◌≡◌, ◌≢◌, ◌≤◌, ℕ, List, [], ◌∷◌, ◌++◌}
+use Rattle.std.proofs.Common.{subst, sym, Bool, true, false, Result, Ok, Err}
+use Rattle.std.proofs.lemmas.Bool.{false≢true}
+use Rattle.std.specs.Prelude.{IfOk}
+use Rattle.ps_grid.specs.declared.refusal.Refusal.{Refusal}
 use Rattle.ps_grid.specs.declared.parties.TheConstants.{REPLICAS}
 use Rattle.ps_delta.specs.State.{IsBelow}
 use Rattle.ps_delta.specs.Deltas.{Entries, joined_history, state_of}
-use Rattle.ps_sheet.specs.Sheet.{Takes}
+use Rattle.ps_sheet.specs.Arrivals.{ArrivalsView, IsTakenIn}
 use Rattle.ps_keep.specs.Lines.{whole_lines}
 use Rattle.ps_lines.specs.PushLine.{Pushes}
 use Rattle.ps_lines.specs.ReplicaLine.{Tells}
@@ -25,14 +28,20 @@ pub replica_pushes_none : (history : List Entries) (line : List ℕ) (n : ℕ) �
 replica_pushes_none history line n tells d pushes =
     push_tells_none line (pushes.0.0, pushes.0.1) n tells.0 tells.1 tells.2
 
-module _ (line : List ℕ) (d : Entries) (pushes : Pushes line d) (h k : List Entries) where
-  -- the delta of a longer history is new
-  pub taken_new : Takes d h k → length h < length k → (e : Entries) × PushesNew h line e × (k ≡ h ++ e ∷ [])
-  taken_new (inl below) longer = absurd (omega (arith, longer, ap length below.1))
-  taken_new (inr new) longer = (d, (pushes, new.0), new.1)
+module _ (line : List ℕ) (d : Entries) (pushes : Pushes line d) (x y : ArrivalsView) where
+  -- the delta that was taken in is new
+  pub taken_new : (is : Bool) → IsTakenIn [] x y d is → is ≡ true
+      → (e : Entries) × PushesNew x.deltas line e × (y.deltas ≡ x.deltas ++ e ∷ [])
+  taken_new true taken on = (d, (pushes, taken.0), taken.1)
+  taken_new false taken on = absurd (false≢true on)
 
-  -- .. and of another it isn't
-  pub not_new : Takes d h k → length k ≤ length h → (e : Entries) → ¬ PushesNew h line e
-  not_new (inl below) same e other =
-      other.1 (subst (λ x. IsBelow (state_of x) (joined_history h)) (pushes_one line d e pushes other.0) below.0)
-  not_new (inr new) same e other = absurd (omega (arith, same, ap length new.1, length-append h (d ∷ [])))
+  -- .. and the other one isn't
+  pub not_new : (is : Bool) → IsTakenIn [] x y d is → is ≡ false → (e : Entries) → ¬ PushesNew x.deltas line e
+  not_new true taken off e other = absurd (false≢true (sym off))
+  not_new false taken off e other =
+      other.1 (subst (λ z. IsBelow (state_of z) (joined_history x.deltas)) (pushes_one line d e pushes other.0) taken.0)
+
+-- what is said of an answer that there is
+pub of_answer : (r : Result Bool Refusal) (P Q : Bool → Type 0) → ((is : Bool) → P is → Q is) → IfOk r P → IfOk r Q
+of_answer (Ok is) P Q f p = f is p
+of_answer (Err e) P Q f p = tt

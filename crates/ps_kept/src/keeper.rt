@@ -84,17 +84,18 @@ impl<D: Device + Drop> Keeper<Sheet> for SheetKeeper<D> {
     /// in it a crash comes, a start reads all that was kept, and a beginning of the history.
     ///
     /// Cost: linear in the lines that are noted; one append and one sync, or none where nothing was noted.
-    fn sync(&mut self, alloc: Global, board: &Sheet) -> Result<(), Failed>
-        requires fits { IsNoted board.now.replica board.now.history self.old × (self.old.has_failed ≡ false) }
-        ensures covered { OnOk result (IsKept board.now.replica board.now.history self.new) }
-        ensures fits { OnOk result (IsNoted board.now.replica board.now.history self.new
+    fn sync(&mut self, alloc: Global, board: &mut Sheet) -> Result<(), Failed>
+        requires fits { IsNoted board.old.replica board.old.history self.old × (self.old.has_failed ≡ false) }
+        ensures same { board.new ≡ board.old }
+        ensures covered { OnOk result (IsKept board.new.replica board.new.history self.new) }
+        ensures fits { OnOk result (IsNoted board.new.replica board.new.history self.new
             × (self.new.has_failed ≡ false)) }
         ensures stays { (state : SheetView) → IsKept state.replica state.history self.old
             → IsKept state.replica state.history self.new }
         ensures failed { OnErr result ⊤ }
-        ensures any_moment { (kept : List Entries) → IsKept board.now.replica kept self.old
-            → IsFresh board.now.history
-            → Outlives board.now.replica kept board.now.history self.new.written self.old.synced }
+        ensures any_moment { (kept : List Entries) → IsKept board.old.replica kept self.old
+            → IsFresh board.old.history
+            → Outlives board.old.replica kept board.old.history self.new.written self.old.synced }
     {
         match self.note_later(alloc, board.history()) {
             Ok(()) => self.journal.sync(),

@@ -19,8 +19,8 @@
 //! [["A1",[1,1,"5"],[],[]]]`, each with its line feed. A crash in the next write may leave `push [["B1` after them: the
 //! next start reads the one change, and cuts the piece off.
 //!
-//! Cost: a start is linear in the file, which is in memory once meanwhile, and in what its changes make the sheet show;
-//! a sync is linear in the lines: one append to the file, and one sync of it.
+//! Cost: a start is linear in the file, which is in memory once meanwhile. It evaluates each formula once, after the
+//! last line. A sync is linear in the lines: one append to the file, and one sync of it.
 #![tactic(auto)]
 
 mod fault;

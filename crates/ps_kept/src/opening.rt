@@ -83,7 +83,7 @@ fn keep_on<F: Found + Drop>(
 /// Refused with the first line that is none of these, or with the replica whose sheet it is; then the file is as it
 /// was, to the byte. Refused when out of memory, and where the device fails.
 ///
-/// Cost: linear in the file, and what its changes make the sheet show.
+/// Cost: linear in the file; and each formula that the sheet has in the end is evaluated once.
 pub fn open_kept<R: Threads + Sync, F: Found + Drop, L: Ledger>(
     rt: &R,
     alloc: Global,

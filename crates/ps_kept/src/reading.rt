@@ -3,6 +3,7 @@ ghost use Rattle.std.specs.Prelude.{◌≡◌, ◌⊎◌, ◌+◌, ◌≤◌, �
 ghost use Rattle.std.specs.Prelude.{None, Some, true, false};
 ghost use Rattle.ps_grid.specs.declared.parties.TheConstants.{REPLICAS, WORKERS};
 ghost use Rattle.ps_delta.specs.Deltas.{Entries};
+ghost use Rattle.ps_sheet.specs.Arrivals.{Follow};
 ghost use Rattle.ps_sheet.specs.Sheet.{IsSheet};
 ghost use Rattle.ps_keep.specs.Lines.{whole_lines};
 ghost use Rattle.ps_lines.specs.ReplicaLine.{replica_line};
@@ -15,7 +16,7 @@ use ps_eval::Meter;
 use ps_grid::Refusal;
 use ps_keep::first_line;
 use ps_lines::{KeptLine, line_of_replica, read_kept_line};
-use ps_sheet::Sheet;
+use ps_sheet::{Arrivals, Sheet};
 use ps_wire::Decoder;
 use std::alloc::Global;
 use std::sync::ledger::Ledger;
@@ -47,23 +48,20 @@ fn after_first<'a>(
     }
 }
 
-/// Takes in what a line pushes; false where it pushes no delta, or one that is below the sheet, and then the sheet is
-/// as before.
-fn take_in<R: Threads + Sync, L: Ledger>(
-    rt: &R,
+/// Takes in what a line pushes. Returns false where it pushes no delta, or one that is below those before it, and then
+/// these are as before.
+fn take_in(
     alloc: Global,
     decoder: &mut Decoder,
     line: &[u8],
-    sheet: &mut Sheet,
-    meter: &mut Meter<L>,
+    arrivals: &mut Arrivals,
 ) -> Result<bool, Refusal>
-    ensures taken { IfOk result (λ is. is ≡ true
-        → (d : Entries) × PushesNew sheet.old.history line.now d × (sheet.new.history ≡ sheet.old.history ++ d ∷ [])) }
-    ensures refused { IfOk result (λ is. is ≡ false → (d : Entries) → ¬ PushesNew sheet.old.history line.now d) }
+    requires follow { Follow [] arrivals.old }
+    ensures taken { IfOk result (λ is. is ≡ true → (d : Entries) × PushesNew arrivals.old.deltas line.now d
+        × (arrivals.new.deltas ≡ arrivals.old.deltas ++ d ∷ [])) }
+    ensures refused { IfOk result (λ is. is ≡ false → (d : Entries) → ¬ PushesNew arrivals.old.deltas line.now d) }
     ensures memory { IfErr result (λ e. e ≡ Refusal.Memory) }
-    ensures replica { sheet.new.replica ≡ sheet.old.replica }
-    ensures workers { sheet.new.workers ≡ sheet.old.workers }
-    ensures sheet { IsSheet sheet.old → IsSheet sheet.new }
+    ensures follow { Follow [] arrivals.new }
 {
     let delta = match read_kept_line(alloc, decoder, line) {
         Ok(Some(KeptLine::Push(delta))) => delta,
@@ -73,32 +71,26 @@ fn take_in<R: Threads + Sync, L: Ledger>(
         Err(Refusal::Memory) => return Err(Refusal::Memory),
         Err(_) => unreachable!(),
     };
-    let before = sheet.version();
-    let report = sheet.receive(rt, alloc, delta, meter)?;
-    Ok(before < report.version)
+    arrivals.receive(alloc, delta)
 }
 
-/// Takes in what the lines push, those after the first, into a sheet that has nothing yet.
-fn read_pushes<R: Threads + Sync, L: Ledger>(
-    rt: &R,
+/// Takes in what the lines push, those after the first, where nothing was taken in yet.
+fn read_pushes(
     alloc: Global,
     decoder: &mut Decoder,
     bytes: &[u8],
-    sheet: &mut Sheet,
-    meter: &mut Meter<L>,
+    arrivals: &mut Arrivals,
 ) -> Result<(), KeepFault>
-    requires empty { sheet.old.history ≡ [] }
-    requires sheet { IsSheet sheet.old }
-    ensures told { OnOk result (PushAll (whole_lines bytes.now) sheet.new.history) }
+    requires empty { arrivals.old.deltas ≡ [] }
+    requires follow { Follow [] arrivals.old }
+    ensures told { OnOk result (PushAll (whole_lines bytes.now) arrivals.new.deltas) }
     ensures fault { IfErr result (IsPushFault (whole_lines bytes.now)) }
-    ensures replica { sheet.new.replica ≡ sheet.old.replica }
-    ensures workers { sheet.new.workers ≡ sheet.old.workers }
-    ensures sheet { IsSheet sheet.new }
+    ensures follow { Follow [] arrivals.new }
 {
     let mut left = bytes;
     let mut number = 1u64;
     'lines: while let Some((line, rest)) = first_line(left) {
-        match take_in(rt, alloc, decoder, line, sheet, meter) {
+        match take_in(alloc, decoder, line, arrivals) {
             Ok(true) => {}
             Ok(false) => return Err(KeepFault::Line(number + 1)),
             Err(Refusal::Memory) => return Err(KeepFault::Memory),
@@ -108,6 +100,29 @@ fn read_pushes<R: Threads + Sync, L: Ledger>(
         number += 1;
     }
     Ok(())
+}
+
+/// Returns what the lines push, those after the first.
+fn pushed(
+    alloc: Global,
+    decoder: &mut Decoder,
+    bytes: &[u8],
+    sheet: &Sheet,
+) -> Result<Arrivals, KeepFault>
+    requires empty { sheet.now.history ≡ [] }
+    ensures told { IfOk result (λ a. PushAll (whole_lines bytes.now) a.deltas) }
+    ensures follow { IfOk result (Follow sheet.now.history) }
+    ensures fault { IfErr result (IsPushFault (whole_lines bytes.now)) }
+{
+    let mut arrivals = match Arrivals::after(alloc, sheet) {
+        Ok(arrivals) => arrivals,
+        Err(Refusal::Memory) => return Err(KeepFault::Memory),
+        Err(_) => unreachable!(),
+    };
+    match read_pushes(alloc, decoder, bytes, &mut arrivals) {
+        Ok(()) => Ok(arrivals),
+        Err(fault) => Err(fault),
+    }
 }
 
 /// The sheet that the lines of a kept file tell, which this decoder reads.
@@ -134,9 +149,14 @@ fn read_lines<R: Threads + Sync, L: Ledger>(
         Err(Refusal::Memory) => return Err(KeepFault::Memory),
         Err(_) => unreachable!(),
     };
-    match read_pushes(rt, alloc, decoder, others, &mut sheet, meter) {
-        Ok(()) => Ok(sheet),
-        Err(fault) => Err(fault),
+    let arrivals = match pushed(alloc, decoder, others, &sheet) {
+        Ok(arrivals) => arrivals,
+        Err(fault) => return Err(fault),
+    };
+    match sheet.receive_all(rt, alloc, arrivals, meter) {
+        Ok(_) => Ok(sheet),
+        Err(Refusal::Memory) => Err(KeepFault::Memory),
+        Err(_) => unreachable!(),
     }
 }
 

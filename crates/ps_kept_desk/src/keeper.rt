@@ -45,7 +45,7 @@ impl<L: DeskName, D: Device + Drop> DeskKeeper<L, D> {
         // for the fact that there is a seat
         let _ = desk.seats();
         DeskKeeper {
-            record: Mutex::new(Record::new(journal, passes[0].place(), changes)),
+            record: Mutex::new(Record::new(journal, passes[0].shown().unwrap(), changes)),
         }
     }
 
@@ -171,7 +171,7 @@ impl<'a, L: DeskName, W: Wait + Drop, D: Device + Drop, V: Wait> SeatKeeper<'a, 
     }
 }
 
-/// What a session has seen, by whichever session it was made, is kept before its replies are handed on.
+/// What a session has seen, by whichever session it was made, is shown to all and kept before its replies are sent.
 impl<L: DeskName, W: Wait + Drop, D: Device + Drop, V: Wait, U: Wait> Keeper<Seat<'_, L, W, U>>
     for SeatKeeper<'_, L, W, D, V> {
     ghost use Rattle.std.specs.Prelude.{⊤};
@@ -183,7 +183,10 @@ impl<L: DeskName, W: Wait + Drop, D: Device + Drop, V: Wait, U: Wait> Keeper<Sea
 
     ghost can_fail = { ⊤ };
 
-    fn sync(&mut self, alloc: Global, board: &Seat<'_, L, W, U>) -> Result<(), Failed> {
-        self.keep(alloc, &board.place())
+    fn sync(&mut self, alloc: Global, board: &mut Seat<'_, L, W, U>) -> Result<(), Failed> {
+        self.keep(alloc, &board.place())?;
+        board.leave_to_keeper();
+        board.note_shown(self.kept.shown());
+        Ok(())
     }
 }

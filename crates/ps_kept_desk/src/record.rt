@@ -11,7 +11,7 @@ ghost use Rattle.ps_desk.specs.Closing.{HistoryBegins, IsClosed, appended_of};
 ghost use Rattle.ps_kept_desk.specs.Records.{EndsKept, IsRecord};
 
 use ps_delta::Delta;
-use ps_desk::{Desk, DeskName, Pass, Place};
+use ps_desk::{Desk, DeskName, Pass, Place, ShownPlace};
 use ps_device::Failed;
 use ps_keep::{Device, Journal};
 use ps_kept::note_deltas;
@@ -20,11 +20,11 @@ use std::alloc::Global;
 use std::marker::Model;
 use std::sync::Wait;
 
-/// A beginning of a desk's list that is kept, as a token. Nothing makes one but a record, of what it keeps. A contract
-/// sees it as that list.
+/// A token for a beginning of a desk's list that is shown to all and kept. Only a record makes one, of what it keeps. A
+/// contract sees it as that list.
 #[derive(Drop)]
 pub struct KeptPlace<L: DeskName> {
-    place: Place<L>,
+    shown: ShownPlace<L>,
 }
 
 impl<L: DeskName> Model for KeptPlace<L> {
@@ -37,7 +37,7 @@ impl<L: DeskName> Model for KeptPlace<L> {
 
     ghost coded = { Prim.hlevel (codes, note.the_row.coded) };
 
-    ghost view = { λ k. k.place };
+    ghost view = { λ k. k.shown };
 }
 
 impl<L: DeskName> KeptPlace<L> {
@@ -48,8 +48,15 @@ impl<L: DeskName> KeptPlace<L> {
         ensures { result ≡ self.now }
     {
         KeptPlace {
-            place: self.place.again(),
+            shown: self.shown.again(),
         }
+    }
+
+    /// The token that says that it is shown.
+    pub fn shown(&self) -> &ShownPlace<L>
+        ensures { result.now ≡ self.now }
+    {
+        &self.shown
     }
 
     /// Whether what comes up to this place is kept.
@@ -60,7 +67,7 @@ impl<L: DeskName> KeptPlace<L> {
             (IsPrefix place.now self.now × (length place.now ≤ length self.now))
             (length self.now < length place.now) }
     {
-        place.begins(&self.place)
+        self.shown.has(place)
     }
 
     /// Whether what this one has is kept by the other one too.
@@ -71,7 +78,7 @@ impl<L: DeskName> KeptPlace<L> {
             (IsPrefix self.now other.now × (length self.now ≤ length other.now))
             (length other.now < length self.now) }
     {
-        self.place.begins(&other.place)
+        other.shown.has(self.shown.place())
     }
 }
 
@@ -93,7 +100,7 @@ pub(crate) struct Record<L: DeskName, D: Device + Drop> {
     /// what is kept
     kept: KeptPlace<L>,
     /// up to where the list was seen
-    seen: Place<L>,
+    seen: ShownPlace<L>,
     /// how many deltas of the history are noted
     noted: u64,
     /// the device failed, and isn't used any more
@@ -128,21 +135,21 @@ impl<L: DeskName, D: Device + Drop> Model for Record<L, D> {
 
 impl<L: DeskName, D: Device + Drop> Record<L, D> {
     /// A record that keeps the opening history.
-    pub(crate) fn new(journal: Journal<D>, place: Place<L>, noted: u64) -> Record<L, D>
+    pub(crate) fn new(journal: Journal<D>, shown: ShownPlace<L>, noted: u64) -> Record<L, D>
         requires told { TellHistory L.replica journal.lines L.opening }
         requires kept { journal.kept ≡ journal.lines }
         requires open { journal.has_failed ≡ false }
         requires journal { IsJournal journal }
-        requires place { place ≡ [] }
+        requires shown { shown ≡ [] }
         requires noted { noted ≡ length L.opening }
         ensures { result ≡ record { journal = journal; kept = []; seen = []; noted = noted } }
     {
         Record {
             journal,
             kept: KeptPlace {
-                place: place.again(),
+                shown: shown.again(),
             },
-            seen: place,
+            seen: shown,
             noted,
             is_stopped: false,
         }
@@ -221,7 +228,7 @@ impl<L: DeskName, D: Device + Drop> Record<L, D> {
         match self.journal.sync() {
             Ok(()) => {
                 self.kept = KeptPlace {
-                    place: self.seen.again(),
+                    shown: self.seen.again(),
                 };
                 Ok(())
             }

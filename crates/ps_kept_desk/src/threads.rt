@@ -6,7 +6,7 @@ ghost use Rattle.ps_kept_desk.specs.contracts.keeper.DeskKeeper as keeper;
 ghost use Rattle.ps_kept_desk.specs.contracts.record.Record as record_row;
 
 use crate::record::KeptPlace;
-use ps_desk::{DeskName, Place};
+use ps_desk::{DeskName, ShownPlace};
 use ps_keep::{Device, Journal};
 
 /// What the bound says of a type.
@@ -22,7 +22,7 @@ fn record_is_send<L: DeskName + Send, D: Device + Drop + Send>()
 {
     is_send::<Journal<D>>();
     is_send::<KeptPlace<L>>();
-    is_send::<Place<L>>();
+    is_send::<ShownPlace<L>>();
 }
 
 /// A keeper may be shared by threads. Who shares one between threads calls this first.

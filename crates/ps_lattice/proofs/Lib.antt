@@ -7,4 +7,6 @@ pub mod CountLemmas
 pub mod TallyLemmas
 pub mod ChoiceLemmas
 pub mod Bits
+pub mod NewsLemmas
+pub mod NewsWordLemmas
 pub mod WordLemmas

@@ -2,3 +2,5 @@
 pub mod Shared
 pub mod Counts
 pub mod Held
+pub mod News
+pub mod NewsLaws

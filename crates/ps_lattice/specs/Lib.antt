@@ -10,4 +10,7 @@ pub mod TallyLaws
 pub mod Choice
 pub mod ChoiceLaws
 pub mod JoinWords
+pub mod News
+pub mod NewsLaws
+pub mod NewsWords
 pub mod Inside

@@ -6,9 +6,11 @@ ghost use Rattle.std.specs.List.{list_all, list_any};
 ghost use Rattle.std.specs.Option.{SomeIff};
 ghost use Rattle.std.specs.FinMap as map;
 ghost use Rattle.ps_lattice.specs.Choice.{pair_cmp, is_added, is_removed, is_live, is_chosen, last_of};
+ghost use Rattle.ps_lattice.specs.News.{IsNewsOf};
+ghost use Rattle.ps_lattice.specs.Inside.News.{newer_mark};
 ghost use Rattle.ps_lattice.specs.Choice.{last_sequence, with_pair, withdrawn, joined_choices, is_pair, is_choice};
 
-use crate::entries::{self, Merge};
+use crate::entries::{self, Merge, Newer};
 use crate::join::{Join, Linear};
 use crate::limits::{OPTIONS, SEQUENCES, is_replica};
 use crate::shared::{self, SharedList};
@@ -107,6 +109,24 @@ impl Merge for bool {
         entries: &[(K, bool)],
     ) -> Result<(), Refusal> {
         Ok(list.extend_from_slice(entries)?)
+    }
+}
+
+impl Newer for bool {
+    ghost use Rattle.ps_lattice.specs.Inside.News.{newer_mark};
+    ghost use Rattle.ps_lattice.specs.Inside.NewsLaws.{marks_news};
+
+    ghost newer = { newer_mark };
+
+    ghost is_news = { marks_news };
+
+    fn new_of(there: Option<bool>, value: bool) -> Option<bool>
+        ensures { result ≡ newer_mark there value }
+    {
+        let Some(there) = there else {
+            return Some(value);
+        };
+        if value && !there { Some(true) } else { None }
     }
 }
 
@@ -372,6 +392,20 @@ impl Choice {
     {
         Ok(Choice {
             pairs: shared::joined(alloc, &self.pairs, &other.pairs)?,
+        })
+    }
+
+    /// What of the delta is new to this set: the pairs that aren't here, and those that are removed there alone.
+    ///
+    /// Refused only when out of memory.
+    ///
+    /// Cost: for each pair of the delta a search here.
+    pub fn news(&self, alloc: Global, delta: &Choice) -> Result<Choice, Refusal>
+        ensures ok { IfOk result (λ c. IsNewsOf joined_choices self.now delta.now c) }
+        ensures memory { IfErr result (λ e. e ≡ Refusal.Memory) }
+    {
+        Ok(Choice {
+            pairs: shared::news(alloc, &self.pairs, &delta.pairs)?,
         })
     }
 }

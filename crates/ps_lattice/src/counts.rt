@@ -7,6 +7,7 @@ ghost use Rattle.ps_grid.specs.declared.refusal.Refusal.{Refusal};
 ghost use Rattle.ps_lattice.specs.Tally.{joined_tallies, greater_counts, is_tally};
 ghost use Rattle.ps_lattice.specs.Inside.Shared.{joined_entries};
 ghost use Rattle.ps_lattice.specs.Inside.Counts.{counts_in, entries_in};
+ghost use Rattle.ps_lattice.specs.Inside.News.{news_entries, newer_count};
 
 use crate::entries;
 use crate::limits::COUNT_LIMIT;
@@ -234,6 +235,37 @@ fn merged(alloc: Global, mine: &CountList, theirs: &CountList) -> Result<CountLi
     }
     let all = entries::merge_entries(alloc, my.as_slice(), their.as_slice())?;
     CountList::new(alloc, all)
+}
+
+/// What of the second list is new to the first one; nothing is of an empty one.
+#[inline(always)]
+pub(crate) fn news(
+    alloc: Global,
+    mine: &CountList,
+    theirs: &CountList,
+) -> Result<CountList, Refusal>
+    requires mine { IsTrue (map.is_sorted nat_cmp (counts_in mine.now)) }
+    ensures ok { IfOk result (λ l. counts_in l
+        ≡ news_entries nat_cmp newer_count (counts_in mine.now) (counts_in theirs.now)) }
+    ensures memory { IfErr result (λ e. e ≡ Refusal.Memory) }
+{
+    match theirs {
+        CountList::Empty => Ok(CountList::Empty),
+        _ => news_of_filled(alloc, mine, theirs),
+    }
+}
+
+/// What of the second list is new to the first one, entry by entry.
+#[inline(never)]
+fn news_of_filled(alloc: Global, mine: &CountList, theirs: &CountList) -> Result<CountList, Refusal>
+    requires mine { IsTrue (map.is_sorted nat_cmp (counts_in mine.now)) }
+    ensures ok { IfOk result (λ l. counts_in l
+        ≡ news_entries nat_cmp newer_count (counts_in mine.now) (counts_in theirs.now)) }
+    ensures memory { IfErr result (λ e. e ≡ Refusal.Memory) }
+{
+    let (my, their) = (mine.entries(), theirs.entries());
+    let news = entries::news_entries(alloc, my.as_slice(), their.as_slice())?;
+    CountList::new(alloc, news)
 }
 
 /// Whether joining the first list into the second one changes nothing. That is told at once where the first is empty,

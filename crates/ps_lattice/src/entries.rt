@@ -3,6 +3,7 @@
 ghost use Rattle.std.specs.Prelude.{◌≡◌, ◌↔◌, ◌++◌, IsTrue, IfOk, IfErr, OnOk};
 ghost use Rattle.std.specs.FinMap as map;
 ghost use Rattle.ps_lattice.specs.Maps.{both_of, joined_maps};
+ghost use Rattle.ps_lattice.specs.Inside.News.{news_entries};
 ghost use Rattle.ps_grid.specs.declared.refusal.Refusal.{Refusal};
 
 use crate::join::{Join, Linear};
@@ -39,6 +40,21 @@ pub trait Merge: Join + Twin + Drop {
         }
         Ok(())
     }
+}
+
+/// A value of which is told what is new to one that may be there.
+pub(crate) trait Newer: Join + Copy {
+    ghost use Rattle.std.specs.Prelude.{Option, Some};
+    ghost use Rattle.ps_lattice.specs.News.{IsNewsOf};
+
+    ghost newer: { Option Self → Self → Option Self };
+
+    /// What of the value is new, if anything is.
+    fn new_of(there: Option<Self>, value: Self) -> Option<Self>
+        ensures { result ≡ newer there value };
+
+    ghost is_news: { (there : Option Self) (value : Self)
+        → IsNewsOf (both_of Self.joined) there (Some value) (newer there value) };
 }
 
 /// Whether the keys ascend, each once.
@@ -102,6 +118,25 @@ pub(crate) fn merge_entries<K: Linear + Copy, X: Merge>(
     X::append(alloc, &mut all, &mine[i..])?;
     X::append(alloc, &mut all, &theirs[j..])?;
     Ok(all)
+}
+
+/// What of the second list is new to the first one: of each entry what is new of its value, where something is.
+pub(crate) fn news_entries<K: Linear + Copy, X: Newer>(
+    alloc: Global,
+    mine: &[(K, X)],
+    theirs: &[(K, X)],
+) -> Result<Vec<(K, X)>, Refusal>
+    requires mine { IsTrue (map.is_sorted K.cmp mine.now) }
+    ensures ok { IfOk result (λ v. v.items ≡ news_entries K.cmp X.newer mine.now theirs.now) }
+    ensures memory { IfErr result (λ e. e ≡ Refusal.Memory) }
+{
+    let mut news = Vec::new(alloc);
+    for (key, value) in theirs {
+        if let Some(new) = X::new_of(value_at(mine, *key), *value) {
+            news.push((*key, new))?;
+        }
+    }
+    Ok(news)
 }
 
 /// An equal entry.

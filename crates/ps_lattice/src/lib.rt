@@ -32,7 +32,10 @@ mod tally;
 pub use choice::{Choice, Pair};
 pub use entries::{Merge, is_ascending};
 pub use join::{Join, Linear};
-pub use laws::{choices_join_by_union, empty_is_least, tallies_join_by_maximum};
+pub use laws::{
+    choices_join_by_union, choices_new_by_pair, empty_is_least, tallies_join_by_maximum,
+    tallies_new_by_entry,
+};
 pub use limits::{AMOUNT_LIMIT, COUNT_LIMIT, LAST_TIME, OPTIONS, SEQUENCES};
 pub use register::{Assignment, Register};
 pub use tally::{Count, Tally, TallyParts};

@@ -2,6 +2,7 @@
 
 ghost use Rattle.std.specs.Prelude.{◌≡◌, ◌+◌, ◌≤◌, ◌↔◌, IsTrue, IfOk, IfErr, IsErrOf, IfSome};
 ghost use Rattle.std.specs.Option.{SomeIff, option_copied, option_map};
+ghost use Rattle.ps_lattice.specs.News.{IsNewsOf};
 ghost use Rattle.ps_lattice.specs.Register.{assignment_cmp, joined_registers, time_of, is_stamp, looked_at};
 
 use crate::join::{Join, Linear};
@@ -187,6 +188,22 @@ impl<V: Linear + Twin + Drop> Register<V> {
     {
         let newer = if other.below(self) { self } else { other };
         newer.twin(alloc)
+    }
+
+    /// What of the delta is new to this register: its assignment, where it is greater than that here.
+    ///
+    /// Refused only when out of memory.
+    ///
+    /// Cost: constant; where the stamps are equal, that of comparing the contents.
+    #[inline(always)]
+    pub fn news(&self, alloc: Global, delta: &Register<V>) -> Result<Register<V>, Refusal>
+        ensures ok { IfOk result (λ r. IsNewsOf (joined_registers V.cmp) self.now delta.now r) }
+        ensures memory { IfErr result (λ e. e ≡ Refusal.Memory) }
+    {
+        if delta.below(self) {
+            return Ok(Register::empty());
+        }
+        delta.twin(alloc)
     }
 }
 

@@ -8,8 +8,9 @@ ghost use Rattle.std.specs.declared.cmp.Ordering.{Ordering};
 ghost use Rattle.ps_grid.specs.declared.refusal.Refusal.{Refusal};
 ghost use Rattle.ps_lattice.specs.Maps.{joined_maps};
 ghost use Rattle.ps_lattice.specs.Inside.Shared.{items_of, joined_entries, EntryFits};
+ghost use Rattle.ps_lattice.specs.Inside.News.{news_entries};
 
-use crate::entries::{self, Merge};
+use crate::entries::{self, Merge, Newer};
 use crate::join::{Join, Linear};
 use ps_grid::Refusal;
 use std::alloc::Global;
@@ -167,6 +168,42 @@ fn merged<K: Linear + Copy, X: Merge + Copy>(
     }
     let all = entries::merge_entries(alloc, mine.items(), theirs.items())?;
     SharedList::new(alloc, all)
+}
+
+/// What of the second list is new to the first one; nothing is of an empty one.
+#[inline(always)]
+pub(crate) fn news<K: Linear + Copy + Drop, X: Newer + Drop>(
+    alloc: Global,
+    mine: &SharedList<(K, X)>,
+    theirs: &SharedList<(K, X)>,
+) -> Result<SharedList<(K, X)>, Refusal>
+    requires fits { EntryFits K.row X.row }
+    requires mine { IsTrue (map.is_sorted K.cmp (items_of mine.now)) }
+    ensures ok { IfOk result (λ v. items_of v
+        ≡ news_entries K.cmp X.newer (items_of mine.now) (items_of theirs.now)) }
+    ensures memory { IfErr result (λ e. e ≡ Refusal.Memory) }
+{
+    match theirs {
+        SharedList::Empty => Ok(SharedList::Empty),
+        _ => news_of_filled(alloc, mine, theirs),
+    }
+}
+
+/// What of the second list is new to the first one, entry by entry.
+#[inline(never)]
+fn news_of_filled<K: Linear + Copy + Drop, X: Newer + Drop>(
+    alloc: Global,
+    mine: &SharedList<(K, X)>,
+    theirs: &SharedList<(K, X)>,
+) -> Result<SharedList<(K, X)>, Refusal>
+    requires fits { EntryFits K.row X.row }
+    requires mine { IsTrue (map.is_sorted K.cmp (items_of mine.now)) }
+    ensures ok { IfOk result (λ v. items_of v
+        ≡ news_entries K.cmp X.newer (items_of mine.now) (items_of theirs.now)) }
+    ensures memory { IfErr result (λ e. e ≡ Refusal.Memory) }
+{
+    let news = entries::news_entries(alloc, mine.items(), theirs.items())?;
+    SharedList::new(alloc, news)
 }
 
 /// Whether joining the first list into the second one changes nothing, as it is at once where the first is empty.

@@ -7,9 +7,11 @@ ghost use Rattle.std.specs.List.{list_all};
 ghost use Rattle.std.specs.FinMap as map;
 ghost use Rattle.ps_lattice.specs.Tally.{added, subtracted, value_of, joined_tallies, with_counts, counts_of};
 ghost use Rattle.ps_lattice.specs.Tally.{is_tally, is_count, is_amount};
+ghost use Rattle.ps_lattice.specs.News.{IsNewsOf};
+ghost use Rattle.ps_lattice.specs.Inside.News.{newer_count, newer_total};
 
 use crate::counts::{self, CountList, Entries};
-use crate::entries::{self, Merge};
+use crate::entries::{self, Merge, Newer};
 use crate::join::Join;
 use crate::limits::{AMOUNT_LIMIT, COUNT_LIMIT, is_replica};
 use ps_grid::{REPLICAS, Refusal, Twin};
@@ -69,6 +71,37 @@ impl Merge for Count {
     ) -> Result<(), Refusal> {
         Ok(list.extend_from_slice(entries)?)
     }
+}
+
+impl Newer for Count {
+    ghost use Rattle.ps_lattice.specs.Inside.News.{newer_count};
+    ghost use Rattle.ps_lattice.specs.Inside.NewsLaws.{counts_news};
+
+    ghost newer = { newer_count };
+
+    ghost is_news = { counts_news };
+
+    fn new_of(there: Option<Count>, value: Count) -> Option<Count>
+        ensures { result ≡ newer_count there value }
+    {
+        let Some(there) = there else {
+            return Some(value);
+        };
+        if value.added <= there.added && value.subtracted <= there.subtracted {
+            return None;
+        }
+        Some(Count {
+            added: newer_total(there.added, value.added),
+            subtracted: newer_total(there.subtracted, value.subtracted),
+        })
+    }
+}
+
+/// The total where it is above the one there, else 0.
+fn newer_total(there: u64, total: u64) -> u64
+    ensures { result ≡ newer_total there total }
+{
+    if there < total { total } else { 0 }
 }
 
 /// A counter: for each replica what it added and what it subtracted.
@@ -333,6 +366,21 @@ impl Tally {
     {
         Ok(Tally {
             counts: counts::joined(alloc, &self.counts, &other.counts)?,
+        })
+    }
+
+    /// What of the delta is new to this counter: of each replica what it added and what it subtracted, each where it is
+    /// more than here.
+    ///
+    /// Refused only when out of memory.
+    ///
+    /// Cost: for each replica of the delta a search here.
+    pub fn news(&self, alloc: Global, delta: &Tally) -> Result<Tally, Refusal>
+        ensures ok { IfOk result (λ t. IsNewsOf joined_tallies self.now delta.now t) }
+        ensures memory { IfErr result (λ e. e ≡ Refusal.Memory) }
+    {
+        Ok(Tally {
+            counts: counts::news(alloc, &self.counts, &delta.counts)?,
         })
     }
 }

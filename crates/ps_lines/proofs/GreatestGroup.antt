@@ -60,11 +60,14 @@ same_rising n (a ∷ more) (b ∷ others) r s p q same = elim (cases_order a.0 b
         let first : a ≡ b = ap₂ (λ c x. (c, x)) is states in
         ap₂ (λ x xs. x ∷ xs) first tails
 
+-- deltas are those of their state alone
+pub same_entries : (d e : Entries) → IsDelta d → IsDelta e → state_of d ≡ state_of e → d ≡ e
+same_entries d e x y same =
+    same_rising 0 d e (rising_of d x) (rising_of e y) x.none_empty y.none_empty (λ c. ap (λ (s : State). s c) same)
+
 -- deltas have one joint
 pub joint_once : (deltas : List Entries) (d e : Entries) → IsJoint deltas d → IsJoint deltas e → d ≡ e
-joint_once deltas d e x y =
-    same_rising 0 d e (rising_of d x.lawful) (rising_of e y.lawful) x.lawful.none_empty y.lawful.none_empty
-    (λ c. ap (λ (s : State). s c) (x.joined ∙ sym y.joined))
+joint_once deltas d e x y = same_entries d e x.lawful y.lawful (x.joined ∙ sym y.joined)
 
 module _ (ds : List Entries) (most : ℕ) where
   -- no number above this one has a line

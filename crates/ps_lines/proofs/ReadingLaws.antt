@@ -13,15 +13,15 @@ use Rattle.ps_content.specs.declared.content.Content.TheVariants as contents
 use Rattle.ps_delta.specs.declared.edit.Edit.{Edit}
 use Rattle.ps_lines.specs.Commands.{group_size, AsksOfCell, AsksOfRectangle, AtCell, AtNumber, Assigns, NamesCell}
 use Rattle.ps_lines.specs.Commands.{Read, ReadsChange, ReadsCorners, ReadsDelta, ReadsLine, ReadsOneCell, ReadsPair}
-use Rattle.ps_lines.specs.Commands.{ReadsPull, ReadsPush, ReadsRectangle, ReadsReplica, ReadsSet, ReadsVerb}
+use Rattle.ps_lines.specs.Commands.{ReadsPull, ReadsRectangle, ReadsReplica, ReadsSet, ReadsTakingIn, ReadsVerb}
 use Rattle.ps_lines.specs.Commands.{replica_number, verb_of, with_part}
 use Rattle.ps_delta.specs.Deltas.{Entries}
 use Rattle.ps_lines.specs.Words.{after_word, first_word, parts, whole_number, words}
 use Rattle.ps_lines.specs.declared.command.Command.{Command}
 use Rattle.ps_lines.specs.declared.command.Command.TheVariants as commands
 use Rattle.ps_lines.specs.declared.verb.Verb.{Verb}
-use Rattle.ps_lines.specs.declared.verb.Verb.TheVariants.{Add, Choose, Entries as AllEntries, Entry, Get, Pull, Push}
-use Rattle.ps_lines.specs.declared.verb.Verb.TheVariants.{Replica, Rows, Set, Sub, Unchoose}
+use Rattle.ps_lines.specs.declared.verb.Verb.TheVariants.{Add, Choose, Entries as AllEntries, Entry, Get, Merge}
+use Rattle.ps_lines.specs.declared.verb.Verb.TheVariants.{Pull, Push, Replica, Rows, Set, Sub, Unchoose}
 
 -- memory was ample
 abbrev IsAmple : {X : Type 0} → Read X → Type 0
@@ -165,10 +165,10 @@ delta_once bytes (Err e) (Ok d) x y ample_a ample_b = absurd (ample_a (ap Err (x
 delta_once bytes (Err e) (Err f) x y ample_a ample_b =
     ap Err (delta_refused e f x.refused y.refused ample_a ample_b)
 
-push_once : (others : List (List ℕ)) (line : List ℕ) (a b : Read Command) → ReadsPush others line a
-    → ReadsPush others line b → IsAmple a → IsAmple b → a ≡ b
-push_once [] line a b x y ample_a ample_b = x ∙ sym y
-push_once (word ∷ others) line a b x y ample_a ample_b =
+taking_in_once : (asked : Entries → Command) (others : List (List ℕ)) (line : List ℕ) (a b : Read Command)
+    → ReadsTakingIn asked others line a → ReadsTakingIn asked others line b → IsAmple a → IsAmple b → a ≡ b
+taking_in_once asked [] line a b x y ample_a ample_b = x ∙ sym y
+taking_in_once asked (word ∷ others) line a b x y ample_a ample_b =
     x.2 ∙ ap (with_part _) (delta_once line x.0 y.0 x.1 y.1 (λ e. ample_a (x.2 ∙ ap (with_part _) e))
     (λ e. ample_b (y.2 ∙ ap (with_part _) e))) ∙ sym y.2
 
@@ -207,7 +207,10 @@ verb_once (Some Unchoose) others rest a b x y ample_a ample_b = change_once _ re
 verb_once (Some Rows) others rest a b x y ample_a ample_b = of_rectangle_once _ others a b x y
 verb_once (Some Entry) others rest a b x y ample_a ample_b = of_cell_once _ others a b x y
 verb_once (Some AllEntries) others rest a b x y ample_a ample_b = of_rectangle_once _ others a b x y
-verb_once (Some Push) others rest a b x y ample_a ample_b = push_once others rest a b x y ample_a ample_b
+verb_once (Some Push) others rest a b x y ample_a ample_b =
+    taking_in_once (λ d. commands.Push d) others rest a b x y ample_a ample_b
+verb_once (Some Merge) others rest a b x y ample_a ample_b =
+    taking_in_once (λ d. commands.Merge d) others rest a b x y ample_a ample_b
 verb_once (Some Pull) others rest a b x y ample_a ample_b = pull_once others a b x y
 verb_once (Some Replica) others rest a b x y ample_a ample_b = replica_once others a b x y
 

@@ -2,8 +2,9 @@
 use Rattle.std.proofs.Common.{◌≡◌, ℕ, List, [], ◌∷◌, Some, Err, refl}
 use Rattle.ps_grid.specs.declared.refusal.Refusal.{Refusal}
 use Rattle.ps_grid.specs.declared.refusal.Refusal.TheVariants as refusals
+use Rattle.ps_delta.specs.Deltas.{Entries}
 use Rattle.ps_lines.specs.Commands.{verb_of, ReadsCorners, ReadsLine, ReadsOneCell, ReadsPair, ReadsPull}
-use Rattle.ps_lines.specs.Commands.{Read, ReadsPush, ReadsRectangle, ReadsReplica, ReadsVerb, Pushes}
+use Rattle.ps_lines.specs.Commands.{Read, ReadsRectangle, ReadsReplica, ReadsTakingIn, ReadsVerb, TakesIn}
 use Rattle.ps_lines.specs.declared.command.Command.{Command}
 use Rattle.ps_lines.specs.Words.{after_word, first_word, parts, words}
 use Rattle.ps_lines.specs.declared.verb.Verb.{Verb}
@@ -26,8 +27,9 @@ corners_more first last rest = rw (parts_are_some 58 rest).are refl
 pub pull_more : (from most rest : List ℕ) → ReadsPull (from ∷ most ∷ words rest) (Err refusals.Command)
 pull_more from most rest = rw (parts_are_some 32 rest).are refl
 
-pub push_reads : (line : List ℕ) (read : Read Command) → Pushes line read → ReadsPush (words line) line read
-push_reads line read reads = rw (parts_are_some 32 line).are reads
+pub taking_in_reads : (asked : Entries → Command) (line : List ℕ) (read : Read Command) → TakesIn asked line read
+    → ReadsTakingIn asked (words line) line read
+taking_in_reads asked line read reads = rw (parts_are_some 32 line).are reads
 
 pub replica_more : (number rest : List ℕ) → ReadsReplica (number ∷ words rest) (Err refusals.Command)
 replica_more number rest = rw (parts_are_some 32 rest).are refl

@@ -18,8 +18,8 @@ use Rattle.ps_lines.specs.declared.command.Command.{Command}
 use Rattle.ps_lines.specs.declared.command.TheConstants.{LARGEST_GROUP}
 use Rattle.ps_lines.specs.declared.command.Command.TheVariants as commands
 use Rattle.ps_lines.specs.declared.verb.Verb.{Verb}
-use Rattle.ps_lines.specs.declared.verb.Verb.TheVariants.{Add, Choose, Entries as AllEntries, Entry, Get, Pull, Push}
-use Rattle.ps_lines.specs.declared.verb.Verb.TheVariants.{Replica, Rows, Set, Sub, Unchoose}
+use Rattle.ps_lines.specs.declared.verb.Verb.TheVariants.{Add, Choose, Entries as AllEntries, Entry, Get, Merge}
+use Rattle.ps_lines.specs.declared.verb.Verb.TheVariants.{Pull, Push, Replica, Rows, Set, Sub, Unchoose}
 
 -- the verb that a word is
 unfoldable pub verb_of : List ℕ → Option Verb
@@ -34,6 +34,7 @@ verb_of word =
     else if bytes_eq word (codes "entry") then Some Entry
     else if bytes_eq word (codes "entries") then Some AllEntries
     else if bytes_eq word (codes "push") then Some Push
+    else if bytes_eq word (codes "merge") then Some Merge
     else if bytes_eq word (codes "pull") then Some Pull
     else if bytes_eq word (codes "replica") then Some Replica
     else None
@@ -108,15 +109,29 @@ pub record ReadsDelta (bytes : List ℕ) (read : Read Entries) : Type 0 where
   pub only : (d : Entries) → IsLine bytes d → MatchResult read (λ found. found ≡ d) (λ e. e ≡ refusals.Memory)
   pub refused : IfErr read (λ e. (e ≡ refusals.Delta) ⊎ (e ≡ refusals.Memory))
 
--- the delta that these bytes are a line of is pushed
-abbrev pub Pushes : List ℕ → Read Command → Type 0
-Pushes bytes read =
-    (delta : Read Entries) × ReadsDelta bytes delta × (read ≡ with_part (λ d. commands.Push d) delta)
+-- the delta that these bytes are a line of is asked to be taken in
+abbrev pub TakesIn : (Entries → Command) → List ℕ → Read Command → Type 0
+TakesIn asked bytes read = (delta : Read Entries) × ReadsDelta bytes delta × (read ≡ with_part asked delta)
 
--- `push`: all after its space is the line
+-- it is pushed, or merged
+abbrev pub Pushes : List ℕ → Read Command → Type 0
+Pushes bytes read = TakesIn (λ d. commands.Push d) bytes read
+
+abbrev pub Merges : List ℕ → Read Command → Type 0
+Merges bytes read = TakesIn (λ d. commands.Merge d) bytes read
+
+-- all after the verb's space is the line
+abbrev pub ReadsTakingIn : (Entries → Command) → List (List ℕ) → List ℕ → Read Command → Type 0
+ReadsTakingIn asked [] line read = read ≡ Err refusals.Command
+ReadsTakingIn asked (word ∷ others) line read = TakesIn asked line read
+
+-- `push`
 abbrev pub ReadsPush : List (List ℕ) → List ℕ → Read Command → Type 0
-ReadsPush [] line read = read ≡ Err refusals.Command
-ReadsPush (word ∷ others) line read = Pushes line read
+ReadsPush others line read = ReadsTakingIn (λ d. commands.Push d) others line read
+
+-- `merge`
+abbrev pub ReadsMerge : List (List ℕ) → List ℕ → Read Command → Type 0
+ReadsMerge others line read = ReadsTakingIn (λ d. commands.Merge d) others line read
 
 -- a word that writes no number is refused as a version; else its number decides
 abbrev pub AtNumber : Option ℕ → Read Command → (ℕ → Type 0) → Type 0
@@ -161,6 +176,7 @@ ReadsVerb (Some Rows) others rest read = AsksOfRectangle (λ c d. commands.Rows 
 ReadsVerb (Some Entry) others rest read = AsksOfCell (λ c. commands.Entry c) others read
 ReadsVerb (Some AllEntries) others rest read = AsksOfRectangle (λ c d. commands.Entries c d) others read
 ReadsVerb (Some Push) others rest read = ReadsPush others rest read
+ReadsVerb (Some Merge) others rest read = ReadsMerge others rest read
 ReadsVerb (Some Pull) others rest read = ReadsPull others read
 ReadsVerb (Some Replica) others rest read = ReadsReplica others read
 
@@ -173,8 +189,9 @@ ReadsLine line read =
 abbrev pub IsKeptInMemory : Option Verb → List ℕ → Type 0
 IsKeptInMemory (Some Set) rest = takes_memory (kind_of (after_word rest)) ≡ true
 IsKeptInMemory (Some Push) rest = ⊤
+IsKeptInMemory (Some Merge) rest = ⊤
 IsKeptInMemory _ rest = ⊥
 
--- to read the line takes memory: it assigns a formula or a text, or it is a `push`
+-- to read the line takes memory: it assigns a formula or a text, or it is a `push` or a `merge`
 abbrev pub TakesMemoryToRead : List ℕ → Type 0
 TakesMemoryToRead line = IsKeptInMemory (verb_of (first_word line)) (after_word line)

@@ -4,12 +4,16 @@ use Rattle.ps_grid.specs.Refusals.{number_of, name_of}
 use Rattle.ps_grid.specs.declared.refusal.Refusal.{Refusal}
 use Rattle.ps_lines.specs.declared.reply.Reply.{Reply}
 use Rattle.ps_lines.specs.declared.reply.Reply.TheVariants.{Delta, Done, DoneElsewhere, End, Entries, Entry, Refused}
-use Rattle.ps_lines.specs.declared.reply.Reply.TheVariants.{Replica, Rows, Shown}
+use Rattle.ps_lines.specs.declared.reply.Reply.TheVariants.{Replica, Rows, Same, Shown}
 use Rattle.ps_value.specs.declared.value.Value.{Value}
 use Rattle.ps_value.specs.Shown.{shown_text}
 
 abbrev pub done_text : ℕ → List ℕ
 done_text version = codes "ok " ++ decimal version ++ 10 ∷ []
+
+-- nothing was new
+abbrev pub same_text : ℕ → List ℕ
+same_text version = codes "same " ++ decimal version ++ 10 ∷ []
 
 abbrev pub value_text : Value → List ℕ
 value_text value = codes "val " ++ (shown_text value ++ 10 ∷ [])
@@ -43,6 +47,7 @@ refusal_text refusal = codes "err " ++ decimal (number_of refusal) ++ (codes " "
 abbrev pub reply_text : Reply → List ℕ
 reply_text (Done version) = done_text version
 reply_text (DoneElsewhere version) = done_text version
+reply_text (Same version) = same_text version
 reply_text (Shown value) = value_text value
 reply_text (Rows count table) = rows_text count table.items
 reply_text (Entry entry) = entry_reply entry.items

@@ -3,7 +3,7 @@ ghost use Rattle.std.specs.Prelude.{◌≡◌, ◌≢◌, ◌∷◌, [], ℕ, Er
 ghost use Rattle.std.specs.Option.{ok_or};
 ghost use Rattle.ps_lines.specs.Words.{after_word, parts, whole_number, words};
 ghost use Rattle.ps_lines.specs.Commands.{AtCell, ReadsCorners, ReadsLine, ReadsOneCell, ReadsPair, ReadsPull};
-ghost use Rattle.ps_lines.specs.Commands.{ReadsRectangle, ReadsReplica, ReadsSet, ReadsVerb, Pushes};
+ghost use Rattle.ps_lines.specs.Commands.{ReadsRectangle, ReadsReplica, ReadsSet, ReadsVerb, Merges, Pushes};
 ghost use Rattle.ps_lines.specs.Commands.{TakesMemoryToRead, group_size, replica_number};
 
 use crate::verb::Verb;
@@ -36,6 +36,8 @@ pub enum Command {
     },
     /// To take in a delta made elsewhere.
     Push(Delta),
+    /// To take in what is new of a delta made elsewhere.
+    Merge(Delta),
     /// To tell the own replica, whichever is named beside it.
     Replica(Option<u8>),
 }
@@ -54,14 +56,15 @@ impl Command {
     /// - `entry <cell>` and `entries <cell>:<cell>`, to tell what a cell holds, and what a rectangle does;
     /// - `pull <from>` and `pull <from> <most>`, to hand out deltas;
     /// - `push <line>`, to take in the delta that all after the space is a line of;
+    /// - `merge <line>`, to take in what is new of it;
     /// - `replica` and `replica <number>`, to tell the own replica.
     ///
     /// Exactly one space stands between two words; an entry may hold more. Of several refusals the first is told:
     /// another first word, a word too few or too many (`Command`), no cell (`Cell`), no digits or a number of more
     /// than 64 bits (`Amount` or `OptionRange`), and then those of the entry. Whether the number is in range, and the
     /// cell has a counter or a set, isn't asked here. A replica that isn't 1 to [`REPLICAS`] is refused (`Replica`).
-    /// Only an entry that is a formula or a text, and the line of a delta, take memory to be read. The decoder is lent
-    /// for the line of a delta: it keeps its room from one to the next.
+    /// Only an entry that is a formula or a text, and the line of a delta, take memory to be read. `decoder` reads the
+    /// line of a delta.
     ///
     /// Cost: O(n) in the n bytes of the line.
     #[inline(always)]
@@ -97,6 +100,7 @@ fn read_alone(verb: Verb) -> Result<Command, Refusal>
         | Verb::Entry
         | Verb::Entries
         | Verb::Push
+        | Verb::Merge
         | Verb::Pull => Err(Refusal::Command),
     }
 }
@@ -159,6 +163,7 @@ fn read_other(
             Ok(Command::Entries(first, last))
         }
         Verb::Push => read_push(alloc, decoder, rest),
+        Verb::Merge => read_merge(alloc, decoder, rest),
         Verb::Pull => read_pull(rest),
         Verb::Replica => read_replica(rest),
     }
@@ -254,6 +259,13 @@ fn read_push(alloc: Global, decoder: &mut Decoder, line: &[u8]) -> Result<Comman
     ensures { Pushes line.now result }
 {
     Ok(Command::Push(decoder.decode(alloc, line)?))
+}
+
+/// `merge`: the line of a delta.
+fn read_merge(alloc: Global, decoder: &mut Decoder, line: &[u8]) -> Result<Command, Refusal>
+    ensures { Merges line.now result }
+{
+    Ok(Command::Merge(decoder.decode(alloc, line)?))
 }
 
 /// `pull`: a version, and perhaps the size of a group after a space.

@@ -6,7 +6,7 @@ ghost use Rattle.ps_device.specs.Device.{Sends};
 ghost use Rattle.ps_value.specs.Shown.{shown_text};
 ghost use Rattle.ps_lines.specs.Replies.{entry_reply, reply_text};
 
-use crate::reply_words::{DELTA, END, ENTRIES, ENTRY, ERR, OK, REPLICA, ROWS, VAL};
+use crate::reply_words::{DELTA, END, ENTRIES, ENTRY, ERR, OK, REPLICA, ROWS, SAME, VAL};
 use crate::watcher::Outcome;
 use itoa::{Buffer, write_digits};
 use ps_device::{Failed, Sink, put_all};
@@ -18,8 +18,10 @@ use ps_value::{Value, write_shown};
 pub enum Reply {
     /// `ok` and the version.
     Done(u64),
-    /// .. where a delta was pushed of which the own replica made a part that the board hadn't, which isn't told.
+    /// .. where a delta was taken in of which the own replica made a part that the board hadn't, which isn't told.
     DoneElsewhere(u64),
+    /// `same` and the version, where nothing was new of a delta that was merged.
+    Same(u64),
     /// `val` and what the cell shows.
     Shown(Value),
     /// `rows` and how many lines a table has, and then the lines, each with its line feed.
@@ -47,6 +49,7 @@ impl Reply {
             Reply::Refused(refusal) => Outcome::Refused(*refusal),
             Reply::DoneElsewhere(_) => Outcome::Elsewhere,
             Reply::Done(_)
+            | Reply::Same(_)
             | Reply::Shown(_)
             | Reply::Rows(..)
             | Reply::Entry(_)
@@ -125,6 +128,7 @@ pub fn send<K: Sink>(reply: &Reply, sink: &mut K) -> Result<(), Failed>
 {
     match reply {
         Reply::Done(version) | Reply::DoneElsewhere(version) => send_number(OK, *version, sink),
+        Reply::Same(version) => send_number(SAME, *version, sink),
         Reply::Shown(value) => send_shown(value, sink),
         Reply::Rows(count, table) => send_table(ROWS, *count, table, sink),
         Reply::Entry(entry) => send_entry(entry, sink),

@@ -4,6 +4,9 @@
 /// Of [`Reply::Done`](crate::Reply::Done).
 pub const OK: &[u8] = b"ok ";
 
+/// Of [`Reply::Same`](crate::Reply::Same).
+pub const SAME: &[u8] = b"same ";
+
 /// Of [`Reply::Shown`](crate::Reply::Shown).
 pub const VAL: &[u8] = b"val ";
 

@@ -23,6 +23,8 @@ const ENTRIES: &str = "entries";
 
 pub(crate) const PUSH: &str = "push";
 
+const MERGE: &str = "merge";
+
 /// The word of [`Verb::Pull`], for who asks a peer.
 pub const PULL: &str = "pull";
 
@@ -51,6 +53,8 @@ pub enum Verb {
     Entries,
     /// `push`: a delta is to be taken in.
     Push,
+    /// `merge`: what is new of a delta is to be taken in.
+    Merge,
     /// `pull`: deltas are to be handed out.
     Pull,
     /// `replica`: the own replica is to be told.
@@ -61,7 +65,7 @@ impl Verb {
     /// All verbs.
     ///
     /// Cost: constant.
-    pub fn all() -> [Verb; 12]
+    pub fn all() -> [Verb; 13]
         ensures { (verb : Verb) → Contains result verb }
     {
         [
@@ -75,6 +79,7 @@ impl Verb {
             Verb::Entry,
             Verb::Entries,
             Verb::Push,
+            Verb::Merge,
             Verb::Pull,
             Verb::Replica,
         ]
@@ -98,6 +103,7 @@ impl Verb {
             Verb::Entry => ENTRY,
             Verb::Entries => ENTRIES,
             Verb::Push => PUSH,
+            Verb::Merge => MERGE,
             Verb::Pull => PULL,
             Verb::Replica => REPLICA,
         }
@@ -131,6 +137,8 @@ impl Verb {
             Some(Verb::Entries)
         } else if word == PUSH.as_bytes() {
             Some(Verb::Push)
+        } else if word == MERGE.as_bytes() {
+            Some(Verb::Merge)
         } else if word == PULL.as_bytes() {
             Some(Verb::Pull)
         } else if word == REPLICA.as_bytes() {

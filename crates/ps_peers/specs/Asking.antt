@@ -3,6 +3,7 @@ use Rattle.std.specs.Prelude.{◌≡◌, ◌⊎◌, ℕ, Bool, cond, ◌||◌, L
 use Rattle.std.specs.Prelude.{drop, flat_map, length, nat_eq, nat_lt, option_map, take}
 use Rattle.std.specs.Io.KnownBytes.{Appends, Consumes, IsAtEnd}
 use Rattle.std.specs.List.{All, starts_with}
+use Rattle.std.specs.Option.{option_or}
 use Rattle.ps_grid.specs.declared.refusal.Refusal.TheVariants as refusals
 use Rattle.ps_lines.specs.Commands.{verb_of}
 use Rattle.ps_lines.specs.Feeding.{HasNoFeed, kept, without_return}
@@ -43,6 +44,9 @@ lines_after (Some verbs.Sub) first = option_map (λ n. 0) (number_after first (c
 lines_after (Some verbs.Choose) first = option_map (λ n. 0) (number_after first (codes "ok "))
 lines_after (Some verbs.Unchoose) first = option_map (λ n. 0) (number_after first (codes "ok "))
 lines_after (Some verbs.Push) first = option_map (λ n. 0) (number_after first (codes "ok "))
+lines_after (Some verbs.Merge) first =
+    option_or (option_map (λ n. 0) (number_after first (codes "ok ")))
+    (option_map (λ n. 0) (number_after first (codes "same ")))
 
 -- what a server says that has no seat for a session: it closes then
 abbrev pub no_seat : List ℕ

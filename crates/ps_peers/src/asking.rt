@@ -17,7 +17,7 @@ use crate::peer::Peer;
 use crate::peer_pull::{SyncFault, fault_of, refused};
 use ps_device::{Failed, Sink, Source, hand_on};
 use ps_grid::Refusal;
-use ps_lines::reply_words::{DELTA, END, ENTRIES, ENTRY, ERR, OK, REPLICA, ROWS, VAL};
+use ps_lines::reply_words::{DELTA, END, ENTRIES, ENTRY, ERR, OK, REPLICA, ROWS, SAME, VAL};
 use ps_lines::{
     Incoming, Line, Outcome, Reply, Verb, Watcher, read_whole, send, send_pieces, split_word,
 };
@@ -72,6 +72,7 @@ fn lines_after(verb: Option<Verb>, first: &[u8]) -> Option<u64>
         Some(Verb::Replica) => numbered(first, REPLICA),
         Some(Verb::Set | Verb::Add | Verb::Sub | Verb::Choose | Verb::Unchoose | Verb::Push) =>
             numbered(first, OK),
+        Some(Verb::Merge) => numbered(first, OK).or(numbered(first, SAME)),
     }
 }
 

@@ -13,9 +13,10 @@ use Rattle.ps_session.specs.Boards.{BoardAnswers, Obeyed}
 use Rattle.ps_lines.specs.Commands.{Read, ReadsLine, with_part}
 use Rattle.ps_session.specs.Answers.{Answers, Edited, Obeys, TakesMemory}
 use Rattle.ps_lines.specs.Replies.{done_text, entries_reply, entry_reply, refusal_text, replica_text, rows_text}
-use Rattle.ps_lines.specs.Replies.{value_text}
+use Rattle.ps_lines.specs.Replies.{same_text, value_text}
 use Rattle.ps_session.specs.SheetBoard.{SheetCalls, SheetPulls}
 use Rattle.ps_lines.specs.declared.command.Command.{Command}
+use Rattle.ps_session.specs.declared.board.Merged.TheVariants.{Known, New}
 use Rattle.ps_lines.specs.declared.command.Command.TheVariants as commands
 use Rattle.ps_lines.proofs.PulledDeltas.{hands_out}
 
@@ -134,6 +135,14 @@ module _ (old new : SheetView) (line text : List ℕ) where
       serves (commands.Push delta) reads (taken.0, told ∙ ap done_text taken.1.number) taken.1.replica
   obeyed (Ok (commands.Push delta)) reads (Err refusal, memory, told) =
       lacks (Ok (commands.Push delta)) reads tt (told ∙ ap refusal_text memory.0) memory.1
+  obeyed (Ok (commands.Merge delta)) reads (Ok (New number), merged, told) =
+      serves (commands.Merge delta) reads
+      (inl (merged.0.0, merged.0.1, merged.0.2, told ∙ ap done_text merged.1.number)) merged.1.replica
+  obeyed (Ok (commands.Merge delta)) reads (Ok (Known number), merged, told) =
+      serves (commands.Merge delta) reads
+      (inr (merged.0.0, merged.0.1, told ∙ ap same_text merged.1.number)) merged.1.replica
+  obeyed (Ok (commands.Merge delta)) reads (Err refusal, memory, told) =
+      lacks (Ok (commands.Merge delta)) reads tt (told ∙ ap refusal_text memory.0) memory.1
   obeyed (Ok (commands.Replica named)) reads (number, told, is) =
       serves (commands.Replica named) reads (stays told.1, is ∙ ap replica_text told.0) (replica_stays told.1)
   obeyed (Err refusal) reads refused = elim (memory_or_other refusal) [

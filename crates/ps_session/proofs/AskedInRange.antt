@@ -15,7 +15,7 @@ use Rattle.ps_delta.specs.declared.edit.Edit.{Edit}
 use Rattle.ps_delta.specs.declared.edit.Edit.TheVariants as edits
 use Rattle.ps_sheet.specs.Edits.{assigned, delta_of_edit}
 use Rattle.ps_lines.specs.Commands.{AsksOfCell, AsksOfRectangle, AtNumber, Read, ReadsChange, ReadsLine, ReadsPair}
-use Rattle.ps_lines.specs.Commands.{ReadsPull, ReadsPush, ReadsReplica, ReadsSet, ReadsVerb, group_size}
+use Rattle.ps_lines.specs.Commands.{ReadsPull, ReadsReplica, ReadsSet, ReadsTakingIn, ReadsVerb, group_size}
 use Rattle.ps_lines.specs.Commands.{replica_number, verb_of}
 use Rattle.ps_lines.specs.PullReplies.{HasLine}
 use Rattle.ps_session.specs.EditLines.{IsEdit, named_count}
@@ -23,8 +23,8 @@ use Rattle.ps_lines.specs.Words.{after_word, first_word, words, whole_number}
 use Rattle.ps_lines.specs.declared.command.Command.{Command}
 use Rattle.ps_lines.specs.declared.command.Command.TheVariants as commands
 use Rattle.ps_lines.specs.declared.verb.Verb.{Verb}
-use Rattle.ps_lines.specs.declared.verb.Verb.TheVariants.{Add, Choose, Entries as AllEntries, Entry, Get, Pull, Push}
-use Rattle.ps_lines.specs.declared.verb.Verb.TheVariants.{Replica, Rows, Set, Sub, Unchoose}
+use Rattle.ps_lines.specs.declared.verb.Verb.TheVariants.{Add, Choose, Entries as AllEntries, Entry, Get, Merge}
+use Rattle.ps_lines.specs.declared.verb.Verb.TheVariants.{Pull, Push, Replica, Rows, Set, Sub, Unchoose}
 use Rattle.ps_session.proofs.EditLineLemmas.{add_passes, batch_passes, choose_passes, sub_passes, unchoose_passes}
 use Rattle.ps_session.proofs.EntryLemmas.{content_read}
 
@@ -53,6 +53,7 @@ AsksInRange (Ok (commands.Entry c)) = Unit {0}
 AsksInRange (Ok (commands.Entries c d)) = Unit {0}
 AsksInRange (Ok (commands.Pull from most)) = Unit {0}
 AsksInRange (Ok (commands.Push d)) = HasLine d
+AsksInRange (Ok (commands.Merge d)) = HasLine d
 AsksInRange (Ok (commands.Replica named)) = Unit {0}
 AsksInRange (Err refusal) = Unit {0}
 
@@ -115,12 +116,14 @@ pull_in_range (from ∷ most ∷ []) read reads =
     version_in_range (whole_number from) read _ reads (λ n. group_in_range n (group_size (whole_number most)) read)
 pull_in_range (from ∷ most ∷ third ∷ more) read is = subst AsksInRange (sym is) tt
 
-push_in_range : (others : List (List ℕ)) (line : List ℕ) (read : Read Command) → ReadsPush others line read
+taking_in_range : (asked : Entries → Command) (others : List (List ℕ)) (line : List ℕ) (read : Read Command)
+    → ((d : Entries) → HasLine d → AsksInRange (Ok (asked d))) → ReadsTakingIn asked others line read
     → AsksInRange read
-push_in_range [] line read is = subst AsksInRange (sym is) tt
-push_in_range (word ∷ others) line read (Ok d, reads, is) =
-    subst AsksInRange (sym is) (record { lawful = reads.line.lawful; fits = (decoded_fit line d reads.line).1 })
-push_in_range (word ∷ others) line read (Err e, reads, is) = subst AsksInRange (sym is) tt
+taking_in_range asked [] line read each is = subst AsksInRange (sym is) tt
+taking_in_range asked (word ∷ others) line read each (Ok d, reads, is) =
+    subst AsksInRange (sym is)
+    (each d (record { lawful = reads.line.lawful; fits = (decoded_fit line d reads.line).1 }))
+taking_in_range asked (word ∷ others) line read each (Err e, reads, is) = subst AsksInRange (sym is) tt
 
 replica_in_range : (others : List (List ℕ)) (read : Read Command) → ReadsReplica others read → AsksInRange read
 replica_in_range [] read is = subst AsksInRange (sym is) tt
@@ -151,7 +154,10 @@ verb_in_range (Some Entry) others rest read reads =
     cell_in_range (λ c. commands.Entry c) others read (λ c. tt) reads
 verb_in_range (Some AllEntries) others rest read reads =
     rectangle_in_range (λ c d. commands.Entries c d) others read (λ c d. tt) reads
-verb_in_range (Some Push) others rest read reads = push_in_range others rest read reads
+verb_in_range (Some Push) others rest read reads =
+    taking_in_range (λ d. commands.Push d) others rest read (λ d line. line) reads
+verb_in_range (Some Merge) others rest read reads =
+    taking_in_range (λ d. commands.Merge d) others rest read (λ d line. line) reads
 verb_in_range (Some Pull) others rest read reads = pull_in_range others read reads
 verb_in_range (Some Replica) others rest read reads = replica_in_range others read reads
 

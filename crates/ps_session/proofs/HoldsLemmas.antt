@@ -59,10 +59,12 @@ replied_line Answers old new (b ∷ bs) reply contents after answered counted (O
 replied_line Answers old new (b ∷ bs) reply contents after answered counted (Err e) some answers sent counts =
     (reply, sent.0, answers, sent.1, sent.2)
 
--- what a line asks for was done, and its reply told
-pub told_by : {State E : Type 0} (calls : Calls State) (old new : State) (line reply : List ℕ) (asked : Read Command)
+-- what a line asks for was done, which is what the line is answered, and its reply told
+pub told_by : {State E : Type 0} (calls : Calls State) (Answers : Answering State)
+    (law : (x y : State) (line text : List ℕ) → BoardAnswers calls x line text y → Answers x line text y)
+    (old new : State) (line reply : List ℕ) (asked : Read Command)
     (contents after : Option (List ℕ)) (result : Result (Unit {0}) E) → ReadsLine line asked
     → Obeyed calls old asked reply new → Sends contents after result reply
-    → Tells (λ o t w. BoardAnswers calls o line t w) old new contents after result
-told_by calls old new line reply asked contents after result reads obeyed sent =
-    (reply, record { asked = asked; reads = reads; obeyed = obeyed }, sent)
+    → Tells (λ o t w. Answers o line t w) old new contents after result
+told_by calls Answers law old new line reply asked contents after result reads obeyed sent =
+    (reply, law old new line reply (record { asked = asked; reads = reads; obeyed = obeyed }), sent)

@@ -1,5 +1,6 @@
 mod CoveredLemmas
 mod HeldLemmas
+mod NewsLines
 mod OneLineMore
 mod HoldsLemmas
 mod OnePieceMore
@@ -7,11 +8,10 @@ mod InputReadToEnd
 mod PartLemmas
 pub mod Runs
 pub mod AnswerLemmas
-mod ReplicaAndLinesStay
+pub mod ReplicaAndLinesStay
 mod AskedInRange
 mod ReplayLemmas
 mod GridHistories
 mod RangeLemmas
 mod EditLineLemmas
 mod EntryLemmas
-pub mod Weaker

@@ -9,25 +9,29 @@ use Rattle.ps_grid.specs.declared.size.TheConstants.{CELLS}
 use Rattle.ps_grid.specs.Rectangle.{spanned}
 use Rattle.ps_csv.specs.Exports.{exported}
 use Rattle.ps_eval.specs.Items.{Assignment}
-use Rattle.ps_delta.specs.State.{IsInGrid}
-use Rattle.ps_delta.specs.Deltas.{Entries, joined_history}
+use Rattle.ps_delta.specs.State.{IsInGrid, State}
+use Rattle.ps_delta.specs.Deltas.{Entries, joined_history, state_of}
 use Rattle.ps_delta.proofs.HistoryLemmas.{joined_history-push}
+use Rattle.ps_delta.proofs.NewsLemmas.{least_news}
 use Rattle.ps_sheet.specs.Edits.{delta_of_edit}
+use Rattle.ps_sheet.specs.Merges.{IsNewsDelta}
 use Rattle.ps_sheet.specs.Sheet.{SheetView, Takes}
 use Rattle.ps_cells.proofs.SettledValues.{settled_at_most_once}
 use Rattle.ps_session.proofs.GridHistories.{in_grid_after}
-use Rattle.ps_session.specs.Answers.{AmpleLines, Edited, Obeys, Serves}
+use Rattle.ps_session.specs.Answers.{AmpleLines, Edited, IsMerged, Obeys, Serves}
 use Rattle.ps_lines.specs.Commands.{Read}
 use Rattle.ps_lines.specs.Feeding.{without_return}
 use Rattle.ps_session.specs.Laws.{IsSameSheet, TranscriptIsDecided}
-use Rattle.ps_lines.specs.Replies.{done_text, rows_text, value_text}
+use Rattle.ps_lines.specs.PullReplies.{HasLine}
+use Rattle.ps_lines.specs.Replies.{done_text, rows_text, same_text, value_text}
 use Rattle.ps_lines.specs.Streams.{Replies, Run, with_last}
 use Rattle.ps_session.specs.Transcript.{answered_count}
 use Rattle.ps_lines.specs.declared.command.Command.{Command}
 use Rattle.ps_lines.specs.declared.command.Command.TheVariants as commands
 use Rattle.ps_lines.specs.declared.line_buffer.TheConstants.{LINE_LIMIT}
 use Rattle.ps_session.proofs.AskedInRange.{AsksInRange, line_in_range, made_in_grid}
-use Rattle.ps_lines.proofs.GreatestGroup.{hands_once}
+use Rattle.ps_session.proofs.NewsLines.{news_line}
+use Rattle.ps_lines.proofs.GreatestGroup.{hands_once, same_entries}
 use Rattle.ps_lines.proofs.ReadingLaws.{reads_once}
 use Rattle.ps_lines.proofs.SplitLemmas.{divides_one_way}
 
@@ -45,6 +49,23 @@ taken_once d history next after (inl a) (inl b) = a.1 ∙ sym b.1
 taken_once d history next after (inl a) (inr b) = absurd (b.0 a.0)
 taken_once d history next after (inr a) (inl b) = absurd (a.0 b.0)
 taken_once d history next after (inr a) (inr b) = a.1 ∙ sym b.1
+
+-- one delta is the news of another one over a state
+news_delta_once : (s : State) (d n m : Entries) → IsNewsDelta s d n → IsNewsDelta s d m → n ≡ m
+news_delta_once s d n m v w =
+    same_entries n m v.delta w.delta ((least_news s (state_of d) (state_of n) v.news).once (state_of m) w.news)
+
+merged_once : (d : Entries) (history next after : List Entries) (text told : List ℕ) → IsMerged d history text next
+    → IsMerged d history told after → (text ≡ told) × (next ≡ after)
+merged_once d history next after text told (inl a) (inl b) =
+    let news = news_delta_once (joined_history history) d a.0 b.0 a.1 b.1 in
+    let same : next ≡ after = a.2 ∙ ap (λ (n : Entries). history ++ n ∷ []) news ∙ sym b.2 in
+    (a.3 ∙ ap (λ (h : List Entries). done_text (length h)) same ∙ sym b.3, same)
+merged_once d history next after text told (inl a) (inr b) = absurd (a.1.some b.0)
+merged_once d history next after text told (inr a) (inl b) = absurd (b.1.some a.0)
+merged_once d history next after text told (inr a) (inr b) =
+    let same : next ≡ after = a.1 ∙ sym b.1 in
+    (a.2 ∙ ap (λ (h : List Entries). same_text (length h)) same ∙ sym b.2, same)
 
 obeyed_once : (r : ℕ) (history next after : List Entries) (asked : Read Command) (text told : List ℕ)
     → IsInGrid (joined_history history) → Obeys r history asked text next → Obeys r history asked told after
@@ -66,6 +87,8 @@ obeyed_once r history next after (Ok (commands.Pull from most)) text told inside
 obeyed_once r history next after (Ok (commands.Push d)) text told inside a b =
     let same : next ≡ after = taken_once d history next after a.0 b.0 in
     (a.1 ∙ ap (λ (h : List Entries). done_text (length h)) same ∙ sym b.1, same)
+obeyed_once r history next after (Ok (commands.Merge d)) text told inside a b =
+    merged_once d history next after text told a b
 obeyed_once r history next after (Ok (commands.Replica named)) text told inside a b = (a.1 ∙ sym b.1, a.0 ∙ sym b.0)
 obeyed_once r history next after (Err e) text told inside a b = (a.1 ∙ sym b.1, a.0 ∙ sym b.0)
 
@@ -80,6 +103,14 @@ taken_in_grid : (d : Entries) (history next : List Entries) → IsInGrid (joined
 taken_in_grid d history next inside all (inl below) =
     subst (λ (h : List Entries). IsInGrid (joined_history h)) (sym below.1) inside
 taken_in_grid d history next inside all (inr fresh) = pushed_in_grid d history next inside all fresh.1
+
+merged_in_grid : (d : Entries) (history next : List Entries) (text : List ℕ) → IsInGrid (joined_history history)
+    → HasLine d → IsMerged d history text next → IsInGrid (joined_history next)
+merged_in_grid d history next text inside line (inl new) =
+    let there = news_line (joined_history history) d new.0 line new.1 in
+    pushed_in_grid new.0 history next inside there.lawful.in_grid new.2
+merged_in_grid d history next text inside line (inr known) =
+    subst (λ (h : List Entries). IsInGrid (joined_history h)) (sym known.1) inside
 
 edited_in_grid : (made : Result Entries Refusal) (history next : List Entries) (text : List ℕ)
     → IsInGrid (joined_history history) → ((d : Entries) → made ≡ Ok d → All (λ e. e.0 < CELLS) d)
@@ -106,6 +137,8 @@ obeyed_in_grid r history next (Ok (commands.Pull from most)) text asks inside ob
     subst (λ (h : List Entries). IsInGrid (joined_history h)) (sym obeys.0) inside
 obeyed_in_grid r history next (Ok (commands.Push d)) text asks inside obeys =
     taken_in_grid d history next inside asks.lawful.in_grid obeys.0
+obeyed_in_grid r history next (Ok (commands.Merge d)) text asks inside obeys =
+    merged_in_grid d history next text inside asks obeys
 obeyed_in_grid r history next (Ok (commands.Replica named)) text asks inside obeys =
     subst (λ (h : List Entries). IsInGrid (joined_history h)) (sym obeys.0) inside
 obeyed_in_grid r history next (Err e) text asks inside obeys =

@@ -11,12 +11,13 @@ use Rattle.ps_sheet.specs.Edits.{delta_of_edit}
 use Rattle.ps_sheet.specs.Sheet.{SheetView, Takes}
 use Rattle.ps_lines.specs.declared.command.Command.{Command}
 use Rattle.ps_lines.specs.declared.command.Command.TheVariants as commands
-use Rattle.ps_session.specs.Answers.{Answers, Edited, Obeys}
+use Rattle.ps_session.specs.Answers.{Answers, Edited, IsMerged, Obeys}
 use Rattle.ps_lines.specs.Commands.{Read}
 use Rattle.ps_lines.specs.PullReplies.{HasLine}
 use Rattle.ps_session.specs.Keeping.{IsLater}
 use Rattle.ps_session.proofs.AskedInRange.{AsksInRange, is_edit, line_in_range}
 use Rattle.ps_session.proofs.EditLineLemmas.{edit_lines_fit, edits_are_lawful}
+use Rattle.ps_session.proofs.NewsLines.{news_line}
 
 -- ---- the history that a line leaves
 
@@ -34,6 +35,12 @@ taken_lines : (d : Entries) (history next : List Entries) → HasLine d → Take
     → HaveLines next
 taken_lines d history next line (inl below) have = same_lines history next below.1 have
 taken_lines d history next line (inr fresh) have = one_more d history next line fresh.1 have
+
+merged_lines : (d : Entries) (history next : List Entries) (text : List ℕ) → HasLine d
+    → IsMerged d history text next → HaveLines history → HaveLines next
+merged_lines d history next text line (inl new) have =
+    one_more new.0 history next (news_line (joined_history history) d new.0 line new.1) new.2 have
+merged_lines d history next text line (inr known) have = same_lines history next known.1 have
 
 edited_lines : (made : Result Entries Refusal) (history next : List Entries) (text : List ℕ)
     → ((d : Entries) → made ≡ Ok d → HasLine d) → Edited made history text next → HaveLines history → HaveLines next
@@ -62,6 +69,8 @@ obeyed_lines r history next (Ok (commands.Pull from most)) text low high asks ob
     same_lines history next obeys.0 have
 obeyed_lines r history next (Ok (commands.Push d)) text low high asks obeys have =
     taken_lines d history next asks obeys.0 have
+obeyed_lines r history next (Ok (commands.Merge d)) text low high asks obeys have =
+    merged_lines d history next text asks obeys have
 obeyed_lines r history next (Ok (commands.Replica named)) text low high asks obeys have =
     same_lines history next obeys.0 have
 obeyed_lines r history next (Err e) text low high asks obeys have = same_lines history next obeys.0 have
@@ -84,6 +93,11 @@ taken_grows : (d : Entries) (history next : List Entries) → Takes d history ne
 taken_grows d history next (inl below) = same_grows history next below.1
 taken_grows d history next (inr fresh) = (d ∷ [], fresh.1)
 
+merged_grows : (d : Entries) (history next : List Entries) (text : List ℕ) → IsMerged d history text next
+    → Grows history next
+merged_grows d history next text (inl new) = (new.0 ∷ [], new.2)
+merged_grows d history next text (inr known) = same_grows history next known.1
+
 obeyed_grows : (r : ℕ) (history next : List Entries) (asked : Read Command) (text : List ℕ)
     → Obeys r history asked text next → Grows history next
 obeyed_grows r history next (Ok (commands.Edit edit)) text obeys =
@@ -94,6 +108,7 @@ obeyed_grows r history next (Ok (commands.Entry c)) text obeys = same_grows hist
 obeyed_grows r history next (Ok (commands.Entries c d)) text obeys = same_grows history next obeys.0
 obeyed_grows r history next (Ok (commands.Pull from most)) text obeys = same_grows history next obeys.0
 obeyed_grows r history next (Ok (commands.Push d)) text obeys = taken_grows d history next obeys.0
+obeyed_grows r history next (Ok (commands.Merge d)) text obeys = merged_grows d history next text obeys
 obeyed_grows r history next (Ok (commands.Replica asked)) text obeys = same_grows history next obeys.0
 obeyed_grows r history next (Err e) text obeys = same_grows history next obeys.0
 

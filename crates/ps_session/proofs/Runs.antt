@@ -1,6 +1,6 @@
 -- What the lines of a session do to what answers them, for any relation: where it is reflexive and transitive, and each
 -- answered line keeps it, it holds from what was there before the session to what is there after it, whatever the
--- session came to. A caller of `talk` hands `talked` the five clauses of what it returned.
+-- session came to. A caller of `talk` or `converse` gives `talked` or `conversed` the five clauses of what it returned.
 use Rattle.std.proofs.Common.{◌≡◌, ◌≢◌, ◌⊎◌, inl, inr, refl, ℕ, Bool, true, false, List, [], ◌∷◌, Option, length}
 use Rattle.std.proofs.Common.{nat_le}
 use Rattle.std.proofs.Common.{Result, Ok, Err}
@@ -81,28 +81,29 @@ module _ {State : Type 0} (Q : State → State → Type 0) (same : (x : State) �
     talked Read ended source sink (Err faults.Memory) all cut some kept none = unchanged first last (none refl).2
 
     -- .. and one that has a keeper
-    pub talked_kept : (Read : List ℕ → Type 0) (ended can_fail source sink keeper : Type 0) (result : Result ℕ RunFault)
+    pub conversed : (Read : List ℕ → Type 0) (ended holds can_fail source sink keeper : Type 0)
+        (result : Result ℕ RunFault)
         → IfOk result (λ answered. (read : List ℕ) × Read read × ended
         × Transcribed (Lines Answers) first written read last contents answered)
         → (result ≡ Err faults.Sink → (read : List ℕ) × Read read
         × (Stopped (Lines Answers) ended first written read last contents
-        ⊎ Halted (Lines Answers) ended first written read last contents))
+        ⊎ (holds × Halted (Lines Answers) ended first written read last contents)))
         → (result ≡ Err faults.Source
         → (read : List ℕ) × Read read × Answered (Lines Answers) first written read last contents)
         → (result ≡ Err faults.Keep
         → can_fail × (read : List ℕ) × Read read × Halted (Lines Answers) ended first written read last contents)
         → (result ≡ Err faults.Memory → source × sink × (last ≡ first) × keeper)
         → Q first last
-    talked_kept Read ended can_fail source sink keeper (Ok answered) all cut some kept none =
+    conversed Read ended holds can_fail source sink keeper (Ok answered) all cut some kept none =
         transcribed all.0 answered all.3
-    talked_kept Read ended can_fail source sink keeper (Err faults.Sink) all cut some kept none =
+    conversed Read ended holds can_fail source sink keeper (Err faults.Sink) all cut some kept none =
         elim ((cut refl).2) [
           | inl whole ↦ stopped (cut refl).0 ended whole
-          | inr part ↦ halted (cut refl).0 ended part
+          | inr part ↦ halted (cut refl).0 ended part.1
         ]
-    talked_kept Read ended can_fail source sink keeper (Err faults.Source) all cut some kept none =
+    conversed Read ended holds can_fail source sink keeper (Err faults.Source) all cut some kept none =
         all_answered (some refl).0 (some refl).2
-    talked_kept Read ended can_fail source sink keeper (Err faults.Keep) all cut some kept none =
+    conversed Read ended holds can_fail source sink keeper (Err faults.Keep) all cut some kept none =
         halted (kept refl).1 ended (kept refl).3
-    talked_kept Read ended can_fail source sink keeper (Err faults.Memory) all cut some kept none =
+    conversed Read ended holds can_fail source sink keeper (Err faults.Memory) all cut some kept none =
         unchanged first last (none refl).2

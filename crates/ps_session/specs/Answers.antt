@@ -6,24 +6,34 @@ use Rattle.ps_grid.specs.declared.refusal.Refusal.{Refusal}
 use Rattle.ps_grid.specs.declared.refusal.Refusal.TheVariants as refusals
 use Rattle.ps_grid.specs.Rectangle.{spanned}
 use Rattle.ps_eval.specs.Items.{Assignment}
-use Rattle.ps_delta.specs.Deltas.{Entries, joined_history}
+use Rattle.ps_delta.specs.State.{IsBelow}
+use Rattle.ps_delta.specs.Deltas.{Entries, joined_history, state_of}
 use Rattle.ps_cells.specs.Settled.{IsSettled}
 use Rattle.ps_sheet.specs.Edits.{delta_of_edit}
+use Rattle.ps_sheet.specs.Merges.{IsNewsDelta}
 use Rattle.ps_sheet.specs.Sheet.{SheetView, Takes}
 use Rattle.ps_csv.specs.Exports.{entry_text, exported, exported_entries, held_in}
 use Rattle.ps_lines.specs.PullReplies.{HandsOut}
 use Rattle.ps_lines.specs.Commands.{Read, ReadsLine}
 use Rattle.ps_lines.specs.Replies.{done_text, entries_reply, entry_reply, refusal_text, replica_text, rows_text}
-use Rattle.ps_lines.specs.Replies.{value_text}
+use Rattle.ps_lines.specs.Replies.{same_text, value_text}
 use Rattle.ps_lines.specs.Streams.{Answering, Lines}
 use Rattle.ps_lines.specs.declared.command.Command.{Command}
-use Rattle.ps_lines.specs.declared.command.Command.TheVariants.{Edit, Entries as AllEntries, Entry, Get, Pull, Push}
-use Rattle.ps_lines.specs.declared.command.Command.TheVariants.{Replica, Rows}
+use Rattle.ps_lines.specs.declared.command.Command.TheVariants.{Edit, Entries as AllEntries, Entry, Get, Merge}
+use Rattle.ps_lines.specs.declared.command.Command.TheVariants.{Pull, Push, Replica, Rows}
 
 -- what was made of an edit: its delta ends the history, and the reply is the new version; or it is refused
 abbrev pub Edited : Result Entries Refusal → List Entries → List ℕ → List Entries → Type 0
 Edited (Ok delta) history text next = (next ≡ history ++ delta ∷ []) × (text ≡ done_text (length next))
 Edited (Err refusal) history text next = (next ≡ history) × (text ≡ refusal_text refusal)
+
+-- what was made of a delta that was merged: its news ends the history, and the reply is the new version; or it has
+-- none, and the reply says that all is the same
+abbrev pub IsMerged : Entries → List Entries → List ℕ → List Entries → Type 0
+IsMerged delta history text next =
+    ((news : Entries) × IsNewsDelta (joined_history history) delta news × (next ≡ history ++ news ∷ [])
+    × (text ≡ done_text (length next)))
+    ⊎ (IsBelow (state_of delta) (joined_history history) × (next ≡ history) × (text ≡ same_text (length next)))
 
 -- what a replica with a history does where a line asks for this: the reply, and the history afterwards
 abbrev pub Obeys : ℕ → List Entries → Read Command → List ℕ → List Entries → Type 0
@@ -41,6 +51,7 @@ Obeys replica history (Ok (AllEntries first last)) text next = (next ≡ history
 Obeys replica history (Ok (Pull from most)) text next =
     (next ≡ history) × HandsOut history from (unwrap_or most 1) text
 Obeys replica history (Ok (Push delta)) text next = Takes delta history next × (text ≡ done_text (length next))
+Obeys replica history (Ok (Merge delta)) text next = IsMerged delta history text next
 Obeys replica history (Ok (Replica named)) text next = (next ≡ history) × (text ≡ replica_text replica)
 Obeys replica history (Err refusal) text next = (next ≡ history) × (text ≡ refusal_text refusal)
 
@@ -62,6 +73,7 @@ TakesMemory replica history (Ok (Entry cell)) = ⊤
 TakesMemory replica history (Ok (AllEntries first last)) = ⊤
 TakesMemory replica history (Ok (Pull from most)) = from < length history
 TakesMemory replica history (Ok (Push delta)) = ⊤
+TakesMemory replica history (Ok (Merge delta)) = ⊤
 TakesMemory replica history (Ok (Replica named)) = ⊥
 TakesMemory replica history (Err refusal) = refusal ≡ refusals.Memory
 

@@ -7,11 +7,12 @@ use Rattle.ps_delta.specs.declared.edit.Edit.{Edit as SheetEdit}
 use Rattle.ps_lines.specs.Commands.{Read, ReadsLine}
 use Rattle.ps_lines.specs.PullReplies.{HandsOn}
 use Rattle.ps_lines.specs.Replies.{done_text, entries_reply, entry_reply, refusal_text, replica_text}
-use Rattle.ps_lines.specs.Replies.{rows_text, value_text}
-use Rattle.ps_lines.specs.Streams.{Answering, Lines}
+use Rattle.ps_lines.specs.Replies.{rows_text, same_text, value_text}
 use Rattle.ps_lines.specs.declared.command.Command.{Command}
-use Rattle.ps_lines.specs.declared.command.Command.TheVariants.{Edit, Entries as AllEntries, Entry, Get, Pull, Push}
-use Rattle.ps_lines.specs.declared.command.Command.TheVariants.{Replica, Rows}
+use Rattle.ps_session.specs.declared.board.Merged.{Merged}
+use Rattle.ps_session.specs.declared.board.Merged.TheVariants.{Known, New}
+use Rattle.ps_lines.specs.declared.command.Command.TheVariants.{Edit, Entries as AllEntries, Entry, Get, Merge}
+use Rattle.ps_lines.specs.declared.command.Command.TheVariants.{Pull, Push, Replica, Rows}
 
 -- what the calls of a board answer, or why they refuse: the state before, what was asked for, the answer, the state
 -- after
@@ -20,6 +21,8 @@ pub record Calls (State : Type 0) : Type 1 where
   pub edits : State → SheetEdit → Read ℕ → State → Type 0
   -- a delta made elsewhere is taken in: its number, or that of the last one
   pub receives : State → Entries → Read ℕ → State → Type 0
+  -- what is new of a delta made elsewhere is taken in: its number, or that of the last one where nothing was
+  pub merges : State → Entries → Read Merged → State → Type 0
   -- a cell is looked at: its value
   pub shows : State → ℕ → Read Value → State → Type 0
   -- a rectangle is looked at: the text of its values as a table
@@ -32,6 +35,11 @@ pub record Calls (State : Type 0) : Type 1 where
   pub pulls : State → ℕ → ℕ → Read (List Entries) → State → Type 0
   -- the own replica is asked for: its number, and never a refusal
   pub replica : State → ℕ → State → Type 0
+
+-- a merge is told as `ok` where something was new, and else as `same`
+abbrev pub merged_text : Merged → List ℕ
+merged_text (New number) = done_text number
+merged_text (Known number) = same_text number
 
 -- what an answer is told as
 abbrev pub told : {X : Type 0} → (X → List ℕ) → Read X → List ℕ
@@ -57,6 +65,8 @@ Obeyed calls old (Ok (Pull from most)) reply new = (answer : Read (List Entries)
     × calls.pulls old from (max (unwrap_or most 1) 1) answer new × HandsOn from (unwrap_or most 1) answer reply
 Obeyed calls old (Ok (Push delta)) reply new =
     TellsAnswer (λ answer. calls.receives old delta answer new) done_text reply
+Obeyed calls old (Ok (Merge delta)) reply new =
+    TellsAnswer (λ answer. calls.merges old delta answer new) merged_text reply
 Obeyed calls old (Ok (Replica named)) reply new =
     (number : ℕ) × calls.replica old number new × (reply ≡ replica_text number)
 Obeyed calls old (Err refusal) reply new = (new ≡ old) × (reply ≡ refusal_text refusal)
@@ -67,7 +77,3 @@ pub record BoardAnswers {State : Type 0} (calls : Calls State) (old : State) (li
   pub asked : Read Command
   pub reads : ReadsLine line asked
   pub obeyed : Obeyed calls old asked reply new
-
--- .. and a line as it stands between line feeds
-abbrev pub BoardLines : {State : Type 0} → Calls State → Answering State
-BoardLines calls = Lines (BoardAnswers calls)

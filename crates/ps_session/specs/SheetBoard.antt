@@ -4,13 +4,17 @@ use Rattle.ps_grid.specs.Rectangle.{Area}
 use Rattle.ps_grid.specs.declared.refusal.Refusal.TheVariants as refusals
 use Rattle.ps_value.specs.declared.value.Value.{Value}
 use Rattle.ps_eval.specs.Items.{Assignment}
-use Rattle.ps_delta.specs.Deltas.{Entries, joined_history}
+use Rattle.ps_delta.specs.State.{IsBelow}
+use Rattle.ps_delta.specs.Deltas.{Entries, joined_history, state_of}
 use Rattle.ps_cells.specs.Settled.{IsSettled}
 use Rattle.ps_sheet.specs.Edits.{delta_of_edit}
+use Rattle.ps_sheet.specs.Merges.{IsNewsDelta}
 use Rattle.ps_sheet.specs.Sheet.{SheetView, Takes}
 use Rattle.ps_delta.specs.declared.edit.Edit.{Edit}
 use Rattle.ps_csv.specs.Exports.{entry_text, exported, exported_entries, held_in}
 use Rattle.ps_session.specs.Boards.{Calls}
+use Rattle.ps_session.specs.declared.board.Merged.{Merged}
+use Rattle.ps_session.specs.declared.board.Merged.TheVariants.{Known, New}
 use Rattle.ps_lines.specs.Commands.{Read}
 
 -- the history has this many deltas now, and the replica is the same
@@ -32,6 +36,16 @@ SheetEdits old edit (Err refusal) new =
 abbrev pub SheetReceives : SheetView → Entries → Read ℕ → SheetView → Type 0
 SheetReceives old delta (Ok number) new = Takes delta old.history new.history × Counts old number new
 SheetReceives old delta (Err refusal) new = (refusal ≡ refusals.Memory) × (new ≡ old)
+
+-- the news of the delta ends the history; or there is none, and the delta changes nothing
+abbrev pub SheetMerges : SheetView → Entries → Read Merged → SheetView → Type 0
+SheetMerges old delta (Ok (New number)) new =
+    ((news : Entries) × IsNewsDelta (joined_history old.history) delta news
+    × (new.history ≡ old.history ++ news ∷ []))
+    × Counts old number new
+SheetMerges old delta (Ok (Known number)) new =
+    (IsBelow (state_of delta) (joined_history old.history) × (new.history ≡ old.history)) × Counts old number new
+SheetMerges old delta (Err refusal) new = (refusal ≡ refusals.Memory) × (new ≡ old)
 
 -- a look at a sheet sees the settled values of its history
 abbrev pub Looks : SheetView → (Assignment → Type 0) → SheetView → Type 0
@@ -71,6 +85,7 @@ abbrev pub SheetCalls : Calls SheetView
 SheetCalls = record {
   edits = SheetEdits;
   receives = SheetReceives;
+  merges = SheetMerges;
   shows = SheetShows;
   tables = SheetTables;
   holds = SheetHolds;

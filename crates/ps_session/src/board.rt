@@ -1,7 +1,8 @@
 //! What answers the commands of a session.
-ghost use Rattle.std.specs.Prelude.{◌≡◌, ◌+◌, ◌<◌, ◌^◌, IfOk, length};
+ghost use Rattle.std.specs.Prelude.{◌+◌, ◌<◌, ◌^◌, ℕ, List, IfOk, length};
 ghost use Rattle.std.specs.Thread.{IsSync};
-ghost use Rattle.ps_session.specs.Boards.{Calls};
+ghost use Rattle.ps_session.specs.Boards.{BoardAnswers, Calls};
+ghost use Rattle.ps_lines.specs.Streams.{Answering};
 ghost use Rattle.ps_lines.specs.Commands.{with_part};
 
 use ps_delta::{Delta, Edit};
@@ -10,6 +11,15 @@ use ps_value::Value;
 use std::alloc::Global;
 use std::thread::Threads;
 
+/// What a merge of a delta came to.
+#[derive(Clone, Copy, Debug, PartialEq, Eq)]
+pub enum Merged {
+    /// Something of it was new, and has this number, that is told as `ok`.
+    New(u64),
+    /// All of it was known, and this is the last number, that is told as `same`.
+    Known(u64),
+}
+
 /// What answers the commands of a session, by a call for each. The calls that change something count their evaluations
 /// on an `M`, and may start threads by `rt`.
 ///
@@ -17,6 +27,14 @@ use std::thread::Threads;
 pub trait Board<M> {
     /// What each call answers.
     ghost calls: { Calls Self };
+
+    /// What a line that isn't empty is answered.
+    ghost answers: { Answering Self };
+
+    /// Says that what the calls answer is what a line is answered. It does nothing.
+    fn calls_answer_lines()
+        ensures { (old new : Self) (line text : List ℕ) → BoardAnswers calls old line text new
+            → answers old line text new };
 
     /// Makes an edit: the number that is told as `ok`.
     ///
@@ -48,6 +66,19 @@ pub trait Board<M> {
     ) -> Result<u64, Refusal>
         requires shared { IsSync R.row }
         ensures received { calls.receives self.old delta result self.new };
+
+    /// Takes in what is new of a delta made elsewhere, and nothing else of it.
+    ///
+    /// Cost: that of finding what is new, of the change, and of what it makes others show.
+    fn apply_merge<R: Threads + Sync>(
+        &mut self,
+        rt: &R,
+        alloc: Global,
+        delta: Delta,
+        meter: &mut M,
+    ) -> Result<Merged, Refusal>
+        requires shared { IsSync R.row }
+        ensures merged { calls.merges self.old delta result self.new };
 
     /// What a cell shows.
     ///
@@ -85,12 +116,4 @@ pub trait Board<M> {
     /// Cost: constant, and no memory.
     fn replica(&mut self) -> u8
         ensures told { calls.replica self.old result self.new };
-
-    /// Shows all who look what the board changed. A session calls it before it hands replies on, so that what a reply
-    /// tells of is there for others before the reply is. No contract says what others are shown, for no clause knows of
-    /// them.
-    ///
-    /// Cost: constant where nothing waits to be shown.
-    fn show(&mut self)
-        ensures same { self.new ≡ self.old };
 }

@@ -10,7 +10,7 @@ use ps_lines::{Reply, send};
 use std::sync::ledger::Ledger;
 
 /// How replies are put on a sink of this type, and handed on.
-pub(crate) trait Delivery<K> {
+pub trait Delivery<K> {
     /// The bytes put so far, where the sink shows them.
     ghost contents: { K → Option (List ℕ) };
 
@@ -44,7 +44,7 @@ pub(crate) trait Delivery<K> {
 }
 
 /// Replies go to a sink as they come, and it hands them on when it likes.
-pub(crate) struct AtOnce;
+pub struct AtOnce;
 
 impl<K: Sink> Delivery<K> for AtOnce {
     ghost contents = { K.contents };
@@ -70,7 +70,7 @@ impl<K: Sink> Delivery<K> for AtOnce {
 }
 
 /// Replies are held back until the output is flushed.
-pub(crate) struct HeldBack;
+pub struct HeldBack;
 
 impl<K: Sink + Drop, L: Ledger> Delivery<HeldOutput<K, L>> for HeldBack {
     ghost use Rattle.std.specs.Prelude.{⊤};

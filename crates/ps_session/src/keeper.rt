@@ -1,11 +1,11 @@
 //! Who keeps what a session has seen.
-ghost use Rattle.std.specs.Prelude.{OnErr, OnOk, ⊤};
+ghost use Rattle.std.specs.Prelude.{◌≡◌, OnErr, OnOk, ⊤};
 
 use ps_device::Failed;
 use std::alloc::Global;
 
-/// Who keeps what the board of a session has, so that it outlives a crash. A session has it kept before it hands
-/// replies on.
+/// Who keeps what the board of a session has: shows it to others, or has it outlive a crash. A session has it kept
+/// before it sends replies.
 pub trait Keeper<B> {
     /// All that a board in this state has is kept.
     ghost covers: { Self → B → Type 0 };
@@ -21,10 +21,11 @@ pub trait Keeper<B> {
     /// fails: then its device failed, or there was no memory. After a failure nobody syncs again.
     ///
     /// Cost: linear in what is noted, and the time that the device takes.
-    fn sync(&mut self, alloc: Global, board: &B) -> Result<(), Failed>
-        requires fits { fits self.old board.now }
-        ensures covered { OnOk result (covers self.new board.now) }
-        ensures fits { OnOk result (fits self.new board.now) }
+    fn sync(&mut self, alloc: Global, board: &mut B) -> Result<(), Failed>
+        requires fits { fits self.old board.old }
+        ensures same { board.new ≡ board.old }
+        ensures covered { OnOk result (covers self.new board.new) }
+        ensures fits { OnOk result (fits self.new board.new) }
         ensures stays { (state : B) → covers self.old state → covers self.new state }
         ensures failed { OnErr result can_fail };
 }
@@ -40,7 +41,7 @@ impl<B> Keeper<B> for Unkept {
 
     ghost can_fail = { ⊥ };
 
-    fn sync(&mut self, _alloc: Global, _board: &B) -> Result<(), Failed> {
+    fn sync(&mut self, _alloc: Global, _board: &mut B) -> Result<(), Failed> {
         Ok(())
     }
 }

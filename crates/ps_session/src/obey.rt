@@ -2,13 +2,13 @@
 ghost use Rattle.std.specs.Prelude.{◌≡◌, ◌<◌, List, Ok, OnErr, OnOk, max};
 ghost use Rattle.ps_device.specs.Device.{HoldsBack};
 ghost use Rattle.ps_delta.specs.Deltas.{Entries};
-ghost use Rattle.ps_session.specs.Boards.{BoardAnswers, Obeyed, TellsAnswer};
+ghost use Rattle.ps_session.specs.Boards.{Obeyed, TellsAnswer, merged_text};
 ghost use Rattle.ps_lines.specs.PullReplies.{HandsOn};
 ghost use Rattle.ps_lines.specs.Commands.{Read};
 ghost use Rattle.ps_session.specs.Inside.Holds.{Tells};
 ghost use Rattle.ps_lines.specs.Replies.{done_text, entries_reply, entry_reply, reply_text, rows_text};
 
-use crate::board::Board;
+use crate::board::{Board, Merged};
 use crate::delivery::Delivery;
 use crate::resources::Resources;
 use crate::telling::{refuse, tell, tell_other};
@@ -31,13 +31,15 @@ pub(crate) fn answer<R: Threads + Sync, B: Board<M>, M, W: Watcher, K, D: Delive
     watcher: &mut W,
     sink: &mut K,
 ) -> Result<(), Failed>
-    ensures told { Tells (λ old reply new. BoardAnswers B.calls old line.now reply new) board.old board.new
+    ensures told { Tells (λ old reply new. B.answers old line.now reply new) board.old board.new
         (D.contents sink.old) (D.contents sink.new) result }
     ensures calm { OnOk result (D.failures sink.new ≡ D.failures sink.old) }
     ensures failed { OnErr result (D.failures sink.old < D.failures sink.new) }
     ensures held { D.holds_back → HoldsBack (D.contents sink.old) (D.contents sink.new)
         (D.waiting sink.old) (D.waiting sink.new) }
 {
+    // for the law that what the calls answer is what a line is answered
+    B::calls_answer_lines();
     let resources = tools.resources;
     match Command::read(resources.alloc, &mut tools.decoder, line) {
         Ok(command) => {
@@ -85,6 +87,7 @@ fn obey<R: Threads + Sync, B: Board<M>, M, W: Watcher, K, D: Delivery<K>>(
         Command::Entries(first, last) => list_entries(alloc, Rect::new(first, last), board),
         Command::Pull { from, most } => hand_out(alloc, from, most.unwrap_or(1) as usize, board),
         Command::Push(delta) => take_in(threads, alloc, delta, board, meter),
+        Command::Merge(delta) => merge_in(threads, alloc, delta, board, meter),
         Command::Replica(_) => Reply::Replica(board.replica()),
     };
     tell_other::<W, K, D>(line, other, watcher, sink)
@@ -157,6 +160,26 @@ fn take_in<R: Threads + Sync, B: Board<M>, M>(
     match board.apply_delta(rt, alloc, delta, meter) {
         Ok(number) if had_own => Reply::Done(number),
         Ok(number) => Reply::DoneElsewhere(number),
+        Err(refusal) => Reply::Refused(refusal),
+    }
+}
+
+/// Takes in what is new of a delta made elsewhere.
+fn merge_in<R: Threads + Sync, B: Board<M>, M>(
+    rt: &R,
+    alloc: Global,
+    delta: Delta,
+    board: &mut B,
+    meter: &mut M,
+) -> Reply
+    ensures merged { TellsAnswer (λ answer. B.calls.merges board.old delta answer board.new) merged_text
+        (reply_text result) }
+{
+    let had_own = board.has_own(&delta);
+    match board.apply_merge(rt, alloc, delta, meter) {
+        Ok(Merged::New(number)) if had_own => Reply::Done(number),
+        Ok(Merged::New(number)) => Reply::DoneElsewhere(number),
+        Ok(Merged::Known(number)) => Reply::Same(number),
         Err(refusal) => Reply::Refused(refusal),
     }
 }

@@ -1,10 +1,9 @@
-//! Reads a source to its end, and has what a session changed shown to all, and what it has seen kept, before replies
-//! are handed on.
+//! Reads a source to its end, and has what a session has seen kept before replies are sent.
 ghost use Rattle.std.specs.Prelude.{◌≡◌, ◌≢◌, ◌⊎◌, [], ◌<◌, ◌≤◌, ◌++◌, ◌+◌, ◌-◌, ◌^◌, ℕ, List, Option, Result, Some};
 ghost use Rattle.std.specs.Prelude.{Ok, Err, IfOk, IsErr, OnOk, OnErr, length, take};
 ghost use Rattle.std.specs.Io.KnownBytes.{Consumes, IsAtEnd, Keeps};
 ghost use Rattle.ps_session.specs.Transcript.{Answered, Stopped, Transcribed};
-ghost use Rattle.ps_session.specs.Boards.{BoardAnswers, BoardLines};
+ghost use Rattle.ps_lines.specs.Streams.{Lines};
 ghost use Rattle.ps_session.specs.Keeping.{Halted, IsCovered, StaysFit};
 ghost use Rattle.ps_session.specs.Inside.Stands.{Breaks, GoesOn, IsUnderWay, Stands};
 
@@ -20,8 +19,8 @@ use ps_wire::Decoder;
 use std::alloc::{AllocError, Global};
 use std::thread::Threads;
 
-/// Has all shown that the board changed, then has all kept that it has, and then hands on what waits. So what a reply
-/// tells of is there for others, and is kept, before the reply is out.
+/// Has all kept that the board has, and then hands on what waits. So what a reply tells of is kept before the reply is
+/// out.
 fn release<B: Board<M>, M, K, D: Delivery<K>, Q: Keeper<B>>(
     alloc: Global,
     keeper: &mut Q,
@@ -40,7 +39,6 @@ fn release<B: Board<M>, M, K, D: Delivery<K>, Q: Keeper<B>>(
     ensures sink_failed { result ≡ Err RunFault.Sink → D.failures sink.old < D.failures sink.new }
     ensures faults { (result ≢ Err RunFault.Memory) × (result ≢ Err RunFault.Source) }
 {
-    board.show();
     match keeper.sync(alloc, board) {
         Ok(()) => {}
         Err(_) => return Err(RunFault::Keep),
@@ -65,27 +63,27 @@ fn read_piece<R: Threads + Sync, B: Board<M>, M, W: Watcher, K, D: Delivery<K>, 
     requires fits { Q.fits keeper.old board.old }
     requires covers { Q.covers keeper.old board.old }
     requires flushed { D.waiting sink.old ≡ [] }
-    requires stays { StaysFit (BoardAnswers B.calls) Q.fits }
-    requires under_way { IsUnderWay (BoardLines B.calls) board.old conversation.old.session.pending
+    requires stays { StaysFit (B.answers) Q.fits }
+    requires under_way { IsUnderWay (Lines B.answers) board.old conversation.old.session.pending
         (D.contents sink.old) conversation.old.answered }
-    ensures stands { OnOk result (GoesOn (BoardLines B.calls) piece.now
+    ensures stands { OnOk result (GoesOn (Lines B.answers) piece.now
         board.old conversation.old.session.pending (D.contents sink.old) conversation.old.answered
         board.new conversation.new.session.pending (D.contents sink.new) conversation.new.answered) }
     ensures kept { OnOk result (Q.fits keeper.new board.new × Q.covers keeper.new board.new
         × (D.waiting sink.new ≡ [])) }
     ensures sink { result ≡ Err RunFault.Sink → (first : B) (written : Option (List ℕ)) (read : List ℕ)
-        → Stands (BoardLines B.calls) first written 0 read
+        → Stands (Lines B.answers) first written 0 read
         board.old conversation.old.session.pending (D.contents sink.old) conversation.old.answered
-        → Breaks (BoardLines B.calls) D.holds_back first written (read ++ piece.now)
+        → Breaks (Lines B.answers) D.holds_back first written (read ++ piece.now)
         board.new (D.contents sink.new) }
     ensures keep { result ≡ Err RunFault.Keep → Q.can_fail × ((first : B) (written : Option (List ℕ)) (read : List ℕ)
-        → Stands (BoardLines B.calls) first written 0 read
+        → Stands (Lines B.answers) first written 0 read
         board.old conversation.old.session.pending (D.contents sink.old) conversation.old.answered
-        → Halted (BoardLines B.calls) ⊥ first written (read ++ piece.now) board.new (D.contents sink.new)) }
+        → Halted (Lines B.answers) ⊥ first written (read ++ piece.now) board.new (D.contents sink.new)) }
     ensures covered { IsErr result → D.holds_back → (first : B) (written : Option (List ℕ)) (read : List ℕ)
-        → Stands (BoardLines B.calls) first written 0 read
+        → Stands (Lines B.answers) first written 0 read
         board.old conversation.old.session.pending (D.contents sink.old) conversation.old.answered
-        → IsCovered (BoardLines B.calls) (Q.covers keeper.new) ⊥ first written (read ++ piece.now)
+        → IsCovered (Lines B.answers) (Q.covers keeper.new) ⊥ first written (read ++ piece.now)
         board.new (D.contents sink.new) (D.waiting sink.new) }
     ensures calm { OnOk result (D.failures sink.new ≡ D.failures sink.old) }
     ensures sink_failed { result ≡ Err RunFault.Sink → D.failures sink.old < D.failures sink.new }
@@ -123,28 +121,28 @@ fn read_on<
 ) -> Result<(), RunFault>
     requires fresh { (conversation.old.session.pending ≡ Some []) × (conversation.old.answered ≡ 0) }
     requires fits { Q.fits keeper.old board.old }
-    requires stays { StaysFit (BoardAnswers B.calls) Q.fits }
+    requires stays { StaysFit (B.answers) Q.fits }
     ensures read { OnOk result ((read : List ℕ)
         × Consumes (S.remaining source.old) (S.remaining source.new) read × IsAtEnd (S.remaining source.new)
-        × Stands (BoardLines B.calls) board.old (D.contents sink.old) 0 read
+        × Stands (Lines B.answers) board.old (D.contents sink.old) 0 read
         board.new conversation.new.session.pending (D.contents sink.new) conversation.new.answered) }
     ensures kept { OnOk result (Q.fits keeper.new board.new × Q.covers keeper.new board.new
         × (D.waiting sink.new ≡ [])) }
     ensures sink { result ≡ Err RunFault.Sink
         → (read : List ℕ) × Consumes (S.remaining source.old) (S.remaining source.new) read
-        × Breaks (BoardLines B.calls) D.holds_back board.old (D.contents sink.old) read
+        × Breaks (Lines B.answers) D.holds_back board.old (D.contents sink.old) read
         board.new (D.contents sink.new) }
     ensures source { result ≡ Err RunFault.Source
         → (read : List ℕ) × Consumes (S.remaining source.old) (S.remaining source.new) read
-        × Answered (BoardLines B.calls) board.old (D.contents sink.old) read board.new (D.contents sink.new) }
+        × Answered (Lines B.answers) board.old (D.contents sink.old) read board.new (D.contents sink.new) }
     ensures source_flushed { result ≡ Err RunFault.Source
         → (D.waiting sink.new ≡ []) × Q.covers keeper.new board.new }
     ensures keep { result ≡ Err RunFault.Keep → Q.can_fail
         × (read : List ℕ) × Consumes (S.remaining source.old) (S.remaining source.new) read
-        × Halted (BoardLines B.calls) ⊥ board.old (D.contents sink.old) read board.new (D.contents sink.new) }
+        × Halted (Lines B.answers) ⊥ board.old (D.contents sink.old) read board.new (D.contents sink.new) }
     ensures covered { IsErr result → D.holds_back
         → (read : List ℕ) × Consumes (S.remaining source.old) (S.remaining source.new) read
-        × IsCovered (BoardLines B.calls) (Q.covers keeper.new) ⊥ board.old (D.contents sink.old) read
+        × IsCovered (Lines B.answers) (Q.covers keeper.new) ⊥ board.old (D.contents sink.old) read
         board.new (D.contents sink.new) (D.waiting sink.new) }
     ensures memory { result ≢ Err RunFault.Memory }
     ensures calm { OnOk result ((S.failures source.new ≡ S.failures source.old)
@@ -174,8 +172,20 @@ fn read_on<
     }
 }
 
-/// Answers each line of a source, by whatever a board is lent, to the end of the input.
-pub(crate) fn converse<
+/// Answers each line of a source by a board, to the end of the input, and returns how many lines had a reply; 2^64 - 1
+/// stands for more. A watcher sees each line that ended, after it was obeyed and before its reply is written, and a
+/// keeper has kept what the session has seen before its replies are sent.
+///
+/// The input is read in pieces of at most `PIECE_BYTES` bytes, and where a line is cut doesn't matter. Before each read
+/// and at the end the keeper is synced, and all replies are sent; where they are [`HeldBack`](crate::HeldBack), also
+/// wherever `PIECE_BYTES` bytes of them wait, and none is sent before. Once a sync or the sink failed, nothing more is
+/// sent. So at any end the keeper covers a state of the board that is the one after all that was shown or acknowledged.
+///
+/// A line whose reply can't be written was carried out all the same.
+///
+/// Cost: O(n) in the n bytes of the input and the replies, what the board takes for each line, the room of one line and
+/// of the replies that wait, a decoder, the watcher's own, and a sync each time that replies are sent.
+pub fn converse<
     R: Threads + Sync,
     S: Source,
     B: Board<M>,
@@ -194,28 +204,28 @@ pub(crate) fn converse<
     keeper: &mut Q,
 ) -> Result<u64, RunFault>
     requires fits { Q.fits keeper.old board.old }
-    requires stays { StaysFit (BoardAnswers B.calls) Q.fits }
+    requires stays { StaysFit (B.answers) Q.fits }
     ensures transcribed { IfOk result (λ answered. (read : List ℕ)
         × Consumes (S.remaining source.old) (S.remaining source.new) read
         × IsAtEnd (S.remaining source.new)
-        × Transcribed (BoardLines B.calls) board.old (D.contents sink.old) read board.new (D.contents sink.new)
+        × Transcribed (Lines B.answers) board.old (D.contents sink.old) read board.new (D.contents sink.new)
         answered) }
     ensures sink { result ≡ Err RunFault.Sink
         → (read : List ℕ) × Consumes (S.remaining source.old) (S.remaining source.new) read
-        × (Stopped (BoardLines B.calls) (IsAtEnd (S.remaining source.new)) board.old (D.contents sink.old) read
+        × (Stopped (Lines B.answers) (IsAtEnd (S.remaining source.new)) board.old (D.contents sink.old) read
         board.new (D.contents sink.new)
-        ⊎ (D.holds_back × Halted (BoardLines B.calls) (IsAtEnd (S.remaining source.new)) board.old
+        ⊎ (D.holds_back × Halted (Lines B.answers) (IsAtEnd (S.remaining source.new)) board.old
         (D.contents sink.old) read board.new (D.contents sink.new))) }
     ensures source { result ≡ Err RunFault.Source
         → (read : List ℕ) × Consumes (S.remaining source.old) (S.remaining source.new) read
-        × Answered (BoardLines B.calls) board.old (D.contents sink.old) read board.new (D.contents sink.new) }
+        × Answered (Lines B.answers) board.old (D.contents sink.old) read board.new (D.contents sink.new) }
     ensures keep { result ≡ Err RunFault.Keep → Q.can_fail
         × (read : List ℕ) × Consumes (S.remaining source.old) (S.remaining source.new) read
-        × Halted (BoardLines B.calls) (IsAtEnd (S.remaining source.new)) board.old (D.contents sink.old) read
+        × Halted (Lines B.answers) (IsAtEnd (S.remaining source.new)) board.old (D.contents sink.old) read
         board.new (D.contents sink.new) }
     ensures covered { D.holds_back
         → (read : List ℕ) × Consumes (S.remaining source.old) (S.remaining source.new) read
-        × IsCovered (BoardLines B.calls) (Q.covers keeper.new) (IsAtEnd (S.remaining source.new))
+        × IsCovered (Lines B.answers) (Q.covers keeper.new) (IsAtEnd (S.remaining source.new))
         board.old (D.contents sink.old) read board.new (D.contents sink.new) (D.waiting sink.new) }
     ensures kept { OnOk result (Q.covers keeper.new board.new × Q.fits keeper.new board.new) }
     ensures source_kept { result ≡ Err RunFault.Source → Q.covers keeper.new board.new }

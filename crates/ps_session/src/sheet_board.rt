@@ -1,5 +1,5 @@
 //! A sheet answers commands.
-use crate::board::Board;
+use crate::board::{Board, Merged};
 use ps_csv::{entries_text, entry_of, exported_text};
 use ps_delta::{Delta, Edit};
 use ps_eval::Meter;
@@ -12,9 +12,14 @@ use std::sync::ledger::Ledger;
 use std::thread::Threads;
 
 impl<L: Ledger> Board<Meter<L>> for Sheet {
+    ghost use Rattle.ps_session.specs.Answers.{Answers};
     ghost use Rattle.ps_session.specs.SheetBoard.{SheetCalls};
 
     ghost calls = { SheetCalls };
+
+    ghost answers = { Answers };
+
+    fn calls_answer_lines() {}
 
     #[inline(always)]
     fn apply_edit<R: Threads + Sync>(
@@ -47,6 +52,21 @@ impl<L: Ledger> Board<Meter<L>> for Sheet {
         }
     }
 
+    fn apply_merge<R: Threads + Sync>(
+        &mut self,
+        rt: &R,
+        alloc: Global,
+        delta: Delta,
+        meter: &mut Meter<L>,
+    ) -> Result<Merged, Refusal> {
+        let before = self.version();
+        match self.merge(rt, alloc, delta, meter) {
+            Ok(report) if report.version == before => Ok(Merged::Known(before)),
+            Ok(report) => Ok(Merged::New(report.version)),
+            Err(refusal) => Err(refusal),
+        }
+    }
+
     fn value(&mut self, cell: Cell) -> Result<Value, Refusal> {
         Ok(self.shown(cell))
     }
@@ -73,7 +93,4 @@ impl<L: Ledger> Board<Meter<L>> for Sheet {
     fn replica(&mut self) -> u8 {
         Sheet::replica(self)
     }
-
-    /// Does nothing, as nobody else looks at the sheet.
-    fn show(&mut self) {}
 }

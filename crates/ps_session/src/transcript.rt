@@ -1,27 +1,20 @@
 //! A session from bytes to bytes.
-//!
-//! The clauses of [`talk`] are those of [`talk_watched`], each spelled out in both, so that either promise is read in
-//! one place; a relation over both would have a dozen parameters whose places a reader would have to look up.
-ghost use Rattle.std.specs.Prelude.{◌≡◌, ◌≢◌, ◌⊎◌, [], ◌<◌, ◌≤◌, ◌++◌, ◌+◌, ◌-◌, ◌^◌, ℕ, min, List, Option, Result, Ok};
-ghost use Rattle.std.specs.Prelude.{Err, IfOk, OnOk, OnErr, ⊤, length, take, MatchResult};
+ghost use Rattle.std.specs.Prelude.{◌≡◌, ◌≢◌, [], ◌<◌, ◌≤◌, ◌+◌, ◌-◌, ◌^◌, ℕ, min, List, Option};
+ghost use Rattle.std.specs.Prelude.{Err, IfOk, OnOk, OnErr, ⊤, length, take};
 ghost use Rattle.std.specs.Io.KnownBytes.{Consumes, IsAtEnd};
 ghost use Rattle.ps_device.specs.Device.{HoldsBack, Sends};
 ghost use Rattle.ps_session.specs.Transcript.{Answered, Cut, Stopped, Transcribed};
-ghost use Rattle.ps_lines.specs.Streams.{Replies, Run, with_last};
+ghost use Rattle.ps_lines.specs.Streams.{Lines, Replies, Run, with_last};
 ghost use Rattle.ps_session.specs.Transcript.{has_reply, is_filled};
-ghost use Rattle.ps_session.specs.Boards.{BoardAnswers, BoardLines};
 ghost use Rattle.ps_lines.specs.Replies.{refusal_text};
 ghost use Rattle.ps_session.specs.Inside.Stands.{CutsShort, GoesOn, Stands};
 ghost use Rattle.ps_lines.specs.Feeding.{Holds, kept, without_return};
-ghost use Rattle.ps_session.specs.HeldOutputs.{held_contents, held_failures, held_waiting};
 ghost use Rattle.ps_session.specs.Inside.Holds.{Replied, as_one};
-ghost use Rattle.ps_session.specs.Keeping.{Halted, IsCovered, StaysFit};
 ghost use Rattle.ps_grid.specs.declared.refusal.Refusal.TheVariants as refusals;
 
 use crate::board::Board;
-use crate::delivery::{AtOnce, Delivery, HeldBack};
-use crate::held_output::HeldOutput;
-use crate::keeper::{Keeper, Unkept};
+use crate::delivery::{AtOnce, Delivery};
+use crate::keeper::Unkept;
 use crate::obey::answer;
 use crate::reading::converse;
 use crate::resources::Resources;
@@ -31,7 +24,6 @@ use ps_device::{Failed, PIECE_BYTES, Sink, Source};
 use ps_grid::Refusal;
 use ps_lines::{Line, LineBuffer, Outcome, Unwatched, Watcher, trimmed};
 use std::alloc::Global;
-use std::sync::ledger::Ledger;
 use std::thread::Threads;
 
 /// A session under way, without its board and its devices: the line that is being read, and how many lines had a reply.
@@ -55,7 +47,7 @@ fn answer_line<R: Threads + Sync, B: Board<M>, M, W: Watcher, K, D: Delivery<K>>
     watcher: &mut W,
     sink: &mut K,
 ) -> Result<(), Failed>
-    ensures replied { Replied (λ old reply new. Replies (BoardAnswers B.calls) old line.now reply new)
+    ensures replied { Replied (λ old reply new. Replies (B.answers) old line.now reply new)
         board.old board.new (as_one (is_filled line.now))
         (D.contents sink.old) (D.contents sink.new) answered.old answered.new result }
     ensures calm { OnOk result (D.failures sink.new ≡ D.failures sink.old) }
@@ -86,7 +78,7 @@ impl<R: Threads + Sync> Conversation<'_, R> {
         sink: &mut K,
     ) -> Result<(), Failed>
         ensures replied { Replied
-            (λ old reply new. Replies (BoardAnswers B.calls) old (without_return self.old.session.line) reply new)
+            (λ old reply new. Replies (B.answers) old (without_return self.old.session.line) reply new)
             board.old board.new (as_one (is_filled (without_return self.old.session.line)))
             (D.contents sink.old) (D.contents sink.new) self.old.answered self.new.answered result }
         ensures calm { OnOk result (D.failures sink.new ≡ D.failures sink.old) }
@@ -136,7 +128,7 @@ impl<R: Threads + Sync> Conversation<'_, R> {
         sink: &mut K,
     ) -> Result<(), Failed>
         ensures replied { (raw : List ℕ) → Holds line self.old.session raw
-            → Replied (λ old reply new. BoardLines B.calls old raw reply new) board.old board.new
+            → Replied (λ old reply new. Lines B.answers old raw reply new) board.old board.new
             (as_one (has_reply raw)) (D.contents sink.old) (D.contents sink.new)
             self.old.answered self.new.answered result }
         ensures calm { OnOk result (D.failures sink.new ≡ D.failures sink.old) }
@@ -164,10 +156,10 @@ impl<R: Threads + Sync> Conversation<'_, R> {
     ) -> Result<usize, Failed>
         requires some { 0 < length piece.now }
         ensures within { IfOk result (λ taken. (0 < taken) × (taken ≤ length piece.now)) }
-        ensures stands { IfOk result (λ taken. GoesOn (BoardLines B.calls) (take taken piece.now)
+        ensures stands { IfOk result (λ taken. GoesOn (Lines B.answers) (take taken piece.now)
             board.old self.old.session.pending (D.contents sink.old) self.old.answered
             board.new self.new.session.pending (D.contents sink.new) self.new.answered) }
-        ensures cut { OnErr result (CutsShort (BoardLines B.calls) piece.now
+        ensures cut { OnErr result (CutsShort (Lines B.answers) piece.now
             board.old self.old.session.pending (D.contents sink.old) self.old.answered
             board.new (D.contents sink.new)) }
         ensures calm { OnOk result (D.failures sink.new ≡ D.failures sink.old) }
@@ -195,10 +187,10 @@ impl<R: Threads + Sync> Conversation<'_, R> {
     ) -> Result<usize, Failed>
         requires some { 0 < length piece.now }
         ensures within { IfOk result (λ taken. (0 < taken) × (taken ≤ length piece.now)) }
-        ensures stands { IfOk result (λ taken. GoesOn (BoardLines B.calls) (take taken piece.now)
+        ensures stands { IfOk result (λ taken. GoesOn (Lines B.answers) (take taken piece.now)
             board.old self.old.session.pending (D.contents sink.old) self.old.answered
             board.new self.new.session.pending (D.contents sink.new) self.new.answered) }
-        ensures cut { OnErr result (CutsShort (BoardLines B.calls) piece.now
+        ensures cut { OnErr result (CutsShort (Lines B.answers) piece.now
             board.old self.old.session.pending (D.contents sink.old) self.old.answered
             board.new (D.contents sink.new)) }
         ensures calm { OnOk result (D.failures sink.new ≡ D.failures sink.old) }
@@ -234,10 +226,10 @@ impl<R: Threads + Sync> Conversation<'_, R> {
         requires some { 0 < length piece.now }
         ensures within { IfOk result (λ taken. (0 < taken) × (taken ≤ length piece.now)) }
         ensures part { IfOk result (λ taken. taken < length piece.now → D.holds_back) }
-        ensures stands { IfOk result (λ taken. GoesOn (BoardLines B.calls) (take taken piece.now)
+        ensures stands { IfOk result (λ taken. GoesOn (Lines B.answers) (take taken piece.now)
             board.old self.old.session.pending (D.contents sink.old) self.old.answered
             board.new self.new.session.pending (D.contents sink.new) self.new.answered) }
-        ensures cut { OnErr result (CutsShort (BoardLines B.calls) piece.now
+        ensures cut { OnErr result (CutsShort (Lines B.answers) piece.now
             board.old self.old.session.pending (D.contents sink.old) self.old.answered
             board.new (D.contents sink.new)) }
         ensures calm { OnOk result (D.failures sink.new ≡ D.failures sink.old) }
@@ -264,15 +256,15 @@ impl<R: Threads + Sync> Conversation<'_, R> {
         sink: &mut K,
     ) -> Result<(), Failed>
         ensures transcribed { OnOk result ((first : B) (written : Option (List ℕ)) (read : List ℕ)
-            → Stands (BoardLines B.calls) first written 0 read
+            → Stands (Lines B.answers) first written 0 read
             board.old self.old.session.pending (D.contents sink.old) self.old.answered
-            → Transcribed (BoardLines B.calls) first written read board.new (D.contents sink.new) self.new.answered) }
+            → Transcribed (Lines B.answers) first written read board.new (D.contents sink.new) self.new.answered) }
         ensures cut { OnErr result ((first : B) (written : Option (List ℕ)) (read : List ℕ)
-            → Stands (BoardLines B.calls) first written 0 read
+            → Stands (Lines B.answers) first written 0 read
             board.old self.old.session.pending (D.contents sink.old) self.old.answered
-            → Cut (BoardLines B.calls) ⊤ first written read board.new (D.contents sink.new)) }
+            → Cut (Lines B.answers) ⊤ first written read board.new (D.contents sink.new)) }
         ensures ran { (rest : List ℕ) → self.old.session.pending ≡ kept rest
-            → (text : List ℕ) × Run (BoardLines B.calls) board.old (with_last [] rest) text board.new }
+            → (text : List ℕ) × Run (Lines B.answers) board.old (with_last [] rest) text board.new }
         ensures calm { OnOk result (D.failures sink.new ≡ D.failures sink.old) }
         ensures failed { OnErr result (D.failures sink.old < D.failures sink.new) }
         ensures held { D.holds_back → HoldsBack (D.contents sink.old) (D.contents sink.new)
@@ -299,62 +291,13 @@ pub enum RunFault {
     Keep,
 }
 
-/// Answers each line of a source on a sink as [`talk`] does, while a watcher sees each line that ended, after it was
-/// obeyed and before its reply is written.
-///
-/// Cost: that of [`talk`], and the watcher's own.
-pub fn talk_watched<R: Threads + Sync, S: Source, B: Board<M>, M, K: Sink, W: Watcher>(
-    rt: &R,
-    alloc: Global,
-    source: &mut S,
-    sink: &mut K,
-    board: &mut B,
-    meter: &mut M,
-    watcher: &mut W,
-) -> Result<u64, RunFault>
-    ensures transcribed { IfOk result (λ answered. (read : List ℕ)
-        × Consumes (S.remaining source.old) (S.remaining source.new) read
-        × IsAtEnd (S.remaining source.new)
-        × Transcribed (BoardLines B.calls) board.old (K.contents sink.old) read board.new (K.contents sink.new)
-        answered) }
-    ensures sink { result ≡ Err RunFault.Sink
-        → (read : List ℕ) × Consumes (S.remaining source.old) (S.remaining source.new) read
-        × Stopped (BoardLines B.calls) (IsAtEnd (S.remaining source.new)) board.old (K.contents sink.old) read
-        board.new (K.contents sink.new) }
-    ensures source { result ≡ Err RunFault.Source
-        → (read : List ℕ) × Consumes (S.remaining source.old) (S.remaining source.new) read
-        × Answered (BoardLines B.calls) board.old (K.contents sink.old) read board.new (K.contents sink.new) }
-    ensures keep { result ≢ Err RunFault.Keep }
-    ensures flushed { OnOk result (K.waiting sink.new ≡ []) }
-    ensures source_flushed { result ≡ Err RunFault.Source → K.waiting sink.new ≡ [] }
-    ensures memory { result ≡ Err RunFault.Memory
-        → (source.new ≡ source.old) × (sink.new ≡ sink.old) × (board.new ≡ board.old) }
-    ensures calm { OnOk result ((S.failures source.new ≡ S.failures source.old)
-        × (K.failures sink.new ≡ K.failures sink.old)) }
-    ensures sink_failed { result ≡ Err RunFault.Sink → K.failures sink.old < K.failures sink.new }
-    ensures source_failed { result ≡ Err RunFault.Source → S.failures source.old < S.failures source.new }
-{
-    let resources = Resources { threads: rt, alloc };
-    converse::<R, S, B, M, W, K, AtOnce, Unkept>(
-        resources,
-        source,
-        sink,
-        board,
-        meter,
-        watcher,
-        &mut Unkept,
-    )
-}
-
 /// Answers each line of a source on a sink, to the end of the input, and returns how many lines had a reply; 2^64 - 1
 /// stands for more.
 ///
-/// The input is read in pieces of at most `PIECE_BYTES` bytes, and where a line is cut doesn't matter. Before each
-/// read, and at the end, what the board changed is shown to others, and all replies are handed on. A sink may have
-/// handed on some before; by [`talk_kept`] none is.
+/// It is [`converse`] with nobody who observes or keeps anything. The sink may send replies as they come; before each
+/// read, and at the end, all are sent.
 ///
-/// Cost: O(n) in the n bytes of the input and the replies, what the board takes for each line, and the room of one
-/// line.
+/// Cost: that of [`converse`].
 pub fn talk<R: Threads + Sync, S: Source, B: Board<M>, M, K: Sink>(
     rt: &R,
     alloc: Global,
@@ -366,15 +309,15 @@ pub fn talk<R: Threads + Sync, S: Source, B: Board<M>, M, K: Sink>(
     ensures transcribed { IfOk result (λ answered. (read : List ℕ)
         × Consumes (S.remaining source.old) (S.remaining source.new) read
         × IsAtEnd (S.remaining source.new)
-        × Transcribed (BoardLines B.calls) board.old (K.contents sink.old) read board.new (K.contents sink.new)
+        × Transcribed (Lines B.answers) board.old (K.contents sink.old) read board.new (K.contents sink.new)
         answered) }
     ensures sink { result ≡ Err RunFault.Sink
         → (read : List ℕ) × Consumes (S.remaining source.old) (S.remaining source.new) read
-        × Stopped (BoardLines B.calls) (IsAtEnd (S.remaining source.new)) board.old (K.contents sink.old) read
+        × Stopped (Lines B.answers) (IsAtEnd (S.remaining source.new)) board.old (K.contents sink.old) read
         board.new (K.contents sink.new) }
     ensures source { result ≡ Err RunFault.Source
         → (read : List ℕ) × Consumes (S.remaining source.old) (S.remaining source.new) read
-        × Answered (BoardLines B.calls) board.old (K.contents sink.old) read board.new (K.contents sink.new) }
+        × Answered (Lines B.answers) board.old (K.contents sink.old) read board.new (K.contents sink.new) }
     ensures keep { result ≢ Err RunFault.Keep }
     ensures flushed { OnOk result (K.waiting sink.new ≡ []) }
     ensures source_flushed { result ≡ Err RunFault.Source → K.waiting sink.new ≡ [] }
@@ -385,73 +328,13 @@ pub fn talk<R: Threads + Sync, S: Source, B: Board<M>, M, K: Sink>(
     ensures sink_failed { result ≡ Err RunFault.Sink → K.failures sink.old < K.failures sink.new }
     ensures source_failed { result ≡ Err RunFault.Source → S.failures source.old < S.failures source.new }
 {
-    talk_watched(rt, alloc, source, sink, board, meter, &mut Unwatched)
-}
-
-/// Answers each line of a source on an output as [`talk_watched`] does, and has all that the session has seen kept
-/// before any reply is handed on.
-///
-/// Replies are held back, and released before each read, where there are `PIECE_BYTES` bytes of them, and at the end:
-/// then what the board changed is shown to others, the keeper is synced, and what waits is handed on. Where that
-/// fails, nothing more is handed on. So at any end the keeper covers a state of the board that is the one after all
-/// that was shown or acknowledged.
-///
-/// Cost: that of [`talk_watched`], the room for the replies that wait, and as many syncs as there are releases.
-pub fn talk_kept<
-    R: Threads + Sync,
-    S: Source,
-    B: Board<M>,
-    M,
-    K: Sink + Drop,
-    L: Ledger,
-    W: Watcher,
-    Q: Keeper<B>,
->(
-    resources: Resources<'_, R>,
-    source: &mut S,
-    sink: &mut HeldOutput<K, L>,
-    board: &mut B,
-    meter: &mut M,
-    watcher: &mut W,
-    keeper: &mut Q,
-) -> Result<u64, RunFault>
-    requires fits { Q.fits keeper.old board.old }
-    requires stays { StaysFit (BoardAnswers B.calls) Q.fits }
-    ensures transcribed { IfOk result (λ answered. (read : List ℕ)
-        × Consumes (S.remaining source.old) (S.remaining source.new) read
-        × IsAtEnd (S.remaining source.new)
-        × Transcribed (BoardLines B.calls) board.old (held_contents K.contents sink.old) read
-        board.new (held_contents K.contents sink.new) answered) }
-    ensures sink { result ≡ Err RunFault.Sink
-        → (read : List ℕ) × Consumes (S.remaining source.old) (S.remaining source.new) read
-        × (Stopped (BoardLines B.calls) (IsAtEnd (S.remaining source.new)) board.old
-        (held_contents K.contents sink.old) read board.new (held_contents K.contents sink.new)
-        ⊎ Halted (BoardLines B.calls) (IsAtEnd (S.remaining source.new)) board.old
-        (held_contents K.contents sink.old) read board.new (held_contents K.contents sink.new)) }
-    ensures source { result ≡ Err RunFault.Source
-        → (read : List ℕ) × Consumes (S.remaining source.old) (S.remaining source.new) read
-        × Answered (BoardLines B.calls) board.old (held_contents K.contents sink.old) read
-        board.new (held_contents K.contents sink.new) }
-    ensures keep { result ≡ Err RunFault.Keep → Q.can_fail
-        × (read : List ℕ) × Consumes (S.remaining source.old) (S.remaining source.new) read
-        × Halted (BoardLines B.calls) (IsAtEnd (S.remaining source.new)) board.old
-        (held_contents K.contents sink.old) read board.new (held_contents K.contents sink.new) }
-    ensures covered { (read : List ℕ) × Consumes (S.remaining source.old) (S.remaining source.new) read
-        × IsCovered (BoardLines B.calls) (Q.covers keeper.new) (IsAtEnd (S.remaining source.new))
-        board.old (held_contents K.contents sink.old) read
-        board.new (held_contents K.contents sink.new) (held_waiting K.waiting sink.new) }
-    ensures kept { OnOk result (Q.covers keeper.new board.new × Q.fits keeper.new board.new) }
-    ensures source_kept { result ≡ Err RunFault.Source → Q.covers keeper.new board.new }
-    ensures flushed { OnOk result (held_waiting K.waiting sink.new ≡ []) }
-    ensures source_flushed { result ≡ Err RunFault.Source → held_waiting K.waiting sink.new ≡ [] }
-    ensures memory { result ≡ Err RunFault.Memory → (source.new ≡ source.old) × (sink.new ≡ sink.old)
-        × (board.new ≡ board.old) × (keeper.new ≡ keeper.old) }
-    ensures calm { OnOk result ((S.failures source.new ≡ S.failures source.old)
-        × (held_failures sink.new ≡ held_failures sink.old)) }
-    ensures sink_failed { result ≡ Err RunFault.Sink → held_failures sink.old < held_failures sink.new }
-    ensures source_failed { result ≡ Err RunFault.Source → S.failures source.old < S.failures source.new }
-{
-    converse::<R, S, B, M, W, HeldOutput<K, L>, HeldBack, Q>(
-        resources, source, sink, board, meter, watcher, keeper,
+    converse::<R, S, B, M, Unwatched, K, AtOnce, Unkept>(
+        Resources { threads: rt, alloc },
+        source,
+        sink,
+        board,
+        meter,
+        &mut Unwatched,
+        &mut Unkept,
     )
 }

@@ -3,9 +3,11 @@ pub mod AppendedDeltas
 pub mod BatchDeltas
 pub mod CrossingDeltas
 pub mod EmptySheets
+pub mod Following
 pub mod FreshCells
 pub mod FreshEdits
 pub mod MadeChanges
+pub mod MergedChanges
 pub mod Staged
 pub mod StagedChanges
 pub mod WorkedOut

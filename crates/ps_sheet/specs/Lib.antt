@@ -1,5 +1,8 @@
+pub mod Arrivals
+pub mod ArrivalsCode
 pub mod Edits
 pub mod Inside
+pub mod Merges
 pub mod Own
 pub mod Prepared
 pub mod PreparedCode

@@ -9,13 +9,14 @@ use Rattle.ps_shown.specs.Shown.{shown_at}
 use Rattle.ps_delta.specs.State.{State, IsBelow}
 use Rattle.ps_delta.specs.Deltas.{Entries, state_of, joined_history}
 use Rattle.ps_sheet.specs.Edits.{delta_of_edit}
+use Rattle.ps_sheet.specs.Merges.{IsMergedAs}
 use Rattle.ps_sheet.specs.Reports.{IsReport}
 use Rattle.ps_cells.specs.ChangedCells.{put_back, IsChanges}
 use Rattle.ps_cells.specs.Settled.{IsSettled}
 use Rattle.ps_sheet.specs.Sheet.{SheetView, Takes}
 use Rattle.ps_sheet.specs.declared.sheet.Report.{Report}
 use Rattle.ps_delta.specs.declared.edit.Change.{Change}
-use Rattle.ps_delta.specs.declared.edit.Change.TheVariants.{Edit, Delta}
+use Rattle.ps_delta.specs.declared.edit.Change.TheVariants.{Edit, Delta, Merge}
 
 -- the sheet's replica and history before the change, the change's delta, whether it is to be appended, what each cell
 -- shows after the change, with what some showed before it, which cells show another value, the report, and the number
@@ -63,13 +64,16 @@ pub record IsPrepared (p : PreparedView) : Type 0 where
 abbrev pub IsDeltaOf : ℕ → State → Change → Entries → Type 0
 IsDeltaOf r s (Edit e) d = delta_of_edit r s e ≡ Ok d
 IsDeltaOf r s (Delta a) d = d ≡ a
+IsDeltaOf r s (Merge a) d = IsMergedAs s a d
 
 -- the change is refused by e over the state s, for another cause than memory
 abbrev pub IsRefusedBy : ℕ → State → Change → Refusal → Type 0
 IsRefusedBy r s (Edit edit) e = delta_of_edit r s edit ≡ Err e
 IsRefusedBy r s (Delta a) e = ⊥
+IsRefusedBy r s (Merge a) e = ⊥
 
 -- the change would be appended
 abbrev pub IsToAppend : ℕ → State → Change → Type 0
 IsToAppend r s (Edit e) = IsOk (delta_of_edit r s e)
 IsToAppend r s (Delta a) = ¬ IsBelow (state_of a) s
+IsToAppend r s (Merge a) = ¬ IsBelow (state_of a) s

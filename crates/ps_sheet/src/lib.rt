@@ -10,12 +10,16 @@
 //! opened with at most. What it shows, refuses and reports is the same for every number of them. A call that changes a
 //! sheet is lent the handle that starts threads, and all that it started have ended when it returns.
 //!
-//! The contract to use is that of [`Sheet::edit`] and [`Sheet::receive`]. An edit appends exactly the delta that
-//! `delta_of_edit` gives over the joined history, or returns the first refusal that holds. A received delta is
-//! appended, unless it is below the joined history. After either, as after [`Sheet::open`], the sheet is an `IsSheet`:
-//! what it shows is settled for the joined history. After a refusal everything is as before, and out of memory is
+//! The contract to use is that of [`Sheet::edit`], [`Sheet::receive`] and [`Sheet::merge`]. An edit appends exactly the
+//! delta that `delta_of_edit` gives over the joined history, or returns the first refusal that holds. A received delta
+//! is appended, unless it is below the joined history. Of a merged delta only what is new is appended. After each, as
+//! after [`Sheet::open`], the sheet is an `IsSheet`: what it shows is settled for the joined history. After a refusal everything is as before, and out of memory is
 //! returned only where a delta was to be appended. Settled values exist ([`settled_at_least_once`]), are the only ones
 //! ([`settled_at_most_once`]), and depend on the set of deltas alone ([`same_deltas_show_the_same`]).
+//!
+//! [`Arrivals`] are for whoever has many deltas at once, as a start over a kept file. They are joined as they come, and
+//! [`Arrivals::receive`] says whether a delta adds something to those before it. [`Sheet::receive_all`] appends all of
+//! them and settles once, after the last.
 //!
 //! [`Sheet::prepare`] works a change out before it is made: a [`Prepared`] tells the delta, which cells will show
 //! another value, and the report. It is ended by [`Prepared::commit`], which leaves the sheet as after the edit or the
@@ -42,6 +46,7 @@
 //! was put. A look at a cell costs a constant.
 #![tactic(auto)]
 
+mod arrivals;
 mod contents;
 mod edit_delta;
 mod laws;
@@ -51,6 +56,7 @@ mod sheet;
 mod staging;
 mod threads;
 
+pub use arrivals::Arrivals;
 pub use laws::{
     accepted_deltas_join, cells_outside_show_the_same, edits_are_fresh, quiet_cells_show_the_same,
     same_deltas_show_the_same, same_join_shows_the_same, settled_at_least_once,

@@ -58,9 +58,11 @@ impl Sheet {
     /// Nothing in the program calls it: that edits and receives, and stages in place. It is part of the public
     /// interface, for whoever wants to see a change before it is made.
     ///
-    /// Refused as [`Sheet::edit`] or [`Sheet::receive`] would be, and then the sheet comes back as it was.
+    /// Refused as [`Sheet::edit`], [`Sheet::receive`] or [`Sheet::merge`] would be, and then the sheet comes back as it
+    /// was.
     ///
-    /// Cost: that of [`Sheet::edit`] or [`Sheet::receive`], and of sorting the cells that show another value.
+    /// Cost: that of [`Sheet::edit`], [`Sheet::receive`] or [`Sheet::merge`], and of sorting the cells that show
+    /// another value.
     pub fn prepare<R: Threads + Sync, L: Ledger>(
         self,
         rt: &R,

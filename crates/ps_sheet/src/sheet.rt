@@ -4,20 +4,23 @@ ghost use Rattle.std.specs.Prelude.{◌≡◌, ◌+◌, ◌<◌, ◌≤◌, ◌�
 ghost use Rattle.std.specs.Prelude.{IfOk, IfErr, IsOk, IsOkAnd, IsErrOf, OnOk, OnErr};
 ghost use Rattle.std.specs.Option.{option_copied, option_map};
 ghost use Rattle.ps_grid.specs.declared.parties.TheConstants.{WORKERS};
-ghost use Rattle.ps_delta.specs.State.{IsBelow, joined_state};
+ghost use Rattle.ps_delta.specs.State.{IsBelow, joined_state, state_at};
 ghost use Rattle.ps_delta.specs.Deltas.{joined_history, state_of};
 ghost use Rattle.ps_shown.specs.Shown.{shown_at};
 ghost use Rattle.ps_cells.specs.Settled.{Cyclic};
 ghost use Rattle.ps_sheet.specs.Reports.{IsReport, report_of};
+ghost use Rattle.ps_sheet.specs.Arrivals.{Follow};
 ghost use Rattle.ps_sheet.specs.Edits.{is_clock_full};
+ghost use Rattle.ps_sheet.specs.Merges.{Merges};
 ghost use Rattle.ps_sheet.specs.Own.{has_own};
 ghost use Rattle.ps_sheet.specs.Prepared.{IsRefusedBy, IsToAppend};
 ghost use Rattle.ps_sheet.specs.Inside.Kept.{Makes};
 
+use crate::arrivals::Arrivals;
 use crate::staging::Staging;
 use ps_cells::Work;
 use ps_content::Content;
-use ps_delta::{Change, Delta, Edit};
+use ps_delta::{Change, Delta, Edit, Grid};
 use ps_eval::{Look, Meter};
 use ps_grid::{Cell, REPLICAS, Refusal};
 use ps_shown::Shown;
@@ -195,6 +198,43 @@ impl Sheet {
         self.change(rt, alloc, Change::Delta(delta), meter)
     }
 
+    /// Merges a delta made elsewhere: appends to the history only what is new of it, the least delta that does to the
+    /// state what the whole delta would. Where nothing is new, all stays, and so does the version that the report has.
+    ///
+    /// Refused only where something is new, out of memory, and then nothing is changed.
+    ///
+    /// Cost: for each cell of the delta its counts and pairs, each with a search among those that the cell has here;
+    /// and where something is new, that of joining it, and of the region as for an edit.
+    pub fn merge<R: Threads + Sync, L: Ledger>(
+        &mut self,
+        rt: &R,
+        alloc: Global,
+        delta: Delta,
+        meter: &mut Meter<L>,
+    ) -> Result<Report, Refusal>
+        ensures merged { OnOk result (Merges delta self.old.history self.new.history) }
+        ensures joined { OnOk result (joined_history self.new.history
+            ≡ joined_state (joined_history self.old.history) (state_of delta)) }
+        ensures below { IsBelow (state_of delta) (joined_history self.old.history)
+            → IsOk result × (self.new ≡ self.old) × (meter.new ≡ meter.old) }
+        ensures idle { IsBelow (state_of delta) (joined_history self.old.history)
+            → IfOk result (λ r. (r.evaluated ≡ 0) × (r.cyclic ≡ 0) × (r.levels ≡ 0)) }
+        ensures known { IfOk result (λ r. (r.version ≡ length self.old.history)
+            ↔ IsBelow (state_of delta) (joined_history self.old.history)) }
+        ensures version { IfOk result (λ r. r.version ≡ length self.new.history) }
+        ensures report { IfOk result (IsReport (joined_history self.old.history) (joined_history self.new.history)
+            (shown_at self.old.shown) (shown_at self.new.shown)) }
+        ensures metered { IfOk result (λ r. meter.new ≡ meter.old + r.evaluated) }
+        ensures replica { self.new.replica ≡ self.old.replica }
+        ensures workers { self.new.workers ≡ self.old.workers }
+        ensures sheet { IsSheet self.new }
+        ensures memory { IfErr result (λ e. e ≡ Refusal.Memory) }
+        ensures kept { OnErr result (self.new ≡ self.old) }
+        ensures unmetered { OnErr result (meter.new ≡ meter.old) }
+    {
+        self.change(rt, alloc, Change::Merge(delta), meter)
+    }
+
     /// Stages a change, and makes it.
     #[inline(always)]
     fn change<R: Threads + Sync, L: Ledger>(
@@ -313,5 +353,47 @@ impl Sheet {
         ensures sheet { IsSheet self.now }
     {
         self.staging.replica()
+    }
+}
+
+impl Sheet {
+    ghost use Rattle.ps_sheet.specs.Sheet.{IsSheet};
+
+    /// Appends deltas that follow the history, in their order, and settles what the cells show once, after the last.
+    ///
+    /// Refused only when out of memory, and then the sheet is as before.
+    ///
+    /// Cost: as of [`ps_delta::Grid::entries`], and the region of all deltas as one change.
+    pub fn receive_all<R: Threads + Sync, L: Ledger>(
+        &mut self,
+        rt: &R,
+        alloc: Global,
+        arrivals: Arrivals,
+        meter: &mut Meter<L>,
+    ) -> Result<Report, Refusal>
+        requires follow { Follow self.old.history arrivals }
+        ensures appended { OnOk result (self.new.history ≡ self.old.history ++ arrivals.deltas) }
+        ensures version { IfOk result (λ r. r.version ≡ length self.new.history) }
+        ensures report { IfOk result (IsReport (joined_history self.old.history) (joined_history self.new.history)
+            (shown_at self.old.shown) (shown_at self.new.shown)) }
+        ensures metered { IfOk result (λ r. meter.new ≡ meter.old + r.evaluated) }
+        ensures replica { self.new.replica ≡ self.old.replica }
+        ensures workers { self.new.workers ≡ self.old.workers }
+        ensures sheet { IsSheet self.new }
+        ensures memory { IfErr result (λ e. e ≡ Refusal.Memory) }
+        ensures kept { OnErr result (self.new ≡ self.old) }
+        ensures unmetered { OnErr result (meter.new ≡ meter.old) }
+    {
+        // for the fact that it is a sheet (`IsSheet`)
+        let _ = self.staging.version();
+        self.staging.receive_all(rt, alloc, arrivals, meter)
+    }
+
+    /// Returns what each cell holds.
+    pub(crate) fn grid(&self) -> &Grid
+        ensures state { state_at result.now ≡ joined_history self.now.history }
+        ensures sheet { IsSheet self.now }
+    {
+        self.staging.grid()
     }
 }

@@ -1,32 +1,37 @@
 //! A sheet in which at most one change is staged.
 
-ghost use Rattle.std.specs.Prelude.{◌≡◌, ◌+◌, ◌≤◌, ◌⊎◌, ◌↔◌, [], ◌∷◌, true, false, is_some, length, map};
+ghost use Rattle.std.specs.Prelude.{◌≡◌, ◌+◌, ◌≤◌, ◌⊎◌, ◌↔◌, [], ◌∷◌, ◌++◌, true, false, is_some, length, map};
 ghost use Rattle.std.specs.Prelude.{None, IfOk, IfErr, IfSome, IsSomeAnd, IsTrue, OnOk, OnErr};
-ghost use Rattle.std.specs.Option.{option_copied, option_map};
+ghost use Rattle.std.specs.Option.{is_none, option_copied, option_map};
 ghost use Rattle.ps_grid.specs.declared.parties.TheConstants.{WORKERS};
 ghost use Rattle.ps_shown.specs.Shown.{shown_at};
-ghost use Rattle.ps_delta.specs.State.{IsBelow};
+ghost use Rattle.ps_delta.specs.State.{IsBelow, state_at};
 ghost use Rattle.ps_delta.specs.Deltas.{joined_history, state_of};
 ghost use Rattle.ps_cells.specs.ChangedCells.{IsChanged};
+ghost use Rattle.ps_sheet.specs.Arrivals.{Follow};
 ghost use Rattle.ps_sheet.specs.Edits.{delta_of_edit, is_clock_full};
 ghost use Rattle.ps_sheet.specs.Own.{has_own};
+ghost use Rattle.ps_sheet.specs.Inside.Kept.{HasRoomAfter};
 ghost use Rattle.ps_sheet.specs.Inside.Makes.{MakesDelta};
+ghost use Rattle.ps_sheet.specs.Merges.{IsMergedAs, IsNewsDelta};
 ghost use Rattle.ps_sheet.specs.Prepared.{IsDeltaOf, IsOf, IsRefusedBy, IsToAppend, history_after, shown_before};
+ghost use Rattle.ps_sheet.specs.Reports.{IsReport};
 ghost use Rattle.ps_sheet.specs.Sheet.{IsSheet};
 ghost use Rattle.ps_sheet.specs.Staging.{IsIdle, IsListed, IsStaging, Stages};
 ghost use Rattle.ps_sheet.specs.Staging.{prepared_of, sheet_of, staging_of};
 
+use crate::arrivals::Arrivals;
 use crate::edit_delta::delta_of;
 use crate::sheet::{Report, Sheet};
 use crate::{contents, own};
 use ps_cells::{Cells, Work, content};
 use ps_content::Content;
-use ps_delta::{Change, Delta, Edit};
+use ps_delta::{Change, Delta, Edit, Grid};
 use ps_eval::Meter;
 use ps_grid::{Cell, REPLICAS, Refusal};
 use ps_shown::Shown;
 use ps_value::Value;
-use ps_workers::Gate;
+use ps_workers::{Gate, Open};
 use std::alloc::Global;
 use std::marker::Model;
 use std::sync::ledger::Ledger;
@@ -121,9 +126,9 @@ impl Staging {
     /// one that isn't fresh. Each worker passes the gate before each of its evaluations; the formulas are evaluated and
     /// counted here, whether the change is then committed or cancelled.
     ///
-    /// Refused as [`Sheet::edit`] or [`Sheet::receive`] would be, and then nothing is staged.
+    /// Refused as [`Sheet::edit`], [`Sheet::receive`] or [`Sheet::merge`] would be, and then nothing is staged.
     ///
-    /// Cost: that of [`Sheet::edit`] or [`Sheet::receive`], and of the gate.
+    /// Cost: that of [`Sheet::edit`], [`Sheet::receive`] or [`Sheet::merge`], and of the gate.
     #[inline(always)]
     pub fn stage<R: Threads + Sync, G: Gate, L: Ledger>(
         &mut self,
@@ -156,6 +161,7 @@ impl Staging {
                 Err(refusal) => Err(refusal),
             },
             Change::Delta(delta) => self.stage_delta(rt, gate, alloc, delta, meter),
+            Change::Merge(delta) => self.stage_merge(rt, gate, alloc, delta, meter),
         }
     }
 
@@ -185,6 +191,36 @@ impl Staging {
             return Ok(self.stage_idle(delta));
         }
         self.stage_fresh(rt, gate, alloc, delta, meter)
+    }
+
+    /// Stages what is new of a delta; where nothing is, the delta, which changes nothing.
+    fn stage_merge<R: Threads + Sync, G: Gate, L: Ledger>(
+        &mut self,
+        rt: &R,
+        gate: &G,
+        alloc: Global,
+        delta: Delta,
+        meter: &mut Meter<L>,
+    ) -> Result<Report, Refusal>
+        requires none { self.old.staged ≡ None }
+        ensures staged { IfOk result (λ r. Stages self.old self.new r) }
+        ensures delta { OnOk result (IsSomeAnd self.new.staged
+            (λ p. IsMergedAs (joined_history self.old.history) delta p.delta)) }
+        ensures fresh { OnOk result (IsSomeAnd self.new.staged
+            (λ p. ¬ IsBelow (state_of delta) (joined_history self.old.history) → p.fresh ≡ true)) }
+        ensures idle { IfOk result (λ r. IsSomeAnd self.new.staged
+            (λ p. p.fresh ≡ false → IsIdle (sheet_of self.old) (sheet_of self.new) r)) }
+        ensures metered { IfOk result (λ r. meter.new ≡ meter.old + r.evaluated) }
+        ensures kept { OnErr result (self.new ≡ self.old) }
+        ensures memory { IfErr result (λ e. e ≡ Refusal.Memory) }
+        ensures asked { OnErr result (¬ IsBelow (state_of delta) (joined_history self.old.history)) }
+        ensures unmetered { OnErr result (meter.new ≡ meter.old) }
+    {
+        match self.news(alloc, &delta) {
+            Ok(Some(news)) => self.stage_fresh(rt, gate, alloc, news, meter),
+            Ok(None) => Ok(self.stage_idle(delta)),
+            Err(refusal) => Err(refusal),
+        }
     }
 
     /// Stages a delta that isn't below the state.
@@ -244,6 +280,18 @@ impl Staging {
         ensures { IsTrue result ↔ IsBelow (state_of delta.now) (joined_history self.now.history) }
     {
         self.cells.grid().covers(delta)
+    }
+
+    /// What is new of a delta; none where it is below the state.
+    fn news(&self, alloc: Global, delta: &Delta) -> Result<Option<Delta>, Refusal>
+        requires none { self.now.staged ≡ None }
+        ensures news { IfOk result (λ o. IfSome o (IsNewsDelta (joined_history self.now.history) delta.now)) }
+        ensures known { IfOk result (λ o. IsTrue (is_none o)
+            ↔ IsBelow (state_of delta.now) (joined_history self.now.history)) }
+        ensures memory { IfErr result (λ e. e ≡ Refusal.Memory) }
+        ensures asked { OnErr result (¬ IsBelow (state_of delta.now) (joined_history self.now.history)) }
+    {
+        self.cells.grid().news(alloc, delta)
     }
 
     /// Whether the cell's register has the last time.
@@ -472,4 +520,80 @@ impl Staging {
     {
         self.replica
     }
+}
+
+impl Staging {
+    /// Appends deltas that follow the history, and settles once, after the last.
+    pub(crate) fn receive_all<R: Threads + Sync, L: Ledger>(
+        &mut self,
+        rt: &R,
+        alloc: Global,
+        arrivals: Arrivals,
+        meter: &mut Meter<L>,
+    ) -> Result<Report, Refusal>
+        requires none { self.old.staged ≡ None }
+        requires follow { Follow self.old.history arrivals }
+        ensures none { self.new.staged ≡ None }
+        ensures appended { OnOk result (self.new.history ≡ self.old.history ++ arrivals.deltas) }
+        ensures version { IfOk result (λ r. r.version ≡ length self.new.history) }
+        ensures report { IfOk result (IsReport (joined_history self.old.history) (joined_history self.new.history)
+            (shown_at self.old.shown) (shown_at self.new.shown)) }
+        ensures metered { IfOk result (λ r. meter.new ≡ meter.old + r.evaluated) }
+        ensures replica { self.new.replica ≡ self.old.replica }
+        ensures workers { self.new.workers ≡ self.old.workers }
+        ensures sheet { IsSheet (sheet_of self.new) }
+        ensures memory { IfErr result (λ e. e ≡ Refusal.Memory) }
+        ensures kept { OnErr result (self.new ≡ self.old) }
+        ensures unmetered { OnErr result (meter.new ≡ meter.old) }
+    {
+        let Arrivals { deltas, grid } = arrivals;
+        if deltas.is_empty() {
+            return Ok(Report::of(self.history.len() as u64, Work::none()));
+        }
+        let entries = grid.entries(alloc)?;
+        drop(grid);
+        let Some(delta) = Delta::new(alloc, entries)? else {
+            unreachable!()
+        };
+        make_room(&mut self.history, &deltas)?;
+        let work = self.cells.stage(rt, &Open, alloc, &delta, meter)?;
+        self.cells.commit();
+        put_after(&mut self.history, deltas);
+        Ok(Report::of(self.history.len() as u64, work))
+    }
+
+    /// Returns what each cell holds, where nothing is staged.
+    pub(crate) fn grid(&self) -> &Grid
+        requires none { self.now.staged ≡ None }
+        ensures state { state_at result.now ≡ joined_history self.now.history }
+        ensures staging { IsStaging self.now }
+    {
+        self.cells.grid()
+    }
+}
+
+/// Makes room for later deltas, where the history has any.
+fn make_room(history: &mut Vec<Delta>, deltas: &[Delta]) -> Result<(), Refusal>
+    ensures same { history.new.items ≡ history.old.items }
+    ensures room { OnOk result (HasRoomAfter history.new (length deltas.now)) }
+    ensures memory { IfErr result (λ e. e ≡ Refusal.Memory) }
+{
+    if history.is_empty() {
+        return Ok(());
+    }
+    history.reserve(deltas.len())?;
+    Ok(())
+}
+
+/// Puts later deltas after a history. Where the history is empty, their list takes its place, and none is moved.
+fn put_after(history: &mut Vec<Delta>, mut deltas: Vec<Delta>)
+    requires room { HasRoomAfter history.old (length deltas.items) }
+    ensures { history.new.items ≡ history.old.items ++ deltas.items }
+{
+    if history.is_empty() {
+        *history = deltas;
+        return;
+    }
+    // never refused, since there is room for these
+    let _ = history.append(&mut deltas);
 }

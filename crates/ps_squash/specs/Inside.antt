@@ -4,8 +4,8 @@ use Rattle.std.specs.Prelude.{Contains, Option, Some, None, ⊤}
 use Rattle.std.specs.List.{All}
 use Rattle.ps_delta.specs.declared.cell_state.CellState.{CellState}
 use Rattle.ps_delta.specs.State.{State, empty_cell}
-use Rattle.ps_delta.specs.Deltas.{AreEntries, Entries, IsDelta, cells_of, joined_history, state_of}
-use Rattle.ps_delta.specs.Order.{Rising, Under}
+use Rattle.ps_delta.specs.Deltas.{AreEntries, Entries, IsDelta, cells_of, joined_history}
+use Rattle.ps_delta.specs.Order.{Rising}
 use Rattle.ps_wire.specs.Fits.{FitsLine}
 use Rattle.ps_wire.specs.Length.{size}
 use Rattle.ps_wire.specs.Value.{cell_value}
@@ -52,13 +52,6 @@ GoesOn bytes held first before count pending told state number =
 abbrev pub Fails : Type 0 → List ℕ → Option (List ℕ) → Option ℕ → State → ℕ → ℕ → Type 0
 Fails ended bytes held told before count number =
     (read : List ℕ) → StandsAfter read held told before count → FirstFault ended (read ++ bytes) number
-
--- what the cells before n hold
-pub record AreFirst (s : State) (n : ℕ) (entries : Entries) : Type 0 where
-  pub rising : Rising 0 (cells_of entries)
-  pub under : Under n (cells_of entries)
-  pub none_empty : All (λ e. e.1 ≢ empty_cell) entries
-  pub gives : (c : ℕ) → c < n → state_of entries c ≡ s c
 
 -- how long the text of a cell is
 abbrev pub cell_size : ℕ × CellState → ℕ

@@ -20,7 +20,6 @@
 //! Cost: that of the lines and their joins, the cells of the grid, and the text that is written.
 #![tactic(auto)]
 
-mod cells;
 mod fault;
 mod intake;
 mod lines;

@@ -8,7 +8,6 @@ ghost use Rattle.ps_squash.specs.Squashed.{FirstFault, HasWideCell, IsSquashed, 
 ghost use Rattle.ps_squash.specs.Inside.{IsText};
 ghost use Rattle.ps_squash.specs.declared.fault.SquashFault.TheVariants.{Line as FaultyLine};
 
-use crate::cells::entries_of;
 use crate::fault::SquashFault;
 use crate::intake::taken_in;
 use crate::lines::put_lines;
@@ -100,7 +99,7 @@ fn text_of(alloc: Global, told: Option<u8>, state: &Grid) -> Result<Vec<u8>, Ref
         → (c : ℕ) × ¬ FitsLine ((c, state_at state.now c) ∷ [])) }
     ensures refused { IfErr result (λ e. (e ≡ refusals.TooLong) ⊎ (e ≡ refusals.Memory)) }
 {
-    let entries = entries_of(alloc, state)?;
+    let entries = state.entries(alloc)?;
     let mut text = begun(alloc, told)?;
     match put_lines(alloc, &entries, &mut text) {
         Ok(()) => Ok(text),

@@ -23,6 +23,9 @@ use Rattle.ps_tokens.specs.declared.token.Token.TheVariants.{Separator}
 use Rattle.ps_formula.specs.Canonical.{canon, tokens_of}
 use Rattle.ps_formula.specs.Tree.{Tree}
 use Rattle.ps_value.specs.Label.{is_label, IsLabel}
+use Rattle.ps_content.specs.Content.{canonical_text, IsContent}
+use Rattle.ps_content.specs.declared.content.Content.{Content}
+use Rattle.ps_content.specs.declared.content.Content.TheVariants.{Blank, Number, Text, Formula, Tally, Choice}
 
 -- a text whose bytes are tested
 ascii : (bytes : List ℕ) → list_all (λ b. nat_lt b 128) bytes ≡ true → IsAscii bytes
@@ -147,3 +150,12 @@ pub formula_utf8 : (t : Tree) → IsUtf8 (canon t)
 formula_utf8 t =
     let text = tokens_text (tokens_of t) in
     IsUtf8-from_ascii (61 ∷ text) (IsAscii-cons 61 text (omega arith) (tokens_ascii (tokens_of t)))
+
+-- the text of a content is UTF-8
+pub content_utf8 : (c : Content) → IsContent c → IsUtf8 (canonical_text c)
+content_utf8 Blank h = tested_utf8 [] refl
+content_utf8 (Number z) h = signed_utf8 z
+content_utf8 (Text t) h = quoted_utf8 t h
+content_utf8 (Formula t) h = formula_utf8 t
+content_utf8 Tally h = tested_utf8 (canonical_text Tally) refl
+content_utf8 Choice h = tested_utf8 (canonical_text Choice) refl

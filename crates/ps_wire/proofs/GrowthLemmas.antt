@@ -118,7 +118,7 @@ whole_rise n m le = digits_rise 64 n m [] [] le refl
 
 -- ---- cells
 
-register_least : (r : Option (Assignment Content)) → 4 ≤ size (register_value r)
+pub register_least : (r : Option (Assignment Content)) → 4 ≤ size (register_value r)
 register_least None = omega arith
 register_least (Some a) =
     omega (arith, size_of_three (whole a.time) (whole a.replica) (string (canonical_text a.content)))
@@ -238,82 +238,92 @@ parts_more c s t =
     )
 
 -- a cell state that is below another one
-abbrev IsUnder : CellState → CellState → Type 0
+abbrev pub IsUnder : CellState → CellState → Type 0
 IsUnder s t = joined_cell t s ≡ t
 
-under_size : (c : ℕ) (s t : CellState) → IsUnder s t → size (bare_value (c, s)) ≤ size (bare_value (c, t))
+pub under_size : (c : ℕ) (s t : CellState) → IsUnder s t → size (bare_value (c, s)) ≤ size (bare_value (c, t))
 under_size c s t h =
     subst (λ x. size (bare_value (c, s)) ≤ size (bare_value (c, x))) (joined_cell-comm s t ∙ h) (parts_more c s t)
 
-under_empty : (s t : CellState) → IsUnder s t → t ≡ empty_cell → s ≡ empty_cell
+pub under_empty : (s t : CellState) → IsUnder s t → t ≡ empty_cell → s ≡ empty_cell
 under_empty s t h none =
     sym (joined_cell-empty s) ∙ ap (λ x. joined_cell x s) (sym none) ∙ h ∙ none
 
-empty_under : (s t : CellState) → s ≡ empty_cell → t ≡ empty_cell → IsUnder s t
+pub empty_under : (s t : CellState) → s ≡ empty_cell → t ≡ empty_cell → IsUnder s t
 empty_under s t e f =
     ap (λ x. joined_cell x s) f ∙ joined_cell-empty s ∙ e ∙ sym f
 
 abbrev IsFilled : ℕ × CellState → Type 0
 IsFilled e = e.1 ≢ empty_cell
 
--- what the cells take, each with a comma or the last bracket
-abbrev bare_sum : Entries → ℕ
-bare_sum es = sum_by (ended bare_value) es
+-- how long the array of a delta's cells is, each written as `f` says, where a relation of states never shortens a cell
+module _ (f : ℕ × CellState → Data) (U : CellState → CellState → Type 0)
+    (sizes : (c : ℕ) (s t : CellState) → U s t → size (f (c, s)) ≤ size (f (c, t)))
+    (empties : (s t : CellState) → U s t → t ≡ empty_cell → s ≡ empty_cell)
+    (nothing : (s t : CellState) → s ≡ empty_cell → t ≡ empty_cell → U s t) where
+  -- what the cells take, each with a comma or the last bracket
+  abbrev cells_sum : Entries → ℕ
+  cells_sum es = sum_by (ended f) es
 
-sum_cons : (e : ℕ × CellState) (es : Entries) → bare_sum (e ∷ es) ≡ 1 + size (bare_value e) + bare_sum es
-sum_cons e es = sum_by-cons (ended bare_value) e es
+  sum_cons : (e : ℕ × CellState) (es : Entries) → cells_sum (e ∷ es) ≡ 1 + size (f e) + cells_sum es
+  sum_cons e es = sum_by-cons (ended f) e es
 
-sums_under : (n : ℕ) (d e : Entries) → Rising n (cells_of d) → Rising n (cells_of e) → All IsFilled d
-    → ((c : ℕ) → IsUnder (state_of d c) (state_of e c)) → bare_sum d ≤ bare_sum e
-sums_under n [] e r s filled under = omega arith
-sums_under n (a ∷ more) [] r s filled under =
-    absurd (All-head IsFilled a more filled
-    (sym (state_of-here a more a.0 refl) ∙ under_empty _ _ (under a.0)
-    (state_of-rising (a.0 + 1) [] a.0 tt (omega arith))))
-sums_under n (a ∷ more) (b ∷ others) r s filled under = elim (cases_order a.0 b.0) [
-  | inl is ↦
-      let rest = sums_under (a.0 + 1) more others r.1 (subst (λ m. Rising (m + 1) (cells_of others)) (sym is) s.1)
-      (All-tail IsFilled a more filled) (λ c. rest_under c is) in
-      let here : IsUnder a.1 b.1 =
-      subst (λ x. IsUnder a.1 x) (state_of-here b others a.0 (sym is))
-      (subst (λ x. IsUnder x (state_of (b ∷ others) a.0)) (state_of-here a more a.0 refl) (under a.0)) in
-      let head = subst (λ n. size (bare_value a) ≤ size (bare_value (n, b.1))) is (under_size a.0 a.1 b.1 here) in
-      omega (arith, rest, head, sum_cons a more, sum_cons b others)
-  | inr (inl lt) ↦
+  sums_under : (n : ℕ) (d e : Entries) → Rising n (cells_of d) → Rising n (cells_of e) → All IsFilled d
+      → ((c : ℕ) → U (state_of d c) (state_of e c)) → cells_sum d ≤ cells_sum e
+  sums_under n [] e r s filled under = omega arith
+  sums_under n (a ∷ more) [] r s filled under =
       absurd (All-head IsFilled a more filled
-      (sym (state_of-here a more a.0 refl) ∙ under_empty _ _ (under a.0)
-      (state_of-rising (a.0 + 1) (b ∷ others) a.0 (omega (arith, lt), s.1) (omega arith))))
-  | inr (inr lt) ↦
-      let rest = sums_under (b.0 + 1) (a ∷ more) others (omega (arith, lt), r.1) s.1 filled (λ c. after c lt) in
-      omega (arith, rest, sum_cons b others)
-]
-  where
-    rest_under : (c : ℕ) → a.0 ≡ b.0 → IsUnder (state_of more c) (state_of others c)
-    rest_under c is = elim (cases_lt c (a.0 + 1)) [
-      | inl lt ↦ empty_under _ _ (state_of-rising (a.0 + 1) more c r.1 lt)
-          (state_of-rising (b.0 + 1) others c s.1 (omega (arith, lt, is)))
-      | inr le ↦
-          subst (λ x. IsUnder (state_of more c) x) (state_of-there b others c (λ eq. omega (arith, le, eq, is)))
-          (subst (λ x. IsUnder x (state_of (b ∷ others) c)) (state_of-there a more c (λ eq. omega (arith, le, eq)))
-          (under c))
-    ]
+      (sym (state_of-here a more a.0 refl) ∙ empties _ _ (under a.0)
+      (state_of-rising (a.0 + 1) [] a.0 tt (omega arith))))
+  sums_under n (a ∷ more) (b ∷ others) r s filled under = elim (cases_order a.0 b.0) [
+    | inl is ↦
+        let rest = sums_under (a.0 + 1) more others r.1 (subst (λ m. Rising (m + 1) (cells_of others)) (sym is) s.1)
+        (All-tail IsFilled a more filled) (λ c. rest_under c is) in
+        let here : U a.1 b.1 =
+        subst (λ x. U a.1 x) (state_of-here b others a.0 (sym is))
+        (subst (λ x. U x (state_of (b ∷ others) a.0)) (state_of-here a more a.0 refl) (under a.0)) in
+        let head = subst (λ n. size (f a) ≤ size (f (n, b.1))) is (sizes a.0 a.1 b.1 here) in
+        omega (arith, rest, head, sum_cons a more, sum_cons b others)
+    | inr (inl lt) ↦
+        absurd (All-head IsFilled a more filled
+        (sym (state_of-here a more a.0 refl) ∙ empties _ _ (under a.0)
+        (state_of-rising (a.0 + 1) (b ∷ others) a.0 (omega (arith, lt), s.1) (omega arith))))
+    | inr (inr lt) ↦
+        let rest = sums_under (b.0 + 1) (a ∷ more) others (omega (arith, lt), r.1) s.1 filled (λ c. after c lt) in
+        omega (arith, rest, sum_cons b others)
+  ]
+    where
+      rest_under : (c : ℕ) → a.0 ≡ b.0 → U (state_of more c) (state_of others c)
+      rest_under c is = elim (cases_lt c (a.0 + 1)) [
+        | inl lt ↦ nothing _ _ (state_of-rising (a.0 + 1) more c r.1 lt)
+            (state_of-rising (b.0 + 1) others c s.1 (omega (arith, lt, is)))
+        | inr le ↦
+            subst (λ x. U (state_of more c) x) (state_of-there b others c (λ eq. omega (arith, le, eq, is)))
+            (subst (λ x. U x (state_of (b ∷ others) c)) (state_of-there a more c (λ eq. omega (arith, le, eq)))
+            (under c))
+      ]
 
-    after : (c : ℕ) → b.0 < a.0 → IsUnder (state_of (a ∷ more) c) (state_of others c)
-    after c lt = elim (cases_lt c (b.0 + 1)) [
-      | inl below ↦ empty_under _ _
-          (state_of-rising (b.0 + 1) (a ∷ more) c (omega (arith, lt), r.1) below)
-          (state_of-rising (b.0 + 1) others c s.1 below)
-      | inr le ↦
-          subst (λ x. IsUnder (state_of (a ∷ more) c) x) (state_of-there b others c (λ eq. omega (arith, le, eq)))
-          (under c)
-    ]
+      after : (c : ℕ) → b.0 < a.0 → U (state_of (a ∷ more) c) (state_of others c)
+      after c lt = elim (cases_lt c (b.0 + 1)) [
+        | inl below ↦ nothing _ _
+            (state_of-rising (b.0 + 1) (a ∷ more) c (omega (arith, lt), r.1) below)
+            (state_of-rising (b.0 + 1) others c s.1 below)
+        | inr le ↦
+            subst (λ x. U (state_of (a ∷ more) c) x) (state_of-there b others c (λ eq. omega (arith, le, eq)))
+            (under c)
+      ]
+
+  pub arrays_under : (d e : Entries) → IsDelta d → IsDelta e → ((c : ℕ) → U (state_of d c) (state_of e c))
+      → size (array_of (map f d)) ≤ size (array_of (map f e))
+  arrays_under d e x y under =
+      items_more f d e (sums_under 0 d e (rising_of d x) (rising_of e y) x.none_empty under)
 
 -- what is joined takes no less
 pub lasting_more : (d e : Entries) → IsDelta d → IsDelta e → IsBelow (state_of d) (state_of e)
     → lasting_size d ≤ lasting_size e
 lasting_more d e x y below =
-    items_more bare_value d e (sums_under 0 d e (rising_of d x) (rising_of e y) x.none_empty
-    (λ c. sym (joined_state-at (state_of e) (state_of d) c) ∙ ap (λ (s : State). s c) below))
+    arrays_under bare_value IsUnder under_size under_empty empty_under d e x y
+    (λ c. sym (joined_state-at (state_of e) (state_of d) c) ∙ ap (λ (s : State). s c) below)
 
 -- so much that no line has room for it
 pub outgrows : (d : Entries) → IsDelta d → DELTA_LINE_LIMIT < lasting_size d → OutgrowsLine d

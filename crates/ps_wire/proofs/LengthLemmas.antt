@@ -153,7 +153,7 @@ size-register (Some a) h =
       size-three (whole a.time) (whole a.replica) (string (canonical_text a.content)),
     )
 
-count_ranges : (e : ℕ × Count) → is_count e ≡ true
+pub count_ranges : (e : ℕ × Count) → is_count e ≡ true
     → (1 ≤ e.0) × (e.0 ≤ REPLICAS) × (e.1.added ≤ COUNT_LIMIT) × (e.1.subtracted ≤ COUNT_LIMIT)
 count_ranges e h = grind (arith, nat_tests, h)
 
@@ -165,7 +165,7 @@ size-count e h =
     let subtracted = size-whole 13 e.1.subtracted (omega arith) (omega (arith, ranges.3)) (omega (arith, ranges.3)) in
     omega (arith, replica, added, subtracted, size-three (whole e.0) (whole e.1.added) (whole e.1.subtracted))
 
-pair_ranges : (e : Pair × Bool) → is_pair e ≡ true
+pub pair_ranges : (e : Pair × Bool) → is_pair e ≡ true
     → (e.0.option < 100) × (1 ≤ e.0.replica) × (e.0.replica ≤ REPLICAS) × (1 ≤ e.0.sequence)
     × (e.0.sequence ≤ SEQUENCES)
 pair_ranges e h = grind (arith, nat_tests, h)

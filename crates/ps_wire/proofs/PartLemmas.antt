@@ -1,13 +1,5 @@
 -- Counters and sets as arrays.
-use Rattle.std.proofs.Common.{◌≡◌, ℕ, suc, Bool, true, false, ◌&&◌, List, map, IsTrue, Option, Some, None, Result}
-use Rattle.std.proofs.Common.{refl, sym, ap, ◌∙◌, subst, inr}
-use Rattle.std.specs.Prelude.{IfOk, IfErr}
-use Rattle.std.specs.Option.{SomeIff, ok_or}
-use Rattle.json.specs.Token.{Token}
-use Rattle.ps_grid.specs.declared.refusal.Refusal.{Refusal}
-use Rattle.ps_grid.specs.declared.refusal.Refusal.TheVariants.{Delta}
-use Rattle.ps_wire.specs.Inside.{RefusedAs, Spells}
-use Rattle.ps_wire.proofs.TokenLemmas.{one_value}
+use Rattle.std.proofs.Common.{◌≡◌, ℕ, Bool, true, false, ◌&&◌, List, map, IsTrue, refl, sym, ◌∙◌}
 use Rattle.std.specs.declared.cmp.Ordering.{Ordering}
 use Rattle.std.specs.List.{list_all}
 use Rattle.std.specs.Ordering.{nat_cmp}
@@ -55,61 +47,38 @@ pub pairs-injective : (xs ys : List (Pair × Bool)) → map pair_value xs ≡ ma
 pairs-injective xs ys e =
     map-injective pair_value Any (λ x y _ _. pair_value-injective x y) xs ys (λ _ _ _. tt) (λ _ _ _. tt) e
 
--- a map by its entries: each is written by `item`, good ones pass `good`, and no two are written alike
-module _ {K X : Type 0} (R : K → K → Ordering) (good : K × X → Bool) (item : K × X → Data)
-    (same_items : (xs ys : List (K × X)) → map item xs ≡ map item ys → xs ≡ ys) where
+-- a value as the entries of a map: each is written by `item`, and good ones pass `good`
+module _ {K X : Type 0} (R : K → K → Ordering) (good : K × X → Bool) (item : K × X → Data) (value : Data) where
   -- what a map of good entries lists
   abbrev IsGood : List (K × X) → Type 0
   IsGood all = IsTrue (maps.is_sorted R all && list_all good all)
 
-  -- the tokens spell no map of good entries
-  abbrev NoMap : List Token → Type 0
-  NoMap old =
-      (n : ℕ) (m : maps.FinMap R X) (rest : List Token) → IsGood (maps.entries m)
-      → Spells (suc (suc n)) old (array_of (map item (maps.entries m))) rest → ⊥
+  -- the value stands for no map of good entries
+  abbrev NoMap : Type 0
+  NoMap = (m : maps.FinMap R X) → IsGood (maps.entries m) → value ≡ array_of (map item (maps.entries m)) → ⊥
 
-  -- what was read is a map of good entries, which the tokens spell, or they spell none
-  pub record IsRead (old new : List Token) (r : Result (maps.FinMap R X) Refusal) : Type 0 where
-    pub found : IfOk r (λ m. (n : ℕ) → Spells (suc (suc n)) old (array_of (map item (maps.entries m))) new)
-    pub well : IfOk r (λ m. IsGood (maps.entries m))
-    pub refused : IfErr r (λ e. RefusedAs e (NoMap old))
+  -- the value stands for a map where its items stand for good entries, ..
+  pub map_found : (all : List (K × X)) → value ≡ array_of (map item all) → IsGood all
+      → (value ≡ array_of (map item (maps.entries (maps.from_sorted {R = R} all))))
+      × IsGood (maps.entries (maps.from_sorted {R = R} all))
+  map_found all read well =
+      let same = entries_of R all (and_parts (maps.is_sorted R all) (list_all good all) well).0 in
+      (rw (← same) read, rw (← same) well)
 
-  -- entries that were read make a map, or the tokens spell none
-  map_read : (old new : List Token) (all : List (K × X)) (r : Option (maps.FinMap R X))
-      → ((n : ℕ) → Spells (suc (suc n)) old (array_of (map item all)) new)
-      → SomeIff r (IsGood all) (maps.from_sorted {R = R} all) → IsRead old new (ok_or r Delta)
-  map_read old new all None read bad =
-      record {
-        found = tt;
-        well = tt;
-        refused =
-            inr (
-              refl,
-              λ n m rest well h.
-                  let same = one_value _ old _ _ new rest (read n) h in
-                  bad (rw (same_items all (maps.entries m) (array_of-injective (map item all) (map item
-                  (maps.entries m)) same)) well),
-            );
-      }
-  map_read old new all (Some m) read made =
-      let same = entries_of R all (and_parts (maps.is_sorted R all) (list_all good all) made.0).0 in
-      let listed : maps.entries m ≡ all = ap maps.entries made.1 ∙ sym same in
-      record {
-        found = λ n. subst (λ xs. Spells (suc (suc n)) old (array_of (map item xs)) new) (sym listed) (read n);
-        well = subst IsGood (sym listed) made.0;
-        refused = tt;
-      }
+  -- .. and for none where they stand for bad ones
+  map_none : ((xs ys : List (K × X)) → map item xs ≡ map item ys → xs ≡ ys)
+      → (all : List (K × X)) → value ≡ array_of (map item all) → (IsGood all → ⊥) → NoMap
+  map_none same_items all read bad m well e =
+      let same = same_items all (maps.entries m)
+      (array_of-injective (map item all) (map item (maps.entries m)) (sym read ∙ e)) in
+      bad (rw same well)
 
--- counts that were read make a counter, or the tokens spell none
-pub counts_read : (old new : List Token) (all : List (ℕ × Count)) (r : Option (maps.FinMap nat_cmp Count))
-    → ((n : ℕ) → Spells (suc (suc n)) old (array_of (map count_value all)) new)
-    → SomeIff r (IsTrue (is_tally all)) (maps.from_sorted all)
-    → IsRead nat_cmp is_count count_value counts-injective old new (ok_or r Delta)
-counts_read = map_read nat_cmp is_count count_value counts-injective
+-- entries that make no counter
+pub no_counts : (value : Data) (all : List (ℕ × Count)) → value ≡ array_of (map count_value all)
+    → (IsTrue (is_tally all) → ⊥) → NoMap nat_cmp is_count count_value value
+no_counts value = map_none nat_cmp is_count count_value value counts-injective
 
--- pairs that were read make a set, or the tokens spell none
-pub pairs_read : (old new : List Token) (all : List (Pair × Bool)) (r : Option (maps.FinMap pair_cmp Bool))
-    → ((n : ℕ) → Spells (suc (suc n)) old (array_of (map pair_value all)) new)
-    → SomeIff r (IsTrue (is_choice all)) (maps.from_sorted all)
-    → IsRead pair_cmp is_pair pair_value pairs-injective old new (ok_or r Delta)
-pairs_read = map_read pair_cmp is_pair pair_value pairs-injective
+-- pairs that make no set
+pub no_pairs : (value : Data) (all : List (Pair × Bool)) → value ≡ array_of (map pair_value all)
+    → (IsTrue (is_choice all) → ⊥) → NoMap pair_cmp is_pair pair_value value
+no_pairs value = map_none pair_cmp is_pair pair_value value pairs-injective

@@ -4,7 +4,9 @@ use Rattle.std.specs.List.{All}
 use Rattle.std.specs.FinMap as map
 use Rattle.ps_grid.specs.declared.size.TheConstants.{COLUMNS}
 use Rattle.ps_delta.specs.declared.cell_state.CellState.{CellState}
-use Rattle.ps_delta.specs.Deltas.{Entries}
+use Rattle.ps_lattice.specs.News.{IsNewsOf}
+use Rattle.ps_delta.specs.Deltas.{Entries, IsDelta, state_of}
+use Rattle.ps_delta.specs.State.{State, joined_state}
 use Rattle.ps_wire.specs.declared.TheConstants.{DELTA_LINE_LIMIT}
 use Rattle.ps_wire.specs.Value.{IsLawful}
 use Rattle.ps_wire.specs.Line.{delta_text, IsLine}
@@ -34,3 +36,10 @@ abbrev pub DecodedFit : Type 0
 DecodedFit =
     (bytes : List ℕ) (delta : Entries) → IsLine bytes delta
     → (length (delta_text delta) ≤ length bytes) × FitsLine delta
+
+-- the news of a delta that has a line has one: it is in range as the delta is, and its text is no longer
+abbrev pub NewsFit : Type 0
+NewsFit =
+    (s : State) (delta news : Entries) → IsLawful delta → IsDelta news
+    → IsNewsOf joined_state s (state_of delta) (state_of news)
+    → IsLawful news × (length (delta_text news) ≤ length (delta_text delta))

@@ -1,17 +1,12 @@
 -- What the private functions say of what is on its way; no contract of a public one cites this.
-use Rattle.std.specs.Prelude.{◌≡◌, ◌⊎◌, ℕ, ◌+◌, ◌<◌, ◌≤◌, List, [], ◌∷◌, ◌++◌, length, get_or, sum_by, Contains}
-use Rattle.std.specs.Prelude.{Bool, not, ◌&&◌, ◌==◌, nat_le}
+use Rattle.std.specs.Prelude.{◌≡◌, ◌⊎◌, ℕ, ◌+◌, ◌<◌, ◌≤◌, List, length, get_or, sum_by, Contains}
 use Rattle.std.specs.Prelude.{Option, Some, None, IsUtf8}
 use Rattle.std.specs.List.{All}
-use Rattle.json.specs.Json as json
-use Rattle.json.specs.Print.{escape}
-use Rattle.json.specs.Token.{Token}
-use Rattle.serde_json.specs.Data.{Data}
-use Rattle.serde_json.specs.Read.{read, of_json, converted}
+use Rattle.serde_json.specs.Read.{read}
 use Rattle.ps_grid.specs.declared.refusal.Refusal.{Refusal}
 use Rattle.ps_grid.specs.declared.refusal.Refusal.TheVariants.{Delta, Memory}
 use Rattle.ps_lattice.specs.declared.register.Assignment.{Assignment}
-use Rattle.ps_content.specs.Content.{canonical_text, IsContent}
+use Rattle.ps_content.specs.Content.{canonical_text}
 use Rattle.ps_content.specs.declared.content.Content.{Content}
 use Rattle.ps_delta.specs.declared.cell_state.CellState.{CellState}
 use Rattle.ps_delta.specs.Deltas.{Entries, IsDelta}
@@ -27,32 +22,11 @@ RefusedAs refusal StandsForNothing = (refusal ≡ Memory) ⊎ ((refusal ≡ Delt
 abbrev pub RefusedSince : Refusal → Type 0 → Type 0
 RefusedSince refusal StandsForNothing = (refusal ≡ Delta) × StandsForNothing
 
--- the tokens begin with a spelling of the value, with arrays and objects nested no deeper than `depth`, and these
--- follow
-pub record Spells (depth : ℕ) (tokens : List Token) (value : Data) (rest : List Token) : Type 0 where
-  pub read : converted of_json (json.value depth tokens) ≡ Some (value, rest)
-
 -- the bytes are UTF-8, and JSON that serde_json reads as the value of the delta
 pub record ReadsAs (bytes : List ℕ) (delta : Entries) : Type 0 where
   pub utf8 : IsUtf8 bytes
   pub read : read bytes ≡ Some (delta_value delta)
   pub lawful : IsLawful delta
-
--- a string of JSON has the byte as it is: no quote, no backslash and nothing below a space
-abbrev pub is_unescaped : ℕ → Bool
-is_unescaped byte = nat_le 32 byte && not (byte == 34) && not (byte == 92)
-
--- the text of a content, with no byte that is escaped in a string
-pub record IsPlainText (text : List ℕ) (c : Content) : Type 0 where
-  pub canonical : text ≡ canonical_text c
-  pub content : IsContent c
-  pub unescaped : escape text ≡ text
-
--- the line of a cell with a register alone: `[["NAME",[TIME,REPLICA,"CONTENT"],[],[]]]`
-abbrev pub plain_line : List ℕ → List ℕ → List ℕ → List ℕ → List ℕ
-plain_line name time replica content =
-    91 ∷ 91 ∷ 34 ∷ (name ++ 34 ∷ 44 ∷ 91 ∷ (time ++ 44 ∷ (replica ++ 44 ∷ 34 ∷ (content
-    ++ 34 ∷ 93 ∷ 44 ∷ 91 ∷ 93 ∷ 44 ∷ 91 ∷ 93 ∷ 93 ∷ 93 ∷ []))))
 
 -- how long the value of a register is where no byte of its content is escaped
 abbrev pub unescaped_size : Option (Assignment Content) → ℕ

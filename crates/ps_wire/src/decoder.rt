@@ -1,41 +1,44 @@
-//! Deltas from lines.
+//! Deltas from lines: by a guess that serde_json confirms, or else from the value that serde_json reads.
 
-ghost use Rattle.std.specs.Prelude.{◌≡◌, ◌⊎◌, ◌<◌, ◌≤◌, length, IfOk, IfErr, MatchResult};
+ghost use Rattle.std.specs.Prelude.{◌≡◌, ◌⊎◌, ◌<◌, ◌≤◌, length, Some, None, IsUtf8, IfOk, IfErr, MatchResult};
+ghost use Rattle.serde_json.specs.Read.{read as read_text};
+ghost use Rattle.serde_json.specs.View.{view};
 ghost use Rattle.ps_grid.specs.declared.refusal.Refusal.TheVariants.{Memory};
 ghost use Rattle.ps_delta.specs.Deltas.{Entries};
+ghost use Rattle.ps_wire.specs.Inside.{RefusedAs};
 ghost use Rattle.ps_wire.specs.Line.{IsLine};
+ghost use Rattle.ps_wire.specs.Value.{StandsFor};
 
 use crate::DELTA_LINE_LIMIT;
-use crate::cells::read_delta;
-use crate::plain::read_plain;
-use json::{Reader, Scratch};
+use crate::cells::read_cells;
+use crate::compact::read_compact;
+use crate::parts::items;
 use ps_delta::Delta;
 use ps_grid::Refusal;
+use serde_json::Value;
 use std::alloc::Global;
 
-/// Reads the lines of deltas, one after another, by room that it keeps from line to line.
+/// Reads the lines of deltas, one after another. It stores nothing between two lines.
 #[derive(Drop)]
-pub struct Decoder {
-    // for the texts of a line that are written with escapes, and for the places of its tokens
-    scratch: Scratch,
-}
+pub struct Decoder {}
 
 impl Decoder {
-    /// A decoder that has read no line yet.
+    /// Makes a decoder.
     ///
-    /// Cost: constant: some 16 KB are cleared. It takes no memory.
-    pub fn new(alloc: Global) -> Decoder {
-        Decoder {
-            scratch: Scratch::new(alloc),
-        }
+    /// Cost: none.
+    pub fn new(_alloc: Global) -> Decoder {
+        Decoder {}
     }
 
-    /// The delta that a line stands for: any JSON text of its value, blanks and escapes as they may be, of at most
-    /// `DELTA_LINE_LIMIT` bytes of UTF-8. Any other bytes are refused as `Delta`, and a line as `Memory` where memory
-    /// ran out. After a refusal the next line is read as if nothing had been.
+    /// Returns the delta of a line: of any JSON text of its value, with any blanks and escapes, in at most
+    /// `DELTA_LINE_LIMIT` bytes of UTF-8. A refusal has no effect on the next line.
     ///
-    /// Cost: b, for b bytes of the line; memory for the delta's cells, counts and pairs, and b bytes that the decoder
-    /// keeps, where it has read no line as long.
+    /// # Errors
+    ///
+    /// `Delta` for any other bytes; `Memory` where memory runs out.
+    ///
+    /// Cost: b, for b bytes of the line. Memory for the delta and its text, if the line is as `encode` writes it; else
+    /// for the JSON value and the delta.
     pub fn decode(&mut self, alloc: Global, bytes: &[u8]) -> Result<Delta, Refusal>
         ensures line { IfOk result (λ d. IsLine bytes.now d) }
         ensures read { (d : Entries) → IsLine bytes.now d
@@ -47,37 +50,62 @@ impl Decoder {
         if bytes.len() > DELTA_LINE_LIMIT {
             return Err(Refusal::Delta);
         }
-        match read_plain(alloc, bytes)? {
+        match read_compact(alloc, bytes)? {
             Some(delta) => Ok(delta),
-            None => self.decode_tokens(alloc, bytes),
-        }
-    }
-
-    /// The delta of a line that isn't too long, read by the tokens of JSON.
-    fn decode_tokens(&mut self, alloc: Global, bytes: &[u8]) -> Result<Delta, Refusal>
-        requires { length bytes.now ≤ DELTA_LINE_LIMIT }
-        ensures line { IfOk result (λ d. IsLine bytes.now d) }
-        ensures read { (d : Entries) → IsLine bytes.now d
-            → MatchResult result (λ found. found ≡ d) (λ e. e ≡ Memory) }
-        ensures refused { IfErr result (λ e. (e ≡ Refusal.Delta) ⊎ (e ≡ Memory)) }
-    {
-        let Ok(text) = std::str::from_utf8(bytes) else {
-            return Err(Refusal::Delta);
-        };
-        let mut reader = Reader::new(text, &mut self.scratch)?;
-        let delta = read_delta(alloc, &mut reader)?;
-        match reader.next() {
-            None => Ok(delta),
-            Some(_) => Err(Refusal::Delta),
+            None => decode_value(alloc, bytes),
         }
     }
 }
 
-/// The delta that a line stands for, as a decoder of its own reads it.
+/// Returns the delta of a line that isn't too long, from the value that serde_json reads.
+#[inline(never)]
+fn decode_value(alloc: Global, bytes: &[u8]) -> Result<Delta, Refusal>
+    requires { length bytes.now ≤ DELTA_LINE_LIMIT }
+    ensures line { IfOk result (λ d. IsLine bytes.now d) }
+    ensures read { (d : Entries) → IsLine bytes.now d → MatchResult result (λ found. found ≡ d) (λ e. e ≡ Memory) }
+    ensures refused { IfErr result (λ e. (e ≡ Refusal.Delta) ⊎ (e ≡ Memory)) }
+{
+    let value = read_value(alloc, bytes)?;
+    read_delta(alloc, &value)
+}
+
+/// Returns the delta that the value stands for.
+#[tactic(auto, using(crate::proofs::LineLemmas::stands_for))]
+fn read_delta(alloc: Global, value: &Value) -> Result<Delta, Refusal>
+    ensures found { IfOk result (λ d. StandsFor (view value.now) d) }
+    ensures refused { IfErr result (λ r. RefusedAs r ((d : Entries) → StandsFor (view value.now) d → ⊥)) }
+{
+    let cells = read_cells(alloc, items(value)?)?;
+    let made = Delta::new(alloc, cells)?;
+    made.ok_or(Refusal::Delta)
+}
+
+/// Returns the JSON value that the bytes spell.
+fn read_value(alloc: Global, bytes: &[u8]) -> Result<Value, Refusal>
+    ensures found { IfOk result (λ v. IsUtf8 bytes.now × (read_text bytes.now ≡ Some (view v))) }
+    ensures refused { IfErr result (λ r. RefusedAs r (IsUtf8 bytes.now → read_text bytes.now ≡ None)) }
+{
+    match Value::from_slice(alloc, bytes) {
+        Ok(value) => Ok(value),
+        Err(fault) => {
+            if fault.is_memory() {
+                Err(Refusal::Memory)
+            } else {
+                Err(Refusal::Delta)
+            }
+        }
+    }
+}
+
+/// Returns the delta of a line, as [`Decoder::decode`] does.
 ///
-/// It is part of the public interface, for whoever has a single line; the program's sessions keep a [`Decoder`].
+/// It is for whoever has a single line; the program's sessions have a [`Decoder`].
 ///
-/// Cost: that of `Decoder::new` and of one line.
+/// # Errors
+///
+/// As [`Decoder::decode`].
+///
+/// Cost: that of [`Decoder::decode`].
 pub fn decode(alloc: Global, bytes: &[u8]) -> Result<Delta, Refusal>
     ensures line { IfOk result (λ d. IsLine bytes.now d) }
     ensures read { (d : Entries) → IsLine bytes.now d → MatchResult result (λ found. found ≡ d) (λ e. e ≡ Memory) }

@@ -1,18 +1,18 @@
-//! The entries of counters and sets, as they are read from the items of an array.
+//! Reads the entries of counters and sets from the items of an array.
 
-ghost use Rattle.std.specs.Prelude.{◌≡◌, ℕ, suc, Bool, List, map as each, IsTrue, IfOk, IfErr};
+ghost use Rattle.std.specs.Prelude.{◌≡◌, Bool, List, map as each, IsTrue, IfOk, IfErr};
 ghost use Rattle.std.specs.List.{list_all};
-ghost use Rattle.json.specs.Token.{Token as JsonToken};
 ghost use Rattle.serde_json.specs.Data.{Data};
+ghost use Rattle.serde_json.specs.View.{view};
 ghost use Rattle.ps_lattice.specs.Tally.{is_count};
 ghost use Rattle.ps_lattice.specs.Choice.{is_pair};
-ghost use Rattle.ps_wire.specs.Value.{array_of, whole as whole_value, count_value, pair_value, gone_number};
-ghost use Rattle.ps_wire.specs.Inside.{RefusedAs, RefusedSince, Spells};
+ghost use Rattle.ps_wire.specs.Value.{array_of, whole, count_value, pair_value, gone_number};
+ghost use Rattle.ps_wire.specs.Inside.{RefusedAs, RefusedSince};
 
-use crate::parts::{close_array, middling, open_array, short, whole};
-use json::Reader;
+use crate::parts::{items, middling, quadruple, short, triple, whole};
 use ps_grid::Refusal;
 use ps_lattice::{Count, Pair};
+use serde_json::Value;
 use std::alloc::Global;
 
 /// An entry of a counter or of a set.
@@ -23,11 +23,11 @@ pub(crate) trait Entry: Copy {
     // whether it is in its ranges
     ghost is_good: { Self → Bool };
 
-    /// Takes an entry; none in its ranges is refused.
-    fn read(reader: &mut Reader<'_>) -> Result<Self, Refusal>
-        ensures found { IfOk result (λ e. (n : ℕ) → Spells (suc n) reader.old (spelled e) reader.new) }
-        ensures refused { IfErr result (λ r. RefusedSince r ((n : ℕ) (e : Self) (rest : List JsonToken)
-            → IsTrue (is_good e) → Spells (suc n) reader.old (spelled e) rest → ⊥)) };
+    /// Reads the entry that the value stands for. It may return an entry out of its ranges.
+    fn read(value: &Value) -> Result<Self, Refusal>
+        ensures found { IfOk result (λ e. view value.now ≡ spelled e) }
+        ensures refused { IfErr result (λ r. RefusedSince r
+            ((e : Self) → IsTrue (is_good e) → view value.now ≡ spelled e → ⊥)) };
 }
 
 /// A replica with its two counts.
@@ -36,13 +36,13 @@ impl Entry for (u8, Count) {
 
     ghost is_good = { is_count };
 
-    fn read(reader: &mut Reader<'_>) -> Result<(u8, Count), Refusal> {
-        open_array(reader)?;
-        let replica = short(reader)?;
-        let added = whole(reader)?;
-        let subtracted = whole(reader)?;
-        close_array(reader)?;
-        Ok((replica, Count { added, subtracted }))
+    fn read(value: &Value) -> Result<(u8, Count), Refusal> {
+        let (replica, added, subtracted) = triple(value)?;
+        let count = Count {
+            added: whole(added)?,
+            subtracted: whole(subtracted)?,
+        };
+        Ok((short(replica)?, count))
     }
 }
 
@@ -52,47 +52,37 @@ impl Entry for (Pair, bool) {
 
     ghost is_good = { is_pair };
 
-    fn read(reader: &mut Reader<'_>) -> Result<(Pair, bool), Refusal> {
-        open_array(reader)?;
-        let option = short(reader)?;
-        let replica = short(reader)?;
-        let sequence = middling(reader)?;
-        let gone = read_gone(reader)?;
-        close_array(reader)?;
+    fn read(value: &Value) -> Result<(Pair, bool), Refusal> {
+        let (option, replica, sequence, gone) = quadruple(value)?;
         let pair = Pair {
-            option,
-            replica,
-            sequence,
+            option: short(option)?,
+            replica: short(replica)?,
+            sequence: middling(sequence)?,
         };
-        Ok((pair, gone))
+        Ok((pair, read_gone(gone)?))
     }
 }
 
-/// Takes an array of entries, in their order.
-pub(crate) fn read_entries<E: Entry>(
-    alloc: Global,
-    reader: &mut Reader<'_>,
-) -> Result<Vec<E>, Refusal>
-    ensures found { IfOk result (λ all. (n : ℕ)
-        → Spells (suc (suc n)) reader.old (array_of (each E.spelled all.items)) reader.new) }
-    ensures refused { IfErr result (λ r. RefusedAs r ((n : ℕ) (all : List E) (rest : List JsonToken)
-        → IsTrue (list_all E.is_good all) → Spells (suc (suc n)) reader.old (array_of (each E.spelled all)) rest → ⊥)) }
+/// Reads the entries that the items of an array stand for, in their order.
+pub(crate) fn read_entries<E: Entry>(alloc: Global, value: &Value) -> Result<Vec<E>, Refusal>
+    ensures found { IfOk result (λ all. view value.now ≡ array_of (each E.spelled all.items)) }
+    ensures refused { IfErr result (λ r. RefusedAs r ((all : List E) → IsTrue (list_all E.is_good all)
+        → view value.now ≡ array_of (each E.spelled all) → ⊥)) }
 {
-    open_array(reader)?;
-    let mut entries = Vec::new(alloc);
-    'entries: while !reader.take_end_array() {
-        entries.push(E::read(reader)?)?;
+    let values = items(value)?;
+    let mut entries = Vec::with_capacity(alloc, values.len())?;
+    for item in values {
+        entries.push(E::read(item)?)?;
     }
     Ok(entries)
 }
 
-/// Takes 0 for what is added alone, 1 for what is removed too.
-fn read_gone(reader: &mut Reader<'_>) -> Result<bool, Refusal>
-    ensures found { IfOk result (λ b. (n : ℕ) → Spells n reader.old (whole_value (gone_number b)) reader.new) }
-    ensures refused { IfErr result (λ r. RefusedSince r ((n : ℕ) (b : Bool) (rest : List JsonToken)
-        → Spells n reader.old (whole_value (gone_number b)) rest → ⊥)) }
+/// Reads whether a pair is gone: 0 where it was only added, 1 where it was also removed.
+fn read_gone(value: &Value) -> Result<bool, Refusal>
+    ensures found { IfOk result (λ b. view value.now ≡ whole (gone_number b)) }
+    ensures refused { IfErr result (λ r. RefusedSince r ((b : Bool) → view value.now ≡ whole (gone_number b) → ⊥)) }
 {
-    match whole(reader)? {
+    match whole(value)? {
         0 => Ok(false),
         1 => Ok(true),
         _ => Err(Refusal::Delta),

@@ -1,6 +1,6 @@
 //! What holds of the values and the texts of deltas, as functions that do nothing: each is its contract.
 
-ghost use Rattle.ps_wire.specs.Fits.{BatchesFit, DecodedFit, EditsFit};
+ghost use Rattle.ps_wire.specs.Fits.{BatchesFit, DecodedFit, EditsFit, NewsFit};
 ghost use Rattle.ps_wire.specs.Line.{TextsAreOneLine};
 ghost use Rattle.ps_wire.specs.Value.{OneDelta, OneValue};
 
@@ -27,6 +27,13 @@ pub fn edited_lines_fit()
 /// Cost: none.
 pub fn decoded_lines_fit()
     ensures { DecodedFit }
+{}
+
+/// What is new of a delta has no longer line than the delta, whatever it is new to.
+///
+/// Cost: none.
+pub fn news_lines_fit()
+    ensures { NewsFit }
 {}
 
 /// The compact text of a delta has no line feed, so that one ends its line.

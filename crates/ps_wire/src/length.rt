@@ -1,4 +1,4 @@
-//! How long the line of a delta is, without writing it.
+//! Computes how long the line of a delta is, without writing it.
 
 ghost use Rattle.std.specs.Prelude.{◌≡◌, ◌↔◌, ℕ, ◌+◌, ◌*◌, ◌-◌, ◌<◌, ◌≤◌, map as each, length, IsTrue, SomeIff};
 ghost use Rattle.std.specs.Bool.{OnTrue};
@@ -9,8 +9,6 @@ ghost use Rattle.ps_formula.specs.declared.formula.TheConstants.{LONGEST_TEXT};
 ghost use Rattle.ps_content.specs.Content.{canonical_text};
 ghost use Rattle.ps_delta.specs.Deltas.{Entries, IsDelta, state_of};
 ghost use Rattle.ps_delta.specs.State.{IsBelow};
-ghost use Rattle.ps_wire.specs.Fits.{FitsLine};
-ghost use Rattle.ps_wire.specs.Line.{delta_text};
 ghost use Rattle.ps_wire.specs.Inside.{unescaped_size};
 ghost use Rattle.ps_wire.specs.Length.{OutgrowsLine, bare_value, lasting_size, size};
 ghost use Rattle.ps_wire.specs.Value.{array_of, whole, register_value, count_value, pair_value, cell_value};
@@ -22,8 +20,9 @@ use ps_delta::{CellState, Delta};
 use ps_grid::{Cell, NAME_BYTES};
 use ps_lattice::{Count, Pair, Register};
 
-/// Whether whatever the delta is joined with has no line: without the registers, of which a join may take a shorter
-/// one, the text is too long already. What joins do to the rest never shortens it.
+/// Returns whether no join with the delta has a line.
+///
+/// It counts the text with each register null, since a join may take a shorter register. Joins never shorten the rest.
 ///
 /// Cost: that of the cells, counts and pairs for which a line has room, however many there are; it takes no memory.
 pub fn outgrows_line(delta: &Delta) -> bool
@@ -36,7 +35,7 @@ pub fn outgrows_line(delta: &Delta) -> bool
     }
 }
 
-/// What is left of so many bytes after the text of the cells with their registers null, if that isn't longer.
+/// Returns what the cells with their registers null leave of `room` bytes, or `None` if their text is longer.
 fn bare_cells_left(cells: &[(Cell, CellState)], room: usize) -> Option<usize>
     requires { 0 < length cells.now }
     ensures { SomeIff result (size (array_of (each bare_value cells.now)) ≤ room)
@@ -50,7 +49,7 @@ fn bare_cells_left(cells: &[(Cell, CellState)], room: usize) -> Option<usize>
     Some(left)
 }
 
-/// What is left of so many bytes after the text of the cell with its register null, if that isn't longer.
+/// Returns what the cell with its register null leaves of `left` bytes, or `None` if its text is longer.
 fn bare_left(cell: &(Cell, CellState), left: usize) -> Option<usize>
     ensures { SomeIff result (size (bare_value cell.now) ≤ left) (left - size (bare_value cell.now)) }
 {
@@ -60,33 +59,12 @@ fn bare_left(cell: &(Cell, CellState), left: usize) -> Option<usize>
     array_left(choice.parts(), left)
 }
 
-/// Whether the compact text of the delta is short enough for a line.
-///
-/// Nothing in the program calls it: `encode` finds out by itself. It is part of the public interface, for who wants to
-/// know before.
-///
-/// Cost: that of the cells, counts and pairs for which a line has room, however many there are; it takes no memory.
-pub fn fits_line(delta: &Delta) -> bool
-    ensures { IsTrue result ↔ FitsLine delta.now }
-{
-    text_size(delta).is_some()
-}
-
-/// How long the compact text of the delta is, if it is short enough for a line.
-#[tactic(auto, unfolding(crate::specs::Line::delta_text, crate::specs::Value::delta_value))]
-pub(crate) fn text_size(delta: &Delta) -> Option<usize>
-    ensures { SomeIff result (FitsLine delta.now) (length (delta_text delta.now)) }
-{
-    let left = array_left(delta.parts(), DELTA_LINE_LIMIT)?;
-    Some(DELTA_LINE_LIMIT - left)
-}
-
 /// A part of a delta that is an item of an array.
-trait Part {
+pub(crate) trait Part {
     // the value that stands for it
     ghost spelled: { Self → Data };
 
-    /// What is left of so many bytes after its text, if that isn't longer.
+    /// Returns what its text leaves of `left` bytes, or `None` if it is longer.
     fn left_after(&self, left: usize) -> Option<usize>
         ensures { SomeIff result (size (spelled self.now) ≤ left) (left - size (spelled self.now)) };
 }
@@ -126,8 +104,8 @@ impl Part for (Cell, CellState) {
     }
 }
 
-/// What is left of so many bytes after the text of an array, if that isn't longer.
-fn array_left<P: Part>(parts: &[P], room: usize) -> Option<usize>
+/// Returns what the text of an array leaves of `room` bytes, or `None` if it is longer.
+pub(crate) fn array_left<P: Part>(parts: &[P], room: usize) -> Option<usize>
     ensures { SomeIff result (size (array_of (each P.spelled parts.now)) ≤ room)
         (room - size (array_of (each P.spelled parts.now))) }
 {
@@ -142,7 +120,7 @@ fn array_left<P: Part>(parts: &[P], room: usize) -> Option<usize>
     Some(left)
 }
 
-/// How long the name of a cell is, as a value.
+/// Returns how long the name of a cell is, as a JSON value.
 fn name_size(cell: Cell) -> usize
     ensures value { result ≡ size (string (cell_name cell)) }
     ensures few { result ≤ 2 + 6 * LONGEST_TEXT }
@@ -152,7 +130,7 @@ fn name_size(cell: Cell) -> usize
     string_size(&name[..len])
 }
 
-/// How long the value of a register is.
+/// Returns how long the value of a register is.
 fn register_size(register: &Register<Content>) -> usize
     ensures value { result ≡ size (register_value register.now) }
     ensures few { result ≤ 46 + 6 * LONGEST_TEXT }
@@ -166,7 +144,7 @@ fn register_size(register: &Register<Content>) -> usize
     }
 }
 
-/// How long the value of a register is where no byte of its content is escaped.
+/// Returns how long the value of a register is if no byte of its content is escaped.
 pub(crate) fn unescaped_size(register: &Register<Content>) -> usize
     ensures value { result ≡ unescaped_size register.now }
     ensures few { result ≤ 46 + LONGEST_TEXT }
@@ -180,7 +158,7 @@ pub(crate) fn unescaped_size(register: &Register<Content>) -> usize
     }
 }
 
-/// How long the canonical text of a content is.
+/// Returns how long the canonical text of a content is.
 #[tactic(auto, using(crate::proofs::SizeLemmas::label_is_short))]
 fn content_length(content: &Content) -> usize
     ensures value { result ≡ length (canonical_text content.now) }
@@ -196,7 +174,7 @@ fn content_length(content: &Content) -> usize
     }
 }
 
-/// How long the value of a content is.
+/// Returns how long the value of a content is.
 #[tactic(auto, using(crate::proofs::SizeLemmas::label_is_short))]
 fn content_size(content: &Content) -> usize
     ensures value { result ≡ size (string (canonical_text content.now)) }
@@ -212,7 +190,7 @@ fn content_size(content: &Content) -> usize
     }
 }
 
-/// How long a string is: its bytes and the quotes, and what escapes add.
+/// Returns how long a JSON string is: its bytes, the quotes, and what escapes add.
 fn string_size(bytes: &[u8]) -> usize
     requires { length bytes.now ≤ LONGEST_TEXT }
     ensures value { result ≡ size (string bytes.now) }
@@ -225,7 +203,7 @@ fn string_size(bytes: &[u8]) -> usize
     size
 }
 
-/// How many bytes of a string stand for the byte.
+/// Returns how many bytes of a JSON string stand for the byte.
 fn escaped_size(byte: u8) -> usize
     ensures value { result ≡ length (escape_byte byte) }
     ensures few { result ≤ 6 }
@@ -236,7 +214,7 @@ fn escaped_size(byte: u8) -> usize
     if byte < 32 { 6 } else { 1 }
 }
 
-/// The letter of the byte's short escape, 0 where it has none.
+/// Returns the letter of the byte's short escape, or 0 if it has none.
 fn escape_letter(byte: u8) -> u8
     ensures { result ≡ escape_letter byte }
 {
@@ -251,7 +229,7 @@ fn escape_letter(byte: u8) -> u8
     }
 }
 
-/// How many digits a number has.
+/// Returns how many digits a number has.
 fn digits(number: u64) -> usize
     ensures value { result ≡ size (whole number) }
     ensures few { result ≤ 20 }

@@ -1,16 +1,16 @@
-//! Room for the line of a delta, counted byte by byte only where a few steps don't tell enough.
+//! Whether a line has room for a delta. Bytes are counted only where the cells aren't all brief.
 
-ghost use Rattle.std.specs.Prelude.{◌≡◌, ◌<◌, ◌≤◌, map as each, length, IfSome, None};
+ghost use Rattle.std.specs.Prelude.{◌↔◌, ◌<◌, ◌≤◌, map as each, IsTrue};
 ghost use Rattle.std.specs.Bool.{OnTrue};
 ghost use Rattle.std.specs.Fmt.{signed_decimal};
 ghost use Rattle.serde_json.specs.Data.{string};
 ghost use Rattle.ps_content.specs.Content.{canonical_text};
-ghost use Rattle.ps_wire.specs.Line.{delta_text};
+ghost use Rattle.ps_wire.specs.Fits.{FitsLine};
 ghost use Rattle.ps_wire.specs.Length.{size};
 ghost use Rattle.ps_wire.specs.Value.{array_of, register_value, cell_value};
 
 use crate::DELTA_LINE_LIMIT;
-use crate::length::text_size;
+use crate::length::array_left;
 use ps_content::Content;
 use ps_delta::{CellState, Delta};
 use ps_grid::Cell;
@@ -20,39 +20,36 @@ use ps_lattice::Register;
 /// arrays.
 const BRIEF_CELL: usize = 62;
 
-/// Room for the compact text of the delta, if it is short enough for a line: what its cells take at most where they
-/// are all brief, as most are, and else just as many bytes as the text has.
+/// So many brief cells have room in a line, with two brackets and a comma after each.
+const BRIEF_CELLS: usize = (DELTA_LINE_LIMIT - 2) / BRIEF_CELL;
+
+/// Returns whether the compact text of the delta is short enough for a line.
+///
+/// Cost: that of the cells, counts and pairs for which a line has room, however many there are; it takes no memory.
 #[tactic(auto, unfolding(crate::specs::Line::delta_text, crate::specs::Value::delta_value))]
-pub(crate) fn text_room(delta: &Delta) -> Option<usize>
-    ensures room { IfSome result (λ room. length (delta_text delta.now) ≤ room) }
-    ensures fits { IfSome result (λ room. room ≤ DELTA_LINE_LIMIT) }
-    ensures none { result ≡ None → DELTA_LINE_LIMIT < length (delta_text delta.now) }
+pub fn fits_line(delta: &Delta) -> bool
+    ensures { IsTrue result ↔ FitsLine delta.now }
 {
-    match brief_room(delta.parts()) {
-        Some(room) => Some(room),
-        None => text_size(delta),
-    }
+    let cells = delta.parts();
+    are_brief(cells) || array_left(cells, DELTA_LINE_LIMIT).is_some()
 }
 
-/// Room for the text of the cells, if they are all brief and not too many for a line.
-fn brief_room(cells: &[(Cell, CellState)]) -> Option<usize>
-    ensures room { IfSome result (λ room. size (array_of (each cell_value cells.now)) ≤ room) }
-    ensures fits { IfSome result (λ room. room ≤ DELTA_LINE_LIMIT) }
+/// Returns whether the cells are all brief, as most are, and have room in a line.
+fn are_brief(cells: &[(Cell, CellState)]) -> bool
+    ensures { OnTrue result (size (array_of (each cell_value cells.now)) ≤ DELTA_LINE_LIMIT) }
 {
-    // two brackets, and a comma after each cell
-    let room = cells.len().checked_mul(BRIEF_CELL)?.checked_add(2)?;
-    if room > DELTA_LINE_LIMIT {
-        return None;
+    if cells.len() > BRIEF_CELLS {
+        return false;
     }
     for cell in cells {
         if !is_brief(cell) {
-            return None;
+            return false;
         }
     }
-    Some(room)
+    true
 }
 
-/// Whether a cell holds a register alone, and in it no text and no formula. So its text is short.
+/// Returns whether a cell holds a register alone, with no text and no formula in it.
 #[tactic(auto, unfolding(crate::specs::Value::cell_value))]
 fn is_brief(cell: &(Cell, CellState)) -> bool
     ensures { OnTrue result (size (cell_value cell.now) < BRIEF_CELL) }
@@ -66,7 +63,7 @@ fn is_brief(cell: &(Cell, CellState)) -> bool
     has_brief_content(register)
 }
 
-/// Whether the register holds nothing, or no text and no formula.
+/// Returns whether the register holds nothing, or no text and no formula.
 fn has_brief_content(register: &Register<Content>) -> bool
     ensures { OnTrue result (size (register_value register.now) ≤ 44) }
 {
@@ -76,7 +73,7 @@ fn has_brief_content(register: &Register<Content>) -> bool
     }
 }
 
-/// Whether the content is no text and no formula.
+/// Returns whether the content is no text and no formula.
 fn is_brief_content(content: &Content) -> bool
     ensures { OnTrue result (size (string (canonical_text content.now)) ≤ 22) }
 {
@@ -93,7 +90,7 @@ fn is_brief_content(content: &Content) -> bool
     }
 }
 
-/// For the fact that a number of 64 bits has at most 20 bytes beside the quotes.
+/// Does nothing: its contract says that a number of 64 bits has at most 20 bytes beside the quotes.
 fn number_is_brief(number: i64)
     ensures { size (string (signed_decimal number)) ≤ 22 }
 {}

@@ -1,24 +1,41 @@
-//! The text of a delta, written token by token.
+//! Sends a delta to serde, as the JSON value that stands for it.
 
 ghost use Rattle.std.specs.Prelude.{◌≡◌, ◌∷◌, ◌<◌, ◌≤◌, length, take, map as each, IsUtf8, OnOk};
 ghost use Rattle.std.specs.List.{All};
+ghost use Rattle.serde.specs.Event.{Log};
 ghost use Rattle.serde_json.specs.Data.{Data, string};
-ghost use Rattle.serde_json.specs.Written.{WritesValue};
+ghost use Rattle.serde_json.specs.Events.{SendsValue};
 ghost use Rattle.ps_grid.specs.Place.{cell_name};
 ghost use Rattle.ps_value.specs.Label.{IsLabel};
 ghost use Rattle.ps_content.specs.Content.{canonical_text, IsContent};
-ghost use Rattle.ps_wire.specs.Value.{array_of, whole, register_value, count_value, pair_value, gone_number};
+ghost use Rattle.ps_wire.specs.Value.{array_of, register_value, count_value, pair_value, gone_number};
 ghost use Rattle.ps_wire.specs.Value.{cell_value, delta_value, IsLawful, IsRegister, IsState};
 
 use itoa::Buffer;
-use json::Writer;
 use ps_content::Content;
 use ps_delta::{CellState, Delta};
 use ps_grid::{Cell, NAME_BYTES};
 use ps_lattice::{Count, Pair, Register};
 use ps_value::LABEL_BYTES;
-use std::alloc::AllocError;
+use serde::{Described, Serialize, Serializer};
 use std::str;
+
+/// A delta that serde can write.
+#[derive(Drop)]
+pub(crate) struct Line<'a> {
+    pub(crate) delta: &'a Delta,
+}
+
+impl Described for Line<'_> {
+    ghost writes = { λ l old new. SendsValue (delta_value l.delta.now) old new × IsLawful l.delta.now };
+}
+
+impl Serialize for Line<'_> {
+    #[tactic(auto, unfolding(crate::specs::Value::delta_value))]
+    fn serialize<S: Serializer>(&self, out: &mut S) -> Result<(), S::Error> {
+        send_array(self.delta.parts(), out)
+    }
+}
 
 /// An item of an array.
 trait Item {
@@ -28,11 +45,10 @@ trait Item {
     // what holds of it
     ghost holds: { Self → Type 0 };
 
-    /// Writes the value that stands for it.
-    fn write(&self, out: &mut Writer) -> Result<(), AllocError>
-        ensures written { OnOk result (WritesValue (spelled self.now) out.old.tokens out.new.tokens) }
-        ensures holds { OnOk result (holds self.now) }
-        ensures before { out.new.before ≡ out.old.before };
+    /// Writes the item.
+    fn send<S: Serializer>(&self, out: &mut S) -> Result<(), S::Error>
+        ensures sent { OnOk result (SendsValue (spelled self.now) (S.written out.old) (S.written out.new)) }
+        ensures holds { OnOk result (holds self.now) };
 }
 
 /// A replica with its two counts.
@@ -41,13 +57,13 @@ impl Item for (u8, Count) {
 
     ghost holds = { λ _. Unit {0} };
 
-    fn write(&self, out: &mut Writer) -> Result<(), AllocError> {
+    fn send<S: Serializer>(&self, out: &mut S) -> Result<(), S::Error> {
         let (replica, count) = *self;
-        out.begin_array()?;
-        write_whole(u64::from(replica), out)?;
-        write_whole(count.added, out)?;
-        write_whole(count.subtracted, out)?;
-        out.end_array()
+        out.begin_seq(Some(3))?;
+        out.u64(u64::from(replica))?;
+        out.u64(count.added)?;
+        out.u64(count.subtracted)?;
+        out.end_seq()
     }
 }
 
@@ -57,14 +73,14 @@ impl Item for (Pair, bool) {
 
     ghost holds = { λ _. Unit {0} };
 
-    fn write(&self, out: &mut Writer) -> Result<(), AllocError> {
+    fn send<S: Serializer>(&self, out: &mut S) -> Result<(), S::Error> {
         let (pair, gone) = *self;
-        out.begin_array()?;
-        write_whole(u64::from(pair.option), out)?;
-        write_whole(u64::from(pair.replica), out)?;
-        write_whole(u64::from(pair.sequence), out)?;
-        write_whole(gone_number(gone), out)?;
-        out.end_array()
+        out.begin_seq(Some(4))?;
+        out.u64(u64::from(pair.option))?;
+        out.u64(u64::from(pair.replica))?;
+        out.u64(u64::from(pair.sequence))?;
+        out.u64(gone_number(gone))?;
+        out.end_seq()
     }
 }
 
@@ -75,105 +91,81 @@ impl Item for (Cell, CellState) {
     ghost holds = { λ e. IsState e.1 };
 
     #[tactic(auto, unfolding(crate::specs::Value::cell_value))]
-    fn write(&self, out: &mut Writer) -> Result<(), AllocError> {
+    fn send<S: Serializer>(&self, out: &mut S) -> Result<(), S::Error> {
         let (register, tally, choice) = self.1.parts();
-        out.begin_array()?;
-        write_name(self.0, out)?;
-        write_register(register, out)?;
-        write_array(tally.parts().as_slice(), out)?;
-        write_array(choice.parts(), out)?;
-        out.end_array()
+        out.begin_seq(Some(4))?;
+        send_name(self.0, out)?;
+        send_register(register, out)?;
+        send_array(tally.parts().as_slice(), out)?;
+        send_array(choice.parts(), out)?;
+        out.end_seq()
     }
 }
 
-/// Writes the value that stands for the delta.
-#[tactic(auto, unfolding(crate::specs::Value::delta_value))]
-pub(crate) fn write_delta(delta: &Delta, out: &mut Writer) -> Result<(), AllocError>
-    ensures written { OnOk result (WritesValue (delta_value delta.now) out.old.tokens out.new.tokens) }
-    ensures lawful { OnOk result (IsLawful delta.now) }
-    ensures before { out.new.before ≡ out.old.before }
-{
-    write_array(delta.parts(), out)
-}
-
-/// Writes the array of the items.
-fn write_array<I: Item>(items: &[I], out: &mut Writer) -> Result<(), AllocError>
-    ensures written { OnOk result
-        (WritesValue (array_of (each I.spelled items.now)) out.old.tokens out.new.tokens) }
+/// Writes the items as an array.
+fn send_array<I: Item, S: Serializer>(items: &[I], out: &mut S) -> Result<(), S::Error>
+    ensures sent { OnOk result
+        (SendsValue (array_of (each I.spelled items.now)) (S.written out.old) (S.written out.new)) }
     ensures hold { OnOk result (All I.holds items.now) }
-    ensures before { out.new.before ≡ out.old.before }
 {
-    out.begin_array()?;
+    out.begin_seq(Some(items.len()))?;
     for item in items {
-        item.write(out)?;
+        item.send(out)?;
     }
-    out.end_array()
+    out.end_seq()
 }
 
-/// Writes a whole number.
-fn write_whole(number: u64, out: &mut Writer) -> Result<(), AllocError>
-    ensures written { OnOk result (WritesValue (whole number) out.old.tokens out.new.tokens) }
-    ensures before { out.new.before ≡ out.old.before }
-{
-    out.u64(number)
-}
-
-/// Writes the cell's name.
-fn write_name(cell: Cell, out: &mut Writer) -> Result<(), AllocError>
-    ensures written { OnOk result (WritesValue (string (cell_name cell)) out.old.tokens out.new.tokens) }
-    ensures before { out.new.before ≡ out.old.before }
+/// Writes the name of a cell.
+fn send_name<S: Serializer>(cell: Cell, out: &mut S) -> Result<(), S::Error>
+    ensures { OnOk result (SendsValue (string (cell_name cell)) (S.written out.old) (S.written out.new)) }
 {
     let mut name = [0; NAME_BYTES];
     let len = cell.write(&mut name);
-    write_text(&name[..len], out)
+    send_text(&name[..len], out)
 }
 
 /// Writes `null`, or an array of the time, the replica and the content.
-fn write_register(register: &Register<Content>, out: &mut Writer) -> Result<(), AllocError>
-    ensures written { OnOk result
-        (WritesValue (register_value register.now) out.old.tokens out.new.tokens) }
+fn send_register<S: Serializer>(register: &Register<Content>, out: &mut S) -> Result<(), S::Error>
+    ensures sent { OnOk result
+        (SendsValue (register_value register.now) (S.written out.old) (S.written out.new)) }
     ensures register { OnOk result (IsRegister register.now) }
-    ensures before { out.new.before ≡ out.old.before }
 {
     match register.parts() {
-        None => out.null(),
+        None => out.unit(),
         Some(assignment) => {
-            out.begin_array()?;
-            write_whole(assignment.time, out)?;
-            write_whole(u64::from(assignment.replica), out)?;
-            write_content(assignment.content, out)?;
-            out.end_array()
+            out.begin_seq(Some(3))?;
+            out.u64(assignment.time)?;
+            out.u64(u64::from(assignment.replica))?;
+            send_content(assignment.content, out)?;
+            out.end_seq()
         }
     }
 }
 
 /// Writes the canonical text of a content.
-fn write_content(content: &Content, out: &mut Writer) -> Result<(), AllocError>
-    ensures written { OnOk result
-        (WritesValue (string (canonical_text content.now)) out.old.tokens out.new.tokens) }
+fn send_content<S: Serializer>(content: &Content, out: &mut S) -> Result<(), S::Error>
+    ensures sent { OnOk result
+        (SendsValue (string (canonical_text content.now)) (S.written out.old) (S.written out.new)) }
     ensures content { IsContent content.now }
-    ensures before { out.new.before ≡ out.old.before }
 {
     match content {
-        Content::Blank => out.string(""),
-        Content::Number(number) => out.string(Buffer::new().format(*number)),
-        Content::Text(label) => write_label(label.label().bytes(), out),
-        Content::Formula(formula) => write_text(formula.formula().text(), out),
-        Content::Tally => out.string("@tally"),
-        Content::Choice => out.string("@choice"),
+        Content::Blank => out.str(""),
+        Content::Number(number) => out.str(Buffer::new().format(*number)),
+        Content::Text(label) => send_label(label.label().bytes(), out),
+        Content::Formula(formula) => send_text(formula.formula().text(), out),
+        Content::Tally => out.str("@tally"),
+        Content::Choice => out.str("@choice"),
     }
 }
 
 /// Writes a text with the quote that marks it as one.
-fn write_label(label: &[u8], out: &mut Writer) -> Result<(), AllocError>
+fn send_label<S: Serializer>(label: &[u8], out: &mut S) -> Result<(), S::Error>
     requires { IsLabel label.now }
-    ensures written { OnOk result
-        (WritesValue (string (39 ∷ label.now)) out.old.tokens out.new.tokens) }
-    ensures before { out.new.before ≡ out.old.before }
+    ensures { OnOk result (SendsValue (string (39 ∷ label.now)) (S.written out.old) (S.written out.new)) }
 {
     let mut text = [0; 1 + LABEL_BYTES];
     let len = put_label(label, &mut text);
-    write_text(&text[..len], out)
+    send_text(&text[..len], out)
 }
 
 /// Puts a quote and the label at the front, and returns how long they are.
@@ -190,15 +182,15 @@ fn put_label(label: &[u8], text: &mut [u8]) -> usize
 }
 
 /// Writes a text as it is.
-fn write_text(text: &[u8], out: &mut Writer) -> Result<(), AllocError>
+#[inline(always)]
+fn send_text<S: Serializer>(text: &[u8], out: &mut S) -> Result<(), S::Error>
     requires { IsUtf8 text.now }
-    ensures written { OnOk result (WritesValue (string text.now) out.old.tokens out.new.tokens) }
-    ensures before { out.new.before ≡ out.old.before }
+    ensures { OnOk result (SendsValue (string text.now) (S.written out.old) (S.written out.new)) }
 {
-    out.string(str::from_utf8(text).unwrap())
+    out.str(str::from_utf8(text).unwrap())
 }
 
-/// 0 for what is added alone, 1 for what is removed too.
+/// Returns 1 where a pair is gone, else 0.
 fn gone_number(gone: bool) -> u64
     ensures { result ≡ gone_number gone }
 {

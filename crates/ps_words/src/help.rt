@@ -128,6 +128,7 @@ Each line of standard input is a command, and has a reply on standard output:
   entries A1:B1         a table of what cells hold   entries 1, then 5,=[.A1]*2
   pull 0 16             what was done, as one line   delta 8 [[\"A1\", ..
   push [[\"A1\", ..       .. taken in elsewhere        ok 1
+  merge [[\"A1\", ..      .. only what is new of it    same 1
   replica               whose sheet it is            replica 1
 
 `ok` comes with the version, the number of changes so far; `err` with the number

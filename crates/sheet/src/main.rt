@@ -23,13 +23,14 @@ ghost use Rattle.ps_grid.specs.Blanks.{IsBlankOf};
 use clap::Error;
 use clap::error::ErrorKind;
 use ps_commands::{
-    Closed, Counts, KeptOnlooker, Onlooker, ProgramFault, answer_kept, answer_lines, follow_on,
-    leave_unfreed, open_kept_sheet, open_page, port_fault, serve, serve_kept, squash_on, status_of,
-    sync_on, table_on, talk_on, tell_opened,
+    KeptOnlooker, Onlooker, ProgramFault, answer_kept, answer_lines, follow_on, leave_unfreed,
+    open_kept_sheet, open_page, port_fault, serve, serve_kept, squash_on, status_of, sync_on,
+    table_on, talk_on, tell_opened,
 };
 use ps_device::{ConsoleOutput, Reading, Sink, Writing};
 use ps_eval::Meter;
 use ps_grid::Refusal;
+use ps_server::{Closed, Counts};
 use ps_session::{HeldOutput, Resources};
 use ps_words::{Options, RunOptions, ServeOptions, TableOptions, TalkOptions, read_words};
 use std::fs::File;
@@ -218,6 +219,14 @@ fn console<O: Ledger>(rt: &HostRuntime, output: Blank) -> Result<ConsoleOutput<S
     ConsoleOutput::new(rt.alloc(), rt.stdout(), output)
 }
 
+/// What the commands work by: these threads, and the memory of the program.
+fn resources_of<'a, R>(rt: &HostRuntime, threads: &'a R) -> Resources<'a, R> {
+    Resources {
+        threads,
+        alloc: rt.alloc(),
+    }
+}
+
 /// Whether hints are told: where they are asked for, and where a person types and reads what is told.
 fn is_explained(rt: &HostRuntime, asked: bool) -> bool {
     asked || (rt.stdin().is_terminal() && rt.stderr().is_terminal())
@@ -240,8 +249,7 @@ fn run_lines<R: Threads + Sync, I: Ledger, O: Ledger, M: Ledger>(
     let told = is_explained(rt, options.explain).then_some(rt.stderr());
     let mut onlooker = Onlooker::new(rt.alloc(), told);
     answer_lines(
-        threads,
-        rt.alloc(),
+        resources_of(rt, threads),
         &mut source,
         &mut sink,
         &mut meter,
@@ -266,7 +274,8 @@ fn run_kept<R: Files<File = File> + Threads + Sync, I: Ledger, O: Ledger, H: Led
     requires evaluations { IsBlankOf counts.evaluations M.name M.parts }
 {
     let mut meter = Meter::<M>::new(counts.evaluations);
-    let opened = open_kept_sheet(threads, rt.alloc(), path, options.sheet, &mut meter);
+    let resources = resources_of(rt, threads);
+    let opened = open_kept_sheet(resources, path, options.sheet, &mut meter);
     let (sheet, mut keeper) = match opened {
         Ok(opened) => opened,
         Err(fault) => return Err(fault),
@@ -278,10 +287,7 @@ fn run_kept<R: Files<File = File> + Threads + Sync, I: Ledger, O: Ledger, H: Led
     let told = is_explained(rt, options.explain).then_some(rt.stderr());
     let mut onlooker = KeptOnlooker::new(Onlooker::new(rt.alloc(), told), warner);
     answer_kept(
-        Resources {
-            threads,
-            alloc: rt.alloc(),
-        },
+        resources,
         &mut source,
         &mut sink,
         sheet,
@@ -310,14 +316,15 @@ fn serve_sessions<
     meter: &mut Meter<M>,
     options: ServeOptions<'_>,
 ) -> Result<(), ProgramFault> {
+    let resources = resources_of(rt, threads);
     match options.keep {
         Some(path) => {
-            let closed = serve_kept(threads, rt.alloc(), options, path, out, rt.stderr(), meter)?;
+            let closed = serve_kept(resources, options, path, out, rt.stderr(), meter)?;
             let Closed { sheet, .. } = closed;
             leave_unfreed(sheet);
         }
         None => {
-            let closed = serve(threads, rt.alloc(), options, out)?;
+            let closed = serve(resources, options, out)?;
             let Closed { sheet, .. } = closed;
             leave_unfreed(sheet);
         }
@@ -366,8 +373,7 @@ fn put_table<R: Threads + Sync, I: Ledger, O: Ledger, M: Ledger>(
     let mut source = Reading::<_, I>::new(rt.reader(), counts.input);
     let mut sink = Writing::<_, O>::new(rt.stdout(), counts.output);
     let done = table_on(
-        threads,
-        rt.alloc(),
+        resources_of(rt, threads),
         &mut source,
         &mut sink,
         &mut meter,

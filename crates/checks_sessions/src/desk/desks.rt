@@ -63,6 +63,8 @@ fn made<L: DeskName, W: Wait + Drop, T: Threads + Wait + Sync, M: Ledger>(
     match change {
         Change::Edit(edit) => desk.edit(rt, rt, alloc, pass, edit, &mut meter),
         Change::Delta(delta) => desk.receive(rt, rt, alloc, pass, delta, &mut meter),
+        // a merge is made at a seat, and is no call of a desk
+        Change::Merge(delta) => desk.receive(rt, rt, alloc, pass, delta, &mut meter),
     }
 }
 

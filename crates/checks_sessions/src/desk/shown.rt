@@ -29,7 +29,7 @@ enum Act {
     Look(i64),
     /// It pulls all deltas, which are so many.
     Pull(usize),
-    /// It is about to hand its replies on.
+    /// It is about to send its replies.
     Show,
 }
 
@@ -55,11 +55,22 @@ fn is_answered<B: Board<Meter<M>>, M: Ledger, T: Abort + Threads + Sync>(
             Ok(deltas) => deltas.len() == count,
             Err(_) => false,
         },
-        Show => {
-            board.show();
-            true
-        }
+        Show => true,
     }
+}
+
+/// Has a session at a seat do this, and tells whether it is answered what it is to be.
+fn takes_turn<L: DeskName, W: Wait + Drop, M: Ledger, T: Abort + Threads + Wait + Sync>(
+    rt: &T,
+    alloc: Global,
+    seat: &mut Seat<'_, L, W, T>,
+    meter: &mut Meter<M>,
+    act: Act,
+) -> bool {
+    if let Show = act {
+        let _ = seat.show();
+    }
+    is_answered(rt, alloc, seat, meter, act)
 }
 
 /// Does what two sessions do at their seats by turns, the first one leaves, and then what the second one does.
@@ -79,16 +90,18 @@ fn take_turns<'d, L: DeskName, W: Wait + Drop, T: Abort + Threads + Wait + Sync,
     let mut second = Seat::new(desk, rt, pass);
     let pass = passes.pop().expect(rt, "a pass");
     let mut first = Seat::new(desk, rt, pass);
+    first.leave_to_keeper();
+    second.leave_to_keeper();
     for (at, (seat, act)) in acts.iter().enumerate() {
         let is_due = if *seat == 0 {
-            is_answered(rt, alloc, &mut first, &mut meter, *act)
+            takes_turn(rt, alloc, &mut first, &mut meter, *act)
         } else {
-            is_answered(rt, alloc, &mut second, &mut meter, *act)
+            takes_turn(rt, alloc, &mut second, &mut meter, *act)
         };
         assert!(rt; is_due, "at step {at}");
     }
     passes.push(first.leave()).ok().expect(rt, "room");
-    assert!(rt; is_answered(rt, alloc, &mut second, &mut meter, last));
+    assert!(rt; takes_turn(rt, alloc, &mut second, &mut meter, last));
     passes.push(second.leave()).ok().expect(rt, "room");
     passes
 }
@@ -119,8 +132,8 @@ fn at_a_desk<T: Abort + Threads + Wait + Sync>(
     life::<Brand, T>(rt, alloc, parts, acts, last);
 }
 
-/// A change is shown at once. One that directly follows it is shown before the replies are handed on, and the next one
-/// after that at once again.
+/// A change is shown at once. One that directly follows it is shown before the replies are sent, and the next one after
+/// that at once again.
 const FOLLOWING: &[(usize, Act)] = &[
     (0, Enter("1", 1)),
     (1, Look(1)),

@@ -8,11 +8,11 @@ use crate::sheet::jobs::{Job, at_sheet};
 use crate::sheet::script::Asked::{self, Add, Choose, Set, Sub, Unchoose};
 use crate::sheet::script::Seen::{self, Num, Options, Text};
 use crate::sheet::script::{
-    BACK, CYCLE, Figures, OVER, Part, apply, batch_of, cell, check_count, check_place, check_shown,
-    delta_of, edit_of, ended_with, take,
+    BACK, CYCLE, Figures, MORE, OVER, Part, apply, batch_of, cell, check_count, check_place,
+    check_shown, delta_of, edit_of, ended_with, merge, take,
 };
 use crate::sheet::slots::{commit, prepare, put_back, taken};
-use Tried::{Batched, One, Received};
+use Tried::{Batched, Merged, One, Received};
 use Way::{Made, Prepared};
 use ps_delta::{Change, Edit};
 use ps_grid::{CELLS, Cell, Refusal};
@@ -32,6 +32,8 @@ pub(crate) enum Tried {
     Batched(&'static [(&'static str, &'static str)]),
     /// Receives a delta of another replica.
     Received(&'static [(&'static str, Part)]),
+    /// Merges a delta of another replica.
+    Merged(&'static [(&'static str, Part)]),
 }
 
 /// How changes are made.
@@ -95,6 +97,7 @@ pub(crate) fn change_of(rt: &impl Abort, alloc: Global, tried: &Tried) -> Result
         One(name, asked) => Ok(Change::Edit(edit_of(alloc, cell(rt, name), asked)?)),
         Batched(entries) => Ok(Change::Edit(Edit::SetAll(batch_of(rt, alloc, entries)?))),
         Received(parts) => Ok(Change::Delta(delta_of(rt, alloc, parts)?)),
+        Merged(parts) => Ok(Change::Merge(delta_of(rt, alloc, parts)?)),
     }
 }
 
@@ -108,6 +111,7 @@ fn make<R: Abort + Threads + Sync>(
     match change {
         Change::Edit(edit) => apply(rt, alloc, sheet, edit),
         Change::Delta(delta) => take(rt, alloc, sheet, delta),
+        Change::Merge(delta) => merge(rt, alloc, sheet, delta),
     }
 }
 
@@ -284,6 +288,26 @@ fn refused_receive(rt: HostRuntime) {
     try_again(&rt, rt.alloc(), &DELTAS);
 }
 
+/// The same deltas merged, and then one of which only one cell is new.
+static MERGES: Tries = Tries {
+    way: Made,
+    changes: &[
+        (Batched(CYCLES), Ok([1, 2, 3, 2])),
+        (Merged(OVER), Ok([2, 2, 3, 2])),
+        (Merged(OVER), Ok([2, 0, 0, 0])),
+        (Merged(BACK), Ok([3, 2, 3, 2])),
+        (Merged(MORE), Ok([4, 0, 0, 0])),
+        (Merged(MORE), Ok([4, 0, 0, 0])),
+    ],
+    shown: CYCLES_SHOWN,
+};
+
+/// After a refused merge the sheet is as before, and the next call takes what is new of the delta.
+#[test]
+fn refused_merge(rt: HostRuntime) {
+    try_again(&rt, rt.alloc(), &MERGES);
+}
+
 /// Edits and deltas that are prepared.
 static PREPARED: Tries = Tries {
     way: Prepared,
@@ -293,7 +317,7 @@ static PREPARED: Tries = Tries {
         (Received(OVER), Ok([2, 2, 3, 2])),
         (Received(OVER), Ok([2, 0, 0, 0])),
         (One("G1", Set("=SUM([.D1:.F9])")), Ok([3, 0, 1, 0])),
-        (Received(BACK), Ok([4, 2, 4, 2])),
+        (Merged(BACK), Ok([4, 2, 4, 2])),
     ],
     shown: CYCLES_SHOWN,
 };

@@ -82,6 +82,13 @@ pub(crate) const BACK: &[(&str, Part)] = &[
     ("D1", Assigned(3, 2, "7")),
 ];
 
+/// `BACK` and a number that is new beside it.
+pub(crate) const MORE: &[(&str, Part)] = &[
+    ("B1", Assigned(3, 2, "=[.A1]")),
+    ("D1", Assigned(3, 2, "7")),
+    ("E2", Assigned(1, 2, "9")),
+];
+
 pub(crate) fn cell(rt: &impl Abort, name: &str) -> Cell {
     Cell::read(name.as_bytes()).expect(rt, "a cell")
 }
@@ -114,6 +121,20 @@ fn received<L: Ledger, R: Threads + Sync>(
     sheet.receive(rt, alloc, delta, &mut meter)
 }
 
+/// The delta merged with a meter of its own.
+fn merged<L: Ledger, R: Threads + Sync>(
+    rt: &R,
+    blank: Blank,
+    alloc: Global,
+    sheet: &mut Sheet,
+    delta: Delta,
+) -> Result<Report, Refusal>
+    requires { IsBlankOf blank L.name L.parts }
+{
+    let mut meter = Meter::<L>::new(blank);
+    sheet.merge(rt, alloc, delta, &mut meter)
+}
+
 pub(crate) fn apply<R: Threads + Sync>(
     rt: &R,
     alloc: Global,
@@ -130,6 +151,15 @@ pub(crate) fn take<R: Threads + Sync>(
     delta: Delta,
 ) -> Result<Report, Refusal> {
     received::<Brand, R>(rt, Blank::new(1), alloc, sheet, delta)
+}
+
+pub(crate) fn merge<R: Threads + Sync>(
+    rt: &R,
+    alloc: Global,
+    sheet: &mut Sheet,
+    delta: Delta,
+) -> Result<Report, Refusal> {
+    merged::<Brand, R>(rt, Blank::new(1), alloc, sheet, delta)
 }
 
 /// The version that a change ends with.

@@ -1,7 +1,7 @@
 -- What a sheet with a staged change keeps beside what contracts see, and what the sheet and the prepared change make of
 -- it.
 use Rattle.std.specs.Prelude.{◌≡◌, ◌≤◌, ◌<◌, true, false, Option, Some, None, is_some, [], ◌∷◌, ◌++◌}
-use Rattle.std.specs.Prelude.{IsSomeAnd, vec_len, vec_capacity}
+use Rattle.std.specs.Prelude.{IsSomeAnd, Vec, vec_len, vec_capacity, ℕ, ◌+◌, ◌⊎◌}
 use Rattle.ps_grid.specs.declared.parties.TheConstants.{REPLICAS}
 use Rattle.ps_delta.specs.State.{IsBelow, IsInGrid}
 use Rattle.ps_delta.specs.Deltas.{Entries, joined_history, state_of}
@@ -85,3 +85,7 @@ pub record Makes (x y : SheetView) (c : Change) (r : Report) : Type 0 where
   pub takes : Takes delta x.history y.history
   pub appended : IsToAppend x.replica (joined_history x.history) c → y.history ≡ x.history ++ delta ∷ []
   pub idle : IsBelow (state_of delta) (joined_history x.history) → IsIdle x y r
+
+-- there is room for so many more, or nothing is there
+abbrev pub HasRoomAfter : {X Z : Type 0} → Vec X Z → ℕ → Type 0
+HasRoomAfter v n = (v.items ≡ []) ⊎ (vec_len v + n ≤ vec_capacity v)

@@ -14,15 +14,20 @@ device_of sessions.Source h = inl refl
 device_of sessions.Sink h = inr (inl refl)
 device_of sessions.Keep h = inr (inr refl)
 
+-- replies that aren't held back
+whole_of : {A B : Type 0} → A ⊎ (⊥ × B) → A
+whole_of (inl whole) = whole
+whole_of (inr part) = absurd part.0
+
 pub returns-in_err-done-clause-device : goal.returns-in_err-done-clause-device
 returns-in_err-done-clause-device g c asked =
-    let ran = c.run_watched-done.ensures in
+    let ran = c.converse-done.ensures in
     elim (device_of c.in_err-done.field-0.0 (rw asked at c.from_residual-in_err-done.ensures.1)) [
       | inl source ↦
           let is = c.in_err-done.was ∙ ap Err source in
           let told = ran.source is in (
             c.in_ok-sheet.sheet,
-            c.run_watched-done.new.sheet,
+            c.converse-done.new.board,
             told.0,
             c.in_ok-sheet.ensures.opened,
             told.1,
@@ -32,11 +37,11 @@ returns-in_err-done-clause-device g c asked =
           let is = c.in_err-done.was ∙ ap Err sink in
           let told = ran.sink is in (
             c.in_ok-sheet.sheet,
-            c.run_watched-done.new.sheet,
+            c.converse-done.new.board,
             told.0,
             c.in_ok-sheet.ensures.opened,
             told.1,
-            inr (ran.sink_failed is, told.2),
+            inr (ran.sink_failed is, whole_of told.2),
           )
-      | inr (inr keep) ↦ absurd (ran.keep (c.in_err-done.was ∙ ap Err keep))
+      | inr (inr keep) ↦ absurd (ran.keep (c.in_err-done.was ∙ ap Err keep)).0
     ]

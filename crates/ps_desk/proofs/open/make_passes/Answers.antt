@@ -38,8 +38,8 @@ loop-seat-preserved g c =
     let less : vec_len c.pop.new.self + 1 ≡ vec_len c.loop-seat.readers =
     subst (λ (r : Option View). vec_len c.pop.new.self + length (option_to_list r) ≡ vec_len c.loop-seat.readers) found
     c.pop.ensures.len in
-    let parts = c.split_off.ensures.parts_left in
-    let amount = c.split_off.ensures.amount_left in
+    let parts = c.split_off-share.ensures.parts_left in
+    let amount = c.split_off-share.ensures.amount_left in
     let len = before.0 in
     let all = before.2 in
     let none = before.3 in

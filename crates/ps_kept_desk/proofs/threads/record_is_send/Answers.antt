@@ -5,7 +5,7 @@ use denote.Param.Send.{IsSend, sendable}
 use denote.Param.SendFields.{declared_send, as_row_send}
 use denote.Struct.Declared as S
 use Rattle.ps_keep.specs.contracts.journal.Journal as journal
-use Rattle.ps_desk.specs.contracts.place.Place as place
+use Rattle.ps_desk.specs.contracts.shown_place.ShownPlace as place
 use Rattle.ps_kept_desk.specs.contracts.record.KeptPlace as kept
 use Rattle.ps_kept_desk.specs.contracts.record.Record.TheInside as inside
 use Rattle.ps_kept_desk.proofs.threads.record_is_send.Goals as goal

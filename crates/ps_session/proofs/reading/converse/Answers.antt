@@ -2,7 +2,7 @@ use Rattle.std.proofs.Common.{[], Err, ap, inl, inr, refl, subst, sym}
 use Rattle.std.proofs.lemmas.Result.{err_from_is_err_and}
 use Rattle.std.specs.Io.KnownBytes.{IsAtEnd}
 use Rattle.ps_device.specs.Device.{HoldsBack}
-use Rattle.ps_session.specs.Boards.{BoardAnswers, BoardLines}
+use Rattle.ps_lines.specs.Streams.{Lines}
 use Rattle.ps_session.specs.Keeping.{IsCovered}
 use Rattle.ps_session.proofs.CoveredLemmas.{covered_end, covered_ended, covered_last, covered_none, end_halted}
 use Rattle.ps_session.proofs.CoveredLemmas.{fits_after, halted_ended}
@@ -62,7 +62,7 @@ release-requires g c =
     let r = c.in_ok-read_on.ensures.read in
     let ran = c.in-Ok-finish.ensures.ran r.3.rest r.3.held in
     record {
-      fits = fits_after (BoardAnswers g.B.Board.calls) g.Q.Keeper.fits c.requires.stays c.read_on.new.keeper _ _ _ _
+      fits = fits_after g.B.Board.answers g.Q.Keeper.fits c.requires.stays c.read_on.new.keeper _ _ _ _
           ran.1 c.in_ok-read_on.ensures.kept.0;
     }
 
@@ -96,7 +96,7 @@ returns-in_err-release-clause-keep g c = λ is.
 pub returns-in_err-release-clause-covered : goal.returns-in_err-release-clause-covered
 returns-in_err-release-clause-covered g c = λ holds.
     let r = c.in_ok-read_on.ensures.read in
-    let lines = BoardLines g.B.Board.calls in
+    let lines = Lines g.B.Board.answers in
     let covers = g.Q.Keeper.covers c.release.new.keeper in
     let ended = IsAtEnd (g.S.Source.remaining c.read_on.new.source) in (
       r.0,

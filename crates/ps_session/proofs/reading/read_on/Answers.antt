@@ -1,6 +1,6 @@
 use Rattle.std.proofs.Common.{◌∙◌, ◌++◌, [], append-nil, arith, inl, inr, refl, subst, take}
 use Rattle.std.proofs.lemmas.Result.{err_from_is_err_and}
-use Rattle.ps_session.specs.Boards.{BoardLines}
+use Rattle.ps_lines.specs.Streams.{Lines}
 use Rattle.ps_session.specs.Keeping.{IsCovered}
 use Rattle.ps_session.proofs.CoveredLemmas.{covered_here, covered_none, stands_halted}
 use Rattle.ps_session.proofs.InputReadToEnd.{stands_answered}
@@ -55,7 +55,7 @@ pub returns-in-Err-clause-covered : goal.returns-in-Err-clause-covered
 returns-in-Err-clause-covered g c = λ is holds. (
   c.pieces.invariant.read,
   Consumes-keeps _ _ _ _ c.pieces.invariant.consumed c.in-Err.ensures.bytes,
-  subst (λ r. IsCovered (BoardLines g.B.Board.calls) (g.Q.Keeper.covers c.pieces.keeper) ⊥ c.args.board.now
+  subst (λ r. IsCovered (Lines g.B.Board.answers) (g.Q.Keeper.covers c.pieces.keeper) ⊥ c.args.board.now
       (g.D.Delivery.contents c.args.sink.now) r c.pieces.board (g.D.Delivery.contents c.pieces.sink)
       (g.D.Delivery.waiting c.pieces.sink)) (append-nil c.pieces.invariant.read)
       (covered_here _ ⊥ c.args.board.now _ (g.Q.Keeper.covers c.pieces.keeper) _ 0 c.pieces.invariant.read [] _ _ _ _

@@ -1,6 +1,6 @@
 use Rattle.std.proofs.Common.{◌∙◌, ◌++◌, ap, inl, inr, subst, sym, Err}
 use Rattle.std.proofs.lemmas.Result.{err_from_is_err_and}
-use Rattle.ps_session.specs.Boards.{BoardAnswers, BoardLines}
+use Rattle.ps_lines.specs.Streams.{Lines}
 use Rattle.ps_session.specs.Keeping.{IsCovered}
 use Rattle.ps_session.proofs.InputReadToEnd.{cut_rest, stands_more, stands_flushed}
 use Rattle.ps_lines.proofs.ReadLemmas.{same_fault, turn_within}
@@ -21,9 +21,9 @@ returns-in-Err-clause-covered g c = λ is holds first written read s.
 
 pub release-requires : goal.release-requires
 release-requires g c = record {
-  fits = fits_after_part (BoardAnswers g.B.Board.calls) g.Q.Keeper.fits c.requires.stays c.parts.keeper _ c.parts.board
+  fits = fits_after_part g.B.Board.answers g.Q.Keeper.fits c.requires.stays c.parts.keeper _ c.parts.board
       c.serve.new.board _ _ _ _ _ _
-      (under_way_after (BoardLines g.B.Board.calls) _ _ _ _ _ _ _ _ _ c.requires.under_way c.parts.invariant.stands)
+      (under_way_after (Lines g.B.Board.answers) _ _ _ _ _ _ _ _ _ c.requires.under_way c.parts.invariant.stands)
       c.in-Ok.ensures.stands c.parts.invariant.fits;
 }
 
@@ -60,7 +60,7 @@ returns-in_err-release-clause-keep g c = λ is.
 
 pub returns-in_err-release-clause-covered : goal.returns-in_err-release-clause-covered
 returns-in_err-release-clause-covered g c = λ is holds first written read s.
-    let lines = BoardLines g.B.Board.calls in
+    let lines = Lines g.B.Board.answers in
     let covers = g.Q.Keeper.covers c.release.new.keeper in
     let stands = c.parts.invariant.stands first written 0 read s in
     rw c.in_err-release.ensures.same_board

@@ -1,20 +1,14 @@
-use Rattle.std.proofs.Common.{ℕ, suc, List, map, length}
+use Rattle.std.proofs.Common.{◌≡◌, ◌<◌, map, take}
 use Rattle.std.specs.List.{All}
-use Rattle.json.specs.Token.{Token}
-use Rattle.ps_wire.specs.Value.{cell_value}
-use Rattle.ps_wire.specs.Inside.{Spells}
-use Rattle.ps_wire.proofs.OneDeltaLemmas.{Good}
-use Rattle.ps_wire.proofs.TokenLemmas.{Takes}
+use Rattle.serde_json.specs.View.{view}
+use Rattle.ps_grid.specs.declared.size.TheConstants.{CELLS}
+use Rattle.ps_wire.specs.Value.{cell_value, IsState}
 use Rattle.ps_wire.proofs.cells.read_cells.Given as goal
 
--- what was read was taken one after another, after the first cell
-abbrev pub invariant-cells : goal.invariant-cells
-invariant-cells l = record {
-  taken : (n : ℕ) (tokens : List Token)
-      → Spells (suc (suc (suc n))) tokens (cell_value l.fn.first) l.initial.reader
-      → Takes (suc (suc (suc n))) tokens (map cell_value l.cells.items) l.reader;
-  good : All Good l.cells.items;
+-- what was read stands for the values so far
+abbrev pub invariant-loop-value : goal.invariant-loop-value
+invariant-loop-value l = record {
+  spelled : map view (take l.value-index l.values) ≡ map cell_value l.cells.items;
+  in_grid : All (λ e. e.0 < CELLS) l.cells.items;
+  states : All (λ e. IsState e.1) l.cells.items;
 }
-
-abbrev pub decreases-cells : goal.decreases-cells
-decreases-cells l = length l.reader

@@ -1,6 +1,6 @@
 use Rattle.std.proofs.Common.{◌+◌, ◌-◌, ◌++◌, arith, ap, ◌∙◌, length, slice_set, take}
 use Rattle.std.proofs.lemmas.Slice.{take-put_mid}
-use Rattle.ps_wire.proofs.WrittenLemmas.{quote_first}
+use Rattle.ps_wire.proofs.SentLemmas.{quote_first}
 use Rattle.ps_wire.proofs.write.put_label.Goals as goal
 
 pub returns-clause-front : goal.returns-clause-front

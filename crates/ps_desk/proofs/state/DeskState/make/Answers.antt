@@ -22,11 +22,11 @@ finish-standing-requires-clause-under_lock g c =
     c.in_ok-_report.ensures.staged.history c.make_way.ensures.list c.make_way.ensures.pending
 
 pub returns-clause-later : goal.returns-clause-later
-returns-clause-later g c =
-    begins_trans c.args.pass.now.list c.catch_up.new.self.list c.finish-standing.new.pass.list
+returns-clause-later g c = rw c.note_shown.ensures
+    (begins_trans c.args.pass.now.list c.catch_up.new.self.list c.finish-standing.new.pass.list
     (caught_later c.front.result.now.list c.args.pass.now c.catch_up.new.self c.catch_up.ensures.later
     c.catch_up.ensures.pass)
-    c.finish-standing.ensures.later
+    c.finish-standing.ensures.later)
 
 pub returns-clause-stands : goal.returns-clause-stands
 returns-clause-stands g c =
@@ -39,10 +39,10 @@ returns-clause-stands g c =
     at_staged (λ (p : StagedView). IsDeltaOf x.replica (joined_history x.history) c.args.change p.delta) y.staged
     c.in_ok-_report.ensures.delta in
     let lent = at_staged (λ (p : StagedView). c.delta.result.now ≡ p.delta) y.staged c.delta.ensures.delta in
-    stands_change g.L.DeskName.replica g.L.Named.opening c.args.change (change_in y) c.finish-standing.result old mid
+    rw c.note_shown.ensures (stands_change g.L.DeskName.replica g.L.Named.opening c.args.change (change_in y) c.finish-standing.result old mid
     c.finish-standing.new.pass.list (caught_later list old mid c.catch_up.ensures.later c.catch_up.ensures.pass)
     (caught_seat list old mid c.catch_up.ensures.pass)
     (subst IsDelta (c.parts.ensures.value ∙ lent) c.parts.ensures.delta)
     (subst (λ (z : ℕ × List Entries). IsDeltaOf z.0 (joined_history z.1) c.args.change (staged_in y).delta)
     (λ i. (c.self.invariant.1.replica i, sym c.in_ok-_report.ensures.staged.history i)) made)
-    c.finish-standing.ensures.receipt
+    c.finish-standing.ensures.receipt)

@@ -1,7 +1,0 @@
-use Rattle.std.proofs.Common.{◌≡◌}
-use Rattle.std.specs.Prelude.{map, vec_capacity}
-use Rattle.ps_commands.proofs.sessions.set_up.Given as goal
-
-abbrev pub invariant-loop-pass : goal.invariant-loop-pass
-invariant-loop-pass g l =
-    (map (λ t. t.first) l.chairs.items ≡ l.yielded) × (vec_capacity l.chairs ≡ vec_capacity l.fn.chairs)

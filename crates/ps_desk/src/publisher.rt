@@ -1,0 +1,75 @@
+//! The keeper of a session at a desk that isn't kept in a file.
+
+ghost use Rattle.std.specs.Prelude.{◌≡◌};
+
+use crate::name::DeskName;
+use crate::seat::Seat;
+use crate::shown_place::ShownPlace;
+use ps_device::Failed;
+use ps_session::Keeper;
+use std::alloc::Global;
+use std::marker::Model;
+use std::sync::Wait;
+
+/// Has all that a session has seen shown to those who look, before the session sends its replies. A contract sees it as
+/// the list that was shown.
+#[derive(Drop)]
+pub struct Publisher<L: DeskName> {
+    shown: ShownPlace<L>,
+}
+
+impl<L: DeskName> Model for Publisher<L> {
+    ghost use Rattle.std.specs.Prelude.{List};
+    ghost use Rattle.std.specs.Coded.{codes};
+    ghost use Rattle.ps_face.specs.declared.patch.Note.{Note};
+    ghost use Rattle.ps_face.specs.contracts.patch.Note as note;
+
+    ghost Value = { List Note };
+
+    ghost coded = { Prim.hlevel (codes, note.the_row.coded) };
+
+    ghost view = { λ p. p.shown };
+}
+
+impl<L: DeskName> Publisher<L> {
+    /// The publisher of a session that begins.
+    ///
+    /// Cost: that of [`Seat::show`].
+    pub fn new<W: Wait + Drop, V: Wait>(seat: &mut Seat<'_, L, W, V>) -> Publisher<L>
+        ensures shown { result ≡ seat.old.list }
+        ensures same { seat.new ≡ seat.old }
+    {
+        seat.leave_to_keeper();
+        Publisher { shown: seat.show() }
+    }
+
+    /// What was shown.
+    pub fn leave(self) -> ShownPlace<L>
+        ensures { result ≡ self }
+    {
+        let Publisher { shown } = self;
+        shown
+    }
+}
+
+/// What a session has seen, by whichever session it was made, is shown to all before its replies are sent.
+impl<L: DeskName, W: Wait + Drop, V: Wait> Keeper<Seat<'_, L, W, V>> for Publisher<L> {
+    ghost use Rattle.std.specs.Prelude.{⊤};
+    ghost use mathlib.Core.List.{IsPrefix};
+
+    ghost covers = { λ publisher seat. IsPrefix seat.list publisher };
+
+    ghost fits = { λ publisher seat. ⊤ };
+
+    ghost can_fail = { ⊥ };
+
+    fn sync(&mut self, _alloc: Global, board: &mut Seat<'_, L, W, V>) -> Result<(), Failed> {
+        let shown = board.show();
+        if !self.shown.has(shown.place()) {
+            // for the fact that what was shown before is a beginning of it
+            let _ = shown.has(self.shown.place());
+            self.shown = shown;
+        }
+        Ok(())
+    }
+}

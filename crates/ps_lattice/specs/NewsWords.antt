@@ -1,0 +1,32 @@
+-- What is new, by its parts: a replica's P and its N, an added pair and a removed one, each where the state hasn't it.
+use Rattle.std.specs.Prelude.{◌≡◌, ℕ, Bool, not, ◌&&◌, ◌||◌, nat_lt, if◌then◌else◌}
+use Rattle.ps_lattice.specs.Tally.{Counts, added, subtracted, joined_tallies}
+use Rattle.ps_lattice.specs.Choice.{Pairs, is_added, is_removed, joined_choices}
+use Rattle.ps_lattice.specs.News.{IsNewsOf}
+
+-- P and N of the delta, each where it is above that of the state, and else 0
+pub record IsNewByEntry (s d n : Counts) (replica : ℕ) : Type 0 where
+  pub added : added n replica ≡ (if nat_lt (added s replica) (added d replica) then added d replica else 0)
+  pub subtracted :
+      subtracted n replica
+      ≡ (if nat_lt (subtracted s replica) (subtracted d replica) then subtracted d replica else 0)
+
+abbrev pub TalliesNewByEntry : Type 0
+TalliesNewByEntry = (s d n : Counts) → IsNewsOf joined_tallies s d n → (replica : ℕ) → IsNewByEntry s d n replica
+
+-- whether the pair is added in the delta alone, and whether it is removed in the delta alone
+abbrev pub adds : Pairs → Pairs → ℕ → ℕ → ℕ → Bool
+adds s d option replica sequence = is_added d option replica sequence && not (is_added s option replica sequence)
+
+abbrev pub removes : Pairs → Pairs → ℕ → ℕ → ℕ → Bool
+removes s d option replica sequence = is_removed d option replica sequence && not (is_removed s option replica sequence)
+
+-- the pairs that the delta adds, and those that it removes; a removed pair brings its added one
+pub record IsNewByPair (s d n : Pairs) (option replica sequence : ℕ) : Type 0 where
+  pub added : is_added n option replica sequence
+      ≡ (adds s d option replica sequence || removes s d option replica sequence)
+  pub removed : is_removed n option replica sequence ≡ removes s d option replica sequence
+
+abbrev pub ChoicesNewByPair : Type 0
+ChoicesNewByPair = (s d n : Pairs) → IsNewsOf joined_choices s d n → (option replica sequence : ℕ)
+    → IsNewByPair s d n option replica sequence

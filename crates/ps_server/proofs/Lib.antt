@@ -1,0 +1,3 @@
+mod Attending
+mod Backs
+mod GuardLemmas

@@ -1,0 +1,40 @@
+use Rattle.std.proofs.Common.{◌∙◌, ◌≡◌, ◌∷◌, ◌++◌, Bool, Some, true≢false, ap, sym, rules, false, true}
+use Rattle.ps_server.specs.Guards.{is_request_line}
+use Rattle.ps_lines.specs.Words.{first_part}
+use Rattle.ps_server.proofs.GuardLemmas.{first_is, first_same, is_longer}
+use Rattle.ps_server.proofs.guard.judge.Goals as goal
+
+pub returns-in-Some-clause-ended : goal.returns-in-Some-clause-ended
+returns-in-Some-clause-ended c = λ line more free is.
+    ap Some (c.is_request_line.ensures
+    ∙ ap is_request_line (c.split_part.ensures.part ∙ ap (first_part 10) is ∙ first_is line more free))
+
+pub returns-in-Some-clause-request : goal.returns-in-Some-clause-request
+returns-in-Some-clause-request c = λ rest request no.
+    let line = request.0 in
+    let after = c.in-Some.field-0.now in
+    let whole : c.args.front.now ≡ c.split_part.result.0.now ++ 10 ∷ after =
+    rw c.in-Some.is at c.split_part.ensures.whole in
+    let same : first_part 10 (c.args.front.now ++ rest) ≡ first_part 10 c.args.front.now =
+    ap (λ b. first_part 10 (b ++ rest)) whole ∙ first_same c.split_part.result.0.now after rest
+    ∙ ap (first_part 10) (sym whole) in
+    let first : c.split_part.result.0.now ≡ line =
+    c.split_part.ensures.part ∙ sym same ∙ ap (first_part 10) request.4 ∙ first_is line request.1 request.2 in
+    let is : c.is_request_line.result ≡ true =
+    c.is_request_line.ensures ∙ ap is_request_line first ∙ request.3 in
+    true≢false (sym is ∙ unwrapped c.is_request_line.result false no)
+  where
+    unwrapped : (a b : Bool) → Some a ≡ Some b → a ≡ b
+    unwrapped a b e = search (rules, e)
+
+pub returns-then-front-ge-FRONT_LIMIT-clause-ended : goal.returns-then-front-ge-FRONT_LIMIT-clause-ended
+returns-then-front-ge-FRONT_LIMIT-clause-ended c = λ line more free is.
+    absurd (is_longer c.args.front.now line more
+    ((rw c.in-None.is at c.split_part.ensures.whole) ∙ c.split_part.ensures.part ∙ ap (first_part 10) is
+    ∙ first_is line more free) is)
+
+pub returns-clause-ended : goal.returns-clause-ended
+returns-clause-ended c = λ line more free is.
+    absurd (is_longer c.args.front.now line more
+    ((rw c.in-None.is at c.split_part.ensures.whole) ∙ c.split_part.ensures.part ∙ ap (first_part 10) is
+    ∙ first_is line more free) is)

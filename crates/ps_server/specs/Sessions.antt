@@ -1,0 +1,57 @@
+-- What the sessions of a server leave.
+use Rattle.std.specs.Prelude.{◌≡◌, ◌+◌, ⊤, ℕ, zero, suc, List, [], ◌∷◌, length, map, min, sum_by}
+use Rattle.ps_delta.specs.Deltas.{Entries}
+use Rattle.ps_lines.specs.Streams.{Run}
+use Rattle.ps_desk.specs.Closing.{HistoryBegins, IsClosed, appended_of}
+use Rattle.ps_desk.specs.Opening.{new_passes}
+use Rattle.ps_desk.specs.Passes.{PassView}
+use Rattle.ps_desk.specs.Seats.{GoesOn, SeatLines}
+use Rattle.ps_sheet.specs.Sheet.{IsSheet, SheetView}
+
+-- ATTENDED: from the pass `old` on, a seat at a desk of this replica and opening history answered these lines, one
+-- after another, with this text, and its pass is `new` after them
+pub record IsAttended (replica : ℕ) (opening : List Entries) (old new : PassView) : Type 0 where
+  pub lines : List (List ℕ)
+  pub text : List ℕ
+  pub run : Run (SeatLines replica opening) old lines text new
+  pub goes_on : GoesOn old new
+
+-- so many sessions had a pass, one after another: each began with what the one before it had left
+abbrev pub Attended : ℕ → List Entries → ℕ → PassView → PassView → Type 0
+Attended replica opening zero old new = new ≡ old
+Attended replica opening (suc n) old new =
+    (middle : PassView) × Attended replica opening n old middle × IsAttended replica opening middle new
+
+-- a seat's pass as it was before its first session, and how many sessions were begun with it
+pub record Turns : Type 0 where
+  pub first : PassView
+  pub begun : ℕ
+
+-- each pass came back, in order, from all its sessions
+abbrev pub Back : ℕ → List Entries → List Turns → List PassView → Type 0
+Back replica opening [] [] = ⊤
+Back replica opening [] (new ∷ news) = ⊥
+Back replica opening (turns ∷ rest) [] = ⊥
+Back replica opening (turns ∷ rest) (new ∷ news) =
+    Attended replica opening turns.begun turns.first new × Back replica opening rest news
+
+-- the passes `news` came back from so many sessions in all, each as its own sessions left it
+pub record AreBack (replica : ℕ) (opening : List Entries) (sessions : ℕ) (olds news : List PassView) : Type 0 where
+  pub turns : List Turns
+  pub firsts : map (λ t. t.first) turns ≡ olds
+  pub all : sum_by (λ t. t.begun) turns ≡ sessions
+  pub each : Back replica opening turns news
+
+-- SERVED: so many sessions shared the sheet `first`, and left the sheet `last`. There were as many seats as were asked
+-- for, or as there were sessions, where these were fewer. Each seat began with a pass that had seen nothing, which came
+-- back from the lines that the sessions of the seat answered, one session after another. The history begins with what
+-- each pass stands for, has grown by just what they appended, and is what one legal list stands for
+pub record IsServed (seats sessions : ℕ) (first last : SheetView) : Type 0 where
+  pub is_sheet : IsSheet last
+  pub replica : last.replica ≡ first.replica
+  pub passes : List PassView
+  pub count : length passes ≡ min sessions seats
+  pub back : AreBack first.replica first.history sessions (new_passes (length passes)) passes
+  pub begins : HistoryBegins first.history last.history passes
+  pub grown : length last.history ≡ length first.history + appended_of passes
+  pub closed : IsClosed first.history last.history passes

@@ -1,0 +1,189 @@
+//! One session at a desk, over any source and sink.
+ghost use Rattle.std.specs.Prelude.{◌≡◌, ◌≢◌, ◌⊎◌, ◌<◌, ℕ, List, [], Err, IfOk, OnOk};
+ghost use Rattle.std.specs.Io.KnownBytes.{Consumes, IsAtEnd};
+ghost use mathlib.Core.List.{IsPrefix};
+ghost use Rattle.ps_session.specs.HeldOutputs.{held_contents, held_failures, held_waiting};
+ghost use Rattle.ps_session.specs.Keeping.{Halted, IsCovered};
+ghost use Rattle.ps_session.specs.Transcript.{Answered, Stopped, Transcribed};
+ghost use Rattle.ps_desk.specs.Seats.{SeatLines};
+ghost use Rattle.ps_server.specs.Sessions.{IsAttended};
+
+use ps_desk::{Desk, DeskName, Pass, Publisher, Seat, ShownPlace};
+use ps_device::{Sink, Source};
+use ps_eval::Meter;
+use ps_keep::Device;
+use ps_kept_desk::{DeskKeeper, KeptPlace, SeatKeeper};
+use ps_lines::{Unwatched, Watcher};
+use ps_session::{HeldBack, HeldOutput, Resources, RunFault, converse};
+use std::sync::Wait;
+use std::sync::ledger::Ledger;
+use std::thread::Threads;
+
+/// What a session at a desk came to.
+#[derive(Drop)]
+pub struct Attended<L: DeskName, K> {
+    /// The session's pass, as its lines left it.
+    pub pass: Pass<L>,
+    /// The token for all that the replies which were sent tell of: it is shown to all, and kept where the desk is kept.
+    pub covered: K,
+    /// How many lines had a reply, or why it ended before the end of its input.
+    pub ended: Result<u64, RunFault>,
+}
+
+/// A seat at a desk.
+#[derive(Drop)]
+pub struct DeskSeat<'a, L: DeskName, W: Wait + Drop> {
+    /// The desk.
+    pub desk: &'a Desk<L, W>,
+    /// The pass of the seat.
+    pub pass: Pass<L>,
+}
+
+/// Answers each line of a source on an output by a seat at a desk, to the end of the input. All that the session has
+/// seen, by whichever session it was made, is shown to all who look before any reply is sent.
+///
+/// At any end, also after a fault, there is a state of the seat, between the lines that were carried out, whose list is
+/// a beginning of the one that is shown, and what was sent are replies to the lines up to it (`IsCovered`). What was
+/// read and written is the transcript of a session at the desk, where the two devices show their bytes.
+///
+/// Cost: that of [`converse`].
+pub fn attend_lines<
+    L: DeskName,
+    W: Wait + Drop,
+    R: Threads + Wait + Sync,
+    S: Source,
+    K: Sink + Drop,
+    N: Ledger,
+    M: Ledger,
+>(
+    resources: Resources<'_, R>,
+    source: &mut S,
+    sink: &mut HeldOutput<K, N>,
+    at: DeskSeat<'_, L, W>,
+    meter: &mut Meter<M>,
+) -> Attended<L, ShownPlace<L>>
+    ensures transcribed { IfOk result.ended (λ answered. (read : List ℕ)
+        × Consumes (S.remaining source.old) (S.remaining source.new) read
+        × IsAtEnd (S.remaining source.new)
+        × Transcribed (SeatLines L.replica L.opening) at.entry.pass (held_contents K.contents sink.old) read
+        result.pass (held_contents K.contents sink.new) answered) }
+    ensures sink { result.ended ≡ Err RunFault.Sink
+        → (read : List ℕ) × Consumes (S.remaining source.old) (S.remaining source.new) read
+        × (Stopped (SeatLines L.replica L.opening) (IsAtEnd (S.remaining source.new))
+        at.entry.pass (held_contents K.contents sink.old) read result.pass (held_contents K.contents sink.new)
+        ⊎ Halted (SeatLines L.replica L.opening) (IsAtEnd (S.remaining source.new))
+        at.entry.pass (held_contents K.contents sink.old) read result.pass (held_contents K.contents sink.new)) }
+    ensures source { result.ended ≡ Err RunFault.Source
+        → (read : List ℕ) × Consumes (S.remaining source.old) (S.remaining source.new) read
+        × Answered (SeatLines L.replica L.opening) at.entry.pass (held_contents K.contents sink.old) read
+        result.pass (held_contents K.contents sink.new) }
+    ensures covered { (read : List ℕ) × Consumes (S.remaining source.old) (S.remaining source.new) read
+        × IsCovered (SeatLines L.replica L.opening) (λ seen. IsPrefix seen.list result.covered)
+        (IsAtEnd (S.remaining source.new)) at.entry.pass (held_contents K.contents sink.old) read
+        result.pass (held_contents K.contents sink.new) (held_waiting K.waiting sink.new) }
+    ensures shown { OnOk result.ended (IsPrefix result.pass.list result.covered) }
+    ensures keep { result.ended ≢ Err RunFault.Keep }
+    ensures memory { result.ended ≡ Err RunFault.Memory
+        → (source.new ≡ source.old) × (sink.new ≡ sink.old) × (result.pass ≡ at.entry.pass) }
+    ensures flushed { OnOk result.ended (held_waiting K.waiting sink.new ≡ []) }
+    ensures source_flushed { result.ended ≡ Err RunFault.Source → held_waiting K.waiting sink.new ≡ [] }
+    ensures calm { OnOk result.ended ((S.failures source.new ≡ S.failures source.old)
+        × (held_failures sink.new ≡ held_failures sink.old)) }
+    ensures sink_failed { result.ended ≡ Err RunFault.Sink → held_failures sink.old < held_failures sink.new }
+    ensures source_failed { result.ended ≡ Err RunFault.Source → S.failures source.old < S.failures source.new }
+    ensures attended { IsAttended L.replica L.opening at.entry.pass result.pass }
+{
+    let DeskSeat { desk, pass } = at;
+    let mut seat = Seat::new(desk, resources.threads, pass);
+    let mut publisher = Publisher::new(&mut seat);
+    let ended = converse::<
+        R,
+        S,
+        Seat<'_, L, W, R>,
+        Meter<M>,
+        Unwatched,
+        HeldOutput<K, N>,
+        HeldBack,
+        Publisher<L>,
+    >(
+        resources,
+        source,
+        sink,
+        &mut seat,
+        meter,
+        &mut Unwatched,
+        &mut publisher,
+    );
+    let pass = seat.leave();
+    Attended {
+        pass,
+        covered: publisher.leave(),
+        ended,
+    }
+}
+
+/// A seat at a desk that is kept.
+#[derive(Drop)]
+pub struct KeptSeat<'a, L: DeskName, W: Wait + Drop, D: Device + Drop> {
+    /// The seat.
+    pub seat: DeskSeat<'a, L, W>,
+    /// The keeper that was made for the desk.
+    pub keeper: &'a DeskKeeper<L, D>,
+}
+
+/// Answers each line of a source on an output by a seat at a kept desk, to the end of the input, while a watcher looks
+/// on. All that the session has seen, by whichever session it was made, is shown to all and kept before any reply is
+/// sent.
+///
+/// At any end, also after a fault, there is a state of the seat, between the lines that were carried out, whose list is
+/// a beginning of the one that is kept, and what was sent are replies to the lines up to it (`IsCovered`).
+///
+/// Cost: that of [`converse`]. It may wait while another session syncs.
+pub fn attend_kept<
+    L: DeskName,
+    W: Wait + Drop,
+    R: Threads + Wait + Sync,
+    S: Source,
+    K: Sink + Drop,
+    N: Ledger,
+    M: Ledger,
+    D: Device + Drop,
+    V: Watcher,
+>(
+    resources: Resources<'_, R>,
+    source: &mut S,
+    sink: &mut HeldOutput<K, N>,
+    at: KeptSeat<'_, L, W, D>,
+    meter: &mut Meter<M>,
+    watcher: &mut V,
+) -> Attended<L, KeptPlace<L>>
+    ensures covered { (read : List ℕ) × Consumes (S.remaining source.old) (S.remaining source.new) read
+        × IsCovered (SeatLines L.replica L.opening) (λ seen. IsPrefix seen.list result.covered)
+        (IsAtEnd (S.remaining source.new)) at.entry.seat.pass (held_contents K.contents sink.old) read
+        result.pass (held_contents K.contents sink.new) (held_waiting K.waiting sink.new) }
+    ensures kept { OnOk result.ended (IsPrefix result.pass.list result.covered) }
+    ensures flushed { OnOk result.ended (held_waiting K.waiting sink.new ≡ []) }
+    ensures attended { IsAttended L.replica L.opening at.entry.seat.pass result.pass }
+{
+    let KeptSeat {
+        seat: DeskSeat { desk, pass },
+        keeper,
+    } = at;
+    let mut seat = Seat::new(desk, resources.threads, pass);
+    let mut own = SeatKeeper::new(keeper, desk, resources.threads);
+    let ended = converse::<
+        R,
+        S,
+        Seat<'_, L, W, R>,
+        Meter<M>,
+        V,
+        HeldOutput<K, N>,
+        HeldBack,
+        SeatKeeper<'_, L, W, D, R>,
+    >(resources, source, sink, &mut seat, meter, watcher, &mut own);
+    Attended {
+        pass: seat.leave(),
+        covered: own.leave(),
+        ended,
+    }
+}

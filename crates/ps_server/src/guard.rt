@@ -1,0 +1,129 @@
+//! What comes to a server's port and is no session: a request of HTTP, as any page in a browser can have one sent.
+ghost use Rattle.std.specs.Prelude.{◌≡◌, ◌≢◌, ◌++◌, ◌∷◌, ℕ, List, [], Err, IfOk, Ok, OnOk, Some, false, true};
+ghost use Rattle.std.specs.Io.KnownBytes.{Consumes, Keeps};
+ghost use Rattle.ps_grid.specs.Blanks.{IsBlankOf};
+ghost use Rattle.ps_lines.specs.Feeding.{HasNoFeed};
+ghost use Rattle.ps_server.specs.Guards.{BeginsRequest, IsRequest, begins_small, is_request_line};
+
+use ps_device::{Reading, Source};
+use ps_lines::{split_part, split_word};
+use std::io::{Chain, ErrorKind, Read};
+use std::sync::ledger::{Blank, Ledger};
+
+/// So many bytes of a first line are looked at where it hasn't ended.
+pub const FRONT_LIMIT: usize = 8_192;
+
+/// So many bytes are read at once.
+const AT_ONCE: usize = 4_096;
+
+/// What a request of HTTP is answered, before its connection is closed.
+pub(crate) const BAD_REQUEST: &[u8] = b"HTTP/1.1 400 Bad Request\r\n\
+    Content-Type: text/plain\r\nContent-Length: 46\r\nConnection: close\r\n\r\n\
+    This port has lines, and no pages: sheet page\n";
+
+/// Why what comes is no session.
+#[derive(Clone, Copy, PartialEq, Eq)]
+pub enum Unadmitted {
+    /// It begins with a request of HTTP.
+    Request,
+    /// It couldn't be read, or there is no memory for its first line.
+    Failed,
+}
+
+/// Whether bytes begin with a small letter, as each line does that a session carries out.
+fn begins_small(bytes: &[u8]) -> bool
+    ensures { result ≡ begins_small bytes.now }
+{
+    match bytes.first() {
+        Some(byte) => b'a' <= *byte && *byte <= b'z',
+        None => false,
+    }
+}
+
+/// Whether a line is the first one of a request of HTTP: it begins with no small letter, and its third word with the
+/// name of the protocol.
+fn is_request_line(line: &[u8]) -> bool
+    ensures { result ≡ is_request_line line.now }
+{
+    if begins_small(line) {
+        return false;
+    }
+    let (_, rest) = split_word(line);
+    let (_, version) = split_word(rest.unwrap_or(b""));
+    version.unwrap_or(b"").starts_with(b"HTTP/")
+}
+
+/// Whether the front of what comes begins a request; none where more of it has to be known. A first line with no end
+/// within [`FRONT_LIMIT`] bytes is taken for one, for what comes after it can't be waited for.
+fn judge(front: &[u8]) -> Option<bool>
+    ensures small { begins_small front.now ≡ true → result ≡ Some false }
+    ensures ended { (line more : List ℕ) → HasNoFeed line → front.now ≡ line ++ 10 ∷ more
+        → result ≡ Some (is_request_line line) }
+    ensures request { (rest : List ℕ) → IsRequest (front.now ++ rest) → result ≢ Some false }
+{
+    if begins_small(front) {
+        return Some(false);
+    }
+    let (line, rest) = split_part(front, b'\n');
+    match rest {
+        Some(_) => return Some(is_request_line(line)),
+        None => {}
+    }
+    if front.len() >= FRONT_LIMIT {
+        return Some(true);
+    }
+    None
+}
+
+/// Reads what comes until it is known to be no request. What was read is in `front`.
+fn read_front<R: Read>(reader: &mut R, front: &mut Vec<u8>) -> Result<(), Unadmitted>
+    requires none { front.old.items ≡ [] }
+    ensures read { OnOk result (Consumes (R.remaining reader.old) (R.remaining reader.new) front.new.items) }
+    ensures request { OnOk result (BeginsRequest (R.remaining reader.old) → ⊥) }
+{
+    let mut piece = [0u8; AT_ONCE];
+    'reads: for _ in 0..u64::MAX {
+        match judge(front) {
+            Some(true) => return Err(Unadmitted::Request),
+            Some(false) => return Ok(()),
+            None => {}
+        }
+        match reader.read(&mut piece) {
+            Ok(0) => return Ok(()),
+            Ok(count) => match front.extend_from_slice(&piece[..count]) {
+                Ok(()) => {}
+                Err(_) => return Err(Unadmitted::Failed),
+            },
+            Err(error) if error.kind() == ErrorKind::Interrupted => {}
+            Err(_) => return Err(Unadmitted::Failed),
+        }
+    }
+    Err(Unadmitted::Failed)
+}
+
+/// The source of a session's lines: all that comes from a reader. Where that begins with a request of HTTP there is no
+/// such source, so nothing of it is carried out.
+///
+/// A first line that begins with a small letter is a session's, and isn't waited for. Any other one is read up to its
+/// end, or up to [`FRONT_LIMIT`] bytes: one that has no end there is taken for a request, too.
+///
+/// # Errors
+///
+/// `Request` where a request comes, `Failed` where the reader fails or there is no memory for the first line.
+///
+/// Cost: linear in the bytes of the first line, but for the time that the reader takes.
+pub fn admit<'a, R: Read + Drop, L: Ledger>(
+    reader: R,
+    front: &'a mut Vec<u8>,
+    blank: Blank,
+) -> Result<Reading<Chain<&'a [u8], R>, L>, Unadmitted>
+    requires blank { IsBlankOf blank L.name L.parts }
+    requires none { front.old.items ≡ [] }
+    ensures request { OnOk result (BeginsRequest (R.remaining reader) → ⊥) }
+    ensures whole { IfOk result (λ source. Keeps (R.remaining reader)
+        (⟦<Reading<Chain<&'a [u8], R>, L> as Source>⟧.remaining source)) }
+{
+    let mut reader = reader;
+    read_front(&mut reader, front)?;
+    Ok(Reading::new(front.as_slice().chain(reader), blank))
+}

@@ -1,0 +1,243 @@
+//! A slot for sessions: a seat of the desk, through the sessions that have it one after another.
+ghost use Rattle.std.specs.Prelude.{◌≡◌, ◌+◌, ◌<◌, ◌^◌, true, MatchResult};
+ghost use Rattle.ps_server.specs.Sessions.{Attended, IsAttended};
+
+use crate::attend::attend;
+use crate::entry_queue::EntryQueue;
+use crate::shared::Server;
+use ps_desk::{DeskName, Pass, desk_is_sync};
+use ps_keep::Device;
+use ps_kept_desk::keeper_is_sync;
+use ps_session::Resources;
+use std::marker::Model;
+use std::net::{Shutdown, TcpStream};
+use std::snapshot::Snapshot;
+use std::sync::Wait;
+use std::sync::atomic::{AtomicU64, Ordering};
+use std::thread::{Promise, PromisedHandle, Scope, Threads};
+
+/// That a session gives its pass back, as the lines that its seat answered left this one.
+#[derive(Drop)]
+struct ComesBack<L: DeskName>(Snapshot<Pass<L>>);
+
+impl<L: DeskName> Promise<Pass<L>> for ComesBack<L> {
+    ghost use Rattle.ps_server.specs.Sessions.{IsAttended};
+
+    ghost kept_by = { λ p r. IsAttended L.replica L.opening p.0.value r };
+}
+
+/// The holder of a slot's pass: the thread of a session, or the slot itself while it is free.
+type Holder<L> = Result<PromisedHandle<Pass<L>, ComesBack<L>>, Pass<L>>;
+
+/// Where a session shows that it is over, so that nobody has to wait for it: a bit of a word that all share.
+#[derive(Clone, Copy)]
+pub(crate) struct EndFlag<'s> {
+    word: &'s AtomicU64,
+    bit: u64,
+}
+
+impl<'s> EndFlag<'s> {
+    /// The flag of this bit.
+    pub(crate) fn new(word: &'s AtomicU64, bit: u64) -> EndFlag<'s> {
+        EndFlag { word, bit }
+    }
+
+    fn is_up(self) -> bool {
+        self.word.load(Ordering::SeqCst) & self.bit != 0
+    }
+
+    fn raise(self) {
+        self.word.fetch_or(self.bit, Ordering::SeqCst);
+    }
+
+    fn lower(self) {
+        self.word.fetch_and(!self.bit, Ordering::SeqCst);
+    }
+}
+
+/// A slot for sessions: the pass of its seat is here, or a session has it in a thread of its own. A contract sees it as
+/// the pass that it began with, and how many sessions were begun.
+#[derive(Drop)]
+pub(crate) struct Slot<'s, L: DeskName> {
+    first: Snapshot<Pass<L>>,
+    begun: u64,
+    flag: EndFlag<'s>,
+    /// a second handle to the connection of the last session, where it may have to be closed
+    closing_handle: Option<TcpStream>,
+    /// out while it changes
+    state: Option<Holder<L>>,
+}
+
+impl<'s, L: DeskName> Model for Slot<'s, L> {
+    ghost use Rattle.std.specs.Prelude.{◌≡◌, ◌+◌, ℕ, IfSome, IsSome, MatchResult};
+    ghost use Rattle.std.specs.Coded.{codes};
+    ghost use Rattle.ps_face.specs.contracts.patch.Note as note;
+    ghost use Rattle.ps_server.specs.Sessions.{Attended, Turns};
+
+    ghost Value = { Turns };
+
+    ghost coded = { Prim.hlevel (codes, note.the_row.coded) };
+
+    ghost view = { λ c. record { first = c.first.value; begun = c.begun } };
+
+    ghost invariant = { λ c. IsSome c.state × IfSome c.state (λ s. MatchResult s
+        (λ h. (n : ℕ) × (c.begun ≡ n + 1) × Attended L.replica L.opening n c.first.value h.promise.0.value)
+        (λ p. Attended L.replica L.opening c.begun c.first.value p)) };
+}
+
+impl<'s, L: DeskName> Slot<'s, L> {
+    /// A slot that no session has had.
+    pub(crate) fn new(pass: Pass<L>, flag: EndFlag<'s>) -> Slot<'s, L>
+        ensures { result ≡ record { first = pass; begun = 0 } }
+    {
+        Slot {
+            first: Snapshot::of(&pass),
+            begun: 0,
+            flag,
+            closing_handle: None,
+            state: Some(Err(pass)),
+        }
+    }
+
+    /// How many sessions were begun.
+    pub(crate) fn begun(&self) -> u64
+        ensures { result ≡ self.now.begun }
+    {
+        self.begun
+    }
+
+    /// Whether no session has it.
+    fn is_free(&self) -> bool
+        ensures { result ≡ true → self.now.begun + 1 < 2 ^ 64 }
+    {
+        matches!(self.state, Some(Err(_))) && self.begun < u64::MAX
+    }
+
+    /// Takes the pass back, if the session that has it is over.
+    fn take_back<R: Threads>(&mut self, rt: &R)
+        ensures { self.new ≡ self.old }
+    {
+        if self.flag.is_up() {
+            let pass = given_back(rt, self.state.take().unwrap());
+            self.state = Some(Err(pass));
+        }
+    }
+
+    /// Closes the connection of the session that has it, where there is a handle to it, so that the session ends.
+    pub(crate) fn hang_up(&self) {
+        match &self.closing_handle {
+            Some(stream) => {
+                let _ = stream.shutdown(Shutdown::Both);
+            }
+            None => {}
+        }
+    }
+
+    /// Waits for the end of the session that has it, and gives the pass up.
+    pub(crate) fn end<R: Threads>(self, rt: &R) -> Pass<L>
+        ensures { Attended L.replica L.opening self.entry.begun self.entry.first result }
+    {
+        let Slot { state, .. } = self;
+        given_back(rt, state.unwrap())
+    }
+
+    /// Takes the pass back, if the session that has it is over, and gives it to the connection that waits first, if
+    /// it is free.
+    pub(crate) fn turn<
+        E,
+        W: Wait + Drop + Send + 's,
+        D: Device + Drop + Send + 's,
+        R: Threads + Wait + Sync,
+    >(
+        &mut self,
+        scope: &Scope<'s, E>,
+        resources: Resources<'s, R>,
+        server: &Server<'s, L, W, D>,
+        queue: &mut EntryQueue<'_>,
+    )
+    where
+        L: Send + Sync + 's,
+        ensures { self.new.first ≡ self.old.first }
+    {
+        self.take_back(resources.threads);
+        if self.is_free() {
+            if let Some(stream) = queue.next() {
+                self.begin(scope, resources, server, stream);
+            }
+        }
+    }
+
+    /// Begins a session over a connection.
+    fn begin<E, W: Wait + Drop + Send + 's, D: Device + Drop + Send + 's, R: Threads + Wait + Sync>(
+        &mut self,
+        scope: &Scope<'s, E>,
+        resources: Resources<'s, R>,
+        server: &Server<'s, L, W, D>,
+        stream: TcpStream,
+    )
+    where
+        L: Send + Sync + 's,
+        requires { self.old.begun + 1 < 2 ^ 64 }
+        ensures first { self.new.first ≡ self.old.first }
+        ensures begun { self.new.begun ≡ self.old.begun + 1 }
+    {
+        let pass = given_back(resources.threads, self.state.take().unwrap());
+        self.flag.lower();
+        self.closing_handle = server.shared.closing_handle(&stream);
+        self.state = Some(begin(scope, resources, server, pass, stream, self.flag));
+        self.begun += 1;
+    }
+}
+
+/// Begins a session over a connection, in a thread of its own. Where none can be started, the session is run here.
+fn begin<
+    's,
+    E,
+    L: DeskName + Send + Sync + 's,
+    W: Wait + Drop + Send + 's,
+    D: Device + Drop + Send + 's,
+    R: Threads + Wait + Sync,
+>(
+    scope: &Scope<'s, E>,
+    resources: Resources<'s, R>,
+    server: &Server<'s, L, W, D>,
+    pass: Pass<L>,
+    stream: TcpStream,
+    flag: EndFlag<'s>,
+) -> Holder<L>
+    ensures { MatchResult result (λ h. h.promise.0.value ≡ pass) (λ p. IsAttended L.replica L.opening pass p) }
+{
+    // for the facts that threads may share the desk and the keeper
+    desk_is_sync::<L, W>();
+    keeper_is_sync::<L, D>();
+    let desk = server.desk;
+    let shared = server.shared;
+    let promise = ComesBack(Snapshot::of(&pass));
+    let begun = scope.spawn_with(
+        promise,
+        move || -> Pass<L>
+            ensures { IsAttended L.replica L.opening pass result }
+        {
+            let end = attend(resources, desk, shared, pass, &stream);
+            drop(stream);
+            flag.raise();
+            end.pass
+        },
+    );
+    match begun {
+        Ok(handle) => Ok(handle),
+        Err(refused) => Err((refused.value)()),
+    }
+}
+
+/// The pass, once the session that has it is over.
+fn given_back<L: DeskName, R: Threads>(rt: &R, holder: Holder<L>) -> Pass<L>
+    ensures { MatchResult holder
+        (λ h. IsAttended L.replica L.opening h.promise.0.value result)
+        (λ p. result ≡ p) }
+{
+    match holder {
+        Ok(handle) => handle.join(rt),
+        Err(pass) => pass,
+    }
+}

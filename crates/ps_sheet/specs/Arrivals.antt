@@ -1,0 +1,22 @@
+-- Deltas that follow the history of a sheet, and are accepted together.
+use Rattle.std.specs.Prelude.{◌≡◌, Bool, true, false, List, [], ◌∷◌, ◌++◌}
+use Rattle.ps_delta.specs.State.{Blocks, IsBelow, state_at}
+use Rattle.ps_delta.specs.Deltas.{Entries, state_of, joined_history}
+use Rattle.ps_sheet.specs.Sheet.{IsFresh}
+
+-- the deltas, and a grid that holds the join of the history and of them
+pub record ArrivalsView : Type 0 where
+  pub deltas : List Entries
+  pub grid : Blocks
+
+-- FOLLOW: none of the deltas is below the join of the history h and of those before it, and the grid holds all of them
+pub record Follow (h : List Entries) (a : ArrivalsView) : Type 0 where
+  pub fresh : IsFresh (h ++ a.deltas)
+  pub joined : state_at a.grid ≡ joined_history (h ++ a.deltas)
+
+-- TAKEN IN: whether the delta d was added to the arrivals x, after the history h; y is what they are then. It is
+-- added as the last one where it isn't below the join of those before it; else nothing changes
+abbrev pub IsTakenIn : List Entries → ArrivalsView → ArrivalsView → Entries → Bool → Type 0
+IsTakenIn h x y d true =
+    (¬ IsBelow (state_of d) (joined_history (h ++ x.deltas))) × (y.deltas ≡ x.deltas ++ d ∷ [])
+IsTakenIn h x y d false = IsBelow (state_of d) (joined_history (h ++ x.deltas)) × (y ≡ x)

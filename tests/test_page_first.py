@@ -1,0 +1,65 @@
+"""The first picture of the page of `sheet page`: how soon a browser shows it that has just started, on one core.
+
+Others may keep the core busy. So a start is in time by the clock or by the processor time that the browser has had:
+where nothing else runs on the core, it would be in time by both.
+"""
+import os
+import unittest
+from pathlib import Path
+
+import browser
+from browser import Browser
+from browser_gateway import paging
+from program import NO_BROWSER, ProgramTest
+from servers import serving
+
+MOST_SECONDS, TRIES = 0.3, 20
+# Resolves once a page has first shown something.
+FIRST = """new Promise(done => new PerformanceObserver(list => list.getEntriesByName('first-contentful-paint')
+  .forEach(entry => done(entry.startTime))).observe({ type: 'paint', buffered: true }))"""
+
+
+def processor_time(session):
+    """How many seconds of processor time all processes of a session have had."""
+    ticks = 0
+    for path in Path("/proc").glob("[0-9]*/stat"):
+        try:
+            fields = path.read_text().rpartition(")")[2].split()
+        except OSError:
+            continue
+        if int(fields[3]) == session:
+            ticks += int(fields[11]) + int(fields[12])
+    return ticks / os.sysconf("SC_CLK_TCK")
+
+
+def first_picture(url):
+    """How many seconds a browser of its own, with a new profile and on one core, takes until it first shows something
+    of a page: by processor time or by the clock, whichever is less."""
+    started = Browser(core=max(os.sched_getaffinity(0)))
+    try:
+        page = started.page()
+        before = processor_time(started.process.pid)
+        page.call("Page.navigate", url=url)
+        clock = page.value(FIRST) / 1000
+        taken = processor_time(started.process.pid) - before
+        page.close()
+        return min(taken, clock)
+    finally:
+        started.end()
+
+
+class First(ProgramTest):
+    def test_the_first_picture(self):
+        if browser.program() is None:
+            self.skipTest(NO_BROWSER)
+        with serving(4) as server, paging(server.port) as gateway:
+            # a start may fall together with what the browser does besides
+            times = []
+            while not times or times[-1] > MOST_SECONDS:
+                self.assertLess(len(times), TRIES, times)
+                times.append(first_picture(gateway.url))
+            self.assertGreater(times[-1], 0)
+
+
+if __name__ == "__main__":
+    unittest.main()
