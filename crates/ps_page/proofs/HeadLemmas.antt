@@ -28,29 +28,29 @@ never_more live (Err x) e = cc
 never_more (refusal r) key e = cc
 
 -- no head that is whole is answered as if it were half
-answered : (port : ℕ) (buf : List ℕ) (answer : Answer) → Answers port buf answer → AnswersBytes port buf answer
-answered port buf Answer.More a = absurd (never_more _ _ a.2)
-answered port buf Answer.Page a = inl a
-answered port buf (Answer.Live key) a = inl a
-answered port buf (Answer.Refuse r) a = inl a
+answered : (buf : List ℕ) (answer : Answer) → Answers buf answer → AnswersBytes buf answer
+answered buf Answer.More a = absurd (never_more _ _ a.2)
+answered buf Answer.Page a = inl a
+answered buf (Answer.Live key) a = inl a
+answered buf (Answer.Refuse r) a = inl a
 
 -- what the spans of a whole head are answered by, the bytes are
-pub whole_answered : (port : ℕ) (buf : List ℕ) (headers : List HeaderSpan) (r : RequestSpans) (answer : Answer)
+pub whole_answered : (buf : List ℕ) (headers : List HeaderSpan) (r : RequestSpans) (answer : Answer)
     → IsRequestOf buf headers r → r.len ≡ length buf
-    → AnswersHead port (span_bytes buf r.method) r.version (span_bytes buf r.path)
+    → AnswersHead (span_bytes buf r.method) r.version (span_bytes buf r.path)
     (fields_of buf (take r.headers headers)) answer
-    → AnswersBytes port buf answer
-whole_answered port buf headers r answer is whole a =
+    → AnswersBytes buf answer
+whole_answered buf headers r answer is whole a =
     let reads : ReadsRequest buf is.0 []
     = subst (λ rest. ReadsRequest buf is.0 rest) (ap (λ n. drop n buf) whole ∙ drop-length buf) is.1.reads in
-    let method = subst (λ m. AnswersHead port m r.version (span_bytes buf r.path)
+    let method = subst (λ m. AnswersHead m r.version (span_bytes buf r.path)
     (fields_of buf (take r.headers headers)) answer) is.1.method a in
-    let version = subst (λ v. AnswersHead port is.0.method v (span_bytes buf r.path)
+    let version = subst (λ v. AnswersHead is.0.method v (span_bytes buf r.path)
     (fields_of buf (take r.headers headers)) answer) is.1.version method in
-    let path = subst (λ p. AnswersHead port is.0.method is.0.minor p
+    let path = subst (λ p. AnswersHead is.0.method is.0.minor p
     (fields_of buf (take r.headers headers)) answer) is.1.path version in
-    let fields = subst (λ fs. AnswersHead port is.0.method is.0.minor is.0.target fs answer) is.1.fields path in
-    answered port buf answer (is.0, reads, fields)
+    let fields = subst (λ fs. AnswersHead is.0.method is.0.minor is.0.target fs answer) is.1.fields path in
+    answered buf answer (is.0, reads, fields)
 
 -- a piece after those that were read
 pub read_further : (old mid new : Option (List ℕ)) (head piece items : List ℕ) → Consumes old mid head

@@ -1,8 +1,10 @@
--- What the head of a request is answered by, at the gateway of a port.
+-- What the head of a request is answered by.
 use Rattle.std.specs.Prelude.{◌≡◌, ◌≢◌, ◌==◌, ◌⊎◌, ◌<◌, ◌≤◌, ℕ, Bool, false, cond, not, ◌||◌, ◌&&◌, nat_lt, take}
-use Rattle.std.specs.Prelude.{drop, List, [], ◌∷◌, map, length, codes, decimal, bytes_eq, Option, None, Some, Result}
+use Rattle.std.specs.Prelude.{drop, List, [], ◌∷◌, map, length, codes, bytes_eq, Option, None, Some, Result, true}
 use Rattle.std.specs.Prelude.{Ok, Err}
+use Rattle.std.specs.Char.{is_ascii_digit}
 use Rattle.std.specs.Io.KnownBytes.{Consumes}
+use Rattle.std.specs.List.{list_all}
 use Rattle.httparse.specs.Grammar.{RequestHead, ReadsRequest, HasNoRequest, MayBecomeRequest}
 use Rattle.httparse.specs.Spans.{name_and_value}
 use Rattle.websocket.specs.Headers.{Fields, eq_ignore_case}
@@ -25,33 +27,39 @@ only_value [] name = None
 only_value (h ∷ hs) name =
     cond (eq_ignore_case h.0 name) (cond (has_name hs name) None (Some h.1)) (only_value hs name)
 
--- the port of HTTP, which browsers leave out
-abbrev pub http_port : ℕ
-http_port = 80
-
 -- b':'
 abbrev pub colon : ℕ
 colon = 58
 
--- what follows a name: a colon and the port, or nothing where it is the port of HTTP
-abbrev pub is_port : List ℕ → ℕ → Bool
-is_port [] port = port == http_port
-is_port (first ∷ digits) port = first == colon && bytes_eq digits (decimal port)
+-- what may follow a name: a colon and a port's digits, or nothing, which means the port of HTTP. Whoever comes through a
+-- forwarded port names that one, so any will do
+abbrev pub is_port : List ℕ → Bool
+is_port [] = true
+is_port (first ∷ digits) = first == colon && list_all is_ascii_digit digits
 
--- the text is this name, and then the port
-abbrev pub is_named : List ℕ → List ℕ → ℕ → Bool
-is_named text name port =
+-- the text is this name, and then a port or nothing
+abbrev pub is_named : List ℕ → List ℕ → Bool
+is_named text name =
     cond (nat_lt (length text) (length name)) false
-    (bytes_eq (take (length name) text) name && is_port (drop (length name) text) port)
+    (bytes_eq (take (length name) text) name && is_port (drop (length name) text))
 
-abbrev pub is_own_host : ℕ → Option (List ℕ) → Bool
-is_own_host port None = false
-is_own_host port (Some text) = is_named text (codes "127.0.0.1") port || is_named text (codes "localhost") port
+-- a name of this machine
+abbrev pub is_own_host : Option (List ℕ) → Bool
+is_own_host None = false
+is_own_host (Some text) =
+    is_named text (codes "127.0.0.1") || is_named text (codes "localhost") || is_named text (codes "[::1]")
 
-abbrev pub is_own_origin : ℕ → Option (List ℕ) → Bool
-is_own_origin port None = false
-is_own_origin port (Some text) =
-    is_named text (codes "http://127.0.0.1") port || is_named text (codes "http://localhost") port
+-- the text is these two, one after the other
+abbrev pub follows : List ℕ → List ℕ → List ℕ → Bool
+follows text first second =
+    cond (nat_lt (length text) (length first)) false
+    (bytes_eq (take (length first) text) first && bytes_eq (drop (length first) text) second)
+
+-- the origin of the page that this host serves
+abbrev pub is_own_origin : Option (List ℕ) → Option (List ℕ) → Bool
+is_own_origin None host = false
+is_own_origin (Some origin) None = false
+is_own_origin (Some origin) (Some host) = follows origin (codes "http://") host
 
 -- what a request of this machine asks for
 pub data Verdict : Type 0 where
@@ -59,14 +67,15 @@ pub data Verdict : Type 0 where
   refusal : Refused → Verdict
 
 -- a foreign host is refused first, so that no name that a foreign page has resolved to this machine gets further;
--- a WebSocket goes to a page of this gateway alone
-abbrev pub verdict : ℕ → List ℕ → List ℕ → Fields → Verdict
-verdict port method path fields =
-    cond (not (is_own_host port (only_value fields (codes "Host")))) (refusal Forbidden)
+-- a WebSocket goes to a page of the same host and port alone
+abbrev pub verdict : List ℕ → List ℕ → Fields → Verdict
+verdict method path fields =
+    cond (not (is_own_host (only_value fields (codes "Host")))) (refusal Forbidden)
     (cond (not (bytes_eq method (codes "GET"))) (refusal NotAllowed)
     (cond (bytes_eq path (codes "/")) page
     (cond (not (bytes_eq path (codes "/live"))) (refusal NotFound)
-    (cond (not (is_own_origin port (only_value fields (codes "Origin")))) (refusal Forbidden) live))))
+    (cond (not (is_own_origin (only_value fields (codes "Origin")) (only_value fields (codes "Host")))) (refusal Forbidden)
+    live))))
 
 -- an upgrade with a valid key is answered by its accept key
 abbrev pub Opens : Result (List ℕ) HandshakeError → Answer → Type 0
@@ -81,34 +90,34 @@ Follows live key answer = Opens key answer
 Follows (refusal r) key answer = answer ≡ Answer.Refuse r
 
 -- the answer is what a head asks for
-abbrev pub AnswersHead : ℕ → List ℕ → ℕ → List ℕ → Fields → Answer → Type 0
-AnswersHead port method version path fields answer =
-    Follows (verdict port method path fields) (requested_key method version fields) answer
+abbrev pub AnswersHead : List ℕ → ℕ → List ℕ → Fields → Answer → Type 0
+AnswersHead method version path fields answer =
+    Follows (verdict method path fields) (requested_key method version fields) answer
 
 -- the bytes are a head of the grammar and nothing else, and the answer is what it asks for
-abbrev pub Answers : ℕ → List ℕ → Answer → Type 0
-Answers port buf answer =
+abbrev pub Answers : List ℕ → Answer → Type 0
+Answers buf answer =
     (h : RequestHead) × ReadsRequest buf h []
-    × AnswersHead port h.method h.minor h.target (map name_and_value h.fields) answer
+    × AnswersHead h.method h.minor h.target (map name_and_value h.fields) answer
 
 -- the bytes are no head of at most 64 fields
 abbrev pub IsNoHead : List ℕ → Type 0
 IsNoHead buf = (h : RequestHead) → ReadsRequest buf h [] → 64 < length h.fields
 
 -- what bytes are answered by: more bytes where they are no head yet and may become one; else what the head asks for
-abbrev pub AnswersBytes : ℕ → List ℕ → Answer → Type 0
-AnswersBytes port buf Answer.More = HasNoRequest buf × MayBecomeRequest buf
-AnswersBytes port buf answer = Answers port buf answer ⊎ ((answer ≡ Answer.Refuse BadRequest) × IsNoHead buf)
+abbrev pub AnswersBytes : List ℕ → Answer → Type 0
+AnswersBytes buf Answer.More = HasNoRequest buf × MayBecomeRequest buf
+AnswersBytes buf answer = Answers buf answer ⊎ ((answer ≡ Answer.Refuse BadRequest) × IsNoHead buf)
 
 -- the bytes of a head and what they are answered by: they are too many and refused as such, or at most so many and
 -- enough
-abbrev pub AnswersRead : ℕ → List ℕ → Answer → Type 0
-AnswersRead port bytes answer =
+abbrev pub AnswersRead : List ℕ → Answer → Type 0
+AnswersRead bytes answer =
     ((HEAD_LIMIT < length bytes) × (answer ≡ Answer.Refuse TooLarge))
-    ⊎ ((length bytes ≤ HEAD_LIMIT) × (answer ≢ Answer.More) × AnswersBytes port bytes answer)
+    ⊎ ((length bytes ≤ HEAD_LIMIT) × (answer ≢ Answer.More) × AnswersBytes bytes answer)
 
 -- what is answered to a reader that had `old` to come and has `new`: what the bytes are answered by that it gave, or
 -- that they came too late
-abbrev pub AnswersReader : Option (List ℕ) → Option (List ℕ) → ℕ → Answer → Type 0
-AnswersReader old new port answer =
-    (answer ≡ Answer.Refuse TooLate) ⊎ ((bytes : List ℕ) × Consumes old new bytes × AnswersRead port bytes answer)
+abbrev pub AnswersReader : Option (List ℕ) → Option (List ℕ) → Answer → Type 0
+AnswersReader old new answer =
+    (answer ≡ Answer.Refuse TooLate) ⊎ ((bytes : List ℕ) × Consumes old new bytes × AnswersRead bytes answer)

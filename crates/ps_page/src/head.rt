@@ -1,16 +1,17 @@
 //! What a request's head is answered by.
 ghost use Rattle.std.specs.Prelude.{◌≡◌, ◌++◌, ℕ, All, IfSome, List, OnOk, length, take};
+ghost use Rattle.std.specs.Char.{is_ascii_digit};
+ghost use Rattle.std.specs.List.{list_all};
 ghost use Rattle.std.specs.Option.{option_map};
 ghost use Rattle.std.specs.Io.KnownBytes.{Consumes};
 ghost use Rattle.httparse.specs.Spans.{IsHeaderWithin, IsRequestWithin, span_bytes};
 ghost use Rattle.websocket.specs.Headers.{eq_ignore_case, fields_of};
 ghost use Rattle.websocket.specs.Handshake.{requested_key};
 ghost use Rattle.ps_page.specs.Heads.{AnswersReader, Opens, AnswersBytes, AnswersHead, has_name, is_named};
-ghost use Rattle.ps_page.specs.Heads.{is_own_host, is_own_origin, is_port, only_value};
+ghost use Rattle.ps_page.specs.Heads.{follows, is_own_host, is_own_origin, is_port, only_value};
 
 use httparse::Status;
 use httparse::spans::{EMPTY_HEADER_SPAN, HeaderSpan, RequestSpans, parse_request};
-use itoa::Buffer;
 use std::alloc::Global;
 use std::io::{ErrorKind, Read};
 use websocket::handshake::server::check_request;
@@ -48,31 +49,32 @@ pub enum Answer {
     Refuse(Refused),
 }
 
-/// What these bytes are answered by, at the gateway of this port.
+/// What these bytes are answered by.
 ///
 /// Cost: linear in the bytes.
-pub fn answer_to(buf: &[u8], port: u16) -> Answer
-    ensures { AnswersBytes port buf.now result }
+pub fn answer_to(buf: &[u8]) -> Answer
+    ensures { AnswersBytes buf.now result }
 {
     let mut spans = [EMPTY_HEADER_SPAN; MOST_FIELDS];
     match parse_request(buf, &mut spans) {
         Ok(Status::Partial) => Answer::More,
         Ok(Status::Complete(request)) if request.len == buf.len() => {
-            answer_head(buf, &request, &spans, port)
+            answer_head(buf, &request, &spans)
         }
         _ => Answer::Refuse(Refused::BadRequest),
     }
 }
 
 /// What a whole head is answered by.
-fn answer_head(buf: &[u8], request: &RequestSpans, spans: &[HeaderSpan], port: u16) -> Answer
+fn answer_head(buf: &[u8], request: &RequestSpans, spans: &[HeaderSpan]) -> Answer
     requires within { IsRequestWithin buf.now spans.now request.now }
-    ensures { AnswersHead port (span_bytes buf.now request.now.method) request.now.version
+    ensures { AnswersHead (span_bytes buf.now request.now.method) request.now.version
         (span_bytes buf.now request.now.path)
         (fields_of buf.now (take request.now.headers spans.now)) result }
 {
     let fields = &spans[..request.headers];
-    if !is_own_host(only_value(buf, fields, b"Host"), port) {
+    let host = only_value(buf, fields, b"Host");
+    if !is_own_host(host) {
         return Answer::Refuse(Refused::Forbidden);
     }
     if request.method.of(buf) != b"GET".as_slice() {
@@ -85,7 +87,7 @@ fn answer_head(buf: &[u8], request: &RequestSpans, spans: &[HeaderSpan], port: u
     if path != b"/live".as_slice() {
         return Answer::Refuse(Refused::NotFound);
     }
-    if !is_own_origin(only_value(buf, fields, b"Origin"), port) {
+    if !is_own_origin(only_value(buf, fields, b"Origin"), host) {
         return Answer::Refuse(Refused::Forbidden);
     }
     open(buf, request, spans)
@@ -142,53 +144,65 @@ fn has_name(buf: &[u8], spans: &[HeaderSpan], name: &[u8]) -> bool
     false
 }
 
-/// Whether the value is a name of this machine, with the port.
-fn is_own_host(value: Option<&[u8]>, port: u16) -> bool
-    ensures { result ≡ is_own_host port (option_map (λ v. v.now) value.entry) }
-{
-    match value {
-        Some(text) => { is_named(text, b"127.0.0.1", port) || is_named(text, b"localhost", port) }
-        None => false,
-    }
-}
-
-/// Whether the value is the origin of this gateway's page.
-fn is_own_origin(value: Option<&[u8]>, port: u16) -> bool
-    ensures { result ≡ is_own_origin port (option_map (λ v. v.now) value.entry) }
+/// Whether the value is a name of this machine, with any port.
+fn is_own_host(value: Option<&[u8]>) -> bool
+    ensures { result ≡ is_own_host (option_map (λ v. v.now) value.entry) }
 {
     match value {
         Some(text) => {
-            is_named(text, b"http://127.0.0.1", port) || is_named(text, b"http://localhost", port)
+            is_named(text, b"127.0.0.1") || is_named(text, b"localhost") || is_named(text, b"[::1]")
         }
         None => false,
     }
 }
 
-/// Whether the text is this name and then the port.
-fn is_named(text: &[u8], name: &[u8], port: u16) -> bool
-    ensures { result ≡ is_named text.now name.now port }
+/// Whether the origin is that of the page at this host.
+fn is_own_origin(origin: Option<&[u8]>, host: Option<&[u8]>) -> bool
+    ensures { result ≡ is_own_origin (option_map (λ v. v.now) origin.entry) (option_map (λ v. v.now) host.entry) }
+{
+    match (origin, host) {
+        (Some(origin), Some(host)) => follows(origin, b"http://", host),
+        _ => false,
+    }
+}
+
+/// Whether the text is these two, one after the other.
+fn follows(text: &[u8], first: &[u8], second: &[u8]) -> bool
+    ensures { result ≡ follows text.now first.now second.now }
+{
+    if text.len() < first.len() {
+        return false;
+    }
+    let (front, rest) = text.split_at(first.len());
+    front == first && rest == second
+}
+
+/// Whether the text is this name, and then a port or nothing.
+fn is_named(text: &[u8], name: &[u8]) -> bool
+    ensures { result ≡ is_named text.now name.now }
 {
     if text.len() < name.len() {
         return false;
     }
     let (first, second) = text.split_at(name.len());
-    first == name && is_port(second, port)
+    first == name && is_port(second)
 }
 
-/// The port of HTTP, which browsers leave out.
-const HTTP_PORT: u16 = 80;
-
-/// Whether the text is what follows a name: a colon and the port in decimal, or nothing where it is the port of HTTP.
-fn is_port(text: &[u8], port: u16) -> bool
-    ensures { result ≡ is_port text.now port }
+/// Whether the text is what may follow a name: a colon and digits, or nothing, which means the port of HTTP.
+fn is_port(text: &[u8]) -> bool
+    ensures { result ≡ is_port text.now }
 {
     match text {
-        [] => port == HTTP_PORT,
-        [first, digits @ ..] => {
-            let mut buffer = Buffer::new();
-            *first == b':' && digits == buffer.format(port).as_bytes()
-        }
+        [] => true,
+        [first, digits @ ..] => *first == b':' && are_digits(digits),
     }
+}
+
+/// Whether each byte is a decimal digit.
+fn are_digits(text: &[u8]) -> bool
+    ensures { result ≡ list_all is_ascii_digit text.now }
+{
+    text.iter().all(|b| b.is_ascii_digit())
 }
 
 /// The greatest number of bytes of a head.
@@ -198,8 +212,8 @@ pub const HEAD_LIMIT: usize = 8192;
 /// ends before.
 ///
 /// Cost: a parse of the head for each read.
-pub fn read_head<S: Read>(alloc: Global, reader: &mut S, port: u16) -> Option<Answer>
-    ensures { IfSome result (AnswersReader (S.remaining reader.old) (S.remaining reader.new) port) }
+pub fn read_head<S: Read>(alloc: Global, reader: &mut S) -> Option<Answer>
+    ensures { IfSome result (AnswersReader (S.remaining reader.old) (S.remaining reader.new)) }
 {
     let mut head = Vec::new(alloc);
     // (each piece has a byte at least, so one more would be too long)
@@ -212,7 +226,7 @@ pub fn read_head<S: Read>(alloc: Global, reader: &mut S, port: u16) -> Option<An
         if head.len() > HEAD_LIMIT {
             return Some(Answer::Refuse(Refused::TooLarge));
         }
-        match answer_to(head.as_slice(), port) {
+        match answer_to(head.as_slice()) {
             Answer::More => {}
             answer => return Some(answer),
         }

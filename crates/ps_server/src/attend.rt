@@ -6,37 +6,31 @@ ghost use Rattle.ps_grid.specs.Blanks.{IsBlankOf};
 ghost use Rattle.ps_session.specs.HeldOutputs.{held_contents, held_waiting};
 ghost use Rattle.ps_session.specs.Keeping.{IsCovered};
 ghost use Rattle.ps_desk.specs.Seats.{SeatLines};
-ghost use Rattle.ps_server.specs.Guards.{BeginsRequest};
 ghost use Rattle.ps_server.specs.Sessions.{IsAttended};
 
+use crate::arrival::{Arrival, Speech};
 use crate::connection::{Attended, DeskSeat, KeptSeat, attend_kept, attend_lines};
 use crate::counts::Counts;
-use crate::guard::{BAD_REQUEST, Unadmitted, admit};
+use crate::guard::resume;
 use crate::shared::SharedState;
-use ps_desk::{Desk, DeskName, Pass};
+use ps_desk::{DeskName, Pass};
 use ps_device::{PIECE_BYTES, Sink, Source, Writing};
 use ps_eval::Meter;
 use ps_keep::Device;
 use ps_kept_desk::KeptPlace;
+use ps_lines::LINE_LIMIT;
+use ps_page::{BrowserStream, MessageSink, MessageSource, drain};
 use ps_session::{HeldOutput, Resources, RunFault};
-use std::io::{Read, Write};
 use std::marker::Brand;
 use std::net::{Shutdown, TcpStream};
 use std::sync::Wait;
-use std::sync::ledger::Ledger;
+use std::sync::ledger::{Blank, Ledger};
 use std::thread::Threads;
+use std::time::{Clock, Duration};
 
 /// For how many bytes of replies a session has room from its beginning: as many as are held back, and a reply that is
 /// no longer.
 const ROOM: usize = 2 * PIECE_BYTES;
-
-/// The two sides of a connection.
-pub(crate) struct Ends<R, K> {
-    /// what comes
-    pub(crate) reader: R,
-    /// where the replies go
-    pub(crate) writer: K,
-}
 
 /// What a session of a server came to, and what it was told is kept, where the sessions have a keeper.
 pub(crate) type SessionEnd<L> = Attended<L, Option<KeptPlace<L>>>;
@@ -45,44 +39,62 @@ pub(crate) type SessionEnd<L> = Attended<L, Option<KeptPlace<L>>>;
 /// shown to all, and where the sessions have a keeper nothing but what is kept as well.
 ///
 /// A failure of the connection ends it early, and so does a lack of memory before the first line, which then isn't
-/// read. Where what the session has seen can't be kept it stops all sessions. What begins with a request of HTTP is
-/// told so, and none of it is carried out.
-pub(crate) fn attend<L: DeskName, W: Wait + Drop, R: Threads + Wait + Sync, D: Device + Drop>(
+/// read. Where what the session has seen can't be kept it stops all sessions.
+pub(crate) fn attend<
+    L: DeskName,
+    W: Wait + Drop,
+    R: Threads + Wait + Clock + Sync,
+    D: Device + Drop,
+>(
     resources: Resources<'_, R>,
-    desk: &Desk<L, W>,
+    at: DeskSeat<'_, L, W>,
     shared: &SharedState<L, D>,
-    pass: Pass<L>,
-    stream: &TcpStream,
+    arrival: &Arrival,
+    idle: Option<Duration>,
 ) -> SessionEnd<L>
-    ensures attended { IsAttended L.replica L.opening pass result.pass }
+    ensures attended { IsAttended L.replica L.opening at.entry.pass result.pass }
     ensures kept { IsSome shared.now.keeper
         → OnOk result.ended (IsSomeAnd result.covered (λ place. IsPrefix result.pass.list place)) }
 {
-    // (without it a reply may only come later)
-    let _ = stream.set_nodelay(true);
-    let at = DeskSeat { desk, pass };
-    let ends = Ends {
-        reader: stream,
-        writer: stream,
-    };
+    let Arrival { stream, speech } = arrival;
     let counts = Counts::new();
-    let end = attend_ends::<L, W, R, D, &TcpStream, &TcpStream, Brand, Brand, Brand, Brand>(
-        resources, at, shared, ends, counts,
-    );
+    let end = match speech {
+        Speech::Lines(front) => attend_lines_of::<L, W, R, D, Brand, Brand, Brand, Brand>(
+            resources,
+            at,
+            shared,
+            front.as_slice(),
+            stream,
+            counts,
+        ),
+        Speech::Messages => {
+            let browser = Browser { stream, idle };
+            let end = attend_browser::<L, W, R, D, Brand, Brand, Brand, Brand>(
+                resources, at, shared, browser, counts,
+            );
+            drain(resources.threads, stream);
+            end
+        }
+    };
     // (the slot's handle to the connection would keep it open)
     let _ = stream.shutdown(Shutdown::Both);
     end
 }
 
-/// Answers each line of a connection, whose failures and whose evaluations these blanks count. Where a request of HTTP
-/// comes, the pass stays as it is.
-fn attend_ends<
+/// The connection of a browser, and how long it may be silent.
+#[derive(Clone, Copy)]
+struct Browser<'a> {
+    stream: &'a TcpStream,
+    idle: Option<Duration>,
+}
+
+/// Answers each line of a connection whose first bytes were read already. These blanks count its failures and its
+/// evaluations.
+fn attend_lines_of<
     L: DeskName,
     W: Wait + Drop,
     R: Threads + Wait + Sync,
     D: Device + Drop,
-    S: Read + Drop,
-    K: Write + Drop,
     I: Ledger,
     O: Ledger,
     N: Ledger,
@@ -91,7 +103,8 @@ fn attend_ends<
     resources: Resources<'_, R>,
     at: DeskSeat<'_, L, W>,
     shared: &SharedState<L, D>,
-    ends: Ends<S, K>,
+    front: &[u8],
+    stream: &TcpStream,
     counts: Counts,
 ) -> SessionEnd<L>
     requires input { IsBlankOf counts.input I.name I.parts }
@@ -99,26 +112,99 @@ fn attend_ends<
     requires held { IsBlankOf counts.held N.name N.parts }
     requires evaluations { IsBlankOf counts.evaluations M.name M.parts }
     ensures attended { IsAttended L.replica L.opening at.entry.pass result.pass }
-    ensures request { BeginsRequest (S.remaining ends.reader) → result.pass ≡ at.entry.pass }
     ensures kept { IsSome shared.now.keeper
         → OnOk result.ended (IsSomeAnd result.covered (λ place. IsPrefix result.pass.list place)) }
 {
-    let Ends { reader, mut writer } = ends;
-    let mut front = Vec::new(resources.alloc);
-    let mut source = match admit::<S, I>(reader, &mut front, counts.input) {
-        Ok(source) => source,
-        Err(Unadmitted::Request) => {
-            let _ = writer.write_all(BAD_REQUEST);
-            return unread(at.pass, RunFault::Source);
-        }
-        Err(Unadmitted::Failed) => return unread(at.pass, RunFault::Source),
+    let devices = Devices {
+        source: resume::<&TcpStream, I>(front, stream, counts.input),
+        sink: Writing::<&TcpStream, O>::new(stream, counts.output),
+        held: counts.held,
+        evaluations: counts.evaluations,
     };
-    let writing = Writing::<K, O>::new(writer, counts.output);
-    let room = HeldOutput::<_, N>::with_room(resources.alloc, writing, counts.held, ROOM);
+    attend_over::<L, W, R, D, _, _, N, M>(resources, at, shared, devices)
+}
+
+/// Answers each message of a browser. These blanks count its failures and its evaluations.
+fn attend_browser<
+    L: DeskName,
+    W: Wait + Drop,
+    R: Threads + Wait + Sync,
+    D: Device + Drop,
+    I: Ledger,
+    O: Ledger,
+    N: Ledger,
+    M: Ledger,
+>(
+    resources: Resources<'_, R>,
+    at: DeskSeat<'_, L, W>,
+    shared: &SharedState<L, D>,
+    browser: Browser<'_>,
+    counts: Counts,
+) -> SessionEnd<L>
+    requires input { IsBlankOf counts.input I.name I.parts }
+    requires output { IsBlankOf counts.output O.name O.parts }
+    requires held { IsBlankOf counts.held N.name N.parts }
+    requires evaluations { IsBlankOf counts.evaluations M.name M.parts }
+    ensures attended { IsAttended L.replica L.opening at.entry.pass result.pass }
+    ensures kept { IsSome shared.now.keeper
+        → OnOk result.ended (IsSomeAnd result.covered (λ place. IsPrefix result.pass.list place)) }
+{
+    let alloc = resources.alloc;
+    let Browser { stream, idle } = browser;
+    let reader = BrowserStream::new(stream, idle);
+    let writer = BrowserStream::new(stream, idle);
+    let devices = Devices {
+        source: MessageSource::<BrowserStream<'_>, I>::new(alloc, reader, LINE_LIMIT, counts.input),
+        sink: MessageSink::<BrowserStream<'_>, O>::new(alloc, writer, counts.output),
+        held: counts.held,
+        evaluations: counts.evaluations,
+    };
+    attend_over::<L, W, R, D, _, _, N, M>(resources, at, shared, devices)
+}
+
+/// Where a session's lines come from and where its replies go, and what counts the failures of replies that are held
+/// back and the evaluations.
+#[derive(Drop)]
+struct Devices<S: Source + Drop, K: Sink + Drop> {
+    source: S,
+    sink: K,
+    held: Blank,
+    evaluations: Blank,
+}
+
+/// Answers each line of a source on a sink, by a seat at a desk.
+fn attend_over<
+    L: DeskName,
+    W: Wait + Drop,
+    R: Threads + Wait + Sync,
+    D: Device + Drop,
+    S: Source + Drop,
+    K: Sink + Drop,
+    N: Ledger,
+    M: Ledger,
+>(
+    resources: Resources<'_, R>,
+    at: DeskSeat<'_, L, W>,
+    shared: &SharedState<L, D>,
+    devices: Devices<S, K>,
+) -> SessionEnd<L>
+    requires held { IsBlankOf devices.held N.name N.parts }
+    requires evaluations { IsBlankOf devices.evaluations M.name M.parts }
+    ensures attended { IsAttended L.replica L.opening at.entry.pass result.pass }
+    ensures kept { IsSome shared.now.keeper
+        → OnOk result.ended (IsSomeAnd result.covered (λ place. IsPrefix result.pass.list place)) }
+{
+    let Devices {
+        mut source,
+        sink,
+        held,
+        evaluations,
+    } = devices;
+    let room = HeldOutput::<_, N>::with_room(resources.alloc, sink, held, ROOM);
     let Ok(mut sink) = room else {
         return unread(at.pass, RunFault::Memory);
     };
-    let mut meter = Meter::<M>::new(counts.evaluations);
+    let mut meter = Meter::<M>::new(evaluations);
     let end = answer(resources, &mut source, &mut sink, at, shared, &mut meter);
     if matches!(end.ended, Err(RunFault::Keep)) {
         shared.stop();

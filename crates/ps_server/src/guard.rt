@@ -1,8 +1,9 @@
-//! What comes to a server's port and is no session: a request of HTTP, as any page in a browser can have one sent.
-ghost use Rattle.std.specs.Prelude.{◌≡◌, ◌≢◌, ◌++◌, ◌∷◌, ℕ, List, [], Err, IfOk, Ok, OnOk, Some, false, true};
+//! What tells sessions and requests of HTTP apart, which any page in a browser can have sent to a server's port.
+ghost use Rattle.std.specs.Prelude.{◌≡◌, ◌≢◌, ◌++◌, ◌∷◌, ℕ, List, [], Err, OnOk, Option, Some, false, true};
 ghost use Rattle.std.specs.Io.KnownBytes.{Consumes, Keeps};
 ghost use Rattle.ps_grid.specs.Blanks.{IsBlankOf};
 ghost use Rattle.ps_lines.specs.Feeding.{HasNoFeed};
+ghost use Rattle.ps_server.specs.declared.guard.Unadmitted.TheVariants as Unadmitted;
 ghost use Rattle.ps_server.specs.Guards.{BeginsRequest, IsRequest, begins_small, is_request_line};
 
 use ps_device::{Reading, Source};
@@ -15,11 +16,6 @@ pub const FRONT_LIMIT: usize = 8_192;
 
 /// So many bytes are read at once.
 const AT_ONCE: usize = 4_096;
-
-/// What a request of HTTP is answered, before its connection is closed.
-pub(crate) const BAD_REQUEST: &[u8] = b"HTTP/1.1 400 Bad Request\r\n\
-    Content-Type: text/plain\r\nContent-Length: 46\r\nConnection: close\r\n\r\n\
-    This port has lines, and no pages: sheet page\n";
 
 /// Why what comes is no session.
 #[derive(Clone, Copy, PartialEq, Eq)]
@@ -75,10 +71,22 @@ fn judge(front: &[u8]) -> Option<bool>
     None
 }
 
-/// Reads what comes until it is known to be no request. What was read is in `front`.
-fn read_front<R: Read>(reader: &mut R, front: &mut Vec<u8>) -> Result<(), Unadmitted>
+/// Reads the beginning of what comes, into `front`, until it is known to be a session's, and not a request of HTTP.
+///
+/// A first line that begins with a small letter is a session's, and isn't waited for. Any other one is read up to its
+/// end, or up to [`FRONT_LIMIT`] bytes: one that has no end there is taken for a request, too.
+///
+/// # Errors
+///
+/// `Request` if a request comes, and `Failed` if the reader fails or there is no memory for the first line. What was
+/// read is in `front`, also of a request.
+///
+/// Cost: linear in the bytes of the first line, but for the time that the reader takes.
+pub fn admit<R: Read>(reader: &mut R, front: &mut Vec<u8>) -> Result<(), Unadmitted>
     requires none { front.old.items ≡ [] }
     ensures read { OnOk result (Consumes (R.remaining reader.old) (R.remaining reader.new) front.new.items) }
+    ensures front { result ≡ Err Unadmitted.Request
+        → Consumes (R.remaining reader.old) (R.remaining reader.new) front.new.items }
     ensures request { OnOk result (BeginsRequest (R.remaining reader.old) → ⊥) }
 {
     let mut piece = [0u8; AT_ONCE];
@@ -101,29 +109,17 @@ fn read_front<R: Read>(reader: &mut R, front: &mut Vec<u8>) -> Result<(), Unadmi
     Err(Unadmitted::Failed)
 }
 
-/// The source of a session's lines: all that comes from a reader. Where that begins with a request of HTTP there is no
-/// such source, so nothing of it is carried out.
+/// The source of a session's lines: the bytes that were read already, and then all that comes.
 ///
-/// A first line that begins with a small letter is a session's, and isn't waited for. Any other one is read up to its
-/// end, or up to [`FRONT_LIMIT`] bytes: one that has no end there is taken for a request, too.
-///
-/// # Errors
-///
-/// `Request` where a request comes, `Failed` where the reader fails or there is no memory for the first line.
-///
-/// Cost: linear in the bytes of the first line, but for the time that the reader takes.
-pub fn admit<'a, R: Read + Drop, L: Ledger>(
+/// Cost: constant.
+pub fn resume<'a, R: Read + Drop, L: Ledger>(
+    front: &'a [u8],
     reader: R,
-    front: &'a mut Vec<u8>,
     blank: Blank,
-) -> Result<Reading<Chain<&'a [u8], R>, L>, Unadmitted>
+) -> Reading<Chain<&'a [u8], R>, L>
     requires blank { IsBlankOf blank L.name L.parts }
-    requires none { front.old.items ≡ [] }
-    ensures request { OnOk result (BeginsRequest (R.remaining reader) → ⊥) }
-    ensures whole { IfOk result (λ source. Keeps (R.remaining reader)
-        (⟦<Reading<Chain<&'a [u8], R>, L> as Source>⟧.remaining source)) }
+    ensures whole { (old : Option (List ℕ)) → Consumes old (R.remaining reader) front.now
+        → Keeps old (⟦<Reading<Chain<&'a [u8], R>, L> as Source>⟧.remaining result) }
 {
-    let mut reader = reader;
-    read_front(&mut reader, front)?;
-    Ok(Reading::new(front.as_slice().chain(reader), blank))
+    Reading::new(front.chain(reader), blank)
 }

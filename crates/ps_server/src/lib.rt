@@ -1,9 +1,10 @@
 //! A server: the sessions of one sheet, each over a connection of its own.
 //!
-//! [`serve_on`] accepts connections, lets each wait for a free slot, and runs its session in a thread of its own. It
-//! closes the sheet once as many sessions as were asked for have ended. [`serve_kept_on`] does so on a sheet that a
-//! journal keeps. [`attend_lines`] and [`attend_kept`] are one session, over any source and sink. [`admit`] refuses
-//! what begins with a request of HTTP, so none of it reaches a seat.
+//! [`serve_on`] accepts connections. What one says first decides: a request of HTTP is answered by the page, a refusal
+//! or a WebSocket, as `ps_page` says, and anything else is a session of lines. Both kinds of session wait for a free slot
+//! and run in a thread of their own. The server closes the sheet once as many sessions as were asked for have ended.
+//! [`serve_kept_on`] does so on a sheet that a journal keeps. [`attend_lines`] and [`attend_kept`] are one session, over
+//! any source and sink. [`admit`] tells requests from lines, so that nothing of a request reaches a slot.
 //!
 //! It is not the program: it knows no words of the command line and no exit status, opens no port and no file, and
 //! writes nothing but replies and refusals on connections. What a line means is `ps_session`'s.
@@ -19,11 +20,13 @@
 //! Cost: that of the sessions.
 #![tactic(auto)]
 
+mod arrival;
 mod attend;
 mod connection;
 mod counts;
-mod entry_queue;
+mod entrance;
 mod guard;
+mod lobby;
 mod marker;
 mod options;
 mod server;
@@ -34,7 +37,7 @@ mod warning;
 
 pub use connection::{Attended, DeskSeat, KeptSeat, attend_kept, attend_lines};
 pub use counts::Counts;
-pub use guard::{FRONT_LIMIT, Unadmitted, admit};
+pub use guard::{FRONT_LIMIT, Unadmitted, admit, resume};
 pub use options::ServerOptions;
 pub use server::{Closed, serve_kept_on, serve_on};
 pub use warning::{Unwarned, Warn};

@@ -3,7 +3,8 @@ ghost use Rattle.std.specs.Prelude.{◌≡◌, ◌≤◌, ◌⊎◌, [], Some, I
 ghost use Rattle.ps_grid.specs.declared.refusal.Refusal.TheVariants.{Device, Memory};
 ghost use Rattle.ps_server.specs.Sessions.{AreBack, Back};
 
-use crate::entry_queue::EntryQueue;
+use crate::entrance::Entrance;
+use crate::lobby::Lobby;
 use crate::options::ServerOptions;
 use crate::shared::{Server, SharedState};
 use crate::slot::{EndFlag, Slot};
@@ -12,6 +13,7 @@ use ps_desk::{Desk, DeskName, Pass};
 use ps_grid::Refusal;
 use ps_keep::Device;
 use ps_session::Resources;
+use std::io;
 use std::sync::Wait;
 use std::sync::atomic::AtomicU64;
 use std::thread;
@@ -56,19 +58,48 @@ fn turn_all<
     L: DeskName + Send + Sync + 's,
     W: Wait + Drop + Send + 's,
     D: Device + Drop + Send + 's,
-    R: Threads + Wait + Sync,
+    R: Threads + Wait + Clock + Sync,
 >(
     scope: &Scope<'s, E>,
     resources: Resources<'s, R>,
     server: &Server<'s, L, W, D>,
-    queue: &mut EntryQueue<'_>,
     slots: &mut Vec<Slot<'s, L>>,
 )
     ensures { map (λ t. t.first) slots.new.items ≡ map (λ t. t.first) slots.old.items }
 {
     for slot in slots.iter_mut() {
-        slot.turn(scope, resources, server, queue);
+        slot.turn(scope, resources, server);
     }
+}
+
+/// Lets one connection in, if so many sessions more are wanted. It waits for one to come where nothing else may happen
+/// meanwhile, and else pauses where none has come.
+fn let_in<
+    's,
+    E,
+    L: DeskName,
+    W: Wait + Drop,
+    D: Device + Drop,
+    R: Threads + Wait + Clock + Sync,
+>(
+    scope: &Scope<'s, E>,
+    rt: &'s R,
+    server: &Server<'s, L, W, D>,
+    entrance: &mut Entrance<'_>,
+    left: Option<u64>,
+) -> io::Result<()> {
+    let lobby = server.lobby;
+    let is_enough = match left {
+        Some(count) => count <= lobby.waiting(rt) as u64,
+        None => false,
+    };
+    let waits = lobby.is_empty(rt) && !server.shared.is_watchful();
+    let come = if is_enough { None } else { entrance.come(rt, waits)? };
+    match come {
+        Some(stream) => lobby.let_in(scope, rt, stream),
+        None => lobby.pause(rt),
+    }
+    Ok(())
 }
 
 /// Gives the slots to the connections that come, until as many sessions as were asked for have begun, and returns their
@@ -85,7 +116,7 @@ fn give_slots<
     scope: &Scope<'s, E>,
     resources: Resources<'s, R>,
     server: &Server<'s, L, W, D>,
-    queue: &mut EntryQueue<'_>,
+    entrance: &mut Entrance<'_>,
     slots: &mut Vec<Slot<'s, L>>,
     warner: &mut T,
 ) -> Option<u64>
@@ -97,11 +128,13 @@ fn give_slots<
         if left == Some(0) {
             return server.asked;
         }
-        if !server.shared.goes_on() || queue.let_in(resources.threads, left).is_err() {
+        if !server.shared.goes_on()
+            || let_in(scope, resources.threads, server, entrance, left).is_err()
+        {
             return None;
         }
-        turn_all(scope, resources, server, queue, slots);
-        queue.turn_away_late(resources.threads);
+        turn_all(scope, resources, server, slots);
+        server.lobby.turn_away_late(resources.threads);
         warn_by(server.shared, warner);
     }
     unreachable!()
@@ -162,6 +195,8 @@ pub(crate) fn serve_all<
 {
     let word = AtomicU64::new(0);
     let flags = &word;
+    let lobby = Lobby::new(resources.alloc, options)?;
+    let lobby = &lobby;
     thread::scope(
         thread::scope_env(),
         resources.threads,
@@ -173,16 +208,18 @@ pub(crate) fn serve_all<
         {
             let mut slots = Vec::with_capacity(resources.alloc, passes.len())?;
             let mut back = Vec::with_capacity(resources.alloc, passes.len())?;
-            let mut queue = EntryQueue::new(resources.alloc, options, shared.is_watchful())?;
+            let mut entrance = Entrance::new(options.listener);
             set_up(passes, flags, &mut slots);
             let asked = options.sessions;
             let server = Server {
                 desk,
                 shared,
+                lobby,
                 asked,
             };
-            let given = give_slots(scope, resources, &server, &mut queue, &mut slots, warner);
-            queue.close();
+            let given = give_slots(scope, resources, &server, &mut entrance, &mut slots, warner);
+            lobby.close(resources.threads);
+            entrance.close();
             hang_up(shared, &slots);
             end_all(resources.threads, slots, &mut back);
             warn_by(shared, warner);

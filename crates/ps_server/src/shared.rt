@@ -1,6 +1,7 @@
 //! What the sessions of a server share: a desk and, where it is kept, its keeper.
 ghost use Rattle.std.specs.Prelude.{◌≡◌, is_some};
 
+use crate::lobby::Lobby;
 use crate::marker::Marker;
 use ps_desk::{Desk, DeskName};
 use ps_keep::Device;
@@ -87,6 +88,7 @@ impl<L: DeskName, D: Device + Drop> SharedState<L, D> {
 pub(crate) struct Server<'s, L: DeskName, W: Wait + Drop, D: Device + Drop> {
     pub(crate) desk: &'s Desk<L, W>,
     pub(crate) shared: &'s SharedState<L, D>,
+    pub(crate) lobby: &'s Lobby,
     /// none where there is no end to them
     pub(crate) asked: Option<u64>,
 }

@@ -2,8 +2,9 @@
 ghost use Rattle.std.specs.Prelude.{◌≡◌, ◌+◌, ◌<◌, ◌^◌, true, MatchResult};
 ghost use Rattle.ps_server.specs.Sessions.{Attended, IsAttended};
 
+use crate::arrival::Arrival;
 use crate::attend::attend;
-use crate::entry_queue::EntryQueue;
+use crate::connection::DeskSeat;
 use crate::shared::Server;
 use ps_desk::{DeskName, Pass, desk_is_sync};
 use ps_keep::Device;
@@ -15,6 +16,7 @@ use std::snapshot::Snapshot;
 use std::sync::Wait;
 use std::sync::atomic::{AtomicU64, Ordering};
 use std::thread::{Promise, PromisedHandle, Scope, Threads};
+use std::time::Clock;
 
 /// That a session gives its pass back, as the lines that its seat answered left this one.
 #[derive(Drop)]
@@ -147,13 +149,12 @@ impl<'s, L: DeskName> Slot<'s, L> {
         E,
         W: Wait + Drop + Send + 's,
         D: Device + Drop + Send + 's,
-        R: Threads + Wait + Sync,
+        R: Threads + Wait + Clock + Sync,
     >(
         &mut self,
         scope: &Scope<'s, E>,
         resources: Resources<'s, R>,
         server: &Server<'s, L, W, D>,
-        queue: &mut EntryQueue<'_>,
     )
     where
         L: Send + Sync + 's,
@@ -161,19 +162,24 @@ impl<'s, L: DeskName> Slot<'s, L> {
     {
         self.take_back(resources.threads);
         if self.is_free() {
-            if let Some(stream) = queue.next() {
-                self.begin(scope, resources, server, stream);
+            if let Some(arrival) = server.lobby.next(resources.threads) {
+                self.begin(scope, resources, server, arrival);
             }
         }
     }
 
     /// Begins a session over a connection.
-    fn begin<E, W: Wait + Drop + Send + 's, D: Device + Drop + Send + 's, R: Threads + Wait + Sync>(
+    fn begin<
+        E,
+        W: Wait + Drop + Send + 's,
+        D: Device + Drop + Send + 's,
+        R: Threads + Wait + Clock + Sync,
+    >(
         &mut self,
         scope: &Scope<'s, E>,
         resources: Resources<'s, R>,
         server: &Server<'s, L, W, D>,
-        stream: TcpStream,
+        arrival: Arrival,
     )
     where
         L: Send + Sync + 's,
@@ -183,8 +189,8 @@ impl<'s, L: DeskName> Slot<'s, L> {
     {
         let pass = given_back(resources.threads, self.state.take().unwrap());
         self.flag.lower();
-        self.closing_handle = server.shared.closing_handle(&stream);
-        self.state = Some(begin(scope, resources, server, pass, stream, self.flag));
+        self.closing_handle = server.shared.closing_handle(&arrival.stream);
+        self.state = Some(begin(scope, resources, server, pass, arrival, self.flag));
         self.begun += 1;
     }
 }
@@ -196,13 +202,13 @@ fn begin<
     L: DeskName + Send + Sync + 's,
     W: Wait + Drop + Send + 's,
     D: Device + Drop + Send + 's,
-    R: Threads + Wait + Sync,
+    R: Threads + Wait + Clock + Sync,
 >(
     scope: &Scope<'s, E>,
     resources: Resources<'s, R>,
     server: &Server<'s, L, W, D>,
     pass: Pass<L>,
-    stream: TcpStream,
+    arrival: Arrival,
     flag: EndFlag<'s>,
 ) -> Holder<L>
     ensures { MatchResult result (λ h. h.promise.0.value ≡ pass) (λ p. IsAttended L.replica L.opening pass p) }
@@ -212,15 +218,17 @@ fn begin<
     keeper_is_sync::<L, D>();
     let desk = server.desk;
     let shared = server.shared;
+    let lobby = server.lobby;
     let promise = ComesBack(Snapshot::of(&pass));
     let begun = scope.spawn_with(
         promise,
         move || -> Pass<L>
             ensures { IsAttended L.replica L.opening pass result }
         {
-            let end = attend(resources, desk, shared, pass, &stream);
-            drop(stream);
+            let end = attend(resources, DeskSeat { desk, pass }, shared, &arrival, lobby.idle());
+            drop(arrival);
             flag.raise();
+            lobby.note(resources.threads);
             end.pass
         },
     );

@@ -6,5 +6,5 @@ pub returns-in-Ok-Complete : goal.returns-in-Ok-Complete
 returns-in-Ok-Complete c =
     let is : IsRequestOf c.args.buf.now c.parse_request.new.headers c.in-Ok-Complete.request
     = rw (c.in-Ok-Complete.is, c.in-Ok-Complete.field-0-is) at c.parse_request.ensures.complete in
-    whole_answered c.args.port c.args.buf.now c.parse_request.new.headers c.in-Ok-Complete.request _ is
+    whole_answered c.args.buf.now c.parse_request.new.headers c.in-Ok-Complete.request _ is
     c.if-request-buf.true c.answer_head.ensures

@@ -24,6 +24,6 @@ returns-in_default g c = inr (
   inr (
     omega (arith, c.if-len-gt-HEAD_LIMIT.false, c.len.ensures),
     c.in_default.not-More,
-    subst (λ bs. AnswersBytes c.args.port bs c.answer_to.result) c.as_slice.ensures.value c.answer_to.ensures,
+    subst (λ bs. AnswersBytes bs c.answer_to.result) c.as_slice.ensures.value c.answer_to.ensures,
   ),
 )

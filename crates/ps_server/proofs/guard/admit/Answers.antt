@@ -1,6 +1,6 @@
 use Rattle.std.proofs.Common.{◌∙◌, Some, ap}
 use Rattle.ps_server.proofs.GuardLemmas.{no_request}
-use Rattle.ps_server.proofs.guard.read_front.Goals as goal
+use Rattle.ps_server.proofs.guard.admit.Goals as goal
 
 pub returns-in-Some-false-clause-request : goal.returns-in-Some-false-clause-request
 returns-in-Some-false-clause-request g c =

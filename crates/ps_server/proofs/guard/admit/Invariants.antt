@@ -1,5 +1,5 @@
 use Rattle.std.specs.Io.KnownBytes.{Consumes}
-use Rattle.ps_server.proofs.guard.read_front.Given as goal
+use Rattle.ps_server.proofs.guard.admit.Given as goal
 
 abbrev pub invariant-reads : goal.invariant-reads
 invariant-reads g l = Consumes (g.R.Read.remaining l.fn.reader) (g.R.Read.remaining l.reader) l.front.items

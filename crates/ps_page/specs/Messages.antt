@@ -1,0 +1,49 @@
+-- What passes between a browser's WebSocket and a session.
+use Rattle.std.specs.Prelude.{◌≡◌, ◌==◌, ◌&&◌, ⊤, ℕ, Bool, true, not, nat_lt, length, List, [], ◌∷◌, ◌++◌, Option, Ok}
+use Rattle.std.specs.List.{list_all}
+use Rattle.websocket.specs.Content.{text}
+use Rattle.tungstenite.specs.Socket.{Socket, Reads, content_of}
+use Rattle.tungstenite.specs.declared.message.Message.{Message}
+use Rattle.ps_page.specs.Heads.{AnswersReader}
+use Rattle.ps_page.specs.declared.greeting.Greeted.{Greeted}
+use Rattle.ps_page.specs.declared.greeting.Greeted.TheVariants.{Answered, Live}
+use Rattle.ps_page.specs.declared.head.Answer.{Answer}
+use Rattle.ps_page.specs.declared.socket.Heard.{Heard}
+use Rattle.ps_page.specs.declared.socket.Heard.TheVariants.{Idle, Left, Line, NoLine}
+
+-- b'\n' and b'\r'
+abbrev pub line_feed : ℕ
+line_feed = 10
+
+abbrev pub carriage_return : ℕ
+carriage_return = 13
+
+-- a line with the line feed that ends it
+abbrev pub ended : List ℕ → List ℕ
+ended line = line ++ line_feed ∷ []
+
+-- a message that is one line, neither empty nor divided
+abbrev pub is_line : List ℕ → Bool
+is_line line = nat_lt 0 (length line) && list_all (λ b. not (b == line_feed) && not (b == carriage_return)) line
+
+-- a message that says nothing to a session
+abbrev pub IsIdle : Message → Type 0
+IsIdle (Message.Text s) = ⊥
+IsIdle (Message.Binary s) = ⊥
+IsIdle (Message.Ping s) = ⊤
+IsIdle (Message.Pong s) = ⊤
+IsIdle (Message.Close frame) = ⊤
+
+-- HEARD: the socket read one message. It was one line, which is here now with a line feed; or it says nothing
+abbrev pub Hears : {S : Type 0} → (S → Option (List ℕ)) → Socket S → Socket S → List ℕ → Heard → Type 0
+Hears remaining old new bytes Line =
+    (message : Message) × (line : List ℕ) × Reads remaining old new (Ok message) × (content_of message ≡ text line)
+    × (is_line line ≡ true) × (bytes ≡ ended line)
+Hears remaining old new bytes Idle = (message : Message) × Reads remaining old new (Ok message) × IsIdle message
+Hears remaining old new bytes NoLine = ⊤
+Hears remaining old new bytes Left = ⊤
+
+-- GREETED: a WebSocket is opened only for a head that asks for it from this server's own page
+abbrev pub Greets : Option (List ℕ) → Option (List ℕ) → Greeted → Type 0
+Greets old new Live = (key : _) × AnswersReader old new (Answer.Live key)
+Greets old new Answered = ⊤

@@ -1,0 +1,82 @@
+//! A connection that wants a slot, and how it is told apart from those that don't.
+
+use crate::guard::{Unadmitted, admit};
+use ps_page::{Greeted, greet, turn_browser_away};
+use std::alloc::Global;
+use std::io::{Read, Write};
+use std::net::{Shutdown, TcpStream};
+use std::time::{Clock, Duration};
+
+/// How many pieces of what it sent are read from a connection that gets no slot.
+const PIECES: usize = 64;
+
+/// What a session's connection carries.
+#[derive(Drop)]
+pub(crate) enum Speech {
+    /// Lines, the first bytes of which were read already.
+    Lines(Vec<u8>),
+    /// The messages of a WebSocket that was just opened.
+    Messages,
+}
+
+/// A connection that wants a slot.
+#[derive(Drop)]
+pub(crate) struct Arrival {
+    pub(crate) stream: TcpStream,
+    pub(crate) speech: Speech,
+}
+
+impl Arrival {
+    /// Reads the beginning of a connection, and answers it if that is a request of HTTP; none if it wants no slot.
+    pub(crate) fn receive<C: Clock>(
+        clock: &C,
+        alloc: Global,
+        idle: Option<Duration>,
+        stream: TcpStream,
+    ) -> Option<Arrival> {
+        // (without it a reply may only come later)
+        let _ = stream.set_nodelay(true);
+        if idle.is_some() {
+            let _ = stream.set_read_timeout(idle);
+            let _ = stream.set_write_timeout(idle);
+        }
+        let mut front = Vec::new(alloc);
+        let mut reader = &stream;
+        let speech = match admit(&mut reader, &mut front) {
+            Ok(()) => Speech::Lines(front),
+            Err(Unadmitted::Failed) => return None,
+            Err(Unadmitted::Request) => match greet(clock, alloc, front.as_slice(), &stream) {
+                Greeted::Live => Speech::Messages,
+                Greeted::Answered => return None,
+            },
+        };
+        Some(Arrival { stream, speech })
+    }
+
+    /// Tells it that there is no slot for it, and closes it.
+    pub(crate) fn turn_away(self, alloc: Global, no_seat: &[u8]) {
+        let Arrival { stream, speech } = self;
+        match speech {
+            Speech::Lines(_) => turn_away(stream, no_seat),
+            Speech::Messages => {
+                turn_browser_away(alloc, &stream);
+                turn_away(stream, b"");
+            }
+        }
+    }
+}
+
+/// Writes these bytes on a connection that gets no slot, and closes it.
+pub(crate) fn turn_away(mut stream: TcpStream, last: &[u8]) {
+    let _ = stream.set_nonblocking(true);
+    let _ = stream.write(last);
+    let _ = stream.shutdown(Shutdown::Write);
+    // (a connection with bytes that were never read would be reset, and its peer could miss what it was sent)
+    let mut piece = [0u8; 4096];
+    for _ in 0..PIECES {
+        match stream.read(&mut piece) {
+            Ok(count) if 0 < count => {}
+            _ => return,
+        }
+    }
+}

@@ -1,0 +1,225 @@
+//! The connections of a server that have no slot yet: those whose first bytes are awaited, and those that wait for a
+//! slot.
+
+use crate::arrival::{Arrival, turn_away};
+use crate::options::ServerOptions;
+use ps_grid::Refusal;
+use std::alloc::{AllocError, Global};
+use std::net::{Shutdown, TcpStream};
+use std::sync::{Condvar, CondvarTimeouts, Mutex, Wait};
+use std::thread::{Scope, Threads};
+use std::time::{Clock, Duration, Instant};
+
+/// How many connections may wait for a slot at a time, and the first bytes of how many may be awaited.
+const MOST: usize = 512;
+
+/// How long a pause is, in milliseconds, in which nothing happens.
+const PAUSE: u64 = 5;
+
+/// A connection that waits for a slot.
+#[derive(Drop)]
+struct Waiting {
+    arrival: Arrival,
+    since: Instant,
+}
+
+/// A connection whose first bytes are awaited, by a thread of its own.
+#[derive(Drop)]
+struct Unheard {
+    number: u64,
+    /// a second handle to the connection, by which it can be closed
+    handle: TcpStream,
+}
+
+/// Who is in a lobby.
+#[derive(Drop)]
+struct Present {
+    unheard: Vec<Unheard>,
+    /// the first in front
+    waiting: Vec<Waiting>,
+    /// the number of the next connection
+    next: u64,
+    /// whether something happened since the last pause
+    has_changed: bool,
+    is_closed: bool,
+}
+
+/// The connections that have no slot yet.
+#[derive(Drop)]
+pub(crate) struct Lobby {
+    present: Mutex<Present>,
+    /// notified when something happens
+    changed: Condvar,
+    alloc: Global,
+    /// how long a connection may wait
+    patience: Duration,
+    /// after how long a session ends whose peer sends nothing
+    idle: Option<Duration>,
+    /// the line that a connection is sent that gets no slot
+    no_seat: String,
+}
+
+impl Lobby {
+    /// A lobby in which nobody is.
+    pub(crate) fn new(alloc: Global, options: ServerOptions<'_>) -> Result<Lobby, AllocError> {
+        let present = Present {
+            unheard: Vec::with_capacity(alloc, MOST)?,
+            waiting: Vec::with_capacity(alloc, MOST)?,
+            next: 0,
+            has_changed: false,
+            is_closed: false,
+        };
+        Ok(Lobby {
+            present: Mutex::new(present),
+            changed: Condvar::new(),
+            alloc,
+            patience: options.wait,
+            idle: options.idle,
+            no_seat: format!(in alloc; "{}\n", Refusal::Seat)?,
+        })
+    }
+
+    /// After how long a session ends whose peer sends nothing.
+    pub(crate) fn idle(&self) -> Option<Duration> {
+        self.idle
+    }
+
+    /// Lets a connection in. A thread of its own reads its first bytes; where none can be started, they are read here.
+    pub(crate) fn let_in<'s, E, R: Threads + Wait + Clock + Sync>(
+        &'s self,
+        scope: &Scope<'s, E>,
+        rt: &'s R,
+        stream: TcpStream,
+    ) {
+        let Some(number) = self.number(rt, &stream) else {
+            turn_away(stream, self.no_seat.as_bytes());
+            return;
+        };
+        let begun = scope.spawn(move || {
+            if let Some(arrival) = Arrival::receive(rt, self.alloc, self.idle, stream) {
+                self.enter(rt, arrival);
+            }
+            self.is_heard(rt, number);
+        });
+        match begun {
+            Ok(_) => {}
+            Err(refused) => (refused.value)(),
+        }
+    }
+
+    /// Notes a connection whose first bytes are awaited; none where there are too many, or it couldn't be closed.
+    fn number<R: Wait>(&self, rt: &R, stream: &TcpStream) -> Option<u64> {
+        let handle = stream.try_clone().ok()?;
+        let mut present = self.present.lock(rt);
+        let number = present.next;
+        if present.unheard.len() >= present.unheard.capacity() {
+            return None;
+        }
+        present.unheard.push_reserved(Unheard { number, handle });
+        present.next = number.wrapping_add(1);
+        Some(number)
+    }
+
+    /// Takes note that the first bytes of a connection came, or it ended.
+    fn is_heard<R: Wait>(&self, rt: &R, number: u64) {
+        let mut present = self.present.lock(rt);
+        present.unheard.retain(|it| it.number != number);
+        present.has_changed = true;
+        drop(present);
+        self.changed.notify_one();
+    }
+
+    /// Has an arrival wait for a slot, if there is room and more are wanted.
+    fn enter<R: Wait + Clock>(&self, rt: &R, arrival: Arrival) {
+        let mut present = self.present.lock(rt);
+        let has_room = present.waiting.len() < present.waiting.capacity();
+        match Instant::now(rt) {
+            Ok(since) if has_room && !present.is_closed => {
+                present
+                    .waiting
+                    .push_reserved(Waiting { arrival, since });
+            }
+            _ => {
+                drop(present);
+                arrival.turn_away(self.alloc, self.no_seat.as_bytes());
+            }
+        }
+    }
+
+    /// Takes note that something happened, so that a pause ends.
+    pub(crate) fn note<R: Wait>(&self, rt: &R) {
+        self.present.lock(rt).has_changed = true;
+        self.changed.notify_one();
+    }
+
+    /// Waits until something happens, or for some milliseconds.
+    pub(crate) fn pause<R: Wait + Clock>(&self, rt: &R) {
+        let present = self.present.lock(rt);
+        let pause = Duration::from_millis(PAUSE);
+        let while_quiet = |present: &mut Present| -> bool { !present.has_changed };
+        let (mut present, _) = self
+            .changed
+            .wait_timeout_while(rt, present, pause, while_quiet);
+        present.has_changed = false;
+    }
+
+    /// How many connections wait for a slot.
+    pub(crate) fn waiting<R: Wait>(&self, rt: &R) -> usize {
+        self.present.lock(rt).waiting.len()
+    }
+
+    /// Whether nobody is in it.
+    pub(crate) fn is_empty<R: Wait>(&self, rt: &R) -> bool {
+        let present = self.present.lock(rt);
+        present.waiting.is_empty() && present.unheard.is_empty()
+    }
+
+    /// The arrival that has waited longest.
+    pub(crate) fn next<R: Wait>(&self, rt: &R) -> Option<Arrival> {
+        let mut present = self.present.lock(rt);
+        if present.waiting.is_empty() {
+            return None;
+        }
+        Some(present.waiting.remove(0).arrival)
+    }
+
+    /// The arrival that has waited longest, if it has waited too long. One whose time can't be read has.
+    fn next_late<R: Wait + Clock>(&self, rt: &R) -> Option<Arrival> {
+        let mut present = self.present.lock(rt);
+        let is_late = match present.waiting.first()?.since.elapsed(rt) {
+            Ok(time) => time >= self.patience,
+            Err(_) => true,
+        };
+        if is_late {
+            Some(present.waiting.remove(0).arrival)
+        } else {
+            None
+        }
+    }
+
+    /// Turns those away that have waited too long.
+    pub(crate) fn turn_away_late<R: Wait + Clock>(&self, rt: &R) {
+        for _ in 0..MOST {
+            match self.next_late(rt) {
+                Some(arrival) => arrival.turn_away(self.alloc, self.no_seat.as_bytes()),
+                None => return,
+            }
+        }
+    }
+
+    /// Turns all away, also those that come later.
+    pub(crate) fn close<R: Wait>(&self, rt: &R) {
+        let mut present = self.present.lock(rt);
+        present.is_closed = true;
+        for unheard in &present.unheard {
+            let _ = unheard.handle.shutdown(Shutdown::Both);
+        }
+        drop(present);
+        for _ in 0..MOST {
+            match self.next(rt) {
+                Some(arrival) => arrival.turn_away(self.alloc, self.no_seat.as_bytes()),
+                None => return,
+            }
+        }
+    }
+}
