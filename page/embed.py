@@ -1,4 +1,4 @@
-"""Writes the page that `sheet page` answers with, page.html with page.css and the scripts in it, as the
+"""Writes the page that `sheet serve` answers with, page.html with page.css and the scripts in it, as the
 constants of crates/ps_page/src/page.rt: `python3 page/embed.py`. The content policy of its head names style and script
 by their hashes, so a browser runs that script and no other.
 """

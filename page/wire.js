@@ -1,8 +1,8 @@
 // The connection: nothing else knows how lines reach the server. What the rest has of it is `ask`, which promises the
 // lines of a reply, `link`, which tells how the connection is, and the calls `onLink` and `onChange`.
 const POLL = 200, FIRST_WAIT = 500, LONGEST_WAIT = 5000, MOST_UNDER_WAY = 250;
-// Why the gateway closes a connection.
-const ENDS = { 'no server': 'the server does not answer', 'no room': 'all places are taken' };
+// Why the server closes a connection.
+const ENDS = { 'no room': 'all places are taken' };
 const link = { isUp: false, isHeard: false, words: 'connecting', onLink() {}, onChange() {} };
 let socket = null, pause = FIRST_WAIT, waiting = [], underWay = [];
 
@@ -26,8 +26,12 @@ function connect() {
   opened.onopen = () => { link.isUp = true; tellLink('waiting for the server'); };
   opened.onmessage = event => {
     if (!link.isHeard) { link.isHeard = true; pause = FIRST_WAIT; tellLink('connected'); }
-    const asked = underWay.shift();
-    if (asked) asked.done(event.data.replace(/\n$/, '').split('\n'));
+    // A message has one reply or several. A reply is one line, or its first line tells how many follow.
+    for (const lines = event.data.split('\n'); lines.length > 1;) {
+      const more = /^(?:rows|entries) (.+)/.exec(lines[0]);
+      const reply = lines.splice(0, more ? 1 + Number(more[1]) : 1), asked = underWay.shift();
+      if (asked) asked.done(reply);
+    }
     sendWaiting();
   };
   opened.onclose = event => { if (socket === opened) lose(ENDS[event.reason]); };
