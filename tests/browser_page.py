@@ -1,4 +1,4 @@
-"""What the tests of the page share: a browser with pages at a gateway, and what is done and looked at there."""
+"""What the tests of the page share: a browser with pages at a server, and what is done and looked at there."""
 import contextlib
 import json
 import os
@@ -6,11 +6,9 @@ from pathlib import Path
 
 import browser
 from browser import Browser
-from browser_gateway import paging
 from program import NO_BROWSER, ProgramTest
 from servers import serving
 
-SESSIONS = 16
 # Where pictures of the page are kept; nowhere unless the variable is set.
 PICTURES = os.environ.get("SHEET_PICTURES")
 
@@ -27,9 +25,9 @@ def paste_text(page, text):
                % json.dumps(text))
 
 
-def connected(browser, gateway):
+def connected(browser, server):
     """A page in a browser, once it is connected and has seen the sheet."""
-    page = browser.page(gateway.url)
+    page = browser.page(server.url)
     page.wait_for("document.getElementById('link').textContent", "connected")
     page.wait_for("seenAt !== ''")
     return page
@@ -53,14 +51,13 @@ class BrowserTest(ProgramTest):
         if self.browser is None:
             type(self).browser = Browser()
         with contextlib.ExitStack() as stack:
-            self.server = stack.enter_context(serving(SESSIONS))
-            self.gateway = stack.enter_context(paging(self.server.port, *self.words))
+            self.server = stack.enter_context(serving(None, *self.words))
             self.addCleanup(stack.pop_all().close)
         self.client = self.server.client()
 
     def page(self):
         """A page that is connected, and at whose end nothing went wrong."""
-        page = connected(self.browser, self.gateway)
+        page = connected(self.browser, self.server)
         self.addCleanup(page.close)
         self.addCleanup(lambda: self.assertEqual(page.problems, []))
         return page

@@ -163,12 +163,31 @@ class Client(peers.Peer):
         self.connection.close()
 
 
+def url_of(port):
+    """The address of the page of a server on this port."""
+    return f"http://{HERE}:{port}/"
+
+
+def page_of(port):
+    """What a server on this port says on standard error once it listens."""
+    return lines(f"page {url_of(port)}")
+
+
+def first_line(file):
+    """The first line of a pipe, of which no byte after it is read."""
+    line = b""
+    while not line.endswith(b"\n") and (byte := os.read(file.fileno(), 1)):
+        line += byte
+    return line
+
+
 class Server:
     """`./sheet serve` under way, which listens on its port."""
 
     def __init__(self, session, port):
         self.session = session
         self.port = port
+        self.url = url_of(port)
         self.clients = []
 
     def client(self, **how):
@@ -181,8 +200,21 @@ class Server:
         """Whether it hasn't ended."""
         return self.session.poll() is None
 
+    def memory(self):
+        """How many bytes it holds in memory."""
+        return self.status("VmRSS:")
+
+    def room(self):
+        """How many bytes it has places for."""
+        return self.status("VmSize:")
+
+    def status(self, name):
+        """A number of bytes that the system has of it by this name."""
+        with open(f"/proc/{self.session.pid}/status") as status:
+            return next(int(row.split()[1]) for row in status if row.startswith(name)) * 1024
+
     def ended(self):
-        """How it ended, within some time; the output is what came after its first line."""
+        """How it ended, within some time; output and error are what came after the first line of each."""
         output, error = self.session.communicate(timeout=LIMIT)
         return Ended(self.session.returncode, output, error)
 
@@ -195,9 +227,9 @@ def serving(sessions, *words, port=None, **files):
     with started(*asked, stdin=subprocess.DEVNULL, stdout=subprocess.PIPE, **files) as session:
         server = Server(session, port)
         try:
-            first = session.stdout.readline()
-            if first != lines(f"listening {port}"):
-                raise AssertionError(f"the first line is {first!r}, and then {server.ended()}")
+            first = [first_line(file) for file in (session.stdout, session.stderr)]
+            if first != [lines(f"listening {port}"), page_of(port)]:
+                raise AssertionError(f"the first lines are {first!r}, and then {server.ended()}")
             yield server
         finally:
             for client in server.clients:

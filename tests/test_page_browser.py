@@ -1,10 +1,10 @@
-"""The page of `sheet page` in a real browser: what one types another sees, each key, counters, choices, pictures."""
+"""The page of `sheet serve` in a real browser: what one types another sees, each key, counters, choices, pictures."""
 import os
 import signal
 import unittest
 
 from browser import CONTROL, SHIFT
-from browser_page import SESSIONS, BrowserTest
+from browser_page import BrowserTest
 from program import LIMIT
 from servers import serving
 
@@ -267,7 +267,7 @@ class Pointer(BrowserTest):
 
 
 class Told(BrowserTest):
-    words = ("--browsers", "2")
+    words = ("--seats", "3", "--wait", "1")
 
     def test_refusals_are_told_in_words(self):
         page = self.page()
@@ -291,8 +291,10 @@ class Told(BrowserTest):
         page.wait_for("document.getElementById('cell-0').className.includes('cycle')", False)
 
     def test_a_browser_too_many_is_told_so(self):
+        # (a slot is this client's)
+        self.assertEqual(self.client.ask("get A1"), "val ")
         first, _ = self.page(), self.page()
-        third = self.browser.page(self.gateway.url)
+        third = self.browser.page(self.server.url)
         self.addCleanup(third.close)
         third.wait_for("document.getElementById('link').textContent", "all places are taken, trying again")
         first.open("about:blank")
@@ -312,12 +314,12 @@ class Told(BrowserTest):
         port = self.server.port
         os.killpg(self.server.session.pid, signal.SIGKILL)
         self.server.session.wait(LIMIT)
-        page.wait_for("document.getElementById('link').textContent", "the server does not answer, trying again")
+        page.wait_for("document.getElementById('link').textContent", "no connection, trying again")
         self.assertEqual(page.value("document.body.className"), "lost")
         page.type("5")
         page.wait_for("document.getElementById('refusal').textContent",
                       "There is no connection: nothing can be changed now.")
-        with serving(SESSIONS, port=port):
+        with serving(None, port=port):
             page.wait_for("document.body.className", "")
             page.type("5")
             page.key("Enter")

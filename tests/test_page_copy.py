@@ -1,4 +1,4 @@
-"""Copies on the page of `sheet page`: formulas move their references along, a cut moves, and fills repeat."""
+"""Copies on the page of `sheet serve`: formulas move their references along, a cut moves, and fills repeat."""
 import json
 import unittest
 

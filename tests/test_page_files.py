@@ -1,4 +1,4 @@
-"""Find, tables of CSV out and in, print, widths and titles on the page of `sheet page`, and names of options."""
+"""Find, tables of CSV out and in, print, widths and titles on the page of `sheet serve`, and names of options."""
 import unittest
 
 from browser import ALT, CONTROL, SHIFT
@@ -145,7 +145,7 @@ class Widths(BrowserTest):
         # the cells beside it move, and a click finds them
         page.click(*self.middle(page, 1, 2))
         self.assertEqual(self.current(page), "B3")
-        page.open(self.gateway.url)
+        page.open(self.server.url)
         page.wait_for("seenAt !== ''")
         self.assertEqual(page.value("widthOf(0)"), width + 44)
 
@@ -197,9 +197,9 @@ class Names(BrowserTest):
 class Titles(BrowserTest):
     def test_the_title_tells_the_sheet(self):
         page = self.page()
-        page.wait_for("document.title", f"Sheet {self.gateway.port}")
+        page.wait_for("document.title", f"Sheet {self.server.port}")
         self.fill("set A1 Friday lunch")
-        page.wait_for("document.title", f"Friday lunch - sheet {self.gateway.port}")
+        page.wait_for("document.title", f"Friday lunch - sheet {self.server.port}")
 
 
 if __name__ == "__main__":

@@ -1,11 +1,9 @@
-"""The page of `sheet page` in Firefox, where it is installed: a handful of what the other tests do in Chromium."""
+"""The page of `sheet serve` in Firefox, where it is installed: a handful of what the other tests do in Chromium."""
 import contextlib
 import unittest
 
 import browser_firefox
 from browser_firefox import Firefox
-from browser_gateway import paging
-from browser_page import SESSIONS
 from program import NO_BROWSER, ProgramTest
 from servers import serving
 
@@ -29,11 +27,10 @@ class InFirefox(ProgramTest):
         if self.firefox is None:
             type(self).firefox = Firefox()
         with contextlib.ExitStack() as stack:
-            self.server = stack.enter_context(serving(SESSIONS))
-            self.gateway = stack.enter_context(paging(self.server.port))
+            self.server = stack.enter_context(serving(None))
             self.addCleanup(stack.pop_all().close)
         self.client = self.server.client()
-        self.firefox.open(self.gateway.url)
+        self.firefox.open(self.server.url)
         self.firefox.wait_for("document.getElementById('link').textContent", "connected")
 
     def entry(self, text):

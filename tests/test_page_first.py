@@ -1,4 +1,4 @@
-"""The first picture of the page of `sheet page`: how soon a browser shows it that has just started, on one core.
+"""The first picture of the page of `sheet serve`: how soon a browser shows it that has just started, on one core.
 
 Others may keep the core busy. So a start is in time by the clock or by the processor time that the browser has had:
 where nothing else runs on the core, it would be in time by both.
@@ -9,7 +9,6 @@ from pathlib import Path
 
 import browser
 from browser import Browser
-from browser_gateway import paging
 from program import NO_BROWSER, ProgramTest
 from servers import serving
 
@@ -52,12 +51,12 @@ class First(ProgramTest):
     def test_the_first_picture(self):
         if browser.program() is None:
             self.skipTest(NO_BROWSER)
-        with serving(4) as server, paging(server.port) as gateway:
+        with serving(None) as server:
             # a start may fall together with what the browser does besides
             times = []
             while not times or times[-1] > MOST_SECONDS:
                 self.assertLess(len(times), TRIES, times)
-                times.append(first_picture(gateway.url))
+                times.append(first_picture(server.url))
             self.assertGreater(times[-1], 0)
 
 

@@ -1,4 +1,4 @@
-"""The page of `sheet page` for everybody: by keys alone, a screen reader, on small and dark screens; help and size."""
+"""The page of `sheet serve` for everybody: by keys alone, a screen reader, on small and dark screens; help and size."""
 import json
 import unittest
 

@@ -1,4 +1,4 @@
-"""The keys of a spreadsheet on the page of `sheet page`, and what they, the heads and the name box select."""
+"""The keys of a spreadsheet on the page of `sheet serve`, and what they, the heads and the name box select."""
 import unittest
 
 from browser import CONTROL, SHIFT

@@ -1,4 +1,4 @@
-"""The hunt at two pages of `sheet page`: it finds faults that are planted in the page, and none in the page itself."""
+"""The hunt at two pages of `sheet serve`: it finds faults that are planted in the page, and none in the page itself."""
 import unittest
 
 import browser

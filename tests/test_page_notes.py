@@ -1,4 +1,4 @@
-"""The page of `sheet page` says where a text only looks like a number, and where a sum passes it over."""
+"""The page of `sheet serve` says where a text only looks like a number, and where a sum passes it over."""
 import unittest
 
 from browser_page import BrowserTest

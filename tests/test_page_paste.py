@@ -1,4 +1,4 @@
-"""A paste into the page of `sheet page` loses nothing: what is refused is told and marked, and the rest goes on."""
+"""A paste into the page of `sheet serve` loses nothing: what is refused is told and marked, and the rest goes on."""
 import unittest
 
 from browser import CONTROL

@@ -1,4 +1,4 @@
-"""What a new user does on the page of `sheet page` by `docs/USING.md`: a plan, a vote and a budget."""
+"""What a new user does on the page of `sheet serve` by `docs/USING.md`: a plan, a vote and a budget."""
 import unittest
 
 from browser import CONTROL

@@ -1,4 +1,4 @@
-"""The title of the page of `sheet page`: the one that somebody gives it there, or the text of the first cell."""
+"""The title of the page of `sheet serve`: the one that somebody gives it there, or the text of the first cell."""
 import unittest
 
 from browser_page import BrowserTest
@@ -17,16 +17,16 @@ class Title(BrowserTest):
     def test_a_given_title_stays(self):
         page = self.page()
         self.fill("set A1 Friday")
-        page.wait_for("document.title", f"Friday - sheet {self.gateway.port}")
+        page.wait_for("document.title", f"Friday - sheet {self.server.port}")
         self.give(page, "Plan")
-        page.wait_for("document.title", f"Plan - sheet {self.gateway.port}")
-        page.open(self.gateway.url)
+        page.wait_for("document.title", f"Plan - sheet {self.server.port}")
+        page.open(self.server.url)
         page.wait_for("seenAt !== ''")
-        page.wait_for("document.title", f"Plan - sheet {self.gateway.port}")
+        page.wait_for("document.title", f"Plan - sheet {self.server.port}")
         self.assertEqual(page.value("document.getElementById('title').value"), "Plan")
         # a blank one is none
         self.give(page, " ")
-        page.wait_for("document.title", f"Friday - sheet {self.gateway.port}")
+        page.wait_for("document.title", f"Friday - sheet {self.server.port}")
 
     def test_a_saved_file_has_it(self):
         page = self.page()

@@ -1,4 +1,4 @@
-"""Several people at the page of `sheet page`: two in one cell, and counters and sets that aren't replaced unasked."""
+"""Several people at the page of `sheet serve`: two in one cell, and counters and sets that aren't replaced unasked."""
 import unittest
 
 from browser import CONTROL

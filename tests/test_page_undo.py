@@ -1,4 +1,4 @@
-"""Undo and redo on the page of `sheet page`: what this browser did, where nobody has changed it since."""
+"""Undo and redo on the page of `sheet serve`: what this browser did, where nobody has changed it since."""
 import unittest
 
 from browser import CONTROL, SHIFT

@@ -5,7 +5,6 @@ import csv
 import functools
 
 from browser import Browser
-from browser_gateway import paging
 from browser_monkey import COLUMNS, ROWS, Monkey, name_of, steps
 from browser_page import connected
 from servers import serving
@@ -13,7 +12,7 @@ from servers import serving
 from .chance import Chance
 from .plans import Plan
 
-PAGES, SESSIONS = 2, 4
+PAGES = 2
 LENGTHS = (5, 15, 30, 50)
 
 
@@ -37,9 +36,9 @@ def held(client):
     return list(csv.reader([client.reply() for _ in range(rows)]))
 
 
-def opened(stack, gateway, fault):
+def opened(stack, server, fault):
     """A page with nothing from a sheet before; where a fault is given, that script has run in it."""
-    page = connected(browser(), gateway)
+    page = connected(browser(), server)
     stack.callback(page.close)
     page.value(f"[localStorage.clear(), typed.clear(), {fault or 0}].length")
     return page
@@ -61,9 +60,8 @@ def difference(monkey, client, step):
 def trouble(plan, counts, fault=None):
     """What is wrong once the steps of the plan are taken, or nothing."""
     with contextlib.ExitStack() as stack:
-        server = stack.enter_context(serving(SESSIONS))
-        gateway = stack.enter_context(paging(server.port))
-        monkey = Monkey([opened(stack, gateway, fault) for _ in range(PAGES)])
+        server = stack.enter_context(serving(None))
+        monkey = Monkey([opened(stack, server, fault) for _ in range(PAGES)])
         client = server.client()
         for step in plan.parts:
             counts["steps"] = counts.get("steps", 0) + 1
