@@ -1,8 +1,8 @@
 #!/usr/bin/env python3
-"""Measures `./sheet page` beside `./sheet serve`, with Chromium without a window (`tests/browser.py`), and tells:
+"""Measures the page of `./sheet serve`, with Chromium without a window (`tests/browser.py`), and tells:
 
 - how long it takes from a key in one browser to the picture in the other, the median and the longest of CHANGES;
-- the memory of the gateway before the first browser, and with 16 of them, each of which has asked for a screenful;
+- the memory of the server before the first browser, and with 16 of them, each of which has asked for a screenful;
 - frames while one scrolls, by 40 pixels a frame down the sheet, over a full screen of numbers: how many a second, and
   how many took more than 1/30 of a second.
 
@@ -16,7 +16,6 @@ from pathlib import Path
 TOP = Path(__file__).resolve().parent.parent
 sys.path.insert(0, str(TOP / "tests"))
 from browser import Browser
-from browser_gateway import paging
 from browser_socket import WebSocket
 from servers import serving
 
@@ -50,9 +49,9 @@ SCROLLED = """new Promise(done => {
 })"""
 
 
-def opened(browser, gateway):
+def opened(browser, server):
     """A page that has its first reply."""
-    page = browser.page(gateway.url)
+    page = browser.page(server.url)
     page.wait_for("seenAt !== ''")
     return page
 
@@ -75,15 +74,14 @@ def fill(port):
 
 def main(changes):
     with contextlib.ExitStack() as stack:
-        server = stack.enter_context(serving(BROWSERS))
-        gateway = stack.enter_context(paging(server.port, "--browsers", str(BROWSERS)))
-        before = gateway.memory()
+        server = stack.enter_context(serving(None))
+        before = server.memory()
         browser = Browser()
         stack.callback(browser.end)
-        first, second = opened(browser, gateway), opened(browser, gateway)
+        first, second = opened(browser, server), opened(browser, server)
         took = sorted(delays(first, second, changes))
         print(f"from a key to the picture in the other: {statistics.median(took):.0f} ms, {took[-1]:.0f} ms at most")
-        fill(gateway.port)
+        fill(server.port)
         second.wait_for("shownAt([0, 2])", "3")
         frames = second.value(SCROLLED)
         late = sum(frame > 1000 / 30 for frame in frames)
@@ -93,11 +91,11 @@ def main(changes):
         sockets = []
         while len(sockets) < BROWSERS:
             with contextlib.suppress(Exception):
-                socket = WebSocket(gateway.port)
+                socket = WebSocket(server.port)
                 socket.ask(f"rows {SCREEN}")
                 socket.ask(f"entries {SCREEN}")
                 sockets.append(stack.enter_context(socket))
-        print(f"memory of the gateway: {before / 1e6:.1f} MB, with {BROWSERS} browsers {gateway.memory() / 1e6:.1f} MB")
+        print(f"memory of the server: {before / 1e6:.1f} MB, with {BROWSERS} browsers {server.memory() / 1e6:.1f} MB")
 
 
 if __name__ == "__main__":

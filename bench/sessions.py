@@ -38,7 +38,8 @@ def main(count, line):
     """Measures so many sessions of this line."""
     with socket.create_server(("127.0.0.1", 0)) as listener:
         port = listener.getsockname()[1]
-    with subprocess.Popen([program, "serve", "--port", str(port)], stdout=subprocess.PIPE) as server:
+    words = [program, "serve", "--port", str(port)]
+    with subprocess.Popen(words, stdout=subprocess.PIPE, stderr=subprocess.DEVNULL) as server:
         try:
             assert server.stdout.readline() == f"listening {port}\n".encode()
             tell(server, 0)

@@ -81,13 +81,28 @@ def frame(opcode, payload, is_masked=True, first=0x80):
     return head + mask + masked
 
 
+def replies_in(text):
+    """The replies in a message of a server: the first line of `rows` and `entries` tells how many follow."""
+    rest, found = text.split("\n"), []
+    if rest.pop() or not rest:
+        raise AssertionError(f"a message without a line feed at its end: {text[-100:]!r}")
+    while rest:
+        word, _, count = rest[0].partition(" ")
+        size = 1 + (int(count) if word in ("rows", "entries") else 0)
+        if len(rest) < size:
+            raise AssertionError(f"a reply that isn't whole: {rest[:3]!r}")
+        found.append("".join(f"{line}\n" for line in rest[:size]))
+        del rest[:size]
+    return found
+
+
 class WebSocket:
     """A WebSocket that is open."""
 
     def __init__(self, port, path="/live", head=None, wait=LIMIT, room=None):
         """Opens it by a head, which is that of the page's own, unless another is given. Refused: `Ended`."""
         self.connection = connection_to(port, wait, room)
-        self.bytes = b""
+        self.bytes, self.replies = b"", []
         try:
             self.connection.sendall(head or upgrade(port, path=path))
             while b"\r\n\r\n" not in self.bytes:
@@ -147,10 +162,16 @@ class WebSocket:
             pieces.append(payload)
         return b"".join(pieces).decode()
 
+    def reply(self):
+        """The next reply of a server, with its line feeds. A message has one or several, each of them whole."""
+        if not self.replies:
+            self.replies = replies_in(self.receive())
+        return self.replies.pop(0)
+
     def ask(self, text):
-        """Sends a text, and returns the message that comes back."""
+        """Sends a text, and returns the reply to it."""
         self.send(text)
-        return self.receive()
+        return self.reply()
 
     def closing(self):
         """The code and the reason by which the other side closes, or no code where the connection just ends."""

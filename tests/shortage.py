@@ -9,7 +9,7 @@ from typing import NamedTuple
 import preloaded
 from preloaded import PROGRAM
 from program import LIMIT, Ended, lines, started
-from servers import Client, free_port
+from servers import Client, free_port, page_of
 
 # More requests than any program has.
 ALL = 2**64 - 1
@@ -68,7 +68,7 @@ def talk(port, given):
 
 def serve_short(library, scripts, first, last, *further):
     """Has a server answer each of these bytes in a session of its own, one after another, and refuses the requests from
-    the first to the last. The output is what comes after `listening`; it may have further words."""
+    the first to the last. Output and error are what comes after the lines of its start; it may have further words."""
     port = free_port()
     words = ["serve", "--port", str(port), "--sessions", str(len(scripts)), *further]
     with refusing(library, first, last) as (how, count):
@@ -77,7 +77,7 @@ def serve_short(library, scripts, first, last, *further):
             is_listening = server.stdout.readline() == lines(f"listening {port}")
             replies = [talk(port, given) if is_listening else b"" for given in scripts]
             output, error = server.communicate(timeout=LIMIT)
-            return ShortServer(replies, Ended(server.returncode, output, error), requests_in(count))
+            return ShortServer(replies, Ended(server.returncode, output, error.removeprefix(page_of(port))), requests_in(count))
 
 
 def each(start, spans):

@@ -1,6 +1,7 @@
 """What comes to a server's port over HTTP, from a browser or not: nothing of it is carried out, and sessions go on."""
 import contextlib
 import http.server
+import re
 import shutil
 import subprocess
 import threading
@@ -9,6 +10,7 @@ import unittest
 
 import browser
 from browser import Browser
+from browser_socket import answer, request
 from program import LIMIT, NO_BROWSER, Ended, ProgramTest, lines
 from servers import HERE, free_port, serving
 
@@ -19,7 +21,11 @@ LONG = 9_000
 # The most ports that a browser refuses to go to are below these.
 LEAST_PORT = 10_100
 HEAD = b"Host: 127.0.0.1:7001\r\nOrigin: http://example.org\r\nContent-Type: text/plain\r\n"
-BAD_REQUEST = b"HTTP/1.1 400 Bad Request\r\n"
+# How a request with a body is refused, by whether the body came with its head; and how one is whose head is too long.
+REFUSED = re.compile(rb"HTTP/1\.1 (?:400 Bad Request|405 Method Not Allowed)\r\n")
+REFUSED_LONG = re.compile(rb"HTTP/1\.1 (?:400 Bad Request|405 Method Not Allowed|431 Request Header Fields Too Large)\r\n")
+# A line of a session's replies.
+REPLY = re.compile(rb"^(?:ok|val|err|rows|end) ", re.MULTILINE)
 
 
 def post(method=b"POST", target=b"/", version=b"HTTP/1.1", end=b"\r\n"):
@@ -39,13 +45,13 @@ class Door(ProgramTest):
         client.leave()
 
     def assert_refused(self, server, *pieces):
-        """What comes in these pieces is told to be a bad request, and its connection is closed."""
+        """What comes in these pieces is refused as a request, and its connection is closed."""
         client = server.client()
         told = self.told(client, *pieces)
         if told or len(pieces) == 1:
-            self.assertTrue(told.startswith(BAD_REQUEST), told)
-            head, text = told.split(b"\r\n\r\n")
-            self.assertEqual((f"Content-Length: {len(text)}".encode() in head, text.endswith(b"\n")), (True, True))
+            self.assertRegex(told, REFUSED)
+            head, _, text = told.partition(b"\r\n\r\n")
+            self.assertEqual((b"content-length: 0" in head, text), (True, b""))
         client.close()
 
     def told(self, client, *pieces):
@@ -91,7 +97,8 @@ class Requests(Door):
                     client = server.client()
                     # (the server may close before it has read all)
                     told = self.told(client, post(target=b"/" + b"x" * length))
-                    self.assertIn(told[:len(BAD_REQUEST)], (BAD_REQUEST, b""))
+                    if told:
+                        self.assertRegex(told, REFUSED_LONG)
                     client.close()
             self.untouched(server)
 
@@ -104,7 +111,7 @@ class Requests(Door):
                           ["--data-binary", "@-"], ["-H", "set A1 x"], ["-H", "X: y\nset A1 x"], ["-G", "-d", "set A1 x"]):
                 with self.subTest(words=words):
                     ran = subprocess.run(["curl", "-sS", *words, url], input=BODY, capture_output=True, timeout=LIMIT)
-                    self.assertNotIn(b"ok ", ran.stdout)
+                    self.assertNotRegex(ran.stdout, REPLY)
             self.untouched(server)
 
     def test_at_a_kept_sheet(self):
@@ -122,10 +129,11 @@ class Requests(Door):
             self.assertEqual(client.ask("set A1 5"), "ok 1")
             client.leave()
 
-    def test_a_server_for_some_sessions_counts_them(self):
-        with serving(3) as server:
+    def test_a_server_for_some_sessions_counts_none_of_them(self):
+        with serving(1) as server:
             self.assert_refused(server, post())
-            self.assert_refused(server, b"GET / HTTP/1.1\r\n\r\n")
+            self.assertEqual(answer(server.port, request(server.port))[0], 200)
+            self.assertEqual(answer(server.port, b"GET / HTTP/1.1\r\n\r\n")[0], 403)
             client = server.client()
             self.assertEqual(client.ask("set A1 5"), "ok 1")
             client.leave()
@@ -140,7 +148,7 @@ class Requests(Door):
                     client.reset()
                     client = server.client()
                     client.send(front)
-                    self.assertNotIn(b"ok", client.told())
+                    self.assertEqual(client.told(), b"")
                     client.close()
             self.untouched(server)
 
@@ -154,7 +162,9 @@ class Sessions(Door):
             b"HTTP/1.1\n": b"err 16 command\n", b"A B C\n": b"err 16 command\n",
             b"set A1 HTTP/1.1\n": b"ok 1\n", b"get A1\n": b"val HTTP/1.1\n", b"get / HTTP/1.1\n": b"err 16 command\n",
             b"\nget A2\n": b"val \n", b"\r\nget A2\n": b"val \n", b"\x16\x03\x01\n": b"err 16 command\n",
-            b"\xffET / x\n": b"err 16 command\n", b"1\n": b"err 16 command\n",
+            b"\xffET / x\n": b"err 16 command\n", b"1\n": b"err 16 command\n", b"GET /\r\n\r\n": b"err 16 command\n",
+            b"walk\r\n\r\n": b"err 16 command\n", b"get / HTTP/1.1\r\nHost: localhost\r\n\r\n": b"err 16 command\n" * 2,
+            b"\x16\x03\x01\x02\x00\x01\x00\x01\xfc\x03\x03\r\n\r\n": b"err 16 command\n",
             b"GET A1": b"err 16 command\n", b"X": b"err 16 command\n", b"GET / HTTP/1.1": b"err 16 command\n",
             b"Y" * 8_191 + b"\nget A2\n": b"err 16 command\nval \n", b"Get A1\nget A2\n": b"err 16 command\nval \n",
             b"get A2\nPOST / HTTP/1.1\nset A3 5\n": b"val \nerr 16 command\nok 2\n",
@@ -207,12 +217,19 @@ async function attack() {
     const image = new Image();
     image.src = THERE + 'set%20C1%205';
     told.image = await event(image, 'load', 'error');
+    told.page = await settled(fetch(THERE, {mode: 'no-cors'}));
+    told.read = await settled(fetch(THERE));
     const socket = new WebSocket(THERE.replace('http', 'ws'), ['set']);
     told.socket = await event(socket, 'open', 'error');
-    const frame = document.createElement('iframe');
-    frame.src = THERE + '\\nset C2 5\\n';
-    document.body.append(frame);
-    told.frame = await Promise.race([event(frame, 'load'), new Promise(done => setTimeout(done, 3000, 'nothing'))]);
+    const live = new WebSocket(THERE.replace('http', 'ws') + 'live');
+    live.onopen = () => { live.send('set C3 5'); };
+    told.live = await event(live, 'open', 'error');
+    for (const path of ['\\nset C2 5\\n', '']) {
+        const frame = document.createElement('iframe');
+        frame.src = THERE + path;
+        document.body.append(frame);
+        told.frame = await Promise.race([event(frame, 'load'), new Promise(done => setTimeout(done, 3000, 'nothing'))]);
+    }
     document.getElementById('form').submit();
     told.form = await Promise.race([event(document.getElementById('inside'), 'load'),
                                     new Promise(done => setTimeout(done, 3000, 'nothing'))]);
@@ -239,27 +256,60 @@ class Elsewhere(http.server.BaseHTTPRequestHandler):
 
 
 class Browsers(Door):
-    """A page of another site, in a real browser, that sends lines by all that a page has."""
+    """A page that isn't the server's own, in a real browser, which sends lines by all that a page has."""
 
-    @unittest.skipIf(browser.program() is None, NO_BROWSER)
-    def test_a_page_of_another_site(self):
+    def setUp(self):
+        if browser.program() is None:
+            self.skipTest(NO_BROWSER)
+        self.window = Browser()
+        self.addCleanup(self.window.end)
+
+    def site(self, there):
+        """The port of a site with a page that attacks this address."""
+        shown = {"page": PAGE.replace("@ADDRESS@", there).encode()}
+        site = http.server.ThreadingHTTPServer((HERE, 0), type("Site", (Elsewhere,), shown))
+        self.addCleanup(site.server_close)
+        self.addCleanup(site.shutdown)
+        threading.Thread(target=site.serve_forever, daemon=True).start()
+        return site.server_address[1]
+
+    def port(self):
+        """A port to which a browser goes."""
         port = free_port()
         while port < LEAST_PORT:
             port = free_port()
-        with serving(None, port=port) as server:
-            shown = {"page": PAGE.replace("@ADDRESS@", f"http://{HERE}:{port}/").encode()}
-            site = http.server.ThreadingHTTPServer((HERE, 0), type("Site", (Elsewhere,), shown))
-            threading.Thread(target=site.serve_forever, daemon=True).start()
-            window = Browser()
-            try:
-                page = window.page(f"http://{HERE}:{site.server_address[1]}/")
-                told = page.value("attack()")
+        return port
+
+    def assert_in_vain(self, server, name, there):
+        """A page of a site by this name, which attacks the server at this address, changes nothing."""
+        page = self.window.page(f"http://{name}:{self.site(there)}/")
+        told = page.value("attack()")
+        page.close()
+        self.untouched(server)
+        # each came to the server, and was answered there
+        self.assertEqual((told["fetch"], told["get"], told["cors"]), ("answered", "answered", "failed"), told)
+        self.assertEqual((told["page"], told["read"]), ("failed", "failed"), told)
+        self.assertEqual((told["image"], told["socket"], told["live"]), ("error", "error", "error"), told)
+
+    def test_a_page_of_another_site_or_at_another_port(self):
+        with serving(None, port=self.port()) as server:
+            # (a browser takes each name that ends so for one of this machine)
+            for name in (HERE, "localhost", "elsewhere.localhost"):
+                for host in (HERE, "localhost"):
+                    with self.subTest(name=name, host=host):
+                        self.assert_in_vain(server, name, f"http://{host}:{server.port}/")
+
+    def test_a_foreign_name_for_the_address_of_the_server(self):
+        with serving(None, port=self.port()) as server:
+            page = self.window.page(f"http://elsewhere.localhost:{server.port}/")
+            self.assertEqual(page.value("document.scripts.length"), 0)
+            self.assertEqual(page.value("fetch('/', {method: 'POST', body: '\\nset A1 5\\n'}).then(it => it.status)"), 403)
+            page.close()
+            self.untouched(server)
+
+    def test_the_page_itself_is_let_in_by_either_name(self):
+        with serving(None, port=self.port()) as server:
+            for name in (HERE, "localhost"):
+                page = self.window.page(f"http://{name}:{server.port}/")
+                page.wait_for("document.getElementById('link').textContent", "connected")
                 page.close()
-                self.untouched(server)
-                # each came to the server, and was answered there
-                self.assertEqual((told["fetch"], told["get"], told["cors"]), ("answered", "answered", "failed"), told)
-                self.assertEqual((told["image"], told["socket"]), ("error", "error"), told)
-            finally:
-                window.end()
-                site.shutdown()
-                site.server_close()

@@ -149,7 +149,7 @@ class AtATerminal(ProgramTest):
 def words_with_port(port):
     """The words of each command that is to listen on this port, and of each that is to connect to it."""
     return (
-        (["serve", "--port", port], ["page", "--from", "7001", "--port", port]),
+        (["serve", "--port", port],),
         (["sync", "--from", port, "--to", port], ["follow", "--from", port], ["follow", "--from", port, "--until-now"],
          ["talk", "--to", port]),
     )

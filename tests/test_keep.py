@@ -261,7 +261,7 @@ class Refuses(KeepingTest):
 
     def test_other_commands_keep_nothing(self):
         for words in (("table",), ("sync", "--from", "1", "--to", "2"), ("follow", "--from", "1"), ("squash",),
-                      ("talk", "--to", "1"), ("page", "--from", "1", "--port", "2")):
+                      ("talk", "--to", "1")):
             with self.subTest(words=words):
                 self.assertEqual(run(*words, "--keep", str(self.file)).status, 2)
         self.assertEqual(run("run", "--keep").status, 2)

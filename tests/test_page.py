@@ -1,7 +1,6 @@
-"""`sheet page` with real sockets: what it answers, whom it refuses, and browsers that misbehave or come and go."""
+"""The page of `sheet serve` with real sockets: what is answered, who is refused, and browsers that come and go."""
 import contextlib
 import errno
-import re
 import resource
 import socket
 import struct
@@ -14,28 +13,26 @@ from pathlib import Path
 
 import browser_socket
 import preloaded
-from browser_gateway import paging
-from browser_socket import (
-    BINARY, HERE, PING, PONG, TEXT, WebSocket, accept_of, answer, connection_to, frame, request, upgrade,
-)
+from browser_socket import BINARY, PING, PONG, TEXT, WebSocket, accept_of, answer, connection_to, frame, request, upgrade
 from hunt import shortages
 from preloaded import PROGRAM
-from program import DEVICE_FAILED, LIMIT, TOP, Ended, ProgramTest, run
-from servers import free_port, serving
+from program import LIMIT, TOP, Ended, ProgramTest, lines, run
+from servers import Client, comes_to, free_port, serving
 from sizes import LONGEST_LINE
 
 KEY = "dGhlIHNhbXBsZSBub25jZQ=="
 # the answer to this key, from the standard of WebSockets (RFC 6455, section 1.3)
 ACCEPTED = "s3pPLMBiTxaQ9kYGzzhZRbK+xOo="
-SESSIONS = 16
-# The bounds of `docs/FORMATS.md`.
-MOST_CONNECTIONS, LONGEST_REPLY = 64, 16_777_216
-# What closes a WebSocket is told.
-NO_LINE, NO_SERVER, NO_ROOM = (1008, "no line"), (1011, "no server"), (1013, "no room")
+# What closes a WebSocket says, and what a session of lines is sent that gets no slot.
+NO_LINE, NO_ROOM = (1008, "no line"), (1013, "no room")
+NO_SEAT = lines("err 21 seat")
+# The names by which a machine has its own page.
+NAMES = ("127.0.0.1", "localhost", "[::1]")
+GONE = lines("sheet page is gone: sheet serve has the page at its own port")
 
 
 def seated(port, seconds=LIMIT):
-    """A WebSocket that has a session, once there is room: the gateway may not know yet of some that have gone."""
+    """A WebSocket that has a slot, once one is free."""
     deadline = time.monotonic() + seconds
     while True:
         with contextlib.suppress(browser_socket.Ended, ConnectionError):
@@ -47,21 +44,36 @@ def seated(port, seconds=LIMIT):
                 opened.connection.close()
                 raise
         if time.monotonic() > deadline:
-            raise AssertionError(f"no room within {seconds} seconds")
+            raise AssertionError(f"no slot within {seconds} seconds")
         time.sleep(0.05)
 
 
+def at_once(*tasks):
+    """Runs these tasks beside each other, and returns what each of them returned."""
+    found, barrier = [None] * len(tasks), threading.Barrier(len(tasks))
+
+    def work(number):
+        barrier.wait(LIMIT)
+        found[number] = tasks[number]()
+
+    threads = [threading.Thread(target=work, args=(number,)) for number in range(len(tasks))]
+    for thread in threads:
+        thread.start()
+    for thread in threads:
+        thread.join(LIMIT)
+    return found
+
+
 class PageTest(ProgramTest):
-    """A test of a gateway beside a server."""
+    """A test of a server's page."""
 
     words = ()
 
     def setUp(self):
         with contextlib.ExitStack() as stack:
-            self.server = stack.enter_context(serving(SESSIONS))
-            self.gateway = stack.enter_context(paging(self.server.port, *self.words))
+            self.server = stack.enter_context(serving(None, *self.words))
             self.addCleanup(stack.pop_all().close)
-        self.port = self.gateway.port
+        self.port = self.server.port
 
     def socket(self, **how):
         """A WebSocket as the page opens it."""
@@ -80,7 +92,7 @@ class PageTest(ProgramTest):
         self.seated()
 
     def seated(self):
-        """A WebSocket that has a session, once there is room for it."""
+        """A WebSocket that has a slot, once one is free."""
         opened = seated(self.port)
         self.addCleanup(opened.connection.close)
         return opened
@@ -99,7 +111,6 @@ class Heads(PageTest):
         self.assertIn("default-src 'none'", policy)
         self.assertIn("frame-ancestors 'none'", policy)
         self.assertNotIn("unsafe", policy)
-        self.assertEqual(answer(self.port, request(self.port, host=f"localhost:{self.port}"))[0], 200)
 
     def test_the_page_is_that_of_the_files(self):
         made = subprocess.run(["python3", "-B", "-c", "import embed; print(embed.module(), end='')"],
@@ -111,30 +122,43 @@ class Heads(PageTest):
         named = dict(field.split(": ", 1) for field in opened.head.decode().split("\r\n")[1:])
         self.assertEqual({name.lower(): text for name, text in named.items()}["sec-websocket-accept"], ACCEPTED)
         self.assertEqual(accept_of(KEY), ACCEPTED)
-        self.socket(head=upgrade(self.port, host=f"localhost:{self.port}", origin=f"http://localhost:{self.port}"))
+
+    def test_a_forwarded_port_and_each_name_of_this_machine(self):
+        for name in NAMES:
+            for host in (name, f"{name}:{self.port}", f"{name}:9000", f"{name}:80"):
+                with self.subTest(host=host):
+                    self.assertEqual(answer(self.port, request(self.port, host=host))[0], 200)
+                    opened = self.socket(head=upgrade(self.port, host=host, origin=f"http://{host}"))
+                    self.assertEqual(opened.ask("get A1"), "val \n")
+                    opened.connection.close()
 
     def test_other_origins_are_forbidden(self):
         port = self.port
         for origin in ("http://example.org", f"http://example.org:{port}", f"https://127.0.0.1:{port}", "null", "",
                        f"http://127.0.0.1:{port + 1}", "http://127.0.0.1", f"http://127.0.0.1:{port}.example.org",
-                       f"http://127.0.0.1:0{port}", f"http://127.0.0.1:{port}/", f"HTTP://127.0.0.1:{port}"):
+                       f"http://127.0.0.1:0{port}", f"http://127.0.0.1:{port}/", f"HTTP://127.0.0.1:{port}",
+                       f"http://localhost:{port}", f"http://[::1]:{port}", f"127.0.0.1:{port}", f"http://127.0.0.1:{port}0"):
             with self.subTest(origin=origin):
                 self.assert_status(403, upgrade(port, origin=origin))
         twice = upgrade(port)[:-2] + f"Origin: http://127.0.0.1:{port}\r\n\r\n".encode()
         self.assert_status(403, twice)
+        # a page at another port of this machine, whichever port it claims to be at
+        self.assert_status(403, upgrade(port, host=f"127.0.0.1:{port + 1}", origin=f"http://127.0.0.1:{port}"))
 
     def test_other_hosts_are_forbidden(self):
         port = self.port
-        for host in ("example.org", f"example.org:{port}", "127.0.0.1", "localhost", f"127.0.0.1:{port + 1}",
-                     f"127.0.0.1:{port}.example.org", f"127.0.0.2:{port}", f"[::1]:{port}"):
-            for head in (request(port, host=host), upgrade(port, host=host), request(port, "POST", host=host)):
+        for host in ("example.org", f"example.org:{port}", f"127.0.0.1:{port}.example.org", f"127.0.0.2:{port}",
+                     "localhost.example.org", f"localhost.example.org:{port}", f"evil.localhost:{port}", "localhost:80a",
+                     f"localhost@example.org:{port}", "127.0.0.10", "::1", f"[::2]:{port}", f"[::1].example.org:{port}"):
+            origin = f"http://{host}"
+            for head in (request(port, host=host), upgrade(port, host=host, origin=origin), request(port, "POST", host=host)):
                 with self.subTest(host=host, head=head[:20]):
                     self.assert_status(403, head)
         self.assert_status(403, b"GET / HTTP/1.1\r\n\r\n")
         self.assert_status(403, request(port, fields=[f"host: 127.0.0.1:{port}"]))
 
     def test_other_methods_are_not_allowed(self):
-        for method in ("POST", "HEAD", "PUT", "DELETE", "OPTIONS", "get"):
+        for method in ("POST", "HEAD", "PUT", "DELETE", "OPTIONS"):
             with self.subTest(method=method):
                 status, fields, _ = answer(self.port, request(self.port, method))
                 self.assertEqual((status, "allow: GET" in fields), (405, True))
@@ -148,10 +172,9 @@ class Heads(PageTest):
         port = self.port
         fields = ["Connection: Upgrade", "Upgrade: websocket", "Sec-WebSocket-Version: 13", f"Sec-WebSocket-Key: {KEY}"]
         origin = f"Origin: http://127.0.0.1:{port}"
-        broken = [b"walk\r\n\r\n", b"\x16\x03\x01\x02\x00\x01\x00\x01\xfc\x03\x03\r\n\r\n", b"GET /\r\n\r\n",
-                  b"GET / HTTP/3.0\r\n\r\n", request(port) + b"body", request(port, fields=["a b: c"]),
-                  request(port, fields=[f"a{n}: b" for n in range(64)]), upgrade(port, key="short"),
-                  upgrade(port, key="=" * 24)]
+        broken = [b"GET / HTTP/3.0\r\n\r\n", b"PRI * HTTP/2.0\r\n\r\nSM\r\n\r\n", request(port) + b"body",
+                  request(port, fields=["a b: c"]), request(port, fields=[f"a{n}: b" for n in range(64)]),
+                  upgrade(port, key="short"), upgrade(port, key="=" * 24)]
         broken += [request(port, path="/live", fields=[origin, *fields[:n], *fields[n + 1:]]) for n in range(4)]
         for head in broken:
             with self.subTest(head=head[:60]):
@@ -177,43 +200,42 @@ class Heads(PageTest):
 
     def test_half_a_head_is_ended(self):
         began = time.monotonic()
-        with connection_to(self.port) as silent, connection_to(self.port) as half, connection_to(self.port) as slow:
+        with connection_to(self.port) as half, connection_to(self.port) as slow:
             half.sendall(request(self.port)[:-2])
+            slow.sendall(b"GET / HTTP/1.1\r\n")
             with contextlib.suppress(OSError):
                 while time.monotonic() < began + 8:
                     slow.sendall(b"a")
                     time.sleep(0.5)
-            for connection in (silent, half):
-                self.assertTrue(browser_socket.read_all(connection).startswith(b"HTTP/1.1 408 "))
+            self.assertTrue(browser_socket.read_all(half).startswith(b"HTTP/1.1 408 "))
             # (what is sent to one that is closed already may take the answer away)
             with contextlib.suppress(ConnectionError):
                 self.assertTrue(browser_socket.read_all(slow).startswith(b"HTTP/1.1 408 "))
+        self.assertGreater(time.monotonic() - began, 9.5)
         self.assertLess(time.monotonic() - began, LIMIT)
 
-    def test_connections_that_say_nothing_stop_nobody_for_long(self):
-        with contextlib.ExitStack() as stack:
-            for _ in range(80):
-                stack.enter_context(connection_to(self.port))
-            deadline = time.monotonic() + LIMIT
-            while True:
-                with contextlib.suppress(OSError, IndexError):
-                    if answer(self.port, request(self.port))[0] == 200:
-                        break
-                self.assertLess(time.monotonic(), deadline)
-                time.sleep(0.1)
+    def test_half_a_handshake_takes_no_slot(self):
+        with serving(None, "--seats", "1", "--wait", "0") as server, contextlib.ExitStack() as stack:
+            for size in (1, 20, 100, len(upgrade(server.port)) - 1):
+                stack.enter_context(connection_to(server.port)).sendall(upgrade(server.port)[:size])
+            with WebSocket(server.port) as opened:
+                self.assertEqual(opened.ask("set A1 5"), "ok 1\n")
 
-    def test_a_connection_too_many_is_closed_at_once(self):
+    def test_connections_that_say_nothing_or_half_a_head_stop_nobody(self):
         with contextlib.ExitStack() as stack:
-            for _ in range(MOST_CONNECTIONS):
-                stack.enter_context(connection_to(self.port))
-            # (one that is let in is told that it is too late, when its time is over)
-            self.assertEqual(browser_socket.read_all(stack.enter_context(connection_to(self.port))), b"")
+            for number in range(200):
+                connection = stack.enter_context(connection_to(self.port))
+                if number % 2:
+                    connection.sendall(request(self.port)[:-2])
+            self.assertEqual(answer(self.port, request(self.port))[0], 200)
+            self.assertEqual(self.socket().ask("set A1 5"), "ok 1\n")
+            self.assertEqual(self.server.client().ask("get A1"), "val 5")
 
 
 class Messages(PageTest):
-    words = ("--browsers", "4")
+    words = ("--seats", "4", "--wait", "1")
 
-    def test_a_message_is_a_line_and_a_reply_a_message(self):
+    def test_a_message_is_a_line(self):
         opened = self.socket()
         self.assertEqual(opened.ask("set A1 5"), "ok 1\n")
         self.assertEqual(opened.ask("set B1 =[.A1]*2"), "ok 2\n")
@@ -226,11 +248,20 @@ class Messages(PageTest):
         self.assertEqual(opened.ask("set A1 rows 9"), "ok 4\n")
         self.assertEqual(opened.ask("get A1"), "val rows 9\n")
 
+    def test_a_browser_and_a_session_of_lines_see_each_other(self):
+        opened, client = self.socket(), self.server.client()
+        self.assertEqual(opened.ask("set A1 5"), "ok 1\n")
+        self.assertEqual(client.ask("set B1 =[.A1]*2"), "ok 2")
+        self.assertEqual(opened.ask("get B1"), "val 10\n")
+        self.assertEqual(client.ask("pull 0"), 'delta 1 [["A1",[1,1,"5"],[],[]]]')
+
     def test_messages_at_once_have_their_replies_in_order(self):
         opened = self.socket()
         opened.connection.sendall(b"".join(frame(TEXT, f"set A{n} {n}".encode()) for n in range(1, 201)))
-        self.assertEqual([opened.receive() for _ in range(200)], [f"ok {n}\n" for n in range(1, 201)])
-        self.assertEqual(opened.ask("rows A1:A200"), "rows 200\n" + "".join(f"{n}\n" for n in range(1, 201)))
+        self.assertEqual([opened.reply() for _ in range(200)], [f"ok {n}\n" for n in range(1, 201)])
+        rows = "rows 200\n" + "".join(f"{n}\n" for n in range(1, 201))
+        opened.connection.sendall(b"".join(frame(TEXT, text) for text in (b"rows A1:A200", b"get A7", b"rows A1:A200")))
+        self.assertEqual([opened.reply() for _ in range(3)], [rows, "val 7\n", rows])
 
     def test_cut_messages(self):
         opened = self.socket()
@@ -247,12 +278,15 @@ class Messages(PageTest):
         self.assertEqual(opened.ask("get A1"), "val 123\n")
 
     def test_what_is_no_line_closes_the_connection(self):
-        for text in (b"set A1 1\nset A1 2", b"set A1 1\r", b"\n", b""):
+        for text in (b"set A1 1\nset A1 2", b"set A1 1\r", b"\rset A1 1", b"\n", b""):
             with self.subTest(text=text):
                 opened = self.socket()
                 opened.connection.sendall(frame(TEXT, text))
                 self.assertEqual(opened.closing(), NO_LINE)
-        self.assertEqual(self.socket().ask("get A1"), "val \n")
+        opened = self.socket()
+        opened.connection.sendall(frame(TEXT, b"set A2 1") + frame(TEXT, b"\n") + frame(TEXT, b"set A3 1"))
+        self.assertEqual((opened.receive(), opened.closing()), ("ok 1\n", NO_LINE))
+        self.assertEqual(self.seated().ask("rows A1:A3"), 'rows 3\n""\n1\n""\n')
 
     def test_bytes_that_are_no_text_close_the_connection(self):
         opened = self.socket()
@@ -274,33 +308,41 @@ class Messages(PageTest):
                 with contextlib.suppress(OSError):
                     opened.connection.sendall(frame(TEXT, b"a" * size))
                 opened.closing()
-        self.assertEqual(self.socket().ask("a" * LONGEST_LINE), "err 16 command\n")
+        self.assertEqual(self.seated().ask("a" * LONGEST_LINE), "err 16 command\n")
         self.assert_serves()
+
+    def test_the_whole_sheet_is_one_message(self):
+        opened = self.socket()
+        whole = opened.ask("rows A1:CZ1024")
+        self.assertEqual(whole, "rows 1024\n" + f"{',' * 103}\n" * 1024)
 
     def test_a_browser_too_many_is_told_so(self):
         opened = [self.socket() for _ in range(4)]
         for browser in opened:
             self.assertEqual(browser.ask("get A1"), "val \n")
+        since = time.monotonic()
         self.assertEqual(self.socket().closing(), NO_ROOM)
+        self.assertGreater(time.monotonic() - since, 0.9)
         opened[0].connection.close()
         self.seated()
 
     def test_browsers_that_say_nothing_keep_none_out_for_long(self):
-        heard = self.socket()
+        heard, since = self.socket(), time.monotonic()
         self.assertEqual(heard.ask("get A1"), "val \n")
-        for _ in range(3):
-            self.socket()
+        silent = [self.socket() for _ in range(3)]
         self.seated()
+        self.assertGreater(time.monotonic() - since, 9)
+        for opened in silent:
+            self.assertEqual(opened.closing()[0], None)
         # one that has said something may be silent for longer
         self.assertEqual(heard.ask("get A1"), "val \n")
 
-    def test_browsers_that_come_and_go_take_no_further_session(self):
+    def test_browsers_that_come_and_go(self):
         for number in range(1, 101):
             with self.seated() as opened:
                 self.assertEqual(opened.ask(f"set A1 {number}"), f"ok {number}\n")
                 if number % 3 == 0:
                     opened.connection.setsockopt(socket.SOL_SOCKET, socket.SO_LINGER, struct.pack("ii", 1, 0))
-        # the server has 16 sessions in all, of which this is one
         self.assertEqual(self.server.client().ask("get A1"), "val 100")
 
     def test_browsers_at_once(self):
@@ -332,28 +374,117 @@ class Messages(PageTest):
         self.assert_serves()
 
 
-@contextlib.contextmanager
-def replying(reply):
-    """What stands in for a server: each line that it gets is replied by these bytes. It yields its port."""
-    with socket.create_server((HERE, 0)) as listener:
+class Slots(ProgramTest):
+    def test_sixteen_of_both_kinds(self):
+        with serving(None, "--wait", "1") as server, contextlib.ExitStack() as stack:
+            browsers = [stack.enter_context(WebSocket(server.port)) for _ in range(8)]
+            clients = [server.client() for _ in range(8)]
+            for number in range(8):
+                self.assertEqual(browsers[number].ask(f"set A{number + 1} 1"), f"ok {2 * number + 1}\n")
+                self.assertEqual(clients[number].ask(f"set B{number + 1} 1"), f"ok {2 * number + 2}")
+            # one more of each kind, and meanwhile the page and refusals
+            line = server.client()
+            line.send(b"get A1\n")
+            with WebSocket(server.port) as late:
+                self.assertEqual(answer(server.port, request(server.port))[0], 200)
+                self.assertEqual(answer(server.port, request(server.port, "POST"))[0], 405)
+                self.assertEqual((line.told(), late.closing()), (NO_SEAT, NO_ROOM))
+            self.assertEqual(answer(server.port, request(server.port))[0], 200)
+            self.assertEqual(browsers[0].ask("set C1 =SUM([.A1:.B8])"), "ok 17\n")
+            for number in range(8):
+                self.assertEqual(browsers[number].ask("get C1"), "val 16\n")
+                self.assertEqual(clients[number].ask("get C1"), "val 16")
 
-        def work():
-            with contextlib.suppress(OSError):
-                while True:
-                    connection, _ = listener.accept()
-                    with connection, connection.makefile("rb") as asked, contextlib.suppress(OSError):
-                        for _ in asked:
-                            connection.sendall(reply)
+    def test_a_line_and_a_browser_at_once_for_the_last_slot(self):
+        with serving(None, "--seats", "2", "--wait", "1") as server:
+            self.assertEqual(server.client().ask("get A1"), "val ")
 
-        thread = threading.Thread(target=work, daemon=True)
-        thread.start()
-        yield listener.getsockname()[1]
-        listener.shutdown(socket.SHUT_RDWR)
-    thread.join(LIMIT)
+            def line():
+                client = server.client()
+                client.send(b"get A1\n")
+                return client.reply(), client.close
+
+            def browser():
+                opened = WebSocket(server.port)
+                opened.send("get A1")
+                try:
+                    return opened.reply().rstrip("\n"), opened.connection.close
+                except browser_socket.Ended as ended:
+                    return ended.args[0][2:].decode(), opened.connection.close
+
+            for turn in range(6):
+                with self.subTest(turn=turn):
+                    found = dict(at_once(*((line, browser) if turn % 2 else (browser, line))))
+                    self.assertEqual(len(found), 2)
+                    self.assertIn(set(found), ({"val ", "no room"}, {"val ", "err 21 seat"}))
+                    for close in found.values():
+                        close()
+
+    def test_a_slot_is_free_within_a_second_after_its_browser_left(self):
+        with serving(None, "--seats", "1", "--wait", "1") as server:
+            for turn in range(9):
+                with self.subTest(turn=turn):
+                    opened = WebSocket(server.port)
+                    self.assertEqual(opened.ask(f"set A1 {turn}"), f"ok {2 * turn + 1}\n")
+                    if turn % 3 == 0:
+                        opened.connection.sendall(frame(browser_socket.CLOSE, struct.pack(">H", 1001)))
+                    elif turn % 3 == 1:
+                        opened.connection.setsockopt(socket.SOL_SOCKET, socket.SO_LINGER, struct.pack("ii", 1, 0))
+                    opened.connection.close()
+                    client = server.client()
+                    self.assertEqual(client.ask(f"set A2 {turn}"), f"ok {2 * turn + 2}")
+                    client.leave()
+
+    def test_a_browser_that_waits_has_the_next_slot_and_what_it_said_meanwhile(self):
+        with serving(None, "--seats", "1", "--wait", "60") as server:
+            client = server.client()
+            self.assertEqual(client.ask("set A1 5"), "ok 1")
+            with WebSocket(server.port) as opened:
+                opened.send("get A1")
+                opened.send("set A1 7")
+                self.assertEqual(client.ask("set A1 6"), "ok 2")
+                client.leave()
+                self.assertEqual((opened.reply(), opened.reply()), ("val 6\n", "ok 3\n"))
+
+    def test_a_number_of_sessions_counts_browsers_and_no_other_requests(self):
+        with serving(2) as server:
+            for _ in range(5):
+                self.assertEqual(answer(server.port, request(server.port))[0], 200)
+                self.assertEqual(answer(server.port, request(server.port, "POST"))[0], 405)
+                self.assertEqual(answer(server.port, upgrade(server.port, origin="http://example.org"))[0], 403)
+            with WebSocket(server.port) as opened:
+                self.assertEqual(opened.ask("set A1 5"), "ok 1\n")
+            self.assertEqual(answer(server.port, request(server.port))[0], 200)
+            self.assertTrue(server.is_running())
+            client = server.client()
+            self.assertEqual(client.ask("get A1"), "val 5")
+            client.leave()
+            self.assertEqual(server.ended(), Ended(0, lines("closed 1")))
+
+    def test_a_server_whose_last_session_is_a_browser(self):
+        with serving(1) as server, contextlib.ExitStack() as stack:
+            # who says nothing, and who has half a head, doesn't hold it up
+            stack.enter_context(connection_to(server.port))
+            stack.enter_context(connection_to(server.port)).sendall(b"GET / HTTP/1.1\r\n")
+            with WebSocket(server.port) as opened:
+                self.assertEqual(opened.ask("set A1 5"), "ok 1\n")
+            self.assertEqual(server.ended(), Ended(0, lines("closed 1")))
+
+    def test_a_kept_sheet_has_on_the_disk_what_a_browser_was_answered(self):
+        file = self.folder() / "plan.lines"
+        with serving(None, "--keep", str(file)) as server, WebSocket(server.port) as opened:
+            for number in range(1, 21):
+                self.assertEqual(opened.ask(f"set A1 {number}"), f"ok {number}\n")
+                wanted = f'push [["A1",[{number},1,"{number}"],[],[]]]\n'
+                self.assertTrue(file.read_text().endswith(wanted))
+            server.session.kill()
+            self.assertEqual(opened.closing(), (None, ""))
+        with serving(None, "--keep", str(file)) as server, WebSocket(server.port) as opened:
+            self.assertEqual(opened.ask("get A1"), "val 20\n")
 
 
 class Silences(ProgramTest):
-    """What is waited for longer than a test likes to: at a gateway whose long waits are shorter (`hasten.c`)."""
+    """What is waited for longer than a test likes to: at a server whose long waits are shorter (`hasten.c`)."""
 
     @classmethod
     def setUpClass(cls):
@@ -362,183 +493,120 @@ class Silences(ProgramTest):
         library = preloaded.build("hasten.c", Path(folder.name) / "hasten.so")
         cls.how = {"program": PROGRAM, "env": preloaded.before(library)}
 
-    def assert_lasted(self, since, seconds):
-        """It has taken so many seconds, and not much longer: a busy machine takes its time, too."""
-        lasted = time.monotonic() - since
-        self.assertGreater(lasted, 0.95 * seconds)
-        self.assertLess(lasted, 1.5 * seconds + 2)
-
-    def test_a_server_that_gives_no_reply_for_30_seconds(self):
-        with replying(b"") as port, paging(port, **self.how) as gateway, WebSocket(gateway.port) as opened:
-            since = time.monotonic()
-            opened.send("get A1")
-            self.assertEqual(opened.closing(), NO_SERVER)
-            self.assert_lasted(since, 30 / 10)
-
-    def test_a_browser_that_says_nothing_for_5_minutes(self):
-        with serving(SESSIONS) as server, paging(server.port, **self.how) as gateway:
-            with WebSocket(gateway.port) as opened:
+    def test_a_browser_that_says_nothing_more_for_5_minutes_or_as_long_as_is_asked_for(self):
+        for words, seconds in (((), 300 / 60), (("--idle", "60"), 60 / 10)):
+            with self.subTest(words=words), serving(None, *words, **self.how) as server, WebSocket(server.port) as opened:
                 self.assertEqual(opened.ask("get A1"), "val \n")
                 since = time.monotonic()
-                with self.assertRaises((browser_socket.Ended, ConnectionError)):
-                    opened.receive()
-                self.assert_lasted(since, 300 / 60)
-
-
-class Places(ProgramTest):
-    def test_there_are_as_many_browsers_as_are_asked_for_and_else_eight(self):
-        for words, most in (((), 8), (("--browsers", "16"), 16), (("--browsers", "5"), 5)):
-            with self.subTest(words=words), contextlib.ExitStack() as stack:
-                server = stack.enter_context(serving(SESSIONS))
-                gateway = stack.enter_context(paging(server.port, *words))
-                for _ in range(most):
-                    self.assertEqual(stack.enter_context(WebSocket(gateway.port)).ask("get A1"), "val \n")
-                self.assertEqual(stack.enter_context(WebSocket(gateway.port)).closing(), NO_ROOM)
+                self.assertEqual(opened.closing()[0], None)
+                lasted = time.monotonic() - since
+                self.assertGreater(lasted, 0.95 * seconds)
+                # (a busy machine takes its time, too)
+                self.assertLess(lasted, 1.5 * seconds + 3)
 
 
 class Ends(ProgramTest):
-    def test_without_a_server_a_browser_is_told_so(self):
-        with paging(free_port()) as gateway:
-            self.assertEqual(answer(gateway.port, request(gateway.port))[0], 200)
-            with WebSocket(gateway.port) as opened:
-                self.assertEqual(opened.closing(), NO_SERVER)
-
-    def test_places_are_free_again_whatever_became_of_their_sessions(self):
-        """Though the server can't be reached, or goes amid a session, or while sessions wait for a browser."""
-        port = free_port()
-        with paging(port, "--browsers", "2") as gateway:
-            for _ in range(3):
-                with WebSocket(gateway.port) as opened:
-                    self.assertEqual(opened.closing(), NO_SERVER)
-            for leaving in (0, 2, 1, 2, 0):
-                with contextlib.ExitStack() as stack:
-                    server = stack.enter_context(serving(SESSIONS, port=port))
-                    both = [stack.enter_context(seated(gateway.port)) for _ in range(2)]
-                    for opened in both[:leaving]:
-                        opened.connection.close()
-                    server.session.kill()
-                    server.session.wait(LIMIT)
-                    for opened in both[leaving:]:
-                        with contextlib.suppress(OSError):
-                            opened.send("get A1")
-                        self.assertEqual(opened.closing(), NO_SERVER)
-
-    def test_a_browser_that_reads_nothing_gives_its_place_up(self):
-        with serving(SESSIONS) as server, paging(server.port, "--browsers", "1") as gateway:
-            with WebSocket(gateway.port, room=4096) as slow:
-                slow.connection.settimeout(1)
-                with contextlib.suppress(OSError):
-                    for _ in range(500):
-                        slow.connection.sendall(frame(TEXT, b"rows A1:CZ200"))
-                # (several writes may wait, one after another)
-                seated(gateway.port, 2 * LIMIT).connection.close()
-
-    def test_a_reply_of_the_most_bytes(self):
-        for size, is_whole in ((LONGEST_REPLY, True), (LONGEST_REPLY + 1, False)):
-            text = "rows 1\n" + "5" * (size - len("rows 1\n\n")) + "\n"
-            with replying(text.encode()) as port, paging(port) as gateway, WebSocket(gateway.port) as opened:
-                if is_whole:
-                    self.assertTrue(opened.ask("rows A1:A1") == text)
-                else:
-                    opened.send("rows A1:A1")
-                    self.assertEqual(opened.closing(), NO_SERVER)
-
     def test_a_server_that_ends_closes_the_connection(self):
-        with contextlib.ExitStack() as stack:
-            server = stack.enter_context(serving(SESSIONS))
-            gateway = stack.enter_context(paging(server.port))
-            # sessions that wait for the next browser, once these have left
-            for opened in [stack.enter_context(WebSocket(gateway.port)) for _ in range(3)]:
-                self.assertEqual(opened.ask("get A1"), "val \n")
-                opened.connection.close()
-            with WebSocket(gateway.port) as opened:
-                self.assertEqual(opened.ask("set A1 5"), "ok 1\n")
-                server.session.kill()
-                server.session.wait(LIMIT)
-                with contextlib.suppress(OSError):
-                    opened.send("get A1")
-                self.assertEqual(opened.closing(), NO_SERVER)
-            with serving(SESSIONS, port=server.port), WebSocket(gateway.port) as opened:
-                self.assertEqual(opened.ask("get A1"), "val \n")
+        with serving(None) as server, WebSocket(server.port) as opened:
+            self.assertEqual(opened.ask("set A1 5"), "ok 1\n")
+            server.session.kill()
+            server.session.wait(LIMIT)
+            with contextlib.suppress(OSError):
+                opened.send("get A1")
+            self.assertEqual(opened.closing(), (None, ""))
+            with serving(None, port=server.port), WebSocket(server.port) as again:
+                self.assertEqual(again.ask("get A1"), "val \n")
 
-    def test_a_session_that_the_server_ended_while_it_waited_is_not_given_to_a_browser(self):
-        with serving(None, "--seats", "1", "--idle", "1", "--wait", "60") as server:
-            with paging(server.port) as gateway:
-                with WebSocket(gateway.port) as opened:
-                    self.assertEqual(opened.ask("set A1 5"), "ok 1\n")
-                # the only seat is free once the session that waits for the next browser has ended
-                client = server.client()
-                self.assertEqual(client.ask("get A1"), "val 5")
-                client.leave()
-                with WebSocket(gateway.port) as opened:
-                    self.assertEqual(opened.ask("get A1"), "val 5\n")
+    def test_a_browser_that_reads_nothing_gives_its_slot_up(self):
+        with serving(None, "--seats", "1") as server, WebSocket(server.port, room=4096) as slow:
+            slow.connection.settimeout(1)
+            with contextlib.suppress(OSError):
+                for _ in range(500):
+                    slow.connection.sendall(frame(TEXT, b"rows A1:CZ200"))
+            seated(server.port).connection.close()
 
-    def test_a_connection_that_cannot_be_accepted(self):
-        """One that was interrupted or broken off harms no other; where no more can be accepted, the gateway ends."""
-        library = shortages.library(self.folder())
-        for error, last, is_served in ((errno.EINTR, 3, True), (errno.ECONNABORTED, 3, True),
-                                       (errno.ENOBUFS, 1, False)):
-            with self.subTest(error=error), shortages.spoiling(library, ("a", 1, last, error)) as (how, _):
-                with paging(free_port(), program=PROGRAM, **how) as gateway:
-                    if is_served:
-                        self.assertEqual(answer(gateway.port, request(gateway.port))[0], 200)
-                        continue
-                    output, told = gateway.session.communicate(timeout=LIMIT)
-                    self.assertEqual(Ended(gateway.session.returncode, output, told), Ended(1, b"", DEVICE_FAILED))
+    def test_memory_threads_and_files_are_given_back(self):
+        with serving(None, "--wait", "60", program=PROGRAM) as server:
+            folder = Path(f"/proc/{server.session.pid}")
+
+            def has_settled():
+                return len(list((folder / "task").iterdir())) == 1 and len(list((folder / "fd").iterdir())) <= 4
+
+            def visit(count):
+                for number in range(count):
+                    with WebSocket(server.port) as opened:
+                        self.assertEqual(opened.ask("rows A1:B2"), "rows 2\n,\n,\n")
+                        if number % 2:
+                            opened.connection.sendall(frame(TEXT, b"\n"))
+                    self.assertEqual(answer(server.port, request(server.port))[0], 200)
+                    self.assertEqual(answer(server.port, request(server.port, "POST"))[0], 405)
+                    connection_to(server.port).close()
+
+            visit(20)
+            self.assertTrue(comes_to(has_settled))
+            before = server.memory()
+            at_once(*([lambda: visit(60)] * 4))
+            self.assertTrue(comes_to(has_settled))
+            self.assertLess(server.memory() - before, 2_000_000)
 
     def test_memory_that_is_refused(self):
-        """Each request for it in turn: whatever becomes of the browser that wanted it, the next one has its place."""
+        """Each request for it in turn: whatever becomes of the browser that wanted it, the next one has its slot."""
         library = shortages.library(self.folder())
-        with serving(None) as server:
 
-            def look(refused):
-                """How many requests there were before the page was asked for, and once a second browser was served."""
-                with contextlib.ExitStack() as stack:
-                    how, counts = stack.enter_context(shortages.spoiling(library, ("m", refused, refused, errno.ENOMEM)))
-                    gateway = stack.enter_context(paging(server.port, "--browsers", "1", program=PROGRAM, **how))
-                    before = shortages.counted(counts).calls
-                    with contextlib.suppress(browser_socket.Ended, OSError, IndexError):
-                        answer(gateway.port, request(gateway.port))
-                        with WebSocket(gateway.port) as opened:
-                            opened.ask("rows A1:B2")
-                    seated(gateway.port).connection.close()
-                    return before, shortages.counted(counts).calls
+        def look(refused):
+            """How many requests there were before the page was asked for, and once a second browser was served."""
+            with contextlib.ExitStack() as stack:
+                how, counts = stack.enter_context(shortages.spoiling(library, ("m", refused, refused, errno.ENOMEM)))
+                server = stack.enter_context(serving(None, "--seats", "1", "--wait", "1", program=PROGRAM, **how))
+                before = shortages.counted(counts).calls
+                with contextlib.suppress(browser_socket.Ended, OSError, IndexError, ValueError):
+                    answer(server.port, request(server.port))
+                    with WebSocket(server.port) as opened:
+                        opened.ask("rows A1:B2")
+                seated(server.port).connection.close()
+                return before, shortages.counted(counts).calls
 
-            before, after = look(0)
-            self.assertGreater(after, before)
-            for refused in range(before + 1, after + 1):
-                with self.subTest(refused=refused):
-                    look(refused)
+        before, after = look(0)
+        self.assertGreater(after, before)
+        for refused in range(before + 1, after + 1):
+            with self.subTest(refused=refused):
+                look(refused)
 
-    def test_connections_for_which_no_thread_can_be_started_take_no_place(self):
-        with paging(free_port(), program=PROGRAM) as gateway:
-            process, kind = gateway.session.pid, resource.RLIMIT_AS
-            most = resource.prlimit(process, kind)
-            # (no thread's stack has room)
-            resource.prlimit(process, kind, (gateway.room() + (1 << 20), most[1]))
-            for _ in range(MOST_CONNECTIONS):
-                with connection_to(gateway.port) as connection:
-                    self.assertEqual(browser_socket.read_all(connection), b"")
-            resource.prlimit(process, kind, most)
-            self.assertEqual(answer(gateway.port, request(gateway.port))[0], 200)
+    def test_without_threads_requests_are_answered_one_after_another(self):
+        # a thread's room is then more than the program may have
+        def bound():
+            resource.setrlimit(resource.RLIMIT_STACK, (1 << 36, resource.getrlimit(resource.RLIMIT_STACK)[1]))
+            resource.setrlimit(resource.RLIMIT_AS, (1 << 35, 1 << 35))
 
-    def test_an_output_that_fails(self):
+        with serving(None, program=PROGRAM, preexec_fn=bound) as server:
+            for _ in range(3):
+                self.assertEqual(answer(server.port, request(server.port))[0], 200)
+                with WebSocket(server.port) as opened:
+                    self.assertEqual(opened.ask("get A1"), "val \n")
+            client = server.client()
+            self.assertEqual(client.ask("set A1 5"), "ok 1")
+            client.leave()
+
+    def test_an_error_output_that_is_full_or_gone_changes_nothing(self):
+        port = free_port()
         with open("/dev/full", "wb") as full:
-            ended = run("page", "--from", "7001", "--port", str(free_port()), stdout=full)
-        self.assertEqual(ended, Ended(1, b"", DEVICE_FAILED))
+            for error in (full, subprocess.DEVNULL):
+                with subprocess.Popen([PROGRAM, "serve", "--port", str(port), "--sessions", "1"], stdout=subprocess.PIPE,
+                                      stderr=error) as server:
+                    self.assertEqual(server.stdout.readline(), lines(f"listening {port}"))
+                    self.assertEqual(answer(port, request(port))[0], 200)
+                    with contextlib.closing(Client(port)) as client:
+                        self.assertEqual(client.ask("set A1 5"), "ok 1")
+                        client.leave()
+                    self.assertEqual((server.stdout.read(), server.wait(LIMIT)), (lines("closed 1"), 0))
 
-    def test_a_port_that_is_taken(self):
-        with serving(1) as server:
-            self.assertEqual(run("page", "--from", "7001", "--port", str(server.port)), Ended(1, b"", DEVICE_FAILED))
 
-    def test_words(self):
-        for words in ((), ("--from", "7001"), ("--port", "8080"), ("--from", "0", "--port", "8080"),
-                      ("--from", "7001", "--port", "65536"), ("--from", "7001", "--port", "8080", "--browsers", "17"),
-                      ("--from", "7001", "--port", "8080", "--browsers", "0")):
+class Gone(ProgramTest):
+    def test_the_command_page_says_where_the_page_is(self):
+        for words in ((), ("--from", "7001"), ("--from", "7001", "--port", "8080"), ("--from", "0", "--browsers", "17"),
+                      ("--help",), ("-h",), ("walk", "--fly")):
             with self.subTest(words=words):
-                ended = run("page", *words)
-                self.assertEqual((ended.status, ended.output), (2, b""))
-        self.assertTrue(re.search(rb"--browsers <[a-z]+>", run("page", "--help").output))
+                self.assertEqual(run("page", *words), Ended(2, b"", GONE))
 
 
 if __name__ == "__main__":

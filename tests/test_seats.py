@@ -1,5 +1,6 @@
 """The seats of `sheet serve`: they go on from one session to the next, and who finds none waits, and is told so."""
 import contextlib
+import resource
 import threading
 import time
 from pathlib import Path
@@ -57,6 +58,13 @@ def beside(task, count):
         raise troubles[0]
 
 
+def turned_away(server):
+    """What a session of lines is told that comes to a server without a free slot."""
+    client = server.client()
+    client.send(b"get A1\n")
+    return client.told()
+
+
 class Turns(ProgramTest):
     def test_a_seat_goes_to_the_next_with_all_that_was_seen_at_it(self):
         with serving(3, "--seats", "1", "--wait", "60") as server:
@@ -78,9 +86,12 @@ class Turns(ProgramTest):
             holder = server.client()
             self.assertEqual(holder.ask("set A1 0"), "ok 1")
             clients = [server.client() for _ in range(5)]
+            # (in another order than they connected: what counts is the first byte, for which a busy machine takes its time)
+            clients.reverse()
             for number, client in enumerate(clients, 1):
                 client.send(lines(f"set A1 {number}"))
                 client.stop_sending()
+                time.sleep(0.3)
             holder.leave()
             self.assertEqual([client.rest() for client in clients], [lines(f"ok {number}") for number in range(2, 7)])
             self.assertEqual(server.ended(), Ended(0, lines("closed 6")))
@@ -124,11 +135,10 @@ class Waiting(ProgramTest):
             for client in clients:
                 self.assertEqual(client.ask("get A16"), "val 16")
             clients[0].leave()
-            self.assertTrue(comes_to(lambda: self.is_answered(server, "get A16", "val 16"), SOON))
+            self.assertTrue(comes_to(lambda: self.is_answered(server.client(), "get A16", "val 16"), SOON))
 
-    def is_answered(self, server, line, reply):
-        """Whether a new session gets a seat, and this reply to a line; else it is told that there is none."""
-        client = server.client()
+    def is_answered(self, client, line, reply):
+        """Whether a session gets a slot, and this reply to a line; else it is told that there is none."""
         client.send(lines(line))
         client.stop_sending()
         found = client.told()
@@ -143,7 +153,7 @@ class Waiting(ProgramTest):
             with serving(None, "--seats", "1", *words) as server:
                 self.assertEqual(server.client().ask("set A1 5"), "ok 1")
                 begun = time.monotonic()
-                self.assertEqual(server.client().told(), NO_SEAT)
+                self.assertEqual(turned_away(server), NO_SEAT)
                 self.assertGreaterEqual(time.monotonic() - begun, 0.95 * seconds)
                 self.assertLess(time.monotonic() - begun, seconds + SOON)
 
@@ -154,17 +164,41 @@ class Waiting(ProgramTest):
             client = server.client()
             self.assertEqual(client.ask("set A1 5"), "ok 1")
             for _ in range(3):
-                self.assertEqual(server.client().rest(), NO_SEAT)
+                self.assertEqual(turned_away(server), NO_SEAT)
             client.leave()
             self.assertTrue(comes_to(lambda: server.client().leave() == b"", SOON))
             self.assertTrue(server.is_running())
+
+    def test_nobody_is_turned_away_while_a_slot_is_free(self):
+        with serving(None, "--wait", "0") as server:
+            def come(_):
+                for _ in range(200):
+                    client = Client(server.port)
+                    self.assertEqual(client.ask("get A1"), "val ")
+                    self.assertEqual(client.leave(), b"")
+
+            # (with as many slots left as sessions that have gone, and that the server may not know of yet)
+            beside(come, 5)
+
+    def test_a_connection_that_says_nothing_takes_no_slot(self):
+        with serving(2, "--seats", "1", "--wait", "0") as server:
+            silent = [server.client() for _ in range(20)]
+            client = server.client()
+            self.assertEqual(client.ask("set A1 5"), "ok 1")
+            silent[0].send(b"g")
+            self.assertEqual(silent[0].told(), NO_SEAT)
+            self.assertEqual(client.leave(), b"")
+            self.assertTrue(comes_to(lambda: self.is_answered(silent.pop(), "get A1", "val 5"), SOON))
+            # the others are closed when the server ends, with nothing said to them
+            self.assertEqual(server.ended(), Ended(0, lines("closed 1")))
+            self.assertEqual({it.told() for it in silent[1:]}, {b""})
 
     def test_who_was_told_counts_as_no_session(self):
         with serving(2, "--seats", "1", "--wait", "0") as server:
             client = server.client()
             self.assertEqual(client.ask("set A1 5"), "ok 1")
             for _ in range(5):
-                self.assertEqual(server.client().rest(), NO_SEAT)
+                self.assertEqual(turned_away(server), NO_SEAT)
             client.leave()
             deadline = time.monotonic() + SOON
             while server.is_running() and time.monotonic() < deadline:
@@ -195,6 +229,8 @@ class Waiting(ProgramTest):
             client = server.client()
             self.assertEqual(client.ask("set A1 5"), "ok 1")
             others = [server.client() for _ in range(513)]
+            for other in others:
+                other.send(b"get A1\n")
 
             def told():
                 return [it for it in others if it.is_answered_within(0)]
@@ -204,7 +240,45 @@ class Waiting(ProgramTest):
             self.assertTrue(comes_to(told))
             self.assertEqual(client.ask("get A1"), "val 5")
             [over] = told()
-            self.assertEqual(over.rest(), NO_SEAT)
+            self.assertEqual(over.told(), NO_SEAT)
+
+    def test_more_than_may_say_nothing_are_told_at_once(self):
+        with serving(None, "--seats", "1") as server:
+            others = [server.client() for _ in range(513)]
+
+            def told():
+                return [it for it in others if it.is_answered_within(0)]
+
+            self.assertTrue(comes_to(told))
+            [over] = told()
+            self.assertEqual(over.told(), NO_SEAT)
+            others.remove(over)
+            others.pop().close()
+
+            def is_let_in():
+                client = server.client()
+                client.send(b"get A1\n")
+                client.stop_sending()
+                return client.told() == b"val \n"
+
+            self.assertTrue(comes_to(is_let_in))
+
+    def test_many_that_say_nothing_end_no_server_that_may_have_few_files(self):
+        def bound():
+            resource.setrlimit(resource.RLIMIT_NOFILE, (64, 64))
+
+        with serving(None, "--seats", "1", program=PROGRAM, preexec_fn=bound) as server:
+            client = server.client()
+            self.assertEqual(client.ask("set A1 5"), "ok 1")
+            others = [server.client() for _ in range(100)]
+            self.assertTrue(comes_to(lambda: any(it.is_answered_within(0) for it in others)))
+            self.assertEqual(client.ask("get A1"), "val 5")
+            for other in others:
+                other.close()
+            self.assertEqual(client.ask("get A1"), "val 5")
+            client.leave()
+            self.assertTrue(comes_to(lambda: self.is_answered(server.client(), "get A1", "val 5"), SOON))
+            self.assertTrue(server.is_running())
 
 
 class Idle(ProgramTest):
@@ -282,7 +356,7 @@ class Idle(ProgramTest):
         with serving(None, "--seats", "1", "--wait", "1") as server:
             client = server.client()
             self.assertEqual(client.ask("set A1 5"), "ok 1")
-            self.assertEqual(server.client().rest(), NO_SEAT)
+            self.assertEqual(turned_away(server), NO_SEAT)
             self.assertEqual(client.ask("get A1"), "val 5")
 
 

@@ -20,17 +20,15 @@ sed -n 's/^delta [0-9]* /push /p' $here/one $here/two > $here/lines
 # makes a difference.
 COMMANDS = {
     "run": "each line of standard input", "table": "CSV", "serve": "several sessions",
-    "sync": "one replica has to another", "follow": "lines to push", "talk": "asks a server", "page": "browser",
-    "squash": "few push lines",
+    "sync": "one replica has to another", "follow": "lines to push", "talk": "asks a server", "squash": "few push lines",
 }
 WITHOUT_NUMBER = ("--keep", "--explain", "--strict", "--entries", "--until-now")
-WHY_NO_PORT = dict.fromkeys(("serve", "sync", "follow", "talk", "page"), "why a port")
+WHY_NO_PORT = dict.fromkeys(("serve", "sync", "follow", "talk"), "why a port")
 OPTIONS = {
     "--workers": "threads", "--replica": "of this replica", "--strict": "status 3", "--keep": "kept in",
     "--entries": "entries", "--port": "listen", "--sessions": "before it ends", "--seats": "to serve at a time",
     "--wait": "wait for a seat", "--idle": "sends nothing", "--until-now": "ends once", "--every": "milliseconds",
-    "--browsers": "browsers", "--to": {"sync": "takes them in", "talk": "is asked"},
-    "--from": {"sync": "are pulled", "follow": "is followed", "page": "is shown"},
+    "--to": {"sync": "takes them in", "talk": "is asked"}, "--from": {"sync": "are pulled", "follow": "is followed"},
     "--explain": {"run": "with a hint", "table": "with a hint", **WHY_NO_PORT},
 }
 TABLE_EXAMPLE = r"""printf '2,=[.A1]*3\n"x,y",@tally\n' | ./sheet table"""

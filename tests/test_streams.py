@@ -5,7 +5,7 @@ import os
 import subprocess
 
 from program import LIMIT, SHEET, ProgramTest, lines, run
-from servers import Client, free_port, serving
+from servers import Client, free_port, page_of, serving
 
 STREAMS = {0: "input", 1: "output", 2: "error"}
 EACH = [closed for count in range(len(STREAMS) + 1) for closed in itertools.combinations(STREAMS, count)]
@@ -68,8 +68,9 @@ class Closed(ProgramTest):
                         client = Client(port)
                         self.assertEqual(client.ask("set A1 5"), "ok 1")
                         client.leave()
-                    output, _ = server.communicate(timeout=LIMIT)
+                    output, error = server.communicate(timeout=LIMIT)
                     self.assertEqual((server.returncode, output), (1, b"") if 1 in closed else (0, lines("closed 1")))
+                    self.assertEqual(error.startswith(page_of(port)), not {1, 2}.intersection(closed), error)
                 if kept:
                     self.assertEqual(file.read_bytes(), b"replica 1\n" + (b"" if 1 in closed else PUSHED))
 
@@ -81,17 +82,6 @@ class Closed(ProgramTest):
                 self.assert_ends(closed, "sync", "--from", there, "--to", str(second.port), given=b"", written=b"synced 1\n")
                 self.assert_ends(closed, "follow", "--from", there, "--until-now", given=b"", written=PUSHED)
                 self.assert_ends(closed, "talk", "--to", there, given=b"get A1\n", written=b"val 5\n")
-
-    def test_page(self):
-        with serving(None) as server:
-            for closed in self.each():
-                port = free_port()
-                with opened(["page", "--from", str(server.port), "--port", str(port)], closed) as session:
-                    if 1 in closed:
-                        self.assertEqual(session.wait(timeout=LIMIT), 1)
-                    else:
-                        self.assertEqual(session.stdout.readline(), lines(f"page http://127.0.0.1:{port}/"))
-                        session.kill()
 
     def test_help_and_words_that_are_none(self):
         for closed in self.each():

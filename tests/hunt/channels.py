@@ -10,7 +10,7 @@ import time
 from pathlib import Path
 
 from program import LIMIT, Ended
-from servers import HERE, free_port
+from servers import HERE, free_port, page_of
 
 PIECE = 65_536
 # (more than one segment of a connection on one machine, for which it would wait again and again)
@@ -134,19 +134,19 @@ class Server:
         return found
 
     def ended(self):
-        """How it ended; the output is what came after its first line."""
+        """How it ended; output and error are what came after the lines of its start."""
         try:
             output, error = self.process.communicate(timeout=LIMIT)
-            return Ended(self.process.returncode, output, error)
+            return Ended(self.process.returncode, output, error.removeprefix(page_of(self.port)))
         except subprocess.TimeoutExpired:
             self.kill()
             return Ended(None, b"", b"it doesn't end")
 
     def kill(self):
-        """Kills it, if it still runs, and returns what it has told on standard error."""
+        """Kills it, if it still runs, and returns what it has told on standard error after the line of its start."""
         if self.process.poll() is None:
             self.process.kill()
-        return self.process.communicate(timeout=LIMIT)[1]
+        return self.process.communicate(timeout=LIMIT)[1].removeprefix(page_of(self.port))
 
 
 class Follower:

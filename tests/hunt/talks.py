@@ -106,6 +106,9 @@ class Talk:
     def break_off(self, is_reset):
         """Closes the connection or breaks it off, whatever was answered."""
         self.is_open, self.is_broken_off = False, True
+        if is_reset and not self.lines and not self.begun:
+            # (a connection that is broken off before its first byte is no session)
+            self.send(b"\n")
         if self.begun and not is_reset:
             # (the end of the input ends a line, too)
             self.lines.append(Line(self.begun))
