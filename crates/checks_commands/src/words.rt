@@ -14,8 +14,7 @@ fn words(alloc: Global, line: &str) -> Result<Vec<String>, AllocError> {
 }
 
 /// Two numbers of `run`, `sync` or `serve`, or that of `table` or `talk` and 0, or of `follow` the port and the pause,
-/// which is 0 here where it isn't until now, or of `page` the port and the browsers; or the exit status that `clap`
-/// gives.
+/// which is 0 here where it isn't until now; or the exit status that `clap` gives.
 fn numbers(alloc: Global, line: &str) -> Result<Result<(u16, u16), i32>, AllocError> {
     let words = words(alloc, line)?;
     Ok(match read_words(alloc, words.as_slice()) {
@@ -29,7 +28,6 @@ fn numbers(alloc: Global, line: &str) -> Result<Result<(u16, u16), i32>, AllocEr
         Ok(Options::Follow(options)) if options.until_now => Ok((options.from, options.every)),
         Ok(Options::Follow(options)) => Ok((options.from, 0)),
         Ok(Options::Talk(options)) => Ok((options.to, 0)),
-        Ok(Options::Page(options)) => Ok((options.port, u16::from(options.browsers))),
         Ok(Options::Squash) => Ok((0, 0)),
         Err(error) => Err(error.exit_code()),
     })
@@ -45,8 +43,6 @@ fn options_are_read(rt: HostRuntime) -> Result<(), Fail> {
         ("sheet serve --port 65535", (16, 5)),
         ("sheet serve --seats=2 --port 1 --wait 0", (2, 0)),
         ("sheet sync --to=65535 --from 1", (1, 65535)),
-        ("sheet page --from=1 --port 65535", (65535, 8)),
-        ("sheet page --browsers 16 --port=8080 --from=1", (8080, 16)),
         ("sheet squash", (0, 0)),
         ("sheet talk --to=7001", (7001, 0)),
         ("sheet follow --from 7001", (7001, 0)),
@@ -71,7 +67,6 @@ fn flags(alloc: Global, line: &str) -> Result<[bool; 3], AllocError> {
         Ok(Options::Sync(options)) => [options.explain, false, false],
         Ok(Options::Follow(options)) => [options.explain, false, false],
         Ok(Options::Talk(options)) => [options.explain, false, false],
-        Ok(Options::Page(options)) => [options.explain, false, false],
         _ => [true, true, true],
     })
 }
@@ -94,11 +89,6 @@ fn flags_are_read(rt: HostRuntime) -> Result<(), Fail> {
         ("sheet follow --from 1 --explain", [true, false, false]),
         ("sheet talk --to 1", [false, false, false]),
         ("sheet talk --explain --to 1", [true, false, false]),
-        ("sheet page --from 1 --port 2", [false, false, false]),
-        (
-            "sheet page --from 1 --explain --port 2",
-            [true, false, false],
-        ),
     ] {
         assert!(rt; flags(rt.alloc(), line)? == due, "at {line}");
     }
@@ -201,8 +191,6 @@ sheet follow --from=1 --every=60001
 sheet follow --from=1 --until-now=yes
 sheet talk --explain
 sheet talk --to=0
-sheet page --from=1
-sheet page --from=1 --port=2 --browsers=17
 sheet squash plan.lines
 sheet squash --workers 1";
 

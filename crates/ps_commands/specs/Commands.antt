@@ -64,7 +64,3 @@ listening_text port = notice (codes "listening ") port
 -- .. and once all sessions have ended, which leave a history of so many deltas
 abbrev pub closed_text : ℕ → List ℕ
 closed_text version = notice (codes "closed ") version
-
--- what `page` writes once it listens on a port: the address to open
-abbrev pub page_text : ℕ → List ℕ
-page_text port = codes "page http://127.0.0.1:" ++ decimal port ++ codes "/\n"

@@ -1,5 +1,5 @@
 //! The commands of the program `sheet`, over any source and sink: sessions, tables, `serve`, `sync`, `follow`, `talk`,
-//! `page`, `squash`, and how each ends.
+//! `squash`, and how each ends.
 //!
 //! It is not the program: it knows no standard input or output, and whoever calls it gives it what the words ask for.
 //! It keeps nothing from one call to the next but in the file of a kept sheet: the lines `pull` and `push` carry
@@ -31,7 +31,6 @@ mod follow;
 mod kept;
 mod listening;
 mod notice;
-mod page;
 mod peers;
 mod port;
 mod run;
@@ -47,8 +46,7 @@ pub use fault::{ProgramFault, status_of};
 pub use follow::follow_on;
 pub use kept::{FileNotTaken, KeptTrouble, OpenedFile, keep_sheet, open_kept_sheet};
 pub use listening::{serve, serve_kept};
-pub use page::open_page;
-pub use port::{PortFault, PortTrouble, port_fault};
+pub use port::{PageAddress, PortFault, PortTrouble, port_fault};
 pub use run::{answer_kept, answer_lines, open_sheet};
 pub use squash::squash_on;
 pub use sync::sync_on;

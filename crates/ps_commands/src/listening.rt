@@ -1,5 +1,5 @@
 //! The command `serve`: the lines of several sessions in, the replies of one sheet out.
-ghost use Rattle.std.specs.Prelude.{◌≡◌, ◌⊎◌, ◌<◌, ◌++◌, [], IfErr, IfOk, OnErr, OnOk, Some, length};
+ghost use Rattle.std.specs.Prelude.{◌≡◌, ◌⊎◌, ◌<◌, ◌++◌, [], IfErr, IfOk, IfSome, OnErr, OnOk, Some, length};
 ghost use Rattle.std.specs.Io.KnownBytes.{Appends};
 ghost use Rattle.ps_grid.specs.declared.refusal.Refusal.TheVariants.{Device};
 ghost use Rattle.ps_sheet.specs.Sheet.{SheetView};
@@ -14,8 +14,8 @@ ghost use Rattle.ps_commands.specs.declared.fault.ProgramFault.TheVariants.{Refu
 use crate::elsewhere::tell_opened;
 use crate::fault::ProgramFault;
 use crate::kept::open_kept_sheet;
-use crate::notice::tell;
-use crate::port::listen;
+use crate::notice::{tell, tell_line};
+use crate::port::{PageAddress, listen};
 use crate::run::open_sheet;
 use ps_device::Sink;
 use ps_eval::Meter;
@@ -24,6 +24,7 @@ use ps_server::{Closed, ServerOptions, serve_kept_on, serve_on};
 use ps_session::Resources;
 use ps_sheet::Sheet;
 use ps_words::ServeOptions;
+use std::alloc::Global;
 use std::fs::File;
 use std::io::Write;
 use std::net::{Net, TcpListener, TcpStream};
@@ -33,15 +34,31 @@ use std::sync::ledger::Ledger;
 use std::thread::Threads;
 use std::time::{Clock, Duration};
 
+/// The title of the page: the one that was given, or the name of the kept file, or none.
+fn title_of<'a>(options: ServeOptions<'a>) -> &'a str
+    ensures { IfSome options.entry.title (λ title. result.now ≡ title.now) }
+{
+    if let Some(title) = options.title {
+        return title;
+    }
+    let path = options.keep.unwrap_or("");
+    match path.rsplit_once('/') {
+        Some((_, name)) => name,
+        None => path,
+    }
+}
+
 /// What is asked of the server of this listener, by the words.
-fn server_options<'a>(listener: &'a TcpListener, options: ServeOptions<'_>) -> ServerOptions<'a>
+fn server_options<'a>(listener: &'a TcpListener, options: ServeOptions<'a>) -> ServerOptions<'a>
     ensures sessions { result.sessions ≡ options.entry.sessions }
     ensures seats { result.seats ≡ options.entry.seats }
+    ensures title { IfSome options.entry.title (λ title. result.title.now ≡ title.now) }
 {
     ServerOptions {
         listener,
         sessions: options.sessions.map(u64::from),
         seats: usize::from(options.seats),
+        title: title_of(options),
         wait: Duration::from_secs(u64::from(options.wait)),
         idle: options
             .idle
@@ -72,9 +89,14 @@ fn tell_closed<K: Sink>(sheet: &Sheet, out: &mut K) -> Result<(), ProgramFault>
     tell(b"closed ", sheet.version(), out)
 }
 
+/// Writes the address of the page of the server on this port. What can't be written, or has no memory, is lost.
+fn tell_page<W: Write>(alloc: Global, port: u16, told: &mut W) {
+    tell_line(alloc, &PageAddress { port }, told);
+}
+
 /// Listens on a port of this machine, opens an empty sheet of the replica that was asked for, writes `listening` and
 /// the port, serves sessions on the sheet as [`serve_on`] does, and writes `closed` and the version. Returns the sheet
-/// that it closed.
+/// that it closed. `told` gets the address of the page.
 ///
 /// A port that can't be listened on is a fault of its own, at which nothing is written. Refused as `Memory` where there
 /// is none for the sheet, and as `Device` where `out` fails; else as [`serve_on`] is.
@@ -83,10 +105,12 @@ fn tell_closed<K: Sink>(sheet: &Sheet, out: &mut K) -> Result<(), ProgramFault>
 pub fn serve<
     R: Net<Listener = TcpListener, Stream = TcpStream> + Threads + Wait + Clock + Sync,
     K: Sink,
+    W: Write + Drop,
 >(
     resources: Resources<'_, R>,
     options: ServeOptions<'_>,
     out: &mut K,
+    mut told: W,
 ) -> Result<Closed, ProgramFault>
     ensures asked { IfOk result (λ closed. options.entry.sessions ≡ Some closed.sessions) }
     ensures served { IfOk result (λ closed. (first : SheetView) × IsOpened options.entry.sheet.replica first
@@ -108,6 +132,7 @@ pub fn serve<
         Ok(()) => {}
         Err(fault) => return Err(fault),
     }
+    tell_page(resources.alloc, options.port, &mut told);
     let closed = serve_on(resources, server_options(&listener, options), sheet)?;
     match tell_closed(&closed.sheet, out) {
         Ok(()) => Ok(closed),
@@ -116,7 +141,7 @@ pub fn serve<
 }
 
 /// Listens on a port of this machine, opens the sheet of the replica that was asked for from the file of this path, and
-/// writes `listening` and the port; then tells what it opened, serves sessions on the sheet as [`serve_kept_on`] does,
+/// writes `listening` and the port; then tells the address of the page and what it opened, serves sessions on the sheet as [`serve_kept_on`] does,
 /// whose warner tells the same writer, and writes `closed` and the version.
 ///
 /// A port that can't be listened on, and a file that isn't taken, are faults of their own, at which nothing is written.
@@ -139,7 +164,7 @@ pub fn serve_kept<
     options: ServeOptions<'_>,
     path: &str,
     out: &mut K,
-    told: W,
+    mut told: W,
     meter: &mut Meter<L>,
 ) -> Result<Closed<Journal<KeptFile>>, ProgramFault>
     ensures asked { IfOk result (λ closed. options.entry.sessions ≡ Some closed.sessions) }
@@ -163,6 +188,7 @@ pub fn serve_kept<
         Ok(()) => {}
         Err(fault) => return Err(fault),
     }
+    tell_page(resources.alloc, options.port, &mut told);
     let mut warner = tell_opened(resources.alloc, path, &sheet, told);
     let journal = keeper.into_journal();
     let asked = server_options(&listener, options);

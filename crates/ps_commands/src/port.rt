@@ -50,6 +50,20 @@ impl fmt::Display for PortFault {
     }
 }
 
+/// The address of the page of a server: a line for standard error, without its line feed.
+#[derive(Clone, Copy, Debug, PartialEq, Eq)]
+pub struct PageAddress {
+    /// The server's port.
+    pub port: u16,
+}
+
+impl fmt::Display for PageAddress {
+    fn fmt<W: fmt::Write>(&self, f: &mut fmt::Formatter<W>) -> fmt::Result {
+        let port = self.port;
+        write!(f, "page http://127.0.0.1:{port}/")
+    }
+}
+
 /// The port that a fault tells of, if it tells of one.
 ///
 /// Cost: constant.

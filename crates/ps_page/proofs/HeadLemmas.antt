@@ -11,7 +11,7 @@ use Rattle.httparse.specs.declared.spans.RequestSpans.{RequestSpans}
 use Rattle.websocket.specs.Handshake.{Answers as AnswersKey}
 use Rattle.websocket.specs.Headers.{fields_of}
 use Rattle.websocket.specs.declared.handshake.failure.HandshakeError.{HandshakeError}
-use Rattle.ps_page.specs.Heads.{Answers, AnswersBytes, AnswersHead, Follows, Opens, Verdict, live, page, refusal}
+use Rattle.ps_page.specs.Heads.{Answers, AnswersBytes, AnswersHead, Follows, Opens, Verdict, about, live, page, refusal}
 use Rattle.ps_page.specs.declared.head.Answer.{Answer}
 use Rattle.ps_page.specs.declared.head.Refused.TheVariants.{BadRequest}
 
@@ -22,6 +22,7 @@ refused_opens (Err x) e a = refl
 
 never_more : (v : Verdict) (key : Result (List ℕ) HandshakeError) → ¬ (Follows v key Answer.More)
 never_more page key e = cc
+never_more about key e = cc
 never_more live (Ok key) (inl o) = cc
 never_more live (Ok key) (inr o) = cc
 never_more live (Err x) e = cc
@@ -31,6 +32,7 @@ never_more (refusal r) key e = cc
 answered : (buf : List ℕ) (answer : Answer) → Answers buf answer → AnswersBytes buf answer
 answered buf Answer.More a = absurd (never_more _ _ a.2)
 answered buf Answer.Page a = inl a
+answered buf Answer.About a = inl a
 answered buf (Answer.Live key) a = inl a
 answered buf (Answer.Refuse r) a = inl a
 

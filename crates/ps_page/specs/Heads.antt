@@ -63,7 +63,7 @@ is_own_origin (Some origin) (Some host) = follows origin (codes "http://") host
 
 -- what a request of this machine asks for
 pub data Verdict : Type 0 where
-  page live : Verdict
+  page about live : Verdict
   refusal : Refused → Verdict
 
 -- a foreign host is refused first, so that no name that a foreign page has resolved to this machine gets further;
@@ -73,9 +73,10 @@ verdict method path fields =
     cond (not (is_own_host (only_value fields (codes "Host")))) (refusal Forbidden)
     (cond (not (bytes_eq method (codes "GET"))) (refusal NotAllowed)
     (cond (bytes_eq path (codes "/")) page
+    (cond (bytes_eq path (codes "/about")) about
     (cond (not (bytes_eq path (codes "/live"))) (refusal NotFound)
     (cond (not (is_own_origin (only_value fields (codes "Origin")) (only_value fields (codes "Host")))) (refusal Forbidden)
-    live))))
+    live)))))
 
 -- an upgrade with a valid key is answered by its accept key
 abbrev pub Opens : Result (List ℕ) HandshakeError → Answer → Type 0
@@ -86,6 +87,7 @@ Opens (Ok key) answer =
 
 abbrev pub Follows : Verdict → Result (List ℕ) HandshakeError → Answer → Type 0
 Follows page key answer = answer ≡ Answer.Page
+Follows about key answer = answer ≡ Answer.About
 Follows live key answer = Opens key answer
 Follows (refusal r) key answer = answer ≡ Answer.Refuse r
 

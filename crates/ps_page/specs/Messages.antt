@@ -1,5 +1,6 @@
 -- What passes between a browser's WebSocket and a session.
 use Rattle.std.specs.Prelude.{◌≡◌, ◌==◌, ◌&&◌, ⊤, ℕ, Bool, true, not, nat_lt, length, List, [], ◌∷◌, ◌++◌, Option, Ok}
+use Rattle.std.specs.Prelude.{codes, decimal}
 use Rattle.std.specs.List.{list_all}
 use Rattle.websocket.specs.Content.{text}
 use Rattle.tungstenite.specs.Socket.{Socket, Reads, content_of}
@@ -8,6 +9,7 @@ use Rattle.ps_page.specs.Heads.{AnswersReader}
 use Rattle.ps_page.specs.declared.greeting.Greeted.{Greeted}
 use Rattle.ps_page.specs.declared.greeting.Greeted.TheVariants.{Answered, Live}
 use Rattle.ps_page.specs.declared.head.Answer.{Answer}
+use Rattle.ps_page.specs.declared.response.TheConstants.{ABOUT_HEAD}
 use Rattle.ps_page.specs.declared.socket.Heard.{Heard}
 use Rattle.ps_page.specs.declared.socket.Heard.TheVariants.{Idle, Left, Line, NoLine}
 
@@ -47,3 +49,11 @@ Hears remaining old new bytes Left = ⊤
 abbrev pub Greets : Option (List ℕ) → Option (List ℕ) → Greeted → Type 0
 Greets old new Live = (key : _) × AnswersReader old new (Answer.Live key)
 Greets old new Answered = ⊤
+
+-- what is said of a sheet: how many are here, and its title, a line each
+abbrev pub about_lines : ℕ → List ℕ → List ℕ
+about_lines here title = decimal here ++ line_feed ∷ title ++ line_feed ∷ []
+
+-- the response to a request that has these lines
+abbrev pub about_text : List ℕ → List ℕ
+about_text lines = ABOUT_HEAD.now ++ decimal (length lines) ++ codes "\r\n\r\n" ++ lines

@@ -4,7 +4,7 @@ ghost use Rattle.ps_page.specs.Messages.{Greets};
 
 use crate::head::{Answer, read_head};
 use crate::page::PAGE;
-use crate::response::{respond, respond_page};
+use crate::response::{About, respond, respond_about, respond_page};
 use std::alloc::Global;
 use std::io;
 use std::io::{ErrorKind, Read, Write};
@@ -15,13 +15,16 @@ use websocket::handshake::server::write_response;
 /// How long a head may take, in seconds.
 const HEAD_SECONDS: u64 = 10;
 
+/// How long a browser may leave a response unread, in seconds.
+const UNREAD_SECONDS: u64 = 10;
+
 /// How many bytes are read at once.
 const PIECE_BYTES: usize = 4096;
 
 /// What the connection of a browser is, once its request was read.
 #[derive(Clone, Copy, Debug, PartialEq, Eq)]
 pub enum Greeted {
-    /// Its request was answered, by the page or by a refusal.
+    /// Its request was answered.
     Answered,
     /// It is a WebSocket now.
     Live,
@@ -60,13 +63,20 @@ fn until<'a, C: Clock>(clock: &'a C, stream: &'a TcpStream, seconds: u64) -> Opt
 /// the head. A connection that was answered has ended its output.
 ///
 /// Cost: linear in the bytes of the head and of the page, but for the time that the browser takes.
-pub fn greet<C: Clock>(clock: &C, alloc: Global, front: &[u8], stream: &TcpStream) -> Greeted {
+pub fn greet<C: Clock>(
+    clock: &C,
+    alloc: Global,
+    front: &[u8],
+    stream: &TcpStream,
+    about: About<'_>,
+) -> Greeted {
+    let _ = stream.set_write_timeout(Some(Duration::from_secs(UNREAD_SECONDS)));
     let Some(reader) = until(clock, stream, HEAD_SECONDS) else {
         return Greeted::Answered;
     };
     let mut reader = front.chain(reader);
     let mut writer = stream;
-    let greeted = answer_request(alloc, &mut reader, &mut writer);
+    let greeted = answer_request(alloc, &mut reader, &mut writer, about);
     if greeted == Greeted::Answered {
         drain(clock, stream);
     }
@@ -76,12 +86,22 @@ pub fn greet<C: Clock>(clock: &C, alloc: Global, front: &[u8], stream: &TcpStrea
 /// Reads the head of a request, and answers it.
 ///
 /// Cost: linear in the bytes of the head and of the page, but for the time that both sides take.
-pub fn answer_request<R: Read, W: Write>(alloc: Global, reader: &mut R, writer: &mut W) -> Greeted
+pub fn answer_request<R: Read, W: Write>(
+    alloc: Global,
+    reader: &mut R,
+    writer: &mut W,
+    about: About<'_>,
+) -> Greeted
     ensures { Greets (R.remaining reader.old) (R.remaining reader.new) result }
 {
     match read_head(alloc, reader) {
         Some(Answer::Page) => {
             let _ = respond_page(writer, PAGE.as_bytes());
+        }
+        Some(Answer::About) => {
+            if let Ok(lines) = about.lines(alloc) {
+                let _ = respond_about(writer, lines.as_slice());
+            }
         }
         Some(Answer::Live(accept)) => {
             if is_opened(alloc, &accept, writer) {

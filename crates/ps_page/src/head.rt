@@ -43,6 +43,8 @@ pub enum Answer {
     More,
     /// The page.
     Page,
+    /// What there is to say of the sheet: how many are here, and its title.
+    About,
     /// A WebSocket, with the value of `Sec-WebSocket-Accept`.
     Live([u8; 28]),
     /// A refusal.
@@ -83,6 +85,9 @@ fn answer_head(buf: &[u8], request: &RequestSpans, spans: &[HeaderSpan]) -> Answ
     let path = request.path.of(buf);
     if path == b"/".as_slice() {
         return Answer::Page;
+    }
+    if path == b"/about".as_slice() {
+        return Answer::About;
     }
     if path != b"/live".as_slice() {
         return Answer::Refuse(Refused::NotFound);

@@ -1,20 +1,68 @@
 //! The responses that are no WebSocket.
-ghost use Rattle.std.specs.Prelude.{◌≡◌, ◌++◌, OnOk};
+ghost use Rattle.std.specs.Prelude.{◌≡◌, ◌++◌, IfOk, OnOk};
 ghost use Rattle.std.specs.Io.KnownBytes.{Appends};
+ghost use Rattle.ps_page.specs.Messages.{about_lines, about_text};
 ghost use Rattle.ps_page.specs.declared.page.TheConstants.{PAGE_HEAD};
 
 use crate::head::Refused;
 use crate::page::PAGE_HEAD;
-use std::io::{Result, Write};
+use itoa::Buffer;
+use std::alloc::{AllocError, Global};
+use std::io;
+use std::io::Write;
 
 /// Writes the page.
 ///
 /// Cost: linear in the bytes of the page.
-pub fn respond_page<W: Write>(writer: &mut W, page: &[u8]) -> Result<()>
+pub fn respond_page<W: Write>(writer: &mut W, page: &[u8]) -> io::Result<()>
     ensures { OnOk result (Appends (W.contents writer.old) (W.contents writer.new) (PAGE_HEAD.now ++ page.now)) }
 {
     writer.write_all(PAGE_HEAD)?;
     writer.write_all(page)?;
+    writer.flush()
+}
+
+/// The head of the response that says what there is to say of a sheet, up to the length of that.
+pub const ABOUT_HEAD: &[u8] = b"HTTP/1.1 200 OK\r\ncontent-type: text/plain; charset=utf-8\r\n\
+    cache-control: no-store\r\nx-content-type-options: nosniff\r\nconnection: close\r\ncontent-length: ";
+
+/// What there is to say of a sheet.
+#[derive(Clone, Copy, Debug)]
+pub struct About<'a> {
+    /// How many browsers have a session.
+    pub here: u64,
+    /// The title, one line.
+    pub title: &'a str,
+}
+
+impl About<'_> {
+    /// Returns it as text: how many are here, and the title, a line each. Refused only when out of memory.
+    ///
+    /// Cost: linear in the bytes of the title, and their memory.
+    pub fn lines(self, alloc: Global) -> Result<Vec<u8>, AllocError>
+        ensures { IfOk result (λ lines. lines.items ≡ about_lines self.entry.here self.entry.title.now) }
+    {
+        let mut digits = Buffer::new();
+        let mut lines = Vec::new(alloc);
+        lines.extend_from_slice(digits.format(self.here).as_bytes())?;
+        lines.push(b'\n')?;
+        lines.extend_from_slice(self.title.as_bytes())?;
+        lines.push(b'\n')?;
+        Ok(lines)
+    }
+}
+
+/// Writes what there is to say of a sheet.
+///
+/// Cost: linear in the bytes of these lines.
+pub fn respond_about<W: Write>(writer: &mut W, lines: &[u8]) -> io::Result<()>
+    ensures { OnOk result (Appends (W.contents writer.old) (W.contents writer.new) (about_text lines.now)) }
+{
+    let mut digits = Buffer::new();
+    writer.write_all(ABOUT_HEAD)?;
+    writer.write_all(digits.format(lines.len()).as_bytes())?;
+    writer.write_all(b"\r\n\r\n")?;
+    writer.write_all(lines)?;
     writer.flush()
 }
 
@@ -39,7 +87,7 @@ fn refusal_text(refused: Refused) -> &'static [u8] {
 /// Writes the response that refuses a request.
 ///
 /// Cost: constant.
-pub fn respond<W: Write>(writer: &mut W, refused: Refused) -> Result<()> {
+pub fn respond<W: Write>(writer: &mut W, refused: Refused) -> io::Result<()> {
     writer.write_all(refusal_text(refused))?;
     writer.flush()
 }

@@ -1,7 +1,7 @@
 //! A connection that wants a slot, and how it is told apart from those that don't.
 
 use crate::guard::{Unadmitted, admit};
-use ps_page::{Greeted, greet, turn_browser_away};
+use ps_page::{About, Greeted, greet, turn_browser_away};
 use std::alloc::Global;
 use std::io::{Read, Write};
 use std::net::{Shutdown, TcpStream};
@@ -32,6 +32,7 @@ impl Arrival {
         clock: &C,
         alloc: Global,
         idle: Option<Duration>,
+        about: About<'_>,
         stream: TcpStream,
     ) -> Option<Arrival> {
         // (without it a reply may only come later)
@@ -45,12 +46,17 @@ impl Arrival {
         let speech = match admit(&mut reader, &mut front) {
             Ok(()) => Speech::Lines(front),
             Err(Unadmitted::Failed) => return None,
-            Err(Unadmitted::Request) => match greet(clock, alloc, front.as_slice(), &stream) {
+            Err(Unadmitted::Request) => match greet(clock, alloc, front.as_slice(), &stream, about) {
                 Greeted::Live => Speech::Messages,
                 Greeted::Answered => return None,
             },
         };
         Some(Arrival { stream, speech })
+    }
+
+    /// Whether it is a browser's.
+    pub(crate) fn is_browser(&self) -> bool {
+        matches!(self.speech, Speech::Messages)
     }
 
     /// Tells it that there is no slot for it, and closes it.

@@ -4,8 +4,10 @@
 use crate::arrival::{Arrival, turn_away};
 use crate::options::ServerOptions;
 use ps_grid::Refusal;
+use ps_page::About;
 use std::alloc::{AllocError, Global};
 use std::net::{Shutdown, TcpStream};
+use std::sync::atomic::{AtomicU64, Ordering};
 use std::sync::{Condvar, CondvarTimeouts, Mutex, Wait};
 use std::thread::{Scope, Threads};
 use std::time::{Clock, Duration, Instant};
@@ -57,6 +59,9 @@ pub(crate) struct Lobby {
     idle: Option<Duration>,
     /// the line that a connection is sent that gets no slot
     no_seat: String,
+    title: String,
+    /// how many browsers have a slot
+    browsers: AtomicU64,
 }
 
 impl Lobby {
@@ -76,6 +81,8 @@ impl Lobby {
             patience: options.wait,
             idle: options.idle,
             no_seat: format!(in alloc; "{}\n", Refusal::Seat)?,
+            title: options.title.to_string(alloc)?,
+            browsers: AtomicU64::new(0),
         })
     }
 
@@ -96,7 +103,7 @@ impl Lobby {
             return;
         };
         let begun = scope.spawn(move || {
-            if let Some(arrival) = Arrival::receive(rt, self.alloc, self.idle, stream) {
+            if let Some(arrival) = Arrival::receive(rt, self.alloc, self.idle, self.about(), stream) {
                 self.enter(rt, arrival);
             }
             self.is_heard(rt, number);
@@ -105,6 +112,30 @@ impl Lobby {
             Ok(_) => {}
             Err(refused) => (refused.value)(),
         }
+    }
+
+    /// What there is to say of the sheet.
+    fn about(&self) -> About<'_> {
+        About {
+            here: self.browsers.load(Ordering::SeqCst),
+            title: self.title.as_str(),
+        }
+    }
+
+    /// Takes note that an arrival has a slot.
+    pub(crate) fn has_slot(&self, arrival: &Arrival) {
+        if arrival.is_browser() {
+            self.browsers.fetch_add(1, Ordering::SeqCst);
+        }
+    }
+
+    /// Takes note that the session of an arrival is over.
+    pub(crate) fn is_over<R: Wait>(&self, rt: &R, arrival: Arrival) {
+        if arrival.is_browser() {
+            self.browsers.fetch_sub(1, Ordering::SeqCst);
+        }
+        drop(arrival);
+        self.note(rt);
     }
 
     /// Notes a connection whose first bytes are awaited; none where there are too many, or it couldn't be closed.
@@ -147,7 +178,7 @@ impl Lobby {
     }
 
     /// Takes note that something happened, so that a pause ends.
-    pub(crate) fn note<R: Wait>(&self, rt: &R) {
+    fn note<R: Wait>(&self, rt: &R) {
         self.present.lock(rt).has_changed = true;
         self.changed.notify_one();
     }

@@ -15,6 +15,8 @@ pub struct ServerOptions<'a> {
     pub sessions: Option<u64>,
     /// How many sessions it serves at a time, 1 to `SEATS`.
     pub seats: usize,
+    /// The title that the page has by itself, one line.
+    pub title: &'a str,
     /// How long a connection waits for a slot.
     pub wait: Duration,
     /// After how long a session ends whose peer sends nothing; never where there is none.

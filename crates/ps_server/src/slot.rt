@@ -225,10 +225,10 @@ fn begin<
         move || -> Pass<L>
             ensures { IsAttended L.replica L.opening pass result }
         {
+            lobby.has_slot(&arrival);
             let end = attend(resources, DeskSeat { desk, pass }, shared, &arrival, lobby.idle());
-            drop(arrival);
             flag.raise();
-            lobby.note(resources.threads);
+            lobby.is_over(resources.threads, arrival);
             end.pass
         },
     );

@@ -1,5 +1,5 @@
 -- The command line of the program, as `clap` sees it, and what its matches give.
-use Rattle.std.specs.Prelude.{◌≡◌, ⊤, ℕ, Bool, true, false, List, [], ◌∷◌, Option, Some, None, codes, pos}
+use Rattle.std.specs.Prelude.{◌≡◌, ⊤, ℕ, Bool, true, false, List, [], ◌∷◌, Option, Some, None, bytes_eq, codes, pos}
 use Rattle.std.specs.Borrow.{Bor}
 use Rattle.std.specs.Prelude.{option_map}
 use Rattle.std.specs.Str.Parse.{digits_value, without_leading_plus}
@@ -12,7 +12,7 @@ use Rattle.ps_grid.specs.declared.parties.TheConstants.{REPLICAS, SEATS, WORKERS
 use Rattle.ps_words.specs.declared.options.TheConstants.{LONGEST_IDLE, LONGEST_PAUSE, LONGEST_WAIT, MOST_SESSIONS}
 use Rattle.ps_words.specs.declared.arguments.TheConstants.{LAST_PORT}
 use Rattle.ps_words.specs.declared.options.Options.{Options}
-use Rattle.ps_words.specs.declared.options.Options.TheVariants.{Follow, Page, Run, Serve, Squash, Sync, Table, Talk}
+use Rattle.ps_words.specs.declared.options.Options.TheVariants.{Follow, Run, Serve, Squash, Sync, Table, Talk}
 
 -- an option with a number from least to most, which may be left out ..
 abbrev pub ranged_option : Text → ℕ → ℕ → Rule
@@ -56,7 +56,7 @@ table_app = with_rule (with_rule (with_rule (new_app (codes "table")) (number_op
     (flag_option (codes "entries"))) (flag_option (codes "explain"))
 
 abbrev pub serve_app : App
-serve_app = with_sheet_options (with_rule (with_rule (with_rule (with_rule (with_rule (with_rule (with_rule
+serve_app = with_sheet_options (with_rule (with_rule (with_rule (with_rule (with_rule (with_rule (with_rule (with_rule
     (new_app (codes "serve"))
     (needed_option (codes "port") LAST_PORT))
     (ranged_option (codes "sessions") 1 MOST_SESSIONS))
@@ -65,6 +65,7 @@ serve_app = with_sheet_options (with_rule (with_rule (with_rule (with_rule (with
     (ranged_option (codes "idle") 1 LONGEST_IDLE))
     (flag_option (codes "explain")))
     (text_option (codes "keep")))
+    (text_option (codes "title")))
 
 abbrev pub sync_app : App
 sync_app = with_rule (with_rule (with_rule (new_app (codes "sync")) (needed_option (codes "from") LAST_PORT))
@@ -80,22 +81,17 @@ abbrev pub talk_app : App
 talk_app = with_rule (with_rule (new_app (codes "talk")) (needed_option (codes "to") LAST_PORT))
     (flag_option (codes "explain"))
 
-abbrev pub page_app : App
-page_app = with_rule (with_rule (with_rule (with_rule (new_app (codes "page")) (needed_option (codes "from") LAST_PORT))
-    (needed_option (codes "port") LAST_PORT)) (usual_option (codes "browsers") 1 SEATS (codes "8")))
-    (flag_option (codes "explain"))
-
 abbrev pub squash_app : App
 squash_app = new_app (codes "squash")
 
 -- the program has one of the commands, and a version
 abbrev pub sheet_app : App
 sheet_app = with_subcommand (with_subcommand (with_subcommand (with_subcommand (with_subcommand (with_subcommand
-    (with_subcommand (with_subcommand (on_top (λ s. record s {
+    (with_subcommand (on_top (λ s. record s {
       subcommand_required = true;
       has_version = true;
     }) (new_app (codes "sheet"))) run_app.top) table_app.top) serve_app.top) sync_app.top) follow_app.top) talk_app.top)
-    page_app.top) squash_app.top
+    squash_app.top
 
 -- among a command's matches the option has this number
 abbrev pub GivesNumber : List Row → Text → ℕ → Type 0
@@ -124,7 +120,6 @@ name_of (Serve o) = codes "serve"
 name_of (Sync o) = codes "sync"
 name_of (Follow o) = codes "follow"
 name_of (Talk o) = codes "talk"
-name_of (Page o) = codes "page"
 name_of Squash = codes "squash"
 
 -- among a command's matches its options have these numbers and texts, and its flags are set so
@@ -138,17 +133,21 @@ GivesNumbers rows (Table o) = GivesNumber rows (codes "workers") o.workers
 GivesNumbers rows (Serve o) = GivesNumber rows (codes "port") o.port × GivesCount rows (codes "sessions") o.sessions
     × GivesNumber rows (codes "seats") o.seats × GivesNumber rows (codes "wait") o.wait
     × GivesCount rows (codes "idle") o.idle × GivesFlag rows (codes "explain") o.explain
-    × GivesText rows (codes "keep") o.keep
+    × GivesText rows (codes "keep") o.keep × GivesText rows (codes "title") o.title
     × GivesNumber rows (codes "workers") o.sheet.workers × GivesNumber rows (codes "replica") o.sheet.replica
 GivesNumbers rows (Sync o) = GivesNumber rows (codes "from") o.from × GivesNumber rows (codes "to") o.to
     × GivesFlag rows (codes "explain") o.explain
 GivesNumbers rows (Follow o) = GivesNumber rows (codes "from") o.from × GivesFlag rows (codes "until-now") o.until_now
     × GivesNumber rows (codes "every") o.every × GivesFlag rows (codes "explain") o.explain
 GivesNumbers rows (Talk o) = GivesNumber rows (codes "to") o.to × GivesFlag rows (codes "explain") o.explain
-GivesNumbers rows (Page o) = GivesNumber rows (codes "from") o.from × GivesNumber rows (codes "port") o.port
-    × GivesNumber rows (codes "browsers") o.browsers × GivesFlag rows (codes "explain") o.explain
 GivesNumbers rows Squash = ⊤
 
 -- the matches are those of the command with its numbers
 abbrev pub GivesOptions : Option (Text × List Row) → Options → Type 0
 GivesOptions matches options = (rows : List Row) × (matches ≡ Some (name_of options, rows)) × GivesNumbers rows options
+
+-- the first word after the program's name asks for the page of earlier versions
+abbrev pub asks_for_page : List Text → Bool
+asks_for_page (name ∷ word ∷ words) = bytes_eq word (codes "page")
+asks_for_page (name ∷ []) = false
+asks_for_page [] = false

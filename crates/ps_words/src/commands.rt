@@ -4,7 +4,6 @@ ghost use Rattle.clap.specs.Words.{app_of};
 ghost use Rattle.clap.specs.declared.builder.command.Command.TheViews.{out-Command as fields_of};
 ghost use Rattle.ps_words.specs.Words.{
   follow_app,
-  page_app,
   run_app,
   serve_app,
   sheet_app,
@@ -19,10 +18,10 @@ use crate::arguments::{
     usual_option, with_option, with_sheet_options,
 };
 use crate::help::{
-    BROWSERS_HELP, ENTRIES_HELP, EVERY_HELP, EXPLAIN_HELP, FOLLOW_HELP, FOLLOWED_HELP, FROM_HELP,
-    IDLE_HELP, KEEP_HELP, PAGE_HELP, PORT_EXPLAIN_HELP, PORT_HELP, RUN_HELP, SEATS_HELP,
-    SERVE_HELP, SERVER_HELP, SESSIONS_HELP, SHEET_HELP, SQUASH_HELP, STRICT_HELP, SYNC_HELP,
-    TABLE_HELP, TALK_EXPLAIN_HELP, TALK_HELP, TALKED_HELP, TO_HELP, UNTIL_NOW_HELP, WAIT_HELP,
+    ENTRIES_HELP, EVERY_HELP, EXPLAIN_HELP, FOLLOW_HELP, FOLLOWED_HELP, FROM_HELP,
+    IDLE_HELP, KEEP_HELP, PORT_EXPLAIN_HELP, PORT_HELP, RUN_HELP, SEATS_HELP,
+    SERVE_HELP, SESSIONS_HELP, SHEET_HELP, SQUASH_HELP, STRICT_HELP, SYNC_HELP,
+    TABLE_HELP, TALK_EXPLAIN_HELP, TALK_HELP, TALKED_HELP, TITLE_HELP, TO_HELP, UNTIL_NOW_HELP, WAIT_HELP,
     WORKERS_HELP,
 };
 use crate::options::{LONGEST_IDLE, LONGEST_PAUSE, LONGEST_WAIT, MOST_SESSIONS};
@@ -81,7 +80,9 @@ fn serve_command<'a>(alloc: Global) -> Result<Command<'a>, AllocError>
     let explain = flag_option(alloc, "explain", PORT_EXPLAIN_HELP);
     let command = with_option(command, explain)?;
     let keep = text_option(alloc, "keep", KEEP_HELP);
-    with_sheet_options(alloc, with_option(command, keep)?)
+    let command = with_option(command, keep)?;
+    let title = text_option(alloc, "title", TITLE_HELP);
+    with_sheet_options(alloc, with_option(command, title)?)
 }
 
 /// The command `sync`.
@@ -133,22 +134,6 @@ fn talk_command<'a>(alloc: Global) -> Result<Command<'a>, AllocError>
     with_option(command, explain)
 }
 
-/// The command `page`.
-fn page_command<'a>(alloc: Global) -> Result<Command<'a>, AllocError>
-    ensures app { IfOk result (λ command. app_of command ≡ page_app) }
-    ensures local { IfOk result (λ command. (fields_of command).has_globals ≡ false) }
-{
-    let about = "shows the sheet of a server in a browser";
-    let from = needed_option(alloc, "from", LAST_PORT, SERVER_HELP);
-    let command = with_option(new_command(alloc, "page", about, PAGE_HELP), from)?;
-    let port = needed_option(alloc, "port", LAST_PORT, PORT_HELP);
-    let command = with_option(command, port)?;
-    let browsers = usual_option(alloc, "browsers", 1, SEATS as u32, "8", BROWSERS_HELP);
-    let command = with_option(command, browsers)?;
-    let explain = flag_option(alloc, "explain", PORT_EXPLAIN_HELP);
-    with_option(command, explain)
-}
-
 /// The command `squash`.
 fn squash_command<'a>(alloc: Global) -> Command<'a>
     ensures app { app_of result ≡ squash_app }
@@ -173,6 +158,5 @@ pub(crate) fn sheet_command<'a>(alloc: Global) -> Result<Command<'a>, AllocError
         .subcommand(sync_command(alloc)?)?
         .subcommand(follow_command(alloc)?)?
         .subcommand(talk_command(alloc)?)?
-        .subcommand(page_command(alloc)?)?
         .subcommand(squash_command(alloc))
 }

@@ -46,11 +46,9 @@ pub const EVERY_HELP: &str = "how many milliseconds to wait before it asks for m
 /// What `--to` of `talk` means.
 pub const TALKED_HELP: &str = "the port of the server that is asked, 1 to 65535";
 
-/// What `--from` of `page` means.
-pub const SERVER_HELP: &str = "the port of the server whose sheet is shown, 1 to 65535";
-
-/// What `--browsers` means, with the range 1 to `SEATS`.
-pub const BROWSERS_HELP: &str = "how many browsers may have a session at a time, 1 to 16";
+/// What `--title` means.
+pub const TITLE_HELP: &str =
+    "the title of the page; without it, the name of the kept file, or what A1 shows";
 
 /// What `--explain` means.
 pub const EXPLAIN_HELP: &str =
@@ -79,7 +77,6 @@ Examples:
   sheet sync --from 7001 --to 7002
   sheet follow --from 7001 --until-now > plan.lines
   sheet talk --to 7001 < my.lines
-  sheet page --from 7001 --port 8080
   sheet squash < plan.lines > small
   sheet help serve
   sheet --version
@@ -174,9 +171,10 @@ writes
 pub const SERVE_HELP: &str = "\
 It opens an empty sheet, listens on this machine, 127.0.0.1, and writes `listening`
 and the port. Each connection is a session: its lines are commands, as in `run`,
-and all sessions change and read the one sheet side by side. When one ends, its
-seat goes to the next connection. One that finds no free seat waits for one; after
-the time to wait it is answered `err 21 seat` and closed.
+and all sessions change and read the one sheet side by side. Standard error has the
+address of its page, at the same port: each browser that opens it has a session, too.
+When a session ends, its seat goes to the next one. One that finds no free seat waits
+for one; after the time to wait it is answered `err 21 seat` and closed.
 
 With `--sessions` it writes `closed` and the number of changes once so many sessions
 have ended, and ends. The sheet ends with it, but for what `--keep` keeps in a file:
@@ -191,13 +189,14 @@ writes
 
   listening 7001
 
-and once two connections have come, each of them with a `set`, and have ended
+with `page http://127.0.0.1:7001/` on standard error, and once two sessions have come,
+each of them with a `set`, and have ended
 
   closed 2
 
   sheet serve --port 7001 --seats 4 --wait 30 --idle 1800
   sheet serve --port 7001 --workers 4 --explain
-  sheet serve --port 7001 --keep plan.lines";
+  sheet serve --port 7001 --keep plan.lines --title 'Our plan'";
 
 /// What stands below the options of `sheet sync --help`.
 pub const SYNC_HELP: &str = "\
@@ -262,25 +261,6 @@ writes
   sheet follow --from 7001 | sheet talk --to 7002 > replies
 
 At a terminal, as in the second one, type a line and read its reply; Ctrl-D ends it.";
-
-/// What stands below the options of `sheet page --help`.
-pub const PAGE_HELP: &str = "\
-It listens on this machine, 127.0.0.1, writes `page` and the address to open in a
-browser, and runs until it is stopped. The page shows the sheet of the `serve` on the
-other port, and changes it. Each browser is a session of that server; a session is
-opened when the first browser wants it, and kept for the next.
-
-Examples:
-
-  sheet serve --port 7001 &
-  sheet page --from 7001 --port 8080
-
-writes
-
-  listening 7001
-  page http://127.0.0.1:8080/
-
-  sheet page --from 7001 --port 8080 --browsers 4 --explain";
 
 /// What stands below the options of `sheet squash --help`.
 pub const SQUASH_HELP: &str = "\

@@ -62,6 +62,8 @@ pub struct ServeOptions<'a> {
     pub sheet: SheetOptions,
     /// The path of the file that the sheet is kept in, where it is to be kept.
     pub keep: Option<&'a str>,
+    /// The title of the page, where one is given.
+    pub title: Option<&'a str>,
     /// How many sessions to serve, 1 to `MOST_SESSIONS`; none where it serves until it is stopped.
     pub sessions: Option<u32>,
     /// How many sessions to serve at a time, 1 to `SEATS`.
@@ -117,22 +119,6 @@ pub struct TalkOptions {
     ghost to_in_range: { 1 ≤ to },
 }
 
-/// What `sheet page` is asked for.
-#[derive(Clone, Copy, PartialEq, Eq)]
-pub struct PageOptions {
-    /// The port of the server whose sheet is shown, 1 or more.
-    pub from: u16,
-    /// The port to listen on, 1 or more.
-    pub port: u16,
-    /// How many browsers may have a session at a time, 1 to `SEATS`.
-    pub browsers: u8,
-    /// Whether standard error is told why a port can't be had.
-    pub explain: bool,
-    ghost from_in_range: { 1 ≤ from },
-    ghost port_in_range: { 1 ≤ port },
-    ghost browsers_in_range: { (1 ≤ browsers) × (browsers ≤ SEATS) },
-}
-
 /// A command with what it is asked for.
 #[derive(Clone, Copy)]
 pub enum Options<'a> {
@@ -148,8 +134,6 @@ pub enum Options<'a> {
     Follow(FollowOptions),
     /// Asks a server each line of standard input.
     Talk(TalkOptions),
-    /// Shows the sheet of a server in a browser.
-    Page(PageOptions),
     /// Makes few push lines of many delta lines.
     Squash,
 }

@@ -2,11 +2,11 @@
 ghost use Rattle.std.specs.Prelude.{◌≡◌, ◌≤◌, IfOk, IfSome, codes, map, string_bytes};
 ghost use Rattle.clap.specs.Words.{found_of, rows_of, subcommand_of};
 ghost use Rattle.ps_words.specs.Words.{GivesCount, GivesFlag, GivesNumber, GivesNumbers, GivesOptions, GivesText};
-ghost use Rattle.ps_words.specs.Words.{name_of, sheet_app};
+ghost use Rattle.ps_words.specs.Words.{asks_for_page, name_of, sheet_app};
 
 use crate::commands::sheet_command;
 use crate::options::{
-    FollowOptions, LONGEST_IDLE, LONGEST_PAUSE, LONGEST_WAIT, MOST_SESSIONS, Options, PageOptions,
+    FollowOptions, LONGEST_IDLE, LONGEST_PAUSE, LONGEST_WAIT, MOST_SESSIONS, Options,
     RunOptions, ServeOptions, SheetOptions, SyncOptions, TableOptions, TalkOptions,
 };
 use clap::{ArgMatches, Error};
@@ -131,6 +131,7 @@ fn serve_options<'a>(matches: &ArgMatches<'a>) -> Option<Options<'a>>
     let port = port_of(matches, "port")?;
     let sheet = sheet_options(matches)?;
     let keep = text_of(matches, "keep");
+    let title = text_of(matches, "title");
     let sessions = count_of(matches, "sessions", MOST_SESSIONS)?;
     let seats = number_of(matches, "seats", SEATS as u8)?;
     let wait = number_to(matches, "wait", LONGEST_WAIT)?;
@@ -140,6 +141,7 @@ fn serve_options<'a>(matches: &ArgMatches<'a>) -> Option<Options<'a>>
         port,
         sheet,
         keep,
+        title,
         sessions,
         seats,
         wait,
@@ -186,23 +188,6 @@ fn talk_options<'a>(matches: &ArgMatches<'a>) -> Option<Options<'a>>
     Some(Options::Talk(TalkOptions { to, explain }))
 }
 
-/// The numbers of `page`, and its flag.
-fn page_options<'a>(matches: &ArgMatches<'a>) -> Option<Options<'a>>
-    ensures { IfSome result (λ options. (name_of options ≡ codes "page")
-        × GivesNumbers (rows_of (found_of matches.now)) options) }
-{
-    let from = port_of(matches, "from")?;
-    let port = port_of(matches, "port")?;
-    let browsers = number_of(matches, "browsers", SEATS as u8)?;
-    let explain = flag_of(matches, "explain");
-    Some(Options::Page(PageOptions {
-        from,
-        port,
-        browsers,
-        explain,
-    }))
-}
-
 /// The options of a command by its name.
 fn options_of<'a>(name: &str, matches: &ArgMatches<'a>) -> Option<Options<'a>>
     ensures { IfSome result (λ options. (name_of options ≡ name.now)
@@ -215,7 +200,6 @@ fn options_of<'a>(name: &str, matches: &ArgMatches<'a>) -> Option<Options<'a>>
         "sync" => sync_options(matches),
         "follow" => follow_options(matches),
         "talk" => talk_options(matches),
-        "page" => page_options(matches),
         "squash" => Some(Options::Squash),
         _ => None,
     }
@@ -237,4 +221,19 @@ pub fn read_words<'a>(alloc: Global, words: &'a [String]) -> Result<Options<'a>,
         return Err(AllocError.into());
     };
     Ok(options)
+}
+
+/// What is told whoever asks for the command `page`.
+pub const PAGE_IS_GONE: &str = "sheet page is gone: sheet serve has the page at its own port";
+
+/// Whether the program's words ask for the command `page`, which earlier versions had.
+///
+/// Cost: constant.
+pub fn asks_for_page(words: &[String]) -> bool
+    ensures { result ≡ asks_for_page (map string_bytes words.now) }
+{
+    match words {
+        [_, word, ..] => word.as_bytes() == b"page".as_slice(),
+        _ => false,
+    }
 }

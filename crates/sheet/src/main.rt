@@ -2,10 +2,10 @@
 //!
 //! `sheet run` opens an empty sheet and answers each line of standard input on standard output; `sheet table` reads a
 //! table of CSV and writes the table of its settled values. `sheet serve` answers the lines of several connections,
-//! side by side and on one sheet, and `sheet sync` hands what one replica has to another, both of which listen on
-//! this machine. `sheet follow` writes what such a replica has and gets, as lines to push, `sheet talk` is a session at
-//! it, `sheet page` shows it in a browser, and `sheet squash` makes few delta lines of many. It keeps nothing from one
-//! start to the next but in the file that `--keep` of `run` or `serve` names.
+//! side by side and on one sheet, and shows it to browsers, and `sheet sync` hands what one replica has to another, both
+//! of which listen on this machine. `sheet follow` writes what such a replica has and gets, as lines to push,
+//! `sheet talk` is a session at it, and `sheet squash` makes few delta lines of many. It keeps nothing from one start to
+//! the next but in the file that `--keep` of `run` or `serve` names.
 //!
 //! It ties the commands of `ps_commands`, whose contracts say what each does, to the words, to standard input, output
 //! and error, and to the exit status: 0 where all went well, 1 where a device failed, 2 for a command line that is
@@ -24,7 +24,7 @@ use clap::Error;
 use clap::error::ErrorKind;
 use ps_commands::{
     KeptOnlooker, Onlooker, ProgramFault, answer_kept, answer_lines, follow_on, leave_unfreed,
-    open_kept_sheet, open_page, port_fault, serve, serve_kept, squash_on, status_of, sync_on,
+    open_kept_sheet, port_fault, serve, serve_kept, squash_on, status_of, sync_on,
     table_on, talk_on, tell_opened,
 };
 use ps_device::{ConsoleOutput, Reading, Sink, Writing};
@@ -32,7 +32,10 @@ use ps_eval::Meter;
 use ps_grid::Refusal;
 use ps_server::{Closed, Counts};
 use ps_session::{HeldOutput, Resources};
-use ps_words::{Options, RunOptions, ServeOptions, TableOptions, TalkOptions, read_words};
+use ps_words::{
+    Options, PAGE_IS_GONE, RunOptions, ServeOptions, TableOptions, TalkOptions, asks_for_page,
+    read_words,
+};
 use std::fs::File;
 use std::io;
 use std::io::{IsTerminal, PipeReader, Stdout, Write, pipe};
@@ -87,6 +90,9 @@ fn start<
         Err(error) => return unread_words(rt, &error),
     };
     let words: Vec<String> = given.collect(rt.alloc())?;
+    if asks_for_page(words.as_slice()) {
+        return tell_gone(rt);
+    }
     match read_words(rt.alloc(), words.as_slice()) {
         Ok(options) => run_command(rt, threads, options),
         Err(error) => tell(rt, &error),
@@ -99,6 +105,14 @@ fn unread_words(rt: &HostRuntime, error: &io::Error) -> Result<ExitCode, Program
         return Err(ProgramFault::Refused(Refusal::Memory));
     }
     match eprintln!(rt; "error: invalid UTF-8 was detected in one or more arguments") {
+        Ok(()) => Ok(ExitCode::from(2)),
+        Err(_) => Err(ProgramFault::Refused(Refusal::Device)),
+    }
+}
+
+/// Tells whoever asks for the command `page` of earlier versions where the page is.
+fn tell_gone(rt: &HostRuntime) -> Result<ExitCode, ProgramFault> {
+    match eprintln!(rt; "{PAGE_IS_GONE}") {
         Ok(()) => Ok(ExitCode::from(2)),
         Err(_) => Err(ProgramFault::Refused(Refusal::Device)),
     }
@@ -142,7 +156,6 @@ fn wants_words(options: Options<'_>) -> bool {
         Options::Sync(options) => options.explain,
         Options::Follow(options) => options.explain,
         Options::Talk(options) => options.explain,
-        Options::Page(options) => options.explain,
         Options::Run(_) | Options::Table(_) | Options::Squash => false,
     }
 }
@@ -199,10 +212,6 @@ fn on_standard<
             follow_on(threads, rt, rt.alloc(), options, &mut sink)
         }
         Options::Talk(options) => talk_lines::<R, I, O>(rt, threads, counts, options),
-        Options::Page(options) => {
-            let mut sink = console::<O>(rt, counts.output)?;
-            open_page(threads, rt.alloc(), options, &mut sink)
-        }
         Options::Squash => {
             let mut source = Reading::<_, I>::new(rt.reader(), counts.input);
             let mut sink = Writing::<_, O>::new(rt.stdout(), counts.output);
@@ -324,7 +333,7 @@ fn serve_sessions<
             leave_unfreed(sheet);
         }
         None => {
-            let closed = serve(resources, options, out)?;
+            let closed = serve(resources, options, out, rt.stderr())?;
             let Closed { sheet, .. } = closed;
             leave_unfreed(sheet);
         }

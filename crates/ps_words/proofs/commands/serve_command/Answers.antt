@@ -14,12 +14,13 @@ returns-clause-app c =
     let wait = c.in_ok-command-4.ensures.app ∙ ap₂ with_rule seats wait_is in
     let idle = c.in_ok-command-5.ensures.app ∙ ap₂ with_rule wait c.ranged_option-idle.ensures.rule in
     let explain = c.in_ok-command-6.ensures.app ∙ ap₂ with_rule idle c.flag_option-explain.ensures.rule in
-    let keep = c.in_ok-with_option.ensures.app ∙ ap₂ with_rule explain c.text_option-keep.ensures.rule in
-    IfOk-weaker c.with_sheet_options.result _ _ (λ command is. is ∙ ap with_sheet_options keep)
+    let keep = c.in_ok-command-7.ensures.app ∙ ap₂ with_rule explain c.text_option-keep.ensures.rule in
+    let title = c.in_ok-with_option.ensures.app ∙ ap₂ with_rule keep c.text_option-title.ensures.rule in
+    IfOk-weaker c.with_sheet_options.result _ _ (λ command is. is ∙ ap with_sheet_options title)
     c.with_sheet_options.ensures.app
 
 pub returns-clause-local : goal.returns-clause-local
 returns-clause-local c = c.with_sheet_options.ensures.local
-    (c.in_ok-with_option.ensures.local (c.in_ok-command-6.ensures.local (c.in_ok-command-5.ensures.local
-    (c.in_ok-command-4.ensures.local (c.in_ok-command-3.ensures.local (c.in_ok-command-2.ensures.local
-    (c.in_ok-command.ensures.local c.new_command.ensures.local)))))))
+    (c.in_ok-with_option.ensures.local (c.in_ok-command-7.ensures.local (c.in_ok-command-6.ensures.local
+    (c.in_ok-command-5.ensures.local (c.in_ok-command-4.ensures.local (c.in_ok-command-3.ensures.local
+    (c.in_ok-command-2.ensures.local (c.in_ok-command.ensures.local c.new_command.ensures.local))))))))

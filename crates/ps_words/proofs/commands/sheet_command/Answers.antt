@@ -38,9 +38,7 @@ returns c =
     ∙ ap₂ with_subcommand with_sync (ap (λ (a : App). a.top) c.in_ok-follow_command.ensures.app) in
     let with_talk = c.in_ok-subcommand-6.ensures.shape c.in_ok-talk_command.ensures.local
     ∙ ap₂ with_subcommand with_follow (ap (λ (a : App). a.top) c.in_ok-talk_command.ensures.app) in
-    let with_page = c.in_ok-subcommand-7.ensures.shape c.in_ok-page_command.ensures.local
-    ∙ ap₂ with_subcommand with_talk (ap (λ (a : App). a.top) c.in_ok-page_command.ensures.app) in
-    IfOk-weaker c.subcommand-8.result _ _
+    IfOk-weaker c.subcommand-7.result _ _
     (λ command h. h.shape c.squash_command.ensures.local
-    ∙ ap₂ with_subcommand with_page (ap (λ (a : App). a.top) c.squash_command.ensures.app))
-    c.subcommand-8.ensures
+    ∙ ap₂ with_subcommand with_talk (ap (λ (a : App). a.top) c.squash_command.ensures.app))
+    c.subcommand-7.ensures
