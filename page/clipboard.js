@@ -12,7 +12,7 @@ function copiedArea() {
   if (!isWhole) return area;
   const used = [...held.keys()].map(cellAt).filter(cell => isIn(cell, area));
   const inner = used.length ? areaAround(used) : { right: area.left, bottom: area.top };
-  return { ...area, right: Math.max(area.left, inner.right), bottom: Math.max(area.top, inner.bottom) };
+  return { ...area, right: max(area.left, inner.right), bottom: max(area.top, inner.bottom) };
 }
 const copied = () => rowsOf(copiedArea(), cell => quoted(shownAt(cell))).map(row => row.join('\t')).join('\n');
 const copiedEntries = () => {

@@ -2,11 +2,11 @@
 let current = [0, 0], corner = [0, 0];
 const selected = () => boxOf(current, corner);
 function visible() {
-  const width = Math.max(grid.clientWidth - SIDE, WIDTH), height = Math.max(grid.clientHeight - HEIGHT, HEIGHT);
+  const width = max(grid.clientWidth - SIDE, WIDTH), height = max(grid.clientHeight - HEIGHT, HEIGHT);
   return {
-    left: columnAt(grid.scrollLeft), top: bound(Math.floor(grid.scrollTop / HEIGHT), ROWS),
+    left: columnAt(grid.scrollLeft), top: bound(floor(grid.scrollTop / HEIGHT), ROWS),
     right: columnAt(grid.scrollLeft + width - 1),
-    bottom: bound(Math.floor((grid.scrollTop + height - 1) / HEIGHT), ROWS),
+    bottom: bound(floor((grid.scrollTop + height - 1) / HEIGHT), ROWS),
   };
 }
 function reveal([column, row]) {

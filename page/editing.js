@@ -19,10 +19,10 @@ function edit(text, where, wasTyped = false) {
 }
 /** The editor is as wide as its text, within the grid. */
 function placeEditor() {
-  const [x, y, width] = pixels(boxOf(current, current)), least = Math.max(width + 1, 180 * SCALE);
+  const [x, y, width] = pixels(boxOf(current, current)), least = max(width + 1, 180 * SCALE);
   place(editor, x - 1, y - 1, least, HEIGHT + 1);
-  const room = Math.max(least, grid.scrollLeft + grid.clientWidth - x - 8);
-  editor.style.width = Math.max(least, Math.min(editor.scrollWidth + 12, room)) + 'px';
+  const room = max(least, grid.scrollLeft + grid.clientWidth - x - 8);
+  editor.style.width = max(least, min(editor.scrollWidth + 12, room)) + 'px';
 }
 function stopEditing() {
   editing = picked = pickedCell = null;

@@ -33,7 +33,7 @@ async function openCsv(file) {
   const was = cell => textIn(entries, cell);
   const isNew = ([cell, due]) => fromEntry(was(cell)) !== due && was(cell) !== due;
   const changed = inside.filter(isNew), filled = changed.filter(([cell]) => was(cell));
-  const size = `${several(rows.length, 'row')} and ${several(Math.max(...rows.map(row => row.length)), 'column')}`;
+  const size = `${several(rows.length, 'row')} and ${several(max(...rows.map(row => row.length)), 'column')}`;
   const beyond = wanted.length - inside.length;
   const what = `${file.name}: ${size}, from ${nameOf(current)} on. ${several(changed.length, 'cell')} would change, ` +
     `${filled.length} of them hold something now.` + (beyond ? ` ${several(beyond, 'cell')} beyond the sheet.` : '');

@@ -14,13 +14,13 @@ const fillArea = (source, area) => putMany(async () => {
 /** Fills down from the first row of what is selected, or from the row above it. */
 function fillDown() {
   const area = selected(), isOne = area.top === area.bottom;
-  const whole = isOne ? { ...area, top: Math.max(0, area.top - 1) } : area;
+  const whole = isOne ? { ...area, top: max(0, area.top - 1) } : area;
   return fillArea({ ...whole, bottom: whole.top }, whole);
 }
 /** Fills to the right from the first column of what is selected, or from the column before it. */
 function fillRight() {
   const area = selected(), isOne = area.left === area.right;
-  const whole = isOne ? { ...area, left: Math.max(0, area.left - 1) } : area;
+  const whole = isOne ? { ...area, left: max(0, area.left - 1) } : area;
   return fillArea({ ...whole, right: whole.left }, whole);
 }
 /** Where a drag of the handle goes: further down or to the right, whichever is more. */

@@ -20,7 +20,7 @@ function shifted(text, columns, rows) {
   const moved = short(text).replace(CORNERS, (all, holdsColumn, column, holdsRow, row) => {
     const cell = [readColumn(column) + (holdsColumn ? 0 : columns), row - 1 + (holdsRow ? 0 : rows)];
     isLost = isLost || !isInGrid(cell);
-    return holdsColumn + columnName(Math.max(0, cell[0])) + holdsRow + (cell[1] + 1);
+    return holdsColumn + columnName(max(0, cell[0])) + holdsRow + (cell[1] + 1);
   });
   return isLost ? null : moved;
 }

@@ -3,7 +3,7 @@ let isMoving = false, heldKeys = [];
 const isControl = event => event.ctrlKey || event.metaKey;
 function target(event) {
   const isFar = event.shiftKey && event.key !== 'Tab', [column, row] = isFar ? corner : current;
-  const page = Math.max(1, Math.floor((grid.clientHeight - HEIGHT) / HEIGHT) - 1), arrow = ARROWS[event.key];
+  const page = max(1, floor((grid.clientHeight - HEIGHT) / HEIGHT) - 1), arrow = ARROWS[event.key];
   if (arrow) return [column + arrow[0], row + arrow[1]];
   switch (event.key) {
     case 'Tab': return [column + (event.shiftKey ? -1 : 1), row];

@@ -3,6 +3,7 @@
 const COLUMNS = 104, ROWS = 1024;
 const ALL = { left: 0, top: 0, right: COLUMNS - 1, bottom: ROWS - 1 };
 
+const { floor, max, min } = Math;
 const $ = id => document.getElementById(id);
 const on = (target, kind, call) => target.addEventListener(kind, call);
 /** Takes an event, so that the browser does nothing at it. */
@@ -22,13 +23,13 @@ function keep(name, map) {
     // (it is kept as long as the page is open)
   }
 }
-const bound = (value, most) => Math.max(0, Math.min(most - 1, value));
+const bound = (value, most) => max(0, min(most - 1, value));
 const keyOf = (column, row) => row * COLUMNS + column;
-const cellAt = key => [key % COLUMNS, Math.floor(key / COLUMNS)];
+const cellAt = key => [key % COLUMNS, floor(key / COLUMNS)];
 const isSame = (a, b) => a[0] === b[0] && a[1] === b[1];
 const isInGrid = ([column, row]) => column >= 0 && row >= 0 && column < COLUMNS && row < ROWS;
 
-const columnName = c => c < 26 ? String.fromCharCode(65 + c) : columnName(Math.floor(c / 26) - 1) + columnName(c % 26);
+const columnName = c => c < 26 ? String.fromCharCode(65 + c) : columnName(floor(c / 26) - 1) + columnName(c % 26);
 const nameOf = ([column, row]) => columnName(column) + (row + 1);
 const readColumn = s => [...s.toUpperCase()].reduce((n, letter) => n * 26 + letter.charCodeAt(0) - 64, 0) - 1;
 function readName(text) {
@@ -38,7 +39,7 @@ function readName(text) {
 }
 
 const boxOf = (a, b) => ({
-  left: Math.min(a[0], b[0]), top: Math.min(a[1], b[1]), right: Math.max(a[0], b[0]), bottom: Math.max(a[1], b[1]),
+  left: min(a[0], b[0]), top: min(a[1], b[1]), right: max(a[0], b[0]), bottom: max(a[1], b[1]),
 });
 const areaName = area => nameOf([area.left, area.top]) + ':' + nameOf([area.right, area.bottom]);
 const isWithin = (inner, area) => inner.left >= area.left && inner.right <= area.right && inner.top >= area.top &&
@@ -51,7 +52,7 @@ function readRange(text) {
 }
 /** The smallest area with all of these cells. */
 const areaAround = cells => cells.reduce(({ left, top, right, bottom }, [column, row]) => ({
-  left: Math.min(left, column), top: Math.min(top, row), right: Math.max(right, column), bottom: Math.max(bottom, row),
+  left: min(left, column), top: min(top, row), right: max(right, column), bottom: max(bottom, row),
 }), { left: COLUMNS, top: ROWS, right: 0, bottom: 0 });
 /** What `each` gives for the cells of an area, row by row. */
 function rowsOf(area, each) {

@@ -8,8 +8,8 @@ const cellOf = target => {
 /** The cell at a place of the window, as near as the grid has one. */
 function cellNear(event) {
   const box = boundsOf(grid);
-  return [columnAt(Math.max(0, event.clientX - box.left - SIDE) + grid.scrollLeft),
-    bound(Math.floor((Math.max(0, event.clientY - box.top - HEIGHT) + grid.scrollTop) / HEIGHT), ROWS)];
+  return [columnAt(max(0, event.clientX - box.left - SIDE) + grid.scrollLeft),
+    bound(floor((max(0, event.clientY - box.top - HEIGHT) + grid.scrollTop) / HEIGHT), ROWS)];
 }
 /** Selects whole columns or rows, from that of a head on. */
 function selectHead(head, isExtending) {

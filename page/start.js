@@ -49,7 +49,10 @@ link.onLink = () => {
   document.body.classList.toggle('lost', !link.isHeard);
   $('link').textContent = link.words;
   if (link.isUp && !link.isHeard) { seenAt = seenRange = ''; look(); }
-  if (link.isHeard) tell('');
+  if (link.isHeard) {
+    document.body.classList.remove('unseen');
+    tell('');
+  }
 };
 link.onChange = look;
 Object.assign($('corner').style, { width: SIDE + 'px', height: HEIGHT + 'px', marginBottom: -HEIGHT + 'px' });

@@ -20,8 +20,8 @@ function beside(box, element, isAside) {
   const near = boundsOf(element || grid), below = near.bottom + 4, above = near.top - box.offsetHeight - 4;
   const isAbove = isAside ? above > boundsOf(grid).top : below + box.offsetHeight > innerHeight;
   const left = isAside && !isAbove ? near.right + 4 : near.left;
-  box.style.left = Math.max(4, Math.min(left, innerWidth - box.offsetWidth - 8)) + 'px';
-  box.style.top = Math.max(4, isAbove ? above : Math.min(below, innerHeight - box.offsetHeight - 4)) + 'px';
+  box.style.left = max(4, min(left, innerWidth - box.offsetWidth - 8)) + 'px';
+  box.style.top = max(4, isAbove ? above : min(below, innerHeight - box.offsetHeight - 4)) + 'px';
 }
 /** Gives the keys back to what is edited, with the caret at its end, or to the grid. */
 function focusAgain() {

@@ -1,8 +1,9 @@
-// The title of the window: the one that was given here, which this browser keeps, or the text in the first cell; and
-// the port, by which sheets are told apart. A print has it at its head; a saved file has the given one as its name.
+// The title of the window: the one that was given here, which this browser keeps, or the server's, or the text in the
+// first cell; and the port, by which sheets are told apart. A print has it at its head; a saved file has the given one as its name.
 const titles = recall('title'), givenTitle = () => titles.get('') || '';
+let servedTitle = '';
 function drawTitle() {
-  const title = givenTitle() || heldAt([0, 0])[0] === "'" && shownAt([0, 0]);
+  const title = givenTitle() || servedTitle || heldAt([0, 0])[0] === "'" && shownAt([0, 0]);
   const text = (title ? title + ' - sheet ' : 'Sheet ') + location.port;
   if (document.title !== text) document.title = text;
 }
@@ -14,3 +15,8 @@ on($('title'), 'change', event => {
   focusGrid();
   drawTitle();
 });
+link.onAbout = (here, title) => {
+  $('here').textContent = here > 1 ? here + ' here' : '';
+  servedTitle = title;
+  drawTitle();
+};

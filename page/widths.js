@@ -23,7 +23,7 @@ const pixels = area => [SIDE + lefts[area.left], HEIGHT + area.top * HEIGHT, lef
   (area.bottom - area.top + 1) * HEIGHT];
 
 function setWidth(column, width) {
-  widths.set(column, Math.max(LEAST_WIDTH, Math.min(MOST_WIDTH, Math.round(width))));
+  widths.set(column, max(LEAST_WIDTH, min(MOST_WIDTH, Math.round(width))));
   layOut();
   for (const elements of [cells, heads]) for (const element of elements.values()) element.remove();
   cells.clear();
@@ -36,6 +36,6 @@ async function fitWidth(column) {
   const measure = document.createElement('canvas').getContext('2d');
   measure.font = getComputedStyle(document.body).font;
   const texts = [...found.values()].map(text => measure.measureText(text).width);
-  if (texts.length) setWidth(column, Math.max(...texts) + 20 * SCALE); else setWidth(column, WIDTH);
+  if (texts.length) setWidth(column, max(...texts) + 20 * SCALE); else setWidth(column, WIDTH);
   keep('widths', widths);
 }

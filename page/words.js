@@ -1,27 +1,26 @@
 // What the page says of refusals, of faults, and of texts that look like numbers.
 const REFUSALS = {
-  1: 'There is no such cell: cells are A1 to CZ1024.',
+  1: 'Cells are A1 to CZ1024.',
   2: 'A text has at most 64 bytes, and no control characters.',
-  3: 'This is no formula. Write one as =A1*2, =SUM(A1:A9) or =IF(A1>2;1;0), with + - * and comparisons, ' +
-    'and QUOTIENT(a;b) for a division.',
-  4: 'This is too long: an entry has at most 512 bytes, and a formula 256.',
-  5: 'This cell is no counter any more.',
-  6: 'This cell has no options any more.',
+  3: 'This is no formula. Write one as =A1*2, =SUM(A1:A9) or =IF(A1>2;1;0), with + - * and comparisons.',
+  4: 'This is too long: an entry has at most 512 bytes, a formula 256.',
+  5: 'This cell is no counter now.',
+  6: 'This cell has no options now.',
   7: 'An amount is 1 to 1000000.',
   8: 'An option is 0 to 63.',
   10: 'The counter is full.',
-  11: 'The options of this cell have been changed too often from here.',
-  12: 'Somebody has taken this option out already.',
-  13: 'This cell cannot be changed any more.',
-  19: 'The server has no memory left: nothing was changed.',
+  11: 'These options were changed too often from here.',
+  12: 'This option is out already.',
+  13: 'This cell can change no more.',
+  19: 'The server is out of memory.',
 };
 const FAULTS = {
   '#CYCLE!': 'a circle: the cell refers to itself, perhaps over others',
   '#DIV/0!': 'a division by zero',
-  '#NUM!': 'a number that is too large',
+  '#NUM!': 'too large a number',
   '#VALUE!': 'a text where a number is wanted',
 };
-const LOST = 'The connection was lost while this was on its way. Look whether it has arrived.';
+const LOST = 'The connection was lost. Look whether this has arrived.';
 const NO_LINK = 'There is no connection: nothing can be changed now.';
 const FUNCTIONS = 'SUM MIN MAX COUNT IF MOD QUOTIENT ABS AND OR NOT TRUE FALSE'.split(' ');
 const inWords = reply => REFUSALS[reply.split(' ')[1]] || 'Refused: ' + reply.slice(4);
