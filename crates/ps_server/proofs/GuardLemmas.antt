@@ -1,7 +1,7 @@
 -- The first line of what comes.
 use Rattle.std.proofs.Common.{◌≡◌, ◌≢◌, ◌∙◌, ◌+◌, ◌==◌, ℕ, suc, Bool, true, false, cond, List, [], ◌∷◌, ◌++◌}
 use Rattle.std.proofs.Common.{length, take}
-use Rattle.std.proofs.Common.{ap, arith, length-append, refl, subst, sym}
+use Rattle.std.proofs.Common.{ap, arith, length-append, refl, subst, sym, true≢false}
 use Rattle.std.specs.Prelude.{not, Option, Some, None}
 use Rattle.std.specs.Io.KnownBytes.{Consumes}
 use Rattle.std.specs.List.{position_or_len}
@@ -33,6 +33,16 @@ first_is (c ∷ line) more free =
         → first_part 10 (c ∷ (line ++ 10 ∷ more)) ≡ c ∷ line
     go true feed rest = absurd (All-head (λ b. b ≢ 10) c line free (eqb-true c 10 feed))
     go false other rest = grows c (line ++ 10 ∷ more) other ∙ ap (λ l. c ∷ l) rest
+
+-- the first part has no line feed
+pub first_free : (bytes : List ℕ) → HasNoFeed (first_part 10 bytes)
+first_free [] = tt
+first_free (c ∷ bytes) = go (c == 10) refl (first_free bytes)
+  where
+    go : (b : Bool) → (c == 10) ≡ b → HasNoFeed (first_part 10 bytes) → HasNoFeed (first_part 10 (c ∷ bytes))
+    go true feed rest = subst HasNoFeed (sym (ends c bytes feed)) tt
+    go false other rest = subst HasNoFeed (sym (grows c bytes other))
+        (λ e. true≢false (sym (ap (λ (x : ℕ). x == 10) e) ∙ other), rest)
 
 -- what comes after a line feed is no matter
 pub first_same : (front after rest : List ℕ)

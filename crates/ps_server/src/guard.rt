@@ -1,8 +1,10 @@
 //! What tells sessions and requests of HTTP apart, which any page in a browser can have sent to a server's port.
-ghost use Rattle.std.specs.Prelude.{◌≡◌, ◌≢◌, ◌++◌, ◌∷◌, ℕ, List, [], Err, OnOk, Option, Some, false, true};
+ghost use Rattle.std.specs.Prelude.{◌≡◌, ◌≢◌, ◌≤◌, ◌⊎◌, ◌++◌, ◌∷◌, ℕ, List, [], Err, OnOk, Option, Some, false, length};
+ghost use Rattle.std.specs.Prelude.{true, vec_len};
 ghost use Rattle.std.specs.Io.KnownBytes.{Consumes, Keeps};
 ghost use Rattle.ps_grid.specs.Blanks.{IsBlankOf};
 ghost use Rattle.ps_lines.specs.Feeding.{HasNoFeed};
+ghost use Rattle.ps_server.specs.declared.guard.TheConstants.{FRONT_LIMIT};
 ghost use Rattle.ps_server.specs.declared.guard.Unadmitted.TheVariants as Unadmitted;
 ghost use Rattle.ps_server.specs.Guards.{BeginsRequest, IsRequest, begins_small, is_request_line};
 
@@ -56,6 +58,7 @@ fn judge(front: &[u8]) -> Option<bool>
     ensures ended { (line more : List ℕ) → HasNoFeed line → front.now ≡ line ++ 10 ∷ more
         → result ≡ Some (is_request_line line) }
     ensures request { (rest : List ℕ) → IsRequest (front.now ++ rest) → result ≢ Some false }
+    ensures cause { result ≡ Some true → IsRequest front.now ⊎ (FRONT_LIMIT ≤ length front.now) }
 {
     if begins_small(front) {
         return Some(false);
@@ -88,6 +91,8 @@ pub fn admit<R: Read>(reader: &mut R, front: &mut Vec<u8>) -> Result<(), Unadmit
     ensures front { result ≡ Err Unadmitted.Request
         → Consumes (R.remaining reader.old) (R.remaining reader.new) front.new.items }
     ensures request { OnOk result (BeginsRequest (R.remaining reader.old) → ⊥) }
+    ensures cause { result ≡ Err Unadmitted.Request
+        → IsRequest front.new.items ⊎ (FRONT_LIMIT ≤ vec_len front.new) }
 {
     let mut piece = [0u8; AT_ONCE];
     'reads: for _ in 0..u64::MAX {

@@ -1,13 +1,24 @@
-use Rattle.std.proofs.Common.{◌∙◌, ◌≡◌, ◌∷◌, ◌++◌, Bool, Some, true≢false, ap, sym, rules, false, true}
+use Rattle.std.proofs.Common.{inl, subst, ◌∙◌, ◌≡◌, ◌∷◌, ◌++◌, Bool, Some, true≢false, ap, sym, rules, false, true}
 use Rattle.ps_server.specs.Guards.{is_request_line}
 use Rattle.ps_lines.specs.Words.{first_part}
-use Rattle.ps_server.proofs.GuardLemmas.{first_is, first_same, is_longer}
+use Rattle.ps_lines.specs.Feeding.{HasNoFeed}
+use Rattle.ps_server.proofs.GuardLemmas.{first_free, first_is, first_same, is_longer}
 use Rattle.ps_server.proofs.guard.judge.Goals as goal
 
 pub returns-in-Some-clause-ended : goal.returns-in-Some-clause-ended
 returns-in-Some-clause-ended c = λ line more free is.
     ap Some (c.is_request_line.ensures
     ∙ ap is_request_line (c.split_part.ensures.part ∙ ap (first_part 10) is ∙ first_is line more free))
+
+pub returns-in-Some-clause-cause : goal.returns-in-Some-clause-cause
+returns-in-Some-clause-cause c = λ yes.
+    let line = c.split_part.result.0.now in
+    let free : HasNoFeed line = subst HasNoFeed (sym c.split_part.ensures.part) (first_free c.args.front.now) in
+    let is : is_request_line line ≡ true = sym c.is_request_line.ensures ∙ unwrapped c.is_request_line.result true yes in
+    inl (line, c.in-Some.field-0.now, free, is, rw c.in-Some.is at c.split_part.ensures.whole)
+  where
+    unwrapped : (a b : Bool) → Some a ≡ Some b → a ≡ b
+    unwrapped a b e = search (rules, e)
 
 pub returns-in-Some-clause-request : goal.returns-in-Some-clause-request
 returns-in-Some-clause-request c = λ rest request no.
