@@ -219,6 +219,7 @@ async function attack() {
     told.image = await event(image, 'load', 'error');
     told.page = await settled(fetch(THERE, {mode: 'no-cors'}));
     told.read = await settled(fetch(THERE));
+    told.about = await settled(fetch(THERE + 'about'));
     const socket = new WebSocket(THERE.replace('http', 'ws'), ['set']);
     told.socket = await event(socket, 'open', 'error');
     const live = new WebSocket(THERE.replace('http', 'ws') + 'live');
@@ -288,7 +289,7 @@ class Browsers(Door):
         self.untouched(server)
         # each came to the server, and was answered there
         self.assertEqual((told["fetch"], told["get"], told["cors"]), ("answered", "answered", "failed"), told)
-        self.assertEqual((told["page"], told["read"]), ("failed", "failed"), told)
+        self.assertEqual((told["page"], told["read"], told["about"]), ("failed", "failed", "failed"), told)
         self.assertEqual((told["image"], told["socket"], told["live"]), ("error", "error", "error"), told)
 
     def test_a_page_of_another_site_or_at_another_port(self):

@@ -483,6 +483,33 @@ class Slots(ProgramTest):
             self.assertEqual(opened.ask("get A1"), "val 20\n")
 
 
+class About(ProgramTest):
+    def about(self, server):
+        """What the server says of its sheet."""
+        status, fields, body = answer(server.port, request(server.port, path="/about"))
+        self.assertEqual((status, "content-type: text/plain; charset=utf-8" in fields), (200, True))
+        self.assertIn(f"content-length: {len(body)}", fields)
+        return body.decode()
+
+    def test_the_title_and_how_many_browsers_have_a_slot(self):
+        with serving(None, "--title", "Our pl\u00e4n") as server:
+            self.assertEqual(self.about(server), "0\nOur pl\u00e4n\n")
+            self.assertEqual(server.client().ask("get A1"), "val ")
+            with WebSocket(server.port) as first, WebSocket(server.port) as second:
+                for opened in (first, second):
+                    self.assertEqual(opened.ask("get A1"), "val \n")
+                self.assertEqual(self.about(server), "2\nOur pl\u00e4n\n")
+            self.assertTrue(comes_to(lambda: self.about(server) == "0\nOur pl\u00e4n\n"))
+            self.assertEqual(answer(server.port, request(server.port, "POST", path="/about"))[0], 405)
+            self.assertEqual(answer(server.port, request(server.port, path="/about", host="example.org"))[0], 403)
+
+    def test_the_title_where_none_is_given(self):
+        file = self.folder() / "team.lines"
+        for words, title in (((), ""), (("--keep", str(file)), "team.lines"), (("--keep", str(file), "--title", "Plan"), "Plan")):
+            with self.subTest(words=words), serving(None, *words) as server:
+                self.assertEqual(self.about(server), f"0\n{title}\n")
+
+
 class Silences(ProgramTest):
     """What is waited for longer than a test likes to: at a server whose long waits are shorter (`hasten.c`)."""
 

@@ -1,6 +1,7 @@
 """Starting the program: the first example, the launcher, and the help."""
 import os
 import re
+import shlex
 import subprocess
 
 from pages import recipes
@@ -22,13 +23,14 @@ COMMANDS = {
     "run": "each line of standard input", "table": "CSV", "serve": "several sessions",
     "sync": "one replica has to another", "follow": "lines to push", "talk": "asks a server", "squash": "few push lines",
 }
-WITHOUT_NUMBER = ("--keep", "--explain", "--strict", "--entries", "--until-now")
+WITHOUT_NUMBER = ("--keep", "--explain", "--strict", "--entries", "--until-now", "--title")
 WHY_NO_PORT = dict.fromkeys(("serve", "sync", "follow", "talk"), "why a port")
 OPTIONS = {
     "--workers": "threads", "--replica": "of this replica", "--strict": "status 3", "--keep": "kept in",
     "--entries": "entries", "--port": "listen", "--sessions": "before it ends", "--seats": "to serve at a time",
     "--wait": "wait for a seat", "--idle": "sends nothing", "--until-now": "ends once", "--every": "milliseconds",
-    "--to": {"sync": "takes them in", "talk": "is asked"}, "--from": {"sync": "are pulled", "follow": "is followed"},
+    "--title": "title of the page", "--to": {"sync": "takes them in", "talk": "is asked"},
+    "--from": {"sync": "are pulled", "follow": "is followed"},
     "--explain": {"run": "with a hint", "table": "with a hint", **WHY_NO_PORT},
 }
 TABLE_EXAMPLE = r"""printf '2,=[.A1]*3\n"x,y",@tally\n' | ./sheet table"""
@@ -143,7 +145,7 @@ class Help(ProgramTest):
         told = run(*words, "--help").output.decode()
         after = re.split(r"^Examples?\b.*:$", told, maxsplit=1, flags=re.MULTILINE)[1]
         found = re.findall(r"^  (?:.* \| )?sheet ([^|<>&\n]+)", after, flags=re.MULTILINE)
-        return told, [example.split() for example in found]
+        return told, [shlex.split(example) for example in found]
 
     def test_each_command_has_an_example(self):
         _, examples = self.examples()
