@@ -77,7 +77,8 @@ def serve_short(library, scripts, first, last, *further):
             is_listening = server.stdout.readline() == lines(f"listening {port}")
             replies = [talk(port, given) if is_listening else b"" for given in scripts]
             output, error = server.communicate(timeout=LIMIT)
-            return ShortServer(replies, Ended(server.returncode, output, error.removeprefix(page_of(port))), requests_in(count))
+            ended = Ended(server.returncode, output, error.removeprefix(page_of(port)))
+            return ShortServer(replies, ended, requests_in(count))
 
 
 def each(start, spans):

@@ -13,7 +13,9 @@ from pathlib import Path
 
 import browser_socket
 import preloaded
-from browser_socket import BINARY, PING, PONG, TEXT, WebSocket, accept_of, answer, connection_to, frame, request, upgrade
+from browser_socket import (
+    BINARY, PING, PONG, TEXT, WebSocket, accept_of, answer, connection_to, frame, request, upgrade,
+)
 from hunt import shortages
 from preloaded import PROGRAM
 from program import LIMIT, TOP, Ended, ProgramTest, lines, run
@@ -137,7 +139,8 @@ class Heads(PageTest):
         for origin in ("http://example.org", f"http://example.org:{port}", f"https://127.0.0.1:{port}", "null", "",
                        f"http://127.0.0.1:{port + 1}", "http://127.0.0.1", f"http://127.0.0.1:{port}.example.org",
                        f"http://127.0.0.1:0{port}", f"http://127.0.0.1:{port}/", f"HTTP://127.0.0.1:{port}",
-                       f"http://localhost:{port}", f"http://[::1]:{port}", f"127.0.0.1:{port}", f"http://127.0.0.1:{port}0"):
+                       f"http://localhost:{port}", f"http://[::1]:{port}", f"127.0.0.1:{port}",
+                       f"http://127.0.0.1:{port}0"):
             with self.subTest(origin=origin):
                 self.assert_status(403, upgrade(port, origin=origin))
         twice = upgrade(port)[:-2] + f"Origin: http://127.0.0.1:{port}\r\n\r\n".encode()
@@ -148,10 +151,11 @@ class Heads(PageTest):
     def test_other_hosts_are_forbidden(self):
         port = self.port
         for host in ("example.org", f"example.org:{port}", f"127.0.0.1:{port}.example.org", f"127.0.0.2:{port}",
-                     "localhost.example.org", f"localhost.example.org:{port}", f"evil.localhost:{port}", "localhost:80a",
-                     f"localhost@example.org:{port}", "127.0.0.10", "::1", f"[::2]:{port}", f"[::1].example.org:{port}"):
-            origin = f"http://{host}"
-            for head in (request(port, host=host), upgrade(port, host=host, origin=origin), request(port, "POST", host=host)):
+                     "localhost.example.org", f"localhost.example.org:{port}", f"evil.localhost:{port}",
+                     "localhost:80a", f"localhost@example.org:{port}", "127.0.0.10", "::1", f"[::2]:{port}",
+                     f"[::1].example.org:{port}"):
+            live = upgrade(port, host=host, origin=f"http://{host}")
+            for head in (request(port, host=host), live, request(port, "POST", host=host)):
                 with self.subTest(host=host, head=head[:20]):
                     self.assert_status(403, head)
         self.assert_status(403, b"GET / HTTP/1.1\r\n\r\n")
@@ -505,7 +509,8 @@ class About(ProgramTest):
 
     def test_the_title_where_none_is_given(self):
         file = self.folder() / "team.lines"
-        for words, title in (((), ""), (("--keep", str(file)), "team.lines"), (("--keep", str(file), "--title", "Plan"), "Plan")):
+        keep = ("--keep", str(file))
+        for words, title in (((), ""), (keep, "team.lines"), ((*keep, "--title", "Plan"), "Plan")):
             with self.subTest(words=words), serving(None, *words) as server:
                 self.assertEqual(self.about(server), f"0\n{title}\n")
 
@@ -522,7 +527,8 @@ class Silences(ProgramTest):
 
     def test_a_browser_that_says_nothing_more_for_5_minutes_or_as_long_as_is_asked_for(self):
         for words, seconds in (((), 300 / 60), (("--idle", "60"), 60 / 10)):
-            with self.subTest(words=words), serving(None, *words, **self.how) as server, WebSocket(server.port) as opened:
+            with self.subTest(words=words), serving(None, *words, **self.how) as server, \
+                    WebSocket(server.port) as opened:
                 self.assertEqual(opened.ask("get A1"), "val \n")
                 since = time.monotonic()
                 self.assertEqual(opened.closing()[0], None)
@@ -618,8 +624,8 @@ class Ends(ProgramTest):
         port = free_port()
         with open("/dev/full", "wb") as full:
             for error in (full, subprocess.DEVNULL):
-                with subprocess.Popen([PROGRAM, "serve", "--port", str(port), "--sessions", "1"], stdout=subprocess.PIPE,
-                                      stderr=error) as server:
+                words = [PROGRAM, "serve", "--port", str(port), "--sessions", "1"]
+                with subprocess.Popen(words, stdout=subprocess.PIPE, stderr=error) as server:
                     self.assertEqual(server.stdout.readline(), lines(f"listening {port}"))
                     self.assertEqual(answer(port, request(port))[0], 200)
                     with contextlib.closing(Client(port)) as client:

@@ -86,7 +86,7 @@ class Turns(ProgramTest):
             holder = server.client()
             self.assertEqual(holder.ask("set A1 0"), "ok 1")
             clients = [server.client() for _ in range(5)]
-            # (in another order than they connected: what counts is the first byte, for which a busy machine takes its time)
+            # (in another order than they connected: what counts is the first byte)
             clients.reverse()
             for number, client in enumerate(clients, 1):
                 client.send(lines(f"set A1 {number}"))

@@ -21,7 +21,8 @@ sed -n 's/^delta [0-9]* /push /p' $here/one $here/two > $here/lines
 # makes a difference.
 COMMANDS = {
     "run": "each line of standard input", "table": "CSV", "serve": "several sessions",
-    "sync": "one replica has to another", "follow": "lines to push", "talk": "asks a server", "squash": "few push lines",
+    "sync": "one replica has to another", "follow": "lines to push", "talk": "asks a server",
+    "squash": "few push lines",
 }
 WITHOUT_NUMBER = ("--keep", "--explain", "--strict", "--entries", "--until-now", "--title")
 WHY_NO_PORT = dict.fromkeys(("serve", "sync", "follow", "talk"), "why a port")
