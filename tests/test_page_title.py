@@ -1,4 +1,4 @@
-"""The title of the page of `sheet serve`: the one that somebody gives it there, or the text of the first cell."""
+"""The title of the page of `sheet serve`: the one that is given there or to the server, or the first cell's text."""
 import unittest
 
 from browser_page import BrowserTest
@@ -36,6 +36,26 @@ class Title(BrowserTest):
         self.assertEqual(page.value("saved"), "Plan.csv")
         page.value("saveCsv('entries')")
         self.assertEqual(page.value("saved"), "Plan-entries.csv")
+
+
+class Served(BrowserTest):
+    words = ("--title", "Our plan")
+
+    def test_the_title_of_the_server(self):
+        page = self.page()
+        self.fill("set A1 Friday")
+        page.wait_for("document.title", f"Our plan - sheet {self.server.port}")
+        page.wait_for("shownAt([0, 0])", "Friday")
+        self.assertEqual(page.value("document.title"), f"Our plan - sheet {self.server.port}")
+
+    def test_how_many_are_here(self):
+        first, here = self.page(), "document.getElementById('here').textContent"
+        self.assertEqual(first.value(here), "")
+        second = self.browser.page(self.server.url)
+        for page in (first, second):
+            page.wait_for(here, "2 here")
+        second.close()
+        first.wait_for(here, "")
 
 
 if __name__ == "__main__":
