@@ -264,21 +264,23 @@ class Waiting(ProgramTest):
             self.assertTrue(comes_to(is_let_in))
 
     def test_many_that_say_nothing_end_no_server_that_may_have_few_files(self):
-        def bound():
-            resource.setrlimit(resource.RLIMIT_NOFILE, (64, 64))
+        # (a connection may take one file or two)
+        for most in (64, 65):
+            def bound():
+                resource.setrlimit(resource.RLIMIT_NOFILE, (most, most))
 
-        with serving(None, "--seats", "1", program=PROGRAM, preexec_fn=bound) as server:
-            client = server.client()
-            self.assertEqual(client.ask("set A1 5"), "ok 1")
-            others = [server.client() for _ in range(100)]
-            self.assertTrue(comes_to(lambda: any(it.is_answered_within(0) for it in others)))
-            self.assertEqual(client.ask("get A1"), "val 5")
-            for other in others:
-                other.close()
-            self.assertEqual(client.ask("get A1"), "val 5")
-            client.leave()
-            self.assertTrue(comes_to(lambda: self.is_answered(server.client(), "get A1", "val 5"), SOON))
-            self.assertTrue(server.is_running())
+            with self.subTest(most=most), serving(None, program=PROGRAM, preexec_fn=bound) as server:
+                client = server.client()
+                self.assertEqual(client.ask("set A1 5"), "ok 1")
+                others = [server.client() for _ in range(100)]
+                self.assertTrue(comes_to(lambda: any(it.is_answered_within(0) for it in others), SOON))
+                self.assertEqual(client.ask("get A1"), "val 5")
+                for other in others:
+                    other.close()
+                self.assertEqual(client.ask("get A1"), "val 5")
+                client.leave()
+                self.assertTrue(comes_to(lambda: self.is_answered(server.client(), "get A1", "val 5"), SOON))
+                self.assertTrue(server.is_running())
 
 
 class Idle(ProgramTest):
