@@ -9,6 +9,16 @@ from program import LIMIT
 from servers import serving
 
 
+# Asks five lines, none of which is sent, hands the page two messages with the replies, and resolves to what was asked.
+TOGETHER = r"""(() => {
+  socket.send = () => {};
+  const asked = ['get A1', 'rows A1:B2', 'set A1 1', 'entries A1:A3', 'pull 9'].map(ask);
+  socket.onmessage({ data: 'val rows 2\nrows 2\n1,2\nrows 7\n' });
+  socket.onmessage({ data: 'ok 1\nentries 3\n\nval 5\n\nend 3\n' });
+  return Promise.all(asked);
+})()"""
+
+
 class Two(BrowserTest):
     def test_what_one_types_the_other_shows(self):
         first, second = self.page(), self.page()
@@ -308,6 +318,13 @@ class Told(BrowserTest):
         page.wait_for("document.getElementById('refusal').textContent",
                       "A1: This cell holds something. Delete it first.")
         self.assertEqual(self.client.ask("get A1"), "val Friday")
+
+    def test_replies_that_come_together(self):
+        page = self.page()
+        page.value("link.onChange = () => {}, 1")
+        page.wait_for("underWay.length + waiting.length", 0)
+        self.assertEqual(page.value(TOGETHER), [
+            ["val rows 2"], ["rows 2", "1,2", "rows 7"], ["ok 1"], ["entries 3", "", "val 5", ""], ["end 3"]])
 
     def test_a_lost_connection(self):
         page = self.page()
