@@ -263,16 +263,16 @@ class Waiting(ProgramTest):
 
             self.assertTrue(comes_to(is_let_in))
 
-    def test_many_that_say_nothing_end_no_server_that_may_have_few_files(self):
+    def test_many_that_say_nothing_end_no_server_that_may_have_1024_files(self):
         # (a connection may take one file or two)
-        for most in (64, 65):
+        for most in (1_024, 1_025):
             def bound():
                 resource.setrlimit(resource.RLIMIT_NOFILE, (most, most))
 
             with self.subTest(most=most), serving(None, program=PROGRAM, preexec_fn=bound) as server:
                 client = server.client()
                 self.assertEqual(client.ask("set A1 5"), "ok 1")
-                others = [server.client() for _ in range(100)]
+                others = [server.client() for _ in range(600)]
                 self.assertTrue(comes_to(lambda: any(it.is_answered_within(0) for it in others), SOON))
                 self.assertEqual(client.ask("get A1"), "val 5")
                 for other in others:

@@ -482,33 +482,24 @@ class Ends(ProgramTest):
             self.assertEqual(server.ended(), Ended(0, lines("closed 2")))
 
     def test_a_connection_that_cannot_be_accepted(self):
-        # one more connection than the program may have open files
+        # a few more than the files of a server with one session
+        most = 7
+
         def bound():
-            resource.setrlimit(resource.RLIMIT_NOFILE, (5, 5))
+            resource.setrlimit(resource.RLIMIT_NOFILE, (most, most))
 
         with serving(100, program=PROGRAM, preexec_fn=bound) as server:
             session = server.client()
             self.assertEqual(session.ask("set A1 5"), "ok 1")
-
-            def has_failed():
-                """Whether the server ends once a session does during which another connection came. Where it comes to
-                that one only when the session is over, that is the next session."""
-                nonlocal session
-                following = server.client()
-                following.send(b"get A1\n")
-                # the session that runs goes on
-                self.assertEqual(session.ask("get A1"), "val 5")
-                self.assertTrue(server.is_running())
-                session.leave()
-                session = following
-                try:
-                    self.assertEqual(following.reply(), "val 5")
-                    return False
-                except (EOFError, ConnectionError):
-                    return True
-
-            self.assertTrue(comes_to(has_failed))
+            # others that say nothing, one of which finds no file left
+            others = [server.client() for _ in range(most)]
+            self.assertEqual(others[0].told(), b"")
+            # the session that runs goes on
+            self.assertEqual(session.ask("get A1"), "val 5")
+            self.assertTrue(server.is_running())
+            session.leave()
             self.assertEqual(server.ended(), Ended(1, b"", DEVICE_FAILED))
+            self.assertEqual({it.told() for it in others}, {b""})
 
     def test_a_call_for_a_connection_that_is_interrupted_or_whose_client_has_gone_is_made_again(self):
         library = shortages.library(self.folder())
