@@ -518,10 +518,13 @@ class Ends(ProgramTest):
 
     def test_where_no_more_can_be_accepted_who_waits_is_told_so_at_once(self):
         library = shortages.library(self.folder())
-        with shortages.spoiling(library, ("a", 3, shortages.ALL, errno.ENOBUFS)) as (how, _):
+        # (while one waits, the server looks for others every few milliseconds)
+        with shortages.spoiling(library, ("a", 400, shortages.ALL, errno.ENOBUFS)) as (how, _):
             with serving(None, "--seats", "1", "--wait", "60", program=PROGRAM, **how) as server:
-                client, other = server.client(), server.client()
-                self.assertEqual(other.told(), lines("err 21 seat"))
+                client, other, silent = (server.client() for _ in range(3))
+                self.assertEqual(client.ask("get A1"), "val ")
+                other.send(b"get A1\n")
+                self.assertEqual((other.told(), silent.told()), (lines("err 21 seat"), b""))
                 # the session that was begun goes on to its end
                 self.assertEqual(client.ask("set A1 5"), "ok 1")
                 self.assertTrue(server.is_running())
