@@ -76,6 +76,12 @@ def serve_short(library, scripts, first, last, *further):
         with started(*words, program=PROGRAM, **files, **how) as server:
             is_listening = server.stdout.readline() == lines(f"listening {port}")
             replies = [talk(port, given) if is_listening else b"" for given in scripts]
+            # (a connection for whose first bytes there is no memory is no session, so that one more is wanted)
+            for _ in scripts:
+                with contextlib.suppress(subprocess.TimeoutExpired):
+                    server.wait(timeout=1)
+                if server.poll() is None:
+                    talk(port, b"")
             output, error = server.communicate(timeout=LIMIT)
             ended = Ended(server.returncode, output, error.removeprefix(page_of(port)))
             return ShortServer(replies, ended, requests_in(count))
