@@ -6,7 +6,7 @@ use Rattle.std.specs.Prelude.{not, Option, Some, None}
 use Rattle.std.specs.Io.KnownBytes.{Consumes}
 use Rattle.std.specs.List.{position_or_len}
 use Rattle.std.proofs.lemmas.Bool.{eqb-true}
-use Rattle.std.proofs.lemmas.List.Elements.{All-head, All-tail}
+use Rattle.std.proofs.lemmas.List.Elements.{All-cons, All-head, All-nil, All-tail}
 use Rattle.ps_server.specs.Guards.{BeginsRequest, IsRequest}
 use Rattle.ps_lines.specs.Feeding.{HasNoFeed}
 use Rattle.ps_lines.specs.Words.{first_part}
@@ -36,13 +36,14 @@ first_is (c ∷ line) more free =
 
 -- the first part has no line feed
 pub first_free : (bytes : List ℕ) → HasNoFeed (first_part 10 bytes)
-first_free [] = tt
+first_free [] = All-nil (λ b. b ≢ 10)
 first_free (c ∷ bytes) = go (c == 10) refl (first_free bytes)
   where
     go : (b : Bool) → (c == 10) ≡ b → HasNoFeed (first_part 10 bytes) → HasNoFeed (first_part 10 (c ∷ bytes))
-    go true feed rest = subst HasNoFeed (sym (ends c bytes feed)) tt
+    go true feed rest = subst HasNoFeed (sym (ends c bytes feed)) (All-nil (λ b. b ≢ 10))
     go false other rest = subst HasNoFeed (sym (grows c bytes other))
-        (λ e. true≢false (sym (ap (λ (x : ℕ). x == 10) e) ∙ other), rest)
+        (All-cons (λ b. b ≢ 10) c (first_part 10 bytes)
+        (λ e. true≢false (sym (ap (λ (x : ℕ). x == 10) e) ∙ other)) rest)
 
 -- what comes after a line feed is no matter
 pub first_same : (front after rest : List ℕ)

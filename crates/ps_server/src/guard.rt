@@ -1,6 +1,6 @@
 //! What tells sessions and requests of HTTP apart, which any page in a browser can have sent to a server's port.
 ghost use Rattle.std.specs.Prelude.{◌≡◌, ◌≢◌, ◌≤◌, ◌⊎◌, ◌++◌, ◌∷◌, ℕ, List, [], Err, OnOk, Option, Some, false, length};
-ghost use Rattle.std.specs.Prelude.{true, vec_len};
+ghost use Rattle.std.specs.Prelude.{true};
 ghost use Rattle.std.specs.Io.KnownBytes.{Consumes, Keeps};
 ghost use Rattle.ps_grid.specs.Blanks.{IsBlankOf};
 ghost use Rattle.ps_lines.specs.Feeding.{HasNoFeed};
@@ -92,7 +92,7 @@ pub fn admit<R: Read>(reader: &mut R, front: &mut Vec<u8>) -> Result<(), Unadmit
         → Consumes (R.remaining reader.old) (R.remaining reader.new) front.new.items }
     ensures request { OnOk result (BeginsRequest (R.remaining reader.old) → ⊥) }
     ensures cause { result ≡ Err Unadmitted.Request
-        → IsRequest front.new.items ⊎ (FRONT_LIMIT ≤ vec_len front.new) }
+        → IsRequest front.new.items ⊎ (FRONT_LIMIT ≤ length front.new.items) }
 {
     let mut piece = [0u8; AT_ONCE];
     'reads: for _ in 0..u64::MAX {

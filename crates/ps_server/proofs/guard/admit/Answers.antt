@@ -7,3 +7,8 @@ returns-in-Some-false-clause-request g c =
     no_request (g.R.Read.remaining c.args.reader.now) _ c.reads.front.items c.reads.invariant
     (λ rest request. c.judge.ensures.request rest (rw c.deref.ensures.value request)
     (c.in-Some-false.is ∙ ap Some c.in-Some-false.field-0-test))
+
+pub returns-in-Some-true-clause-cause : goal.returns-in-Some-true-clause-cause
+returns-in-Some-true-clause-cause g c = λ e.
+    rw c.deref.ensures.value at (c.judge.ensures.cause
+    (c.in-Some-true.is ∙ ap Some c.in-Some-true.field-0-test))
