@@ -1,12 +1,14 @@
 """`run --keep FILE`: what the file has, what a start makes of it, and what it refuses."""
+import contextlib
 import os
 import shutil
+import socket
 import stat
 import subprocess
 
 import peers
 from keeping import KeepingTest, replies_to, text_of, without_rights
-from preloaded import PROGRAM
+from preloaded import PROGRAM, before, build
 from program import DEVICE_FAILED, LIMIT, Ended, lines, run, started
 
 EDITS = (
@@ -100,6 +102,46 @@ class Keeps(KeepingTest):
         self.file.write_bytes(first + b"\n" + small.output)
         shown = replies_to(*ALL_LINES, *LOOKS[:3])[len(replies_to(*ALL_LINES)):]
         self.assert_kept(lines(*LOOKS[:3]), shown, first + b"\n" + small.output, 1)
+
+
+class Meanwhile(KeepingTest):
+    """Another program keeps the same file while this one starts."""
+
+    @contextlib.contextmanager
+    def halted(self, call):
+        """A program that has halted at this call of `halt.c`, and what has it go on and gives how it ends."""
+        library = build("halt.c", self.place / "halt.so")
+        ours, theirs = socket.socketpair()
+        with ours, theirs:
+            env = before(library, HALT_CALL=call, HALT_FILE=str(theirs.fileno()))
+            files = {"stdin": subprocess.PIPE, "stdout": subprocess.PIPE}
+            words = ("run", "--keep", str(self.file))
+            with started(*words, program=PROGRAM, env=env, pass_fds=[theirs.fileno()], **files) as session:
+                theirs.close()
+                ours.settimeout(LIMIT)
+                self.assertEqual(ours.recv(1), call.encode())
+
+                def ended(given):
+                    ours.send(b"!")
+                    output, error = session.communicate(given, timeout=LIMIT)
+                    return Ended(session.returncode, output, error)
+
+                yield ended
+
+    def test_what_another_one_wrote_before_the_lock_was_had_is_read(self):
+        given = ("set A1 5", "set A1 6", "get A1", "set A1 7")
+        self.run_kept(lines(given[0]))
+        with self.halted("l") as ended:
+            self.assert_kept(lines(given[1]), b"ok 2\n", text_of(*given[:2]), 1)
+            self.assertEqual(ended(lines(*given[2:])), Ended(0, b"val 6\nok 3\n", self.opened(2)))
+        self.assertEqual(self.file.read_bytes(), text_of(*given))
+
+    def test_a_file_that_another_one_has_just_made_is_read(self):
+        given = ("set A1 5", "get A1", "set A1 6")
+        with self.halted("o") as ended:
+            self.assert_kept(lines(given[0]), b"ok 1\n", text_of(given[0]))
+            self.assertEqual(ended(lines(*given[1:])), Ended(0, b"val 5\nok 2\n", self.opened(1)))
+        self.assertEqual(self.file.read_bytes(), text_of(*given))
 
 
 class Elsewhere(KeepingTest):

@@ -4,6 +4,7 @@ import errno
 import random
 import subprocess
 import time
+from pathlib import Path
 
 import peers
 from hunt import kept
@@ -213,6 +214,13 @@ class Syncs(Spoilt):
                     self.file.write_bytes(content)
                 self.run_kept(b"", **how)
                 self.assertEqual((counted().syncs, counted().folder), (wanted, self.place.stat().st_ino))
+
+    def test_a_name_without_a_folder_has_the_current_one_synced(self):
+        self.file = Path(self.file.name)
+        with self.spoiling() as (how, counted):
+            self.assertEqual(self.run_kept(b"", cwd=self.place, **how), Ended(0, b"", self.opened(0)))
+            self.assertEqual(counted().folder, self.place.stat().st_ino)
+        self.assertEqual((self.place / self.file).read_bytes(), text_of())
 
 
 class Killed(KeepingTest):
