@@ -79,6 +79,7 @@ fn a_crash_leaves_a_beginning(rt: HostRuntime) -> Result<(), Fail> {
         }
         assert_eq!(rt; device.bytes.len(), 2);
         assert_eq!(rt; device.synced, 0);
+        assert!(rt; device.is_cut);
         device.bytes.truncate(left);
         assert_eq!(rt; device.bytes.len(), left);
         assert!(rt; first_line(&device.bytes).is_some() == (left == 2));

@@ -1,5 +1,7 @@
 //! A file of memory whose device is lent, so that a test sees what it has once nobody writes to it any more.
 
+ghost use Rattle.std.specs.Prelude.{false};
+
 use ps_device::Failed;
 use ps_keep::{Device, Found, MemoryDevice, MemoryFile};
 use std::alloc::Global;
@@ -11,6 +13,7 @@ pub(crate) fn no_device(alloc: Global) -> MemoryDevice {
         synced: 0,
         calls: 0,
         is_broken: false,
+        is_cut: false,
     }
 }
 
@@ -50,11 +53,19 @@ impl Device for LentDevice<'_> {
 
     ghost has_failed = { λ d. d.device.now.is_broken };
 
+    ghost is_cut = { λ d. d.device.now.is_cut };
+
+    ghost cut_failed = { λ _. false };
+
     fn append(&mut self, bytes: &[u8]) -> Result<(), Failed> {
         self.device.append(bytes)
     }
 
     fn sync(&mut self) -> Result<(), Failed> {
         self.device.sync()
+    }
+
+    fn cut(&mut self) -> Result<(), Failed> {
+        self.device.cut()
     }
 }

@@ -1,6 +1,6 @@
 //! Devices of memory that others look at while a journal has them.
 
-ghost use Rattle.std.specs.Prelude.{◌≡◌};
+ghost use Rattle.std.specs.Prelude.{◌≡◌, false};
 
 use ps_device::Failed;
 use ps_keep::{Device, Found, MemoryDevice, MemoryFile};
@@ -114,6 +114,10 @@ impl<T: Wait> Device for Watched<'_, T> {
 
     ghost has_failed = { λ d. d.inner.is_broken };
 
+    ghost is_cut = { λ d. d.inner.is_cut };
+
+    ghost cut_failed = { λ _. false };
+
     fn append(&mut self, bytes: &[u8]) -> Result<(), Failed> {
         let appended = self.inner.append(bytes);
         self.tell(0);
@@ -128,5 +132,9 @@ impl<T: Wait> Device for Watched<'_, T> {
         let synced = self.inner.sync();
         self.tell(1);
         synced
+    }
+
+    fn cut(&mut self) -> Result<(), Failed> {
+        self.inner.cut()
     }
 }

@@ -1,5 +1,5 @@
 -- What a crash leaves of a journal.
-use Rattle.std.proofs.Common.{◌≡◌, ◌≤◌, ℕ, zero, suc, List, [], ◌∷◌, ◌++◌, length, take}
+use Rattle.std.proofs.Common.{◌≡◌, ◌≤◌, ℕ, false, true, zero, suc, List, [], ◌∷◌, ◌++◌, length, take}
 use Rattle.std.proofs.Common.{drop, refl, sym, ◌∙◌, ap, subst, arith, append_assoc, take-append-drop}
 use Rattle.std.proofs.lemmas.List.{append-nil}
 use mathlib.Core.List.{IsPrefix}
@@ -73,6 +73,12 @@ journal_torn j is left torn =
     let there = prefix_trans (text j.kept) (take j.synced left) left (subst (IsPrefix (text j.kept)) (sym torn.same)
     inside) (take_front j.synced left) in
     text_first j.kept left (front_are j.kept j.lines is.each is.begins) there
+
+pub journal_found : (j : JournalView) → IsJournal j → j.has_failed ≡ true → j.cut_failed ≡ false
+    → (j.found ≡ text j.kept) × (whole_lines j.found ≡ j.kept)
+journal_found j is failed went =
+    let cut = is.cut failed went in
+    (cut, ap whole_lines cut ∙ whole_of_text j.kept (front_are j.kept j.lines is.each is.begins))
 
 pub read_twice : (bytes : List ℕ) → whole_lines (text (whole_lines bytes)) ≡ whole_lines bytes
 read_twice bytes = whole_of_text (whole_lines bytes) (whole_are bytes)

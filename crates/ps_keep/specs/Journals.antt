@@ -1,5 +1,5 @@
 -- A journal as its callers see it.
-use Rattle.std.specs.Prelude.{◌≡◌, ◌≤◌, ℕ, Bool, List, ◌++◌, length, false}
+use Rattle.std.specs.Prelude.{◌≡◌, ◌≤◌, ℕ, Bool, List, ◌++◌, length, take, false, true, if◌then◌else◌}
 use mathlib.Core.List.{IsPrefix}
 use Rattle.ps_keep.specs.Lines.{AreLines, text}
 
@@ -12,15 +12,25 @@ pub record JournalView : Type 0 where
   pub written : List ℕ
   pub synced : ℕ
   pub has_failed : Bool
+  -- what whoever reads the file next finds, unless the machine crashes before
+  pub found : List ℕ
+  -- a call failed, and the file couldn't be cut after it
+  pub cut_failed : Bool
+
+-- the bytes of a file, or after it was cut those that are on the disk
+abbrev pub found_of : List ℕ → ℕ → Bool → List ℕ
+found_of written synced is_cut = if is_cut then take synced written else written
 
 -- JOURNAL: what is acknowledged is a beginning of what was noted and is on the disk; the file has a beginning of what
--- was noted, and nothing else
+-- was noted, and nothing else; after a call that failed, and a cut that didn't, it has what is acknowledged alone
 pub record IsJournal (j : JournalView) : Type 0 where
   pub each : AreLines j.lines
   pub begins : IsPrefix j.kept j.lines
   pub holds : IsPrefix (text j.kept) j.written
   pub noted : IsPrefix j.written (text j.lines)
   pub synced : length (text j.kept) ≤ j.synced
+  pub going : j.has_failed ≡ false → j.cut_failed ≡ false
+  pub cut : j.has_failed ≡ true → j.cut_failed ≡ false → j.found ≡ text j.kept
 
 -- bytes that are whole lines and nothing after them
 pub record IsWhole (bytes : List ℕ) : Type 0 where
@@ -30,10 +40,12 @@ pub record IsWhole (bytes : List ℕ) : Type 0 where
 
 -- what a journal is made of: the file as it was after the last sync, the bytes that wait since then, and the file
 -- as it is
-pub record Holds (durable waiting written : List ℕ) (safe : ℕ) (has_failed : Bool) : Type 0 where
+pub record Holds (durable waiting written : List ℕ) (safe : ℕ) (has_failed is_cut cut_failed : Bool) : Type 0 where
   pub whole : IsWhole durable
   pub waits : IsWhole waiting
-  pub synced : length durable ≤ safe
+  pub synced : safe ≡ length durable
   pub kept : IsPrefix durable written
   pub noted : IsPrefix written (durable ++ waiting)
   pub same : has_failed ≡ false → written ≡ durable
+  pub uncut : has_failed ≡ false → (is_cut ≡ false) × (cut_failed ≡ false)
+  pub cut : has_failed ≡ true → cut_failed ≡ false → is_cut ≡ true

@@ -1,5 +1,6 @@
 //! A file as a journal sees it.
-ghost use Rattle.std.specs.Prelude.{◌≡◌, ◌≤◌, ◌++◌, ℕ, Bool, List, IfOk, OnOk, OnErr, false, is_err, length, take};
+ghost use Rattle.std.specs.Prelude.{◌≡◌, ◌≤◌, ◌++◌, ℕ, Bool, List, IfOk, OnOk, OnErr, false, true, is_err, length};
+ghost use Rattle.std.specs.Prelude.{take};
 
 use ps_device::Failed;
 
@@ -14,6 +15,13 @@ pub trait Device {
     /// A call failed.
     ghost has_failed: { Self → Bool };
 
+    /// It was cut to the bytes that are on the disk: whoever reads it next finds these alone, unless the machine
+    /// crashes before.
+    ghost is_cut: { Self → Bool };
+
+    /// It couldn't be cut.
+    ghost cut_failed: { Self → Bool };
+
     /// Appends these bytes, or a beginning of them where it fails.
     ///
     /// Cost: linear in the bytes, but for the time that the device takes.
@@ -22,7 +30,8 @@ pub trait Device {
         ensures appended { OnOk result (written self.new ≡ written self.old ++ bytes.now) }
         ensures part { OnErr result ((count : ℕ) × (written self.new ≡ written self.old ++ take count bytes.now)) }
         ensures synced { synced self.new ≡ synced self.old }
-        ensures failed { has_failed self.new ≡ is_err result };
+        ensures failed { has_failed self.new ≡ is_err result }
+        ensures cut { (is_cut self.new ≡ is_cut self.old) × (cut_failed self.new ≡ cut_failed self.old) };
 
     /// Has all bytes on the disk.
     ///
@@ -32,7 +41,20 @@ pub trait Device {
         ensures same { written self.new ≡ written self.old }
         ensures synced { OnOk result (synced self.new ≡ length (written self.new)) }
         ensures no_fewer { synced self.old ≤ synced self.new }
-        ensures failed { has_failed self.new ≡ is_err result };
+        ensures no_more { OnErr result (synced self.new ≡ synced self.old) }
+        ensures failed { has_failed self.new ≡ is_err result }
+        ensures cut { (is_cut self.new ≡ is_cut self.old) × (cut_failed self.new ≡ cut_failed self.old) };
+
+    /// Cuts the file to the bytes that are on the disk, after a call that failed. A crash of the machine may still leave
+    /// what was written.
+    ///
+    /// Cost: the time that the device takes.
+    fn cut(&mut self) -> Result<(), Failed>
+        requires failed { has_failed self.old ≡ true }
+        ensures same { (written self.new ≡ written self.old) × (synced self.new ≡ synced self.old) }
+        ensures failed { has_failed self.new ≡ true }
+        ensures cut { OnOk result ((is_cut self.new ≡ true) × (cut_failed self.new ≡ cut_failed self.old)) }
+        ensures not_cut { OnErr result (cut_failed self.new ≡ true) };
 }
 
 /// A file as it is found at the start, before it is changed.
@@ -57,5 +79,6 @@ pub trait Found {
         requires { count ≤ length (bytes self) }
         ensures kept { IfOk result (λ d. Self.Device.written d ≡ take count (bytes self)) }
         ensures synced { IfOk result (λ d. Self.Device.synced d ≡ count) }
-        ensures open { IfOk result (λ d. Self.Device.has_failed d ≡ false) };
+        ensures open { IfOk result (λ d. Self.Device.has_failed d ≡ false) }
+        ensures uncut { IfOk result (λ d. (Self.Device.is_cut d ≡ false) × (Self.Device.cut_failed d ≡ false)) };
 }

@@ -1,5 +1,5 @@
 //! A file of the system.
-ghost use Rattle.std.specs.Prelude.{◌≤◌, length};
+ghost use Rattle.std.specs.Prelude.{◌≡◌, ◌≤◌, false, length};
 
 use crate::device::{Device, Found};
 use crate::trace::Trace;
@@ -130,7 +130,11 @@ impl Found for FoundFile {
         Ok(KeptFile {
             file,
             trace,
+            synced: count as u64,
+            end: count as u64,
             is_broken: false,
+            is_cut: false,
+            cut_failed: false,
         })
     }
 }
@@ -141,8 +145,15 @@ impl Found for FoundFile {
 pub struct KeptFile {
     file: File,
     trace: Trace,
+    /// how many bytes it had when it was last synced
+    synced: u64,
+    /// how many it has, unless a call failed
+    end: u64,
     is_broken: bool,
-    ghost within: { trace.given.synced ≤ length trace.given.written },
+    is_cut: bool,
+    cut_failed: bool,
+    ghost within: { (synced ≡ trace.given.synced) × (synced ≤ length trace.given.written) },
+    ghost whole: { is_broken ≡ false → end ≡ length trace.given.written },
 }
 
 impl Device for KeptFile {
@@ -151,6 +162,10 @@ impl Device for KeptFile {
     ghost synced = { λ f. f.trace.given.synced };
 
     ghost has_failed = { λ f. f.is_broken };
+
+    ghost is_cut = { λ f. f.is_cut };
+
+    ghost cut_failed = { λ f. f.cut_failed };
 
     fn append(&mut self, bytes: &[u8]) -> Result<(), Failed> {
         self.is_broken = true;
@@ -171,6 +186,10 @@ impl Device for KeptFile {
                 Err(_) => return Err(Failed),
             }
         }
+        match self.end.checked_add(bytes.len() as u64) {
+            Some(end) => self.end = end,
+            None => return Err(Failed),
+        }
         self.is_broken = false;
         Ok(())
     }
@@ -179,10 +198,24 @@ impl Device for KeptFile {
         match self.file.sync_data() {
             Ok(()) => {
                 self.trace.note(&[1], &[]);
+                self.synced = self.end;
                 Ok(())
             }
             Err(_) => {
                 self.is_broken = true;
+                Err(Failed)
+            }
+        }
+    }
+
+    fn cut(&mut self) -> Result<(), Failed> {
+        match self.file.set_len(self.synced) {
+            Ok(()) => {
+                self.is_cut = true;
+                Ok(())
+            }
+            Err(_) => {
+                self.cut_failed = true;
                 Err(Failed)
             }
         }

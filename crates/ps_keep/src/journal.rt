@@ -1,5 +1,5 @@
 //! The journal.
-ghost use Rattle.std.specs.Prelude.{◌≡◌, ◌≤◌, ◌++◌, ◌∷◌, [], OnOk, OnErr, false, is_err, length};
+ghost use Rattle.std.specs.Prelude.{◌≡◌, ◌++◌, ◌∷◌, ℕ, [], OnOk, OnErr, false, is_err, length, take};
 ghost use Rattle.ps_keep.specs.Crash.{SurvivesCrashes};
 ghost use Rattle.ps_keep.specs.Journals.{IsJournal, IsWhole};
 ghost use Rattle.ps_keep.specs.Lines.{IsLine, whole_lines};
@@ -25,7 +25,7 @@ pub struct Journal<D: Device + Drop> {
 
 impl<D: Device + Drop> Model for Journal<D> {
     ghost use Rattle.std.specs.Prelude.{◌≡◌, ◌++◌};
-    ghost use Rattle.ps_keep.specs.Journals.{Holds, JournalView};
+    ghost use Rattle.ps_keep.specs.Journals.{Holds, JournalView, found_of};
     ghost use Rattle.ps_keep.specs.Lines.{whole_lines};
 
     ghost Value = { JournalView };
@@ -36,10 +36,13 @@ impl<D: Device + Drop> Model for Journal<D> {
       written = D.written j.device;
       synced = D.synced j.device;
       has_failed = j.is_stopped;
+      found = found_of (D.written j.device) (D.synced j.device) (D.is_cut j.device);
+      cut_failed = D.cut_failed j.device;
     } };
 
     ghost invariant = { λ j. Holds (D.written j.durable.value) j.waiting.items (D.written j.device)
-        (D.synced j.device) j.is_stopped × (D.has_failed j.device ≡ j.is_stopped) };
+        (D.synced j.device) j.is_stopped (D.is_cut j.device) (D.cut_failed j.device)
+        × (D.has_failed j.device ≡ j.is_stopped) };
 }
 
 /// Adds a line with its line feed, or nothing, out of memory.
@@ -53,12 +56,27 @@ fn append_line(bytes: &mut Vec<u8>, line: &[u8]) -> Result<(), AllocError>
     Ok(())
 }
 
+/// Appends these bytes to a file, and has all that it has on the disk.
+fn append_and_sync<D: Device + Drop>(device: &mut D, bytes: &[u8]) -> Result<(), Failed>
+    requires open { D.has_failed device.old ≡ false }
+    ensures appended { OnOk result (D.written device.new ≡ D.written device.old ++ bytes.now) }
+    ensures synced { OnOk result (D.synced device.new ≡ length (D.written device.new)) }
+    ensures part { OnErr result ((count : ℕ) × (D.written device.new ≡ D.written device.old ++ take count bytes.now)) }
+    ensures no_more { OnErr result (D.synced device.new ≡ D.synced device.old) }
+    ensures failed { D.has_failed device.new ≡ is_err result }
+    ensures cut { (D.is_cut device.new ≡ D.is_cut device.old) × (D.cut_failed device.new ≡ D.cut_failed device.old) }
+{
+    device.append(bytes)?;
+    device.sync()
+}
+
 impl<D: Device + Drop> Journal<D> {
     /// A journal of a file that has whole lines, all of them on the disk.
     pub(crate) fn new(alloc: Global, device: D) -> Journal<D>
         requires open { D.has_failed device ≡ false }
         requires whole { IsWhole (D.written device) }
-        requires synced { length (D.written device) ≤ D.synced device }
+        requires synced { D.synced device ≡ length (D.written device) }
+        requires uncut { (D.is_cut device ≡ false) × (D.cut_failed device ≡ false) }
         ensures kept { result.kept ≡ whole_lines (D.written device) }
         ensures lines { result.lines ≡ result.kept }
         ensures written { result.written ≡ D.written device }
@@ -91,8 +109,9 @@ impl<D: Device + Drop> Journal<D> {
     /// Has all lines that were noted on the disk, and acknowledges them. Where nothing was noted since the last time,
     /// the device isn't called.
     ///
-    /// Fails where the device does, and from then on always. Whatever it comes to, and whenever in it a crash comes,
-    /// the file then has all lines that were acknowledged before, and a beginning of those that were noted.
+    /// Fails where the device does, and from then on always. Then the file is cut to the lines that were acknowledged.
+    /// Whatever it comes to, and whenever in it a crash comes, the file has all lines that were acknowledged before, and
+    /// a beginning of those that were noted.
     ///
     /// Cost: one append and one sync.
     pub fn sync(&mut self) -> Result<(), Failed>
@@ -110,8 +129,14 @@ impl<D: Device + Drop> Journal<D> {
             return Ok(());
         }
         self.is_stopped = true;
-        self.device.append(self.waiting.as_slice())?;
-        self.device.sync()?;
+        match append_and_sync(&mut self.device, self.waiting.as_slice()) {
+            Ok(()) => {}
+            Err(failed) => {
+                // a later sync may go well though these bytes were dropped, so no start may find them
+                let _ = self.device.cut();
+                return Err(failed);
+            }
+        }
         self.is_stopped = false;
         self.durable = Snapshot::of(&self.device);
         self.waiting.clear();

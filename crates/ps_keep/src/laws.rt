@@ -1,5 +1,5 @@
 //! Laws of journals.
-ghost use Rattle.std.specs.Prelude.{◌≡◌, ℕ, List, length};
+ghost use Rattle.std.specs.Prelude.{◌≡◌, ℕ, List, false, true, length};
 ghost use Rattle.ps_keep.specs.Crash.{IsLeft, SurvivesCrashes, SurvivesTears};
 ghost use Rattle.ps_keep.specs.Journals.{IsJournal, JournalView};
 ghost use Rattle.ps_keep.specs.Lines.{text, whole_lines};
@@ -17,6 +17,15 @@ pub fn crashes_keep_the_acknowledged()
 /// Cost: none.
 pub fn tears_keep_the_acknowledged()
     ensures { (j : JournalView) → IsJournal j → SurvivesTears j.written j.synced j.kept }
+{}
+
+/// After a failed sync whoever reads the file next, unless the machine crashes before, finds the acknowledged lines and
+/// nothing else, if it could be cut. So no start takes lines for durable that no sync has confirmed.
+///
+/// Cost: none.
+pub fn failed_journals_leave_the_acknowledged()
+    ensures { (j : JournalView) → IsJournal j → j.has_failed ≡ true → j.cut_failed ≡ false
+        → (j.found ≡ text j.kept) × (whole_lines j.found ≡ j.kept) }
 {}
 
 /// What is read of a file, and written again as lines, is read as the same lines.

@@ -9,9 +9,10 @@
 //! starts no thread and keeps no lock but that of the file, which ends with the process.
 //!
 //! The contracts to use: that of [`Journal::sync`], after which all lines noted are kept, or after a failure those
-//! that were; that of [`open`], after which the journal's lines are the whole lines of the file; and the laws, whatever
-//! a crash leaves of the file: its lines begin with all that were acknowledged, and are a beginning of those that were
-//! noted. Only [`open`] cuts a file, and it takes it: so whoever reads a file first and refuses it leaves it as it was.
+//! that were, to which the file is cut; that of [`open`], after which the journal's lines are the whole lines of the
+//! file; and the laws, whatever a crash leaves of the file: its lines begin with all that were acknowledged, and are a
+//! beginning of those that were noted. A file that is found is cut by [`open`] alone, which takes it: so whoever reads a
+//! file first and refuses it leaves it as it was.
 //!
 //! The devices: memory ([`MemoryFile`], [`MemoryDevice`]), which can be made to fail, and a file of the system
 //! ([`FoundFile`], [`KeptFile`]). Of the latter, clauses say what its calls were told; that the system keeps what it
@@ -36,7 +37,8 @@ pub use device::{Device, Found};
 pub use file::{FileFault, FoundFile, KeptFile};
 pub use journal::Journal;
 pub use laws::{
-    a_start_may_crash, crashes_keep_the_acknowledged, reading_twice, tears_keep_the_acknowledged,
+    a_start_may_crash, crashes_keep_the_acknowledged, failed_journals_leave_the_acknowledged,
+    reading_twice, tears_keep_the_acknowledged,
 };
 pub use memory::{MemoryDevice, MemoryFile};
 pub use opening::{first_line, open};

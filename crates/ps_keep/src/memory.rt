@@ -1,5 +1,5 @@
 //! A file in memory, that can be made to fail, and that shows what a crash leaves of it.
-ghost use Rattle.std.specs.Prelude.{◌≡◌, ◌≤◌, vec_len};
+ghost use Rattle.std.specs.Prelude.{◌≡◌, ◌≤◌, false, vec_len};
 
 use crate::device::{Device, Found};
 use ps_device::Failed;
@@ -15,6 +15,8 @@ pub struct MemoryDevice {
     pub calls: u64,
     /// A call failed.
     pub is_broken: bool,
+    /// It was cut to what was synced. (`bytes` has the rest still, which a crash may leave.)
+    pub is_cut: bool,
     ghost within: { synced ≤ vec_len bytes },
 }
 
@@ -38,6 +40,10 @@ impl Device for MemoryDevice {
 
     ghost has_failed = { λ d. d.is_broken };
 
+    ghost is_cut = { λ d. d.is_cut };
+
+    ghost cut_failed = { λ _. false };
+
     fn append(&mut self, bytes: &[u8]) -> Result<(), Failed> {
         let half = bytes.len() / 2;
         if !self.goes_well() {
@@ -58,6 +64,11 @@ impl Device for MemoryDevice {
             return Err(Failed);
         }
         self.synced = self.bytes.len();
+        Ok(())
+    }
+
+    fn cut(&mut self) -> Result<(), Failed> {
+        self.is_cut = true;
         Ok(())
     }
 }
@@ -91,6 +102,7 @@ impl Found for MemoryFile {
             synced: count,
             calls: calls - 1,
             is_broken: false,
+            is_cut: false,
         })
     }
 }

@@ -21,4 +21,5 @@ parts-preserved-in-Ok c = record {
       c.in-Ok.count);
   same = ap (λ g. g.synced) c.note.ensures ∙ c.parts.invariant.same;
   broken = c.parts.invariant.broken;
+  stays = c.parts.invariant.stays;
 }

@@ -5,8 +5,9 @@ use Rattle.ps_keep.proofs.journal.Journal.new.Goals as goal
 
 pub returns-clause-journal : goal.returns-clause-journal
 returns-clause-journal g c =
-    let written = g.D.Device.written in
-    let h : Holds (written c.of-durable.result.value) c.new.result.items (written c.args.device) (g.D.Device.synced
-    c.args.device) false =
-    rw (c.of-durable.ensures, c.new.ensures.items) (new_holds _ _ c.requires.whole c.requires.synced) in
-    holds_journal _ _ _ _ _ h
+    let dev = g.D.Device in
+    let h : Holds (dev.written c.of-durable.result.value) c.new.result.items (dev.written c.args.device) (dev.synced
+    c.args.device) false (dev.is_cut c.args.device) (dev.cut_failed c.args.device) =
+    rw (c.of-durable.ensures, c.new.ensures.items) (new_holds _ _ _ _ c.requires.whole c.requires.synced
+    c.requires.uncut.0 c.requires.uncut.1) in
+    holds_journal _ _ _ _ _ _ _ h
