@@ -116,6 +116,21 @@ class Failing(Spoilt):
         # what no sync has confirmed is cut off, since a later one may go well though the system dropped it
         self.assertEqual(self.file.read_bytes(), text_of("set A1 1"))
 
+    def test_a_file_that_another_program_wrote_to_is_not_cut(self):
+        foreign = lines('push [["B1",[1,2,"5"],[],[]]]')
+        files = {"stdin": subprocess.PIPE, "stdout": subprocess.PIPE}
+        # the syncs of a start on a new file, and that of the first edit
+        with self.spoiling("s", 5, 5, errno.EIO) as (how, _):
+            with started("run", "--keep", str(self.file), program=PROGRAM, **files, **how) as session:
+                peer = peers.Peer(session, session.stdin.fileno(), session.stdout.fileno())
+                self.assertEqual(peer.ask("set A1 1"), "ok 1")
+                with self.file.open("ab") as file:
+                    file.write(foreign)
+                _, error = session.communicate(lines("set A1 2"), timeout=LIMIT)
+                self.assertEqual((session.returncode, error), (1, self.opened(0) + DEVICE_FAILED))
+        self.assertTrue(self.file.read_bytes().startswith(text_of("set A1 1") + foreign))
+        self.assertEqual(self.run_kept(b"rows A1:B1\n").status, 0)
+
     def test_writes_and_reads_that_take_a_byte_at_a_time_change_nothing(self):
         for letter in "fr":
             for ended, _ in self.each_way(EDITS, (letter, 1, ALL, 0)):

@@ -1,5 +1,5 @@
 //! A file of the system.
-ghost use Rattle.std.specs.Prelude.{◌≡◌, ◌≤◌, false, length};
+ghost use Rattle.std.specs.Prelude.{◌≡◌, ◌≤◌, length};
 
 use crate::device::{Device, Found};
 use crate::trace::Trace;
@@ -147,13 +147,13 @@ pub struct KeptFile {
     trace: Trace,
     /// how many bytes it had when it was last synced
     synced: u64,
-    /// how many it has, unless a call failed
+    /// how many it has, where nobody else writes to it
     end: u64,
     is_broken: bool,
     is_cut: bool,
     cut_failed: bool,
-    ghost within: { (synced ≡ trace.given.synced) × (synced ≤ length trace.given.written) },
-    ghost whole: { is_broken ≡ false → end ≡ length trace.given.written },
+    ghost within: { (synced ≡ trace.given.synced) × (synced ≤ end) },
+    ghost whole: { end ≡ length trace.given.written },
 }
 
 impl Device for KeptFile {
@@ -179,16 +179,16 @@ impl Device for KeptFile {
             match self.file.write(&bytes[start..]) {
                 Ok(0) => return Err(Failed),
                 Ok(count) => {
+                    match self.end.checked_add(count as u64) {
+                        Some(end) => self.end = end,
+                        None => return Err(Failed),
+                    }
                     self.trace.note(&[], &bytes[start..start + count]);
                     start += count;
                 }
                 Err(error) if error.kind() == ErrorKind::Interrupted => {}
                 Err(_) => return Err(Failed),
             }
-        }
-        match self.end.checked_add(bytes.len() as u64) {
-            Some(end) => self.end = end,
-            None => return Err(Failed),
         }
         self.is_broken = false;
         Ok(())
@@ -209,12 +209,13 @@ impl Device for KeptFile {
     }
 
     fn cut(&mut self) -> Result<(), Failed> {
-        match self.file.set_len(self.synced) {
-            Ok(()) => {
+        match self.file.metadata() {
+            // (a longer one has what somebody else wrote, who knows where)
+            Ok(about) if about.len() == self.end && self.file.set_len(self.synced).is_ok() => {
                 self.is_cut = true;
                 Ok(())
             }
-            Err(_) => {
+            _ => {
                 self.cut_failed = true;
                 Err(Failed)
             }

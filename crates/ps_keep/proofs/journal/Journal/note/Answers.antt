@@ -11,7 +11,7 @@ returns-in_err-append_line-clause-journal g c =
     (subst (λ (w : List ℕ). Holds (written c.self.inside.durable.value) w (written c.self.inside.device)
     (g.D.Device.synced c.self.inside.device) c.self.inside.is_stopped (g.D.Device.is_cut c.self.inside.device)
     (g.D.Device.cut_failed c.self.inside.device))
-    (sym c.in_err-append_line.ensures.same) c.self.invariant.0)
+    (sym {A = List ℕ} c.in_err-append_line.ensures.same) c.self.invariant.0)
 
 -- one line more waits
 pub invariant_of-self-2 : goal.invariant_of-self-2
