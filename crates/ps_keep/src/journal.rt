@@ -110,8 +110,8 @@ impl<D: Device + Drop> Journal<D> {
     /// the device isn't called.
     ///
     /// Fails where the device does, and from then on always. Then the file is cut to the lines that were acknowledged.
-    /// Whatever it comes to, and whenever in it a crash comes, the file has all lines that were acknowledged before, and
-    /// a beginning of those that were noted.
+    /// Whatever it comes to, and whenever in it a crash comes, the file has all lines that were acknowledged before,
+    /// and a beginning of those that were noted.
     ///
     /// Cost: one append and one sync.
     pub fn sync(&mut self) -> Result<(), Failed>
