@@ -1,11 +1,18 @@
-"""Devices that fail: `err 20 device` on standard error, status 1, and of the output a beginning of what was due."""
+"""Devices that fail: `err 20 device` on standard error, status 1, and of the output a beginning of what was due. And
+those that do little at a time, which don't fail."""
+import errno
 import os
+import subprocess
 
 import peers
-from program import DEVICE_FAILED, Ended, ProgramTest, run
+from hunt import shortages
+from preloaded import PROGRAM
+from program import DEVICE_FAILED, LIMIT, Ended, ProgramTest, lines, run
 
 FAILED = Ended(1, b"", DEVICE_FAILED)
 DELTA = b'[["A1",[1,1,"5"],[],[]]]\n'
+# Of each call that does a byte at a time there are more than this.
+MILLION = 2**20
 
 
 class Input(ProgramTest):
@@ -81,3 +88,36 @@ class ClosedOutput(ProgramTest):
             self.assertEqual(peer.reply(), "," * 103)
             peer.stop_receiving()
             self.assertEqual(peer.ended()._replace(output=b""), FAILED)
+
+
+class SmallCalls(ProgramTest):
+    """Reads and writes that are interrupted, or take a byte each, change nothing."""
+
+    def setUp(self):
+        self.library = shortages.library(self.folder())
+
+    def spoilt(self, given, *fault):
+        """How `./sheet run` with this fault of its calls ends for this input, and how many such calls it made."""
+        with self.file_of(b"") as output, shortages.spoiling(self.library, fault) as (how, counts):
+            files = {"stdin": self.file_of(given), "stdout": output, "stderr": subprocess.PIPE}
+            ran = subprocess.run([PROGRAM, "run"], timeout=LIMIT, **files, **how)
+            output.seek(0)
+            return Ended(ran.returncode, output.read(), ran.stderr), shortages.counted(counts).calls
+
+    def test_a_million_reads(self):
+        ended, calls = self.spoilt(b"\n" * MILLION + b"get A1\n", "r", 1, shortages.ALL, 0)
+        self.assertEqual(ended, Ended(0, b"val \n"))
+        self.assertGreater(calls, MILLION)
+
+    def test_a_million_writes(self):
+        reply = b"rows 1024\n" + (b"," * 103 + b"\n") * 1024
+        ended, calls = self.spoilt(b"rows A1:CZ1024\n" * 10, "w", 1, shortages.ALL, 0)
+        self.assertTrue(ended == Ended(0, reply * 10), ended.error)
+        self.assertGreater(calls, MILLION)
+
+    def test_interrupted_calls(self):
+        for letter in "rw":
+            with self.subTest(letter=letter):
+                ended, calls = self.spoilt(b"set A1 5\nget A1\n", letter, 1, 3, errno.EINTR)
+                self.assertEqual(ended, Ended(0, lines("ok 1", "val 5")))
+                self.assertGreater(calls, 3)

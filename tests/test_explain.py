@@ -33,6 +33,12 @@ HABITS = (
     ("$5", "ok", "$5 is kept as a text: numbers have no sign of a currency"),
     ("7", "ok", ""), ("=[.A1]+1", "ok", ""), ("'12.50", "ok", ""), ("apples", "ok", ""),
 )
+# Signs that people know from elsewhere, and what stands for each in a formula.
+SIGNS = (
+    ("!=", "<>"), ("≠", "<>"), ("==", "="), ("=<", "<="), ("≤", "<="), ("=>", ">="), ("≥", ">="),
+    ("−", "-"), ("–", "-"), ("×", "*"), ("·", "*"), ("/", "QUOTIENT(a;b)"), ("÷", "QUOTIENT(a;b)"), ("%", "MOD(a;b) or QUOTIENT(a;100)"),
+    ("&&", "AND(a;b)"), ("||", "OR(a;b)"), ("{", "("), ("}", ")"),
+)
 # Lines that are refused, the reply, and what is told.
 LINES = (
     ("SET A1 5", "err 16 command", "SET is written set"),
@@ -67,6 +73,12 @@ class OfLines(ProgramTest):
         self.assertEqual(ended, Ended(0, lines(*replies), lines(*told)))
         # and nothing is told where nobody asks
         self.assertEqual(run("run", given=lines(*given)), Ended(0, lines(*replies)))
+
+    def test_signs_that_are_written_otherwise(self):
+        told = [f"line {number}: err 3 formula: {sign} is written {meant}"
+                for number, (sign, meant) in enumerate(SIGNS, 1)]
+        ended = run("run", "--explain", given=lines(*(f"set B1 =1{sign}1" for sign, _ in SIGNS)))
+        self.assertEqual(ended, Ended(0, lines(*["err 3 formula"] * len(SIGNS)), lines(*told)))
 
     def test_words_of_lines(self):
         told = [f"line {number}: {reply}: {note}" for number, (_, reply, note) in enumerate(LINES, 1)]

@@ -45,6 +45,14 @@ class Shown(ProgramTest):
     def test_each_spelling_of_an_entry(self):
         self.assert_table(b"+7,-0,007,'5, =1 ,of:=1+1\n", b"7,0,7,5, =1 ,2\n")
 
+    def test_texts_of_each_length(self):
+        texts = ["x" * count for count in range(1, 65)]
+        self.assert_table(lines(*texts), lines(*texts))
+        given = lines(*(f"set A{row} {text}" for row, text in enumerate(texts, 1)), "rows A1:A64", "entries A1:A64")
+        entries = ["'" + text for text in texts]
+        replies = [*(f"ok {number}" for number in range(1, 65)), "rows 64", *texts, "entries 64", *entries]
+        self.assert_session(given, lines(*replies))
+
     def test_the_ends_of_the_numbers(self):
         least, most = -(2**63), 2**63 - 1
         self.assert_table(lines(f"{least},{most}"), lines(f"{least},{most}"))
