@@ -166,7 +166,86 @@ class Time(ProgramTest):
                 self.assertEqual(peer.ask(f"get CZ{row}"), f"val {whole}")
 
 
+# Ranges of so many rows are walked cell by cell, and of longer ones each 57 rows are remembered.
+WALKED = 113
+# How much longer an edit under sums of all rows may take than one under sums of these: cell by cell it were 8 times.
+LONGER = 3
+# The numbers that are summed.
+PRODUCTS = list(pushes(lambda column, row: column * row, range(2, ROWS + 1)))
+# How often an edit is timed, and how often two times are compared, on a machine that does other work too.
+EDITS, COMPARED = 5, 3
+
+
+def summing(last, columns=COLUMNS, rows=1):
+    """Lines that fill rows of the sheet's end with formulas, each the sum of 17 ranges, which end at this row."""
+    ranges = ";".join(f"[.A{first}:.{name(columns - 1, last)}]" for first in range(2, 19))
+    return list(pushes(lambda *_: f"=SUM({ranges})", range(1_024 - rows, 1_024)))
+
+
+def later(line, time):
+    """A line of `pushes` whose assignments have this time."""
+    return line.replace(",[1,2,", f",[{time},2,")
+
+
+class Growth(ProgramTest):
+    """An edit does no work again that the edits before it have done."""
+
+    def seconds(self, given, *edits):
+        """The processor time that each of these edits takes after these lines, one after another: the least of several
+        tries. A `#` in them is another number each time."""
+        with peers.on_pipes("run") as peer:
+            for line in given:
+                self.assertRegex(peer.ask(line), "^ok ")
+            tries = []
+            for number in range(EDITS):
+                before = processor_time(peer.session.pid)
+                for edit in edits:
+                    self.assertRegex(peer.ask(edit.replace("#", str(2_000 + number))), "^ok ")
+                tries.append(processor_time(peer.session.pid) - before)
+            return min(tries) / len(edits)
+
+    def assert_short(self, seconds, bound):
+        """What the first call tells is less than what the second does, at one try of a few."""
+        times = []
+        while len(times) < COMPARED and all(found >= most for found, most in times):
+            times.append((seconds(), bound()))
+        self.assertTrue(any(found < most for found, most in times), times)
+
+    def assert_remembered(self, numbers, given, **sums):
+        """An edit under sums of all rows of these numbers takes about as long as one under sums of a few."""
+        self.assert_short(lambda: self.seconds([*numbers, *given, *summing(ROWS, **sums)], "set A19 #"),
+                          lambda: LONGER * self.seconds([*numbers, *summing(WALKED, **sums)], "set A19 #"))
+
+    def test_sums_of_all_columns(self):
+        self.assert_remembered(PRODUCTS, [])
+
+    def test_sums_of_three_columns(self):
+        self.assert_remembered(PRODUCTS, [], columns=3, rows=10)
+
+    def test_sums_after_one_of_the_last_rows(self):
+        self.assert_remembered(PRODUCTS, ["set A1 =SUM([.A800:.CZ962])"])
+
+    def test_sums_after_edits_of_the_least_number_of_each_57_rows(self):
+        numbers = list(pushes(lambda column, row: row, range(2, ROWS + 1)))
+        edits = [later(line, time) for time in (2, 3) for line in pushes(lambda *_: -time, range(2, ROWS + 1, 50))]
+        self.assert_remembered(numbers, ["set A1 =SUM([.A2:.CZ962])", *edits])
+
+    def test_edits_of_one_cell_to_which_100_048_formulas_refer(self):
+        """Which these are is found once, and not again while the one cell is edited."""
+        given = ["set C1 =0*[.A1]+0*[.B1]", *pushes(lambda *_: "=[.C1]", range(2, ROWS + 2))]
+        self.assert_short(lambda: self.seconds(given, "set A1 #", "set A1 -#"),
+                          lambda: self.seconds(given, "set A1 #", "set B1 #") / 4)
+
+
 class Memory(ProgramTest):
+    def test_101_088_references_to_one_column(self):
+        """They are taken in like a few."""
+        formula = "=" + "+".join(f"[.A{row}]" for row in range(10, 82, 2))
+        rows = range(ROWS, ROWS + 27)
+        replies = lines(*(f"ok {number}" for number in range(1, len(rows) + 2)), "val 1")
+        given = lines(*pushes(lambda *_: formula, rows), "set A10 1", f"get CZ{ROWS + 26}")
+        self.assert_session(given, replies)
+
     def test_a_line_without_end(self):
         with peers.on_pipes("run") as peer:
             self.assertEqual(peer.ask("get A1"), "val ")
