@@ -18,7 +18,8 @@ pub(crate) enum Job<'a> {
     Down(u16),
     /// Each edits and meets all the others; then each has all kept.
     Together(&'a Barrier),
-    /// The first edits, and has its edit kept, and its sync meets the other one, who edits until they meet again.
+    /// Both meet once they have begun, since who begins may wait for a sync. The first edits, and has its edit kept, and
+    /// its sync meets the other one, who edits until they meet again.
     Meanwhile(&'a Barrier),
 }
 
@@ -80,6 +81,7 @@ fn session<L: DeskName, D: Device + Drop, W: Wait + Drop, T: Abort + Threads + W
             assert!(rt; own.sync(alloc, &mut seat).is_ok());
         }
         Job::Meanwhile(meeting) => {
+            meeting.wait(rt);
             if column == 0 {
                 enter(rt, alloc, &mut seat, column, 1);
                 assert!(rt; own.sync(alloc, &mut seat).is_ok());

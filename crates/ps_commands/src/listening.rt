@@ -141,8 +141,8 @@ pub fn serve<
 }
 
 /// Listens on a port of this machine, opens the sheet of the replica that was asked for from the file of this path, and
-/// writes `listening` and the port; then tells the address of the page and what it opened, serves sessions on the sheet as [`serve_kept_on`] does,
-/// whose warner tells the same writer, and writes `closed` and the version.
+/// writes `listening` and the port; then tells the address of the page and what it opened, serves sessions on the sheet
+/// as [`serve_kept_on`] does, whose warner tells the same writer, and writes `closed` and the version.
 ///
 /// A port that can't be listened on, and a file that isn't taken, are faults of their own, at which nothing is written.
 ///

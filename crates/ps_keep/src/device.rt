@@ -45,8 +45,8 @@ pub trait Device {
         ensures failed { has_failed self.new ≡ is_err result }
         ensures cut { (is_cut self.new ≡ is_cut self.old) × (cut_failed self.new ≡ cut_failed self.old) };
 
-    /// Cuts the file to the bytes that are on the disk, after a call that failed; but not where it has others than those
-    /// written. A crash of the machine may still leave what was written.
+    /// Cuts the file to the bytes that are on the disk, after a call that failed; but not where it has others than
+    /// those written. A crash of the machine may still leave what was written.
     ///
     /// Cost: the time that the device takes.
     fn cut(&mut self) -> Result<(), Failed>

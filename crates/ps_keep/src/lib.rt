@@ -11,8 +11,8 @@
 //! The contracts to use: that of [`Journal::sync`], after which all lines noted are kept, or after a failure those
 //! that were, to which the file is cut; that of [`open`], after which the journal's lines are the whole lines of the
 //! file; and the laws, whatever a crash leaves of the file: its lines begin with all that were acknowledged, and are a
-//! beginning of those that were noted. A file that is found is cut by [`open`] alone, which takes it: so whoever reads a
-//! file first and refuses it leaves it as it was.
+//! beginning of those that were noted. A file that is found is cut by [`open`] alone, which takes it: so whoever reads
+//! a file first and refuses it leaves it as it was.
 //!
 //! The devices: memory ([`MemoryFile`], [`MemoryDevice`]), which can be made to fail, and a file of the system
 //! ([`FoundFile`], [`KeptFile`]). Of the latter, clauses say what its calls were told; that the system keeps what it

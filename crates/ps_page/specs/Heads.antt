@@ -31,8 +31,8 @@ only_value (h ∷ hs) name =
 abbrev pub colon : ℕ
 colon = 58
 
--- what may follow a name: a colon and a port's digits, or nothing, which means the port of HTTP. Whoever comes through a
--- forwarded port names that one, so any will do
+-- what may follow a name: a colon and a port's digits, or nothing, which means the port of HTTP. Whoever comes through
+-- a forwarded port names that one, so any will do
 abbrev pub is_port : List ℕ → Bool
 is_port [] = true
 is_port (first ∷ digits) = first == colon && list_all is_ascii_digit digits
@@ -75,8 +75,8 @@ verdict method path fields =
     (cond (bytes_eq path (codes "/")) page
     (cond (bytes_eq path (codes "/about")) about
     (cond (not (bytes_eq path (codes "/live"))) (refusal NotFound)
-    (cond (not (is_own_origin (only_value fields (codes "Origin")) (only_value fields (codes "Host")))) (refusal Forbidden)
-    live)))))
+    (cond (not (is_own_origin (only_value fields (codes "Origin")) (only_value fields (codes "Host"))))
+    (refusal Forbidden) live)))))
 
 -- an upgrade with a valid key is answered by its accept key
 abbrev pub Opens : Result (List ℕ) HandshakeError → Answer → Type 0

@@ -1,7 +1,8 @@
 //! What a server says to browsers: its page, and WebSockets whose messages are the lines and replies of a session.
 //!
 //! It knows no sheet. [`greet`] answers a request of HTTP: by the page ([`PAGE`]), by what there is to say of the sheet
-//! ([`About`]), by a refusal, or by opening a WebSocket. [`MessageSource`] and [`MessageSink`] are the two sides of a session over that.
+//! ([`About`]), by a refusal, or by opening a WebSocket. [`MessageSource`] and [`MessageSink`] are the two sides of a
+//! session over that.
 //!
 //! The contracts to use are those of [`answer_to`], [`read_head`] and [`answer_request`]. A request is answered by what
 //! its method, path, `Host` and `Origin` ask for, once its head is whole ([`HEAD_LIMIT`]); a WebSocket is opened only

@@ -1,6 +1,7 @@
 //! A WebSocket as the source and the sink of a session: each message of the browser is a line, and each release of
 //! replies is a message to it.
-ghost use Rattle.std.specs.Prelude.{◌≡◌, ◌+◌, ◌-◌, ◌==◌, ◌&&◌, ◌≤◌, [], None, OnOk, drop, length, min, not, take, vec_len};
+ghost use Rattle.std.specs.Prelude.{◌≡◌, ◌+◌, ◌-◌, ◌==◌, ◌&&◌, ◌≤◌, [], None, OnOk, drop, length, min, not, take};
+ghost use Rattle.std.specs.Prelude.{vec_len};
 ghost use Rattle.std.specs.List.{list_all};
 ghost use Rattle.websocket.specs.Connection.{write_step};
 ghost use Rattle.websocket.specs.Content.{text};
@@ -16,7 +17,9 @@ use std::io::{Read, Write};
 use std::net::TcpStream;
 use std::sync::ledger::{Blank, Ledger};
 use std::time::Duration;
-use tungstenite::{CloseCode, CloseFrame, Message, NoMask, Role, Utf8Bytes, WebSocket, WebSocketConfig};
+use tungstenite::{
+    CloseCode, CloseFrame, Message, NoMask, Role, Utf8Bytes, WebSocket, WebSocketConfig,
+};
 
 /// How many bytes are read at once.
 const PIECE_BYTES: usize = 4096;
@@ -78,7 +81,11 @@ impl Write for BrowserStream<'_> {
 }
 
 /// The server's side of a WebSocket over this stream, whose messages have at most so many bytes.
-fn socket_over<S: Read + Write + Drop>(alloc: Global, stream: S, limit: usize) -> WebSocket<S, NoMask> {
+fn socket_over<S: Read + Write + Drop>(
+    alloc: Global,
+    stream: S,
+    limit: usize,
+) -> WebSocket<S, NoMask> {
     let config = WebSocketConfig::default()
         .read_buffer_size(PIECE_BYTES)
         .max_message_size(Some(limit))
@@ -87,7 +94,11 @@ fn socket_over<S: Read + Write + Drop>(alloc: Global, stream: S, limit: usize) -
 }
 
 /// Closes a WebSocket, and says why.
-fn close<S: Read + Write + Drop>(socket: &mut WebSocket<S, NoMask>, code: CloseCode, reason: &'static str) {
+fn close<S: Read + Write + Drop>(
+    socket: &mut WebSocket<S, NoMask>,
+    code: CloseCode,
+    reason: &'static str,
+) {
     let reason = Utf8Bytes::from_static(reason);
     let _ = socket.close(Some(CloseFrame { code, reason }));
 }

@@ -46,7 +46,13 @@ impl Arrival {
         let speech = match admit(&mut reader, &mut front) {
             Ok(()) => Speech::Lines(front),
             Err(Unadmitted::Failed) => return None,
-            Err(Unadmitted::Request) => match greet(clock, alloc, front.as_slice(), &stream, about) {
+            Err(Unadmitted::Request) => match greet(
+                clock,
+                alloc,
+                front.as_slice(),
+                &stream,
+                about,
+            ) {
                 Greeted::Live => Speech::Messages,
                 Greeted::Answered => return None,
             },

@@ -1,10 +1,10 @@
 //! A server: the sessions of one sheet, each over a connection of its own.
 //!
 //! [`serve_on`] accepts connections. What one says first decides: a request of HTTP is answered by the page, a refusal
-//! or a WebSocket, as `ps_page` says, and anything else is a session of lines. Both kinds of session wait for a free slot
-//! and run in a thread of their own. The server closes the sheet once as many sessions as were asked for have ended.
-//! [`serve_kept_on`] does so on a sheet that a journal keeps. [`attend_lines`] and [`attend_kept`] are one session, over
-//! any source and sink. [`admit`] tells requests from lines, so that nothing of a request reaches a slot.
+//! or a WebSocket, as `ps_page` says, and anything else is a session of lines. Both kinds of session wait for a free
+//! slot and run in a thread of their own. The server closes the sheet once as many sessions as were asked for have
+//! ended. [`serve_kept_on`] does so on a sheet that a journal keeps. [`attend_lines`] and [`attend_kept`] are one
+//! session, over any source and sink. [`admit`] tells requests from lines, so that nothing of a request reaches a slot.
 //!
 //! It is not the program: it knows no words of the command line and no exit status, opens no port and no file, and
 //! writes nothing but replies and refusals on connections. What a line means is `ps_session`'s.

@@ -103,7 +103,13 @@ impl Lobby {
             return;
         };
         let begun = scope.spawn(move || {
-            if let Some(arrival) = Arrival::receive(rt, self.alloc, self.idle, self.about(), stream) {
+            if let Some(arrival) = Arrival::receive(
+                rt,
+                self.alloc,
+                self.idle,
+                self.about(),
+                stream,
+            ) {
                 self.enter(rt, arrival);
             }
             self.is_heard(rt, number);
@@ -166,9 +172,7 @@ impl Lobby {
         let has_room = present.waiting.len() < present.waiting.capacity();
         match Instant::now(rt) {
             Ok(since) if has_room && !present.is_closed => {
-                present
-                    .waiting
-                    .push_reserved(Waiting { arrival, since });
+                present.waiting.push_reserved(Waiting { arrival, since });
             }
             _ => {
                 drop(present);

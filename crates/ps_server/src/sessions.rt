@@ -13,12 +13,11 @@ use ps_desk::{Desk, DeskName, Pass};
 use ps_grid::Refusal;
 use ps_keep::Device;
 use ps_session::Resources;
-use std::io;
 use std::sync::Wait;
 use std::sync::atomic::AtomicU64;
-use std::thread;
 use std::thread::{Scope, Threads};
 use std::time::Clock;
+use std::{io, thread};
 
 /// A slot for each pass, which no session has had.
 fn set_up<'s, L: DeskName>(passes: Vec<Pass<L>>, word: &'s AtomicU64, slots: &mut Vec<Slot<'s, L>>)
@@ -74,14 +73,7 @@ fn turn_all<
 
 /// Lets one connection in, if so many sessions more are wanted. It waits for one to come where nothing else may happen
 /// meanwhile, and else pauses where none has come.
-fn let_in<
-    's,
-    E,
-    L: DeskName,
-    W: Wait + Drop,
-    D: Device + Drop,
-    R: Threads + Wait + Clock + Sync,
->(
+fn let_in<'s, E, L: DeskName, W: Wait + Drop, D: Device + Drop, R: Threads + Wait + Clock + Sync>(
     scope: &Scope<'s, E>,
     rt: &'s R,
     server: &Server<'s, L, W, D>,
@@ -94,7 +86,11 @@ fn let_in<
         None => false,
     };
     let waits = lobby.is_empty(rt) && !server.shared.is_watchful();
-    let come = if is_enough { None } else { entrance.come(rt, waits)? };
+    let come = if is_enough {
+        None
+    } else {
+        entrance.come(rt, waits)?
+    };
     match come {
         Some(stream) => lobby.let_in(scope, rt, stream),
         None => lobby.pause(rt),

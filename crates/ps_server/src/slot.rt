@@ -150,12 +150,7 @@ impl<'s, L: DeskName> Slot<'s, L> {
         W: Wait + Drop + Send + 's,
         D: Device + Drop + Send + 's,
         R: Threads + Wait + Clock + Sync,
-    >(
-        &mut self,
-        scope: &Scope<'s, E>,
-        resources: Resources<'s, R>,
-        server: &Server<'s, L, W, D>,
-    )
+    >(&mut self, scope: &Scope<'s, E>, resources: Resources<'s, R>, server: &Server<'s, L, W, D>)
     where
         L: Send + Sync + 's,
         ensures { self.new.first ≡ self.old.first }
@@ -226,7 +221,13 @@ fn begin<
             ensures { IsAttended L.replica L.opening pass result }
         {
             lobby.has_slot(&arrival);
-            let end = attend(resources, DeskSeat { desk, pass }, shared, &arrival, lobby.idle());
+            let end = attend(
+                resources,
+                DeskSeat { desk, pass },
+                shared,
+                &arrival,
+                lobby.idle(),
+            );
             flag.raise();
             lobby.is_over(resources.threads, arrival);
             end.pass

@@ -18,11 +18,11 @@ mod options;
 mod words;
 
 pub use help::{
-    EVERY_HELP, IDLE_HELP, REPLICA_HELP, RUN_HELP, SEATS_HELP, SESSIONS_HELP,
-    WAIT_HELP, WORKERS_HELP,
+    EVERY_HELP, IDLE_HELP, REPLICA_HELP, RUN_HELP, SEATS_HELP, SESSIONS_HELP, WAIT_HELP,
+    WORKERS_HELP,
 };
 pub use options::{
-    FollowOptions, LONGEST_IDLE, LONGEST_PAUSE, LONGEST_WAIT, MOST_SESSIONS, Options,
-    RunOptions, ServeOptions, SheetOptions, SyncOptions, TableOptions, TalkOptions,
+    FollowOptions, LONGEST_IDLE, LONGEST_PAUSE, LONGEST_WAIT, MOST_SESSIONS, Options, RunOptions,
+    ServeOptions, SheetOptions, SyncOptions, TableOptions, TalkOptions,
 };
 pub use words::{PAGE_IS_GONE, asks_for_page, read_words};

@@ -6,8 +6,8 @@ ghost use Rattle.ps_words.specs.Words.{asks_for_page, name_of, sheet_app};
 
 use crate::commands::sheet_command;
 use crate::options::{
-    FollowOptions, LONGEST_IDLE, LONGEST_PAUSE, LONGEST_WAIT, MOST_SESSIONS, Options,
-    RunOptions, ServeOptions, SheetOptions, SyncOptions, TableOptions, TalkOptions,
+    FollowOptions, LONGEST_IDLE, LONGEST_PAUSE, LONGEST_WAIT, MOST_SESSIONS, Options, RunOptions,
+    ServeOptions, SheetOptions, SyncOptions, TableOptions, TalkOptions,
 };
 use clap::{ArgMatches, Error};
 use ps_grid::{REPLICAS, SEATS, WORKERS};

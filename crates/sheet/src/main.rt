@@ -2,10 +2,10 @@
 //!
 //! `sheet run` opens an empty sheet and answers each line of standard input on standard output; `sheet table` reads a
 //! table of CSV and writes the table of its settled values. `sheet serve` answers the lines of several connections,
-//! side by side and on one sheet, and shows it to browsers, and `sheet sync` hands what one replica has to another, both
-//! of which listen on this machine. `sheet follow` writes what such a replica has and gets, as lines to push,
-//! `sheet talk` is a session at it, and `sheet squash` makes few delta lines of many. It keeps nothing from one start to
-//! the next but in the file that `--keep` of `run` or `serve` names.
+//! side by side and on one sheet, and shows it to browsers, and `sheet sync` hands what one replica has to another,
+//! both of which listen on this machine. `sheet follow` writes what such a replica has and gets, as lines to push,
+//! `sheet talk` is a session at it, and `sheet squash` makes few delta lines of many. It keeps nothing from one start
+//! to the next but in the file that `--keep` of `run` or `serve` names.
 //!
 //! It ties the commands of `ps_commands`, whose contracts say what each does, to the words, to standard input, output
 //! and error, and to the exit status: 0 where all went well, 1 where a device failed, 2 for a command line that is
@@ -24,8 +24,8 @@ use clap::Error;
 use clap::error::ErrorKind;
 use ps_commands::{
     KeptOnlooker, Onlooker, ProgramFault, answer_kept, answer_lines, follow_on, leave_unfreed,
-    open_kept_sheet, port_fault, serve, serve_kept, squash_on, status_of, sync_on,
-    table_on, talk_on, tell_opened,
+    open_kept_sheet, port_fault, serve, serve_kept, squash_on, status_of, sync_on, table_on,
+    talk_on, tell_opened,
 };
 use ps_device::{ConsoleOutput, Reading, Sink, Writing};
 use ps_eval::Meter;

@@ -14,7 +14,8 @@ pub returns-in-Some-clause-cause : goal.returns-in-Some-clause-cause
 returns-in-Some-clause-cause c = λ yes.
     let line = c.split_part.result.0.now in
     let free : HasNoFeed line = subst HasNoFeed (sym c.split_part.ensures.part) (first_free c.args.front.now) in
-    let is : is_request_line line ≡ true = sym c.is_request_line.ensures ∙ unwrapped c.is_request_line.result true yes in
+    let is : is_request_line line ≡ true =
+    sym c.is_request_line.ensures ∙ unwrapped c.is_request_line.result true yes in
     inl (line, c.in-Some.field-0.now, free, is, rw c.in-Some.is at c.split_part.ensures.whole)
   where
     unwrapped : (a b : Bool) → Some a ≡ Some b → a ≡ b

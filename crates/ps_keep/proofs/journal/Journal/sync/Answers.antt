@@ -12,7 +12,8 @@ pub returns-then-self-clause-any_moment : goal.returns-then-self-clause-any_mome
 returns-then-self-clause-any_moment g c = journal_survives c.args.self.now (returns-then-self-clause-journal g c)
 
 pub returns-then-is_empty-clause-journal : goal.returns-then-is_empty-clause-journal
-returns-then-is_empty-clause-journal g c = subst IsJournal c.self.view_is (holds_journal _ _ _ _ _ _ _ c.self.invariant.0)
+returns-then-is_empty-clause-journal g c =
+    subst IsJournal c.self.view_is (holds_journal _ _ _ _ _ _ _ c.self.invariant.0)
 
 pub returns-then-is_empty-clause-any_moment : goal.returns-then-is_empty-clause-any_moment
 returns-then-is_empty-clause-any_moment g c = journal_survives c.args.self.now (returns-then-is_empty-clause-journal g
