@@ -164,7 +164,9 @@ class Serve(KeepingTest):
             # (so many that waited for a few seconds would take longer)
             begun = time.monotonic()
             for _ in range(20):
-                self.assertEqual(server.client().told(), lines("err 21 seat"))
+                late = server.client()
+                late.send(b"get A1\n")
+                self.assertEqual(late.told(), lines("err 21 seat"))
             self.assertLess(time.monotonic() - begun, LIMIT)
 
     def test_a_session_that_fails_ends_alone(self):

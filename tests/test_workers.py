@@ -86,7 +86,8 @@ class Workers(CountsThreads):
     def test_table_has_as_many_as_it_is_told(self):
         self.assert_command("table", TABLE, SHOWN)
 
-    def test_serve_has_as_many_as_it_is_told_beside_one_for_each_session(self):
+    def test_serve_has_as_many_as_it_is_told_beside_two_for_each_session(self):
+        # (one reads the first bytes of its connection)
         for workers, wanted in THREADS.items():
             threads = self.threads()
             with self.subTest(workers=workers), serving(1, "--workers", str(workers), **threads.how) as server:
@@ -94,7 +95,7 @@ class Workers(CountsThreads):
                 client.send(SCRIPT)
                 self.assertEqual(client.leave(), REPLIES)
                 self.assertEqual(server.ended(), Ended(0, lines(f"closed {ROWS + 1}")))
-                self.assertEqual(threads.started(), wanted + 1)
+                self.assertEqual(threads.started(), wanted + 2)
 
     def test_a_kept_sheet_has_as_many_as_it_is_told(self):
         for workers in (4, 16):
@@ -112,7 +113,7 @@ class Workers(CountsThreads):
                 client.send(SCRIPT)
                 self.assertEqual(client.leave(), REPLIES)
                 self.assertEqual(server.ended(), Ended(0, lines(f"closed {ROWS + 1}"), told))
-                self.assertEqual(threads.started(), THREADS[workers] + 1)
+                self.assertEqual(threads.started(), THREADS[workers] + 2)
 
     def test_each_has_its_part_of_a_level(self):
         # each formula is a sum, so that nearly all time is that of evaluations, most of it in changes of the one cell
