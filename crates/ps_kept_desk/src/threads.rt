@@ -18,7 +18,13 @@ fn is_send<T: Send>()
 fn record_is_send<L: DeskName + Send, D: Device + Drop + Send>()
     ensures { IsSend (record_row.the_row L.row D.row (record { replica = L.replica })
         (record { book = L.book; opening = L.opening }) L.Ledger
-        (record { written = D.written; synced = D.synced; has_failed = D.has_failed })) }
+        (record {
+          written = D.written;
+          synced = D.synced;
+          has_failed = D.has_failed;
+          is_cut = D.is_cut;
+          cut_failed = D.cut_failed;
+        })) }
 {
     is_send::<Journal<D>>();
     is_send::<KeptPlace<L>>();
@@ -31,7 +37,13 @@ fn record_is_send<L: DeskName + Send, D: Device + Drop + Send>()
 pub fn keeper_is_sync<L: DeskName + Send, D: Device + Drop + Send>()
     ensures { IsSync (keeper.the_row L.row D.row (record { replica = L.replica })
         (record { book = L.book; opening = L.opening }) L.Ledger
-        (record { written = D.written; synced = D.synced; has_failed = D.has_failed })) }
+        (record {
+          written = D.written;
+          synced = D.synced;
+          has_failed = D.has_failed;
+          is_cut = D.is_cut;
+          cut_failed = D.cut_failed;
+        })) }
 {
     record_is_send::<L, D>();
 }
