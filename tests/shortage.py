@@ -13,6 +13,8 @@ from servers import Client, free_port, page_of
 
 # More requests than any program has.
 ALL = 2**64 - 1
+# More requests than a server makes until its first session has answered some lines.
+BEFORE = 10**9
 # How many programs run side by side.
 AT_ONCE = 4
 
@@ -85,6 +87,30 @@ def serve_short(library, scripts, first, last, *further):
             output, error = server.communicate(timeout=LIMIT)
             ended = Ended(server.returncode, output, error.removeprefix(page_of(port)))
             return ShortServer(replies, ended, requests_in(count))
+
+
+def serve_after(library, opening, script, first, last):
+    """Has a server answer the lines of an opening in a session, and then these, and counts the requests from there on.
+
+    So the threads of the connection, which ask for more or less, don't count. Those from the first to the last are
+    refused. What there is is as `serve_short` gives it.
+    """
+    port = free_port()
+    words = ["serve", "--port", str(port), "--sessions", "1"]
+    first, last = (min(number + BEFORE, ALL) for number in (first, last))
+    with refusing(library, first, last) as (how, count):
+        files = {"stdin": subprocess.DEVNULL, "stdout": subprocess.PIPE}
+        with started(*words, program=PROGRAM, **files, **how) as server:
+            if server.stdout.readline() != lines(f"listening {port}"):
+                raise AssertionError("it doesn't listen")
+            with contextlib.closing(Client(port)) as client:
+                replies = lines(*(client.ask(line) for line in opening))
+                os.pwrite(count.fileno(), BEFORE.to_bytes(8, sys.byteorder), 0)
+                client.send(lines(*script))
+                replies += client.leave()
+            output, error = server.communicate(timeout=LIMIT)
+            ended = Ended(server.returncode, output, error.removeprefix(page_of(port)))
+            return ShortServer([replies], ended, requests_in(count) - BEFORE)
 
 
 def each(start, spans):

@@ -10,7 +10,7 @@ of a single cell, but for the room of its text, which doubles.
 import math
 
 from program import Ended, ProgramTest, lines
-from shortage import ALL, build, each, run_short, serve_short
+from shortage import ALL, build, each, run_short, serve_after
 from sizes import pushes
 
 REFUSED = "err 19 memory"
@@ -52,10 +52,10 @@ class Requests(ProgramTest):
         self.files = self.folder()
         self.library = build(self.files)
 
-    def by_run(self, script):
+    def by_run(self, opening, script):
         """A session of `run` with these lines, to be started with the requests that are refused."""
         given = self.files / "given"
-        given.write_bytes(lines(*script))
+        given.write_bytes(lines(*opening, *script))
 
         def start(first=ALL, last=ALL):
             short = run_short(self.library, ["run"], given, first, last)
@@ -64,10 +64,10 @@ class Requests(ProgramTest):
 
         return start
 
-    def by_serve(self, script):
-        """The same at a server, which ends well."""
+    def by_serve(self, opening, script):
+        """The same at a server, which ends well. The requests are those after the opening."""
         def start(first=ALL, last=ALL):
-            short = serve_short(self.library, [lines(*script)], first, last)
+            short = serve_after(self.library, opening, script, first, last)
             replies = short.replies[0].decode().splitlines()
             versions = [int(reply.split()[1]) for reply in replies if reply.startswith("ok ")]
             self.assertEqual(short.ended, Ended(0, lines(f"closed {max(versions)}")))
@@ -83,11 +83,11 @@ class Requests(ProgramTest):
 
     def test_reads_and_refused_lines_make_no_request_however_many_there_are(self):
         for how in self.each_way():
-            opening, requests = how(OPENING)()
+            opening, requests = how(OPENING, ())()
             self.assertEqual(opening, [f"ok {version + 1}" for version in range(len(OPENING))])
             for line, reply in WITHOUT.items():
                 with self.subTest(line=line):
-                    replies, found = how((*OPENING, *[line] * TIMES))()
+                    replies, found = how(OPENING, [line] * TIMES)()
                     self.assertEqual(replies, [*opening, *[reply] * TIMES])
                     self.assertEqual(found - requests, 0)
 
@@ -101,7 +101,7 @@ class Requests(ProgramTest):
 
     def requests_of_a_pull(self, how, change):
         """How many requests each pull of this change makes."""
-        few, many = (how((change, *["pull 0"] * times))() for times in (TIMES // 2, TIMES))
+        few, many = (how((change,), ["pull 0"] * times)() for times in (TIMES // 2, TIMES))
         self.assertEqual(many[0][1:], [f"delta 1 {change.removeprefix('push ')}"] * TIMES)
         return (many[1] - few[1]) / (TIMES - TIMES // 2)
 
@@ -110,9 +110,9 @@ class Requests(ProgramTest):
 
         Each of them makes one, but for those that may be quiet.
         """
-        before, known = how((*opening, *looks))()
+        before, known = how(opening, looks)()
         for line in changes:
-            start = how((*opening, line, *looks))
+            start = how(opening, (line, *looks))
             after, requests = start()
             self.assertEqual(after[len(opening)], f"ok {len(opening) + 1}")
             self.assertGreater(requests + (line in quiet), known, line)
@@ -126,7 +126,7 @@ class Requests(ProgramTest):
     def filled(self, how):
         """The opening, and edits after it, until the history has no room for one more."""
         opening = [*OPENING, "set A9 7"]
-        while how((*opening, "set A9 7"))()[1] == how(opening)()[1]:
+        while how(opening, ("set A9 7",))()[1] == how(opening, ())()[1]:
             opening.append("set A9 7")
             self.assertLess(len(opening), TIMES)
         return opening
@@ -146,9 +146,9 @@ class Requests(ProgramTest):
             self.assert_requests_come_first(how, opening, ("set A1 6", "set A1 text"), looks, QUIET)
 
     def test_numbers_and_amounts_ask_for_the_room_of_the_history_alone(self):
-        _, requests = self.by_run(OPENING)()
+        _, requests = self.by_run(OPENING, ())()
         for line in ("set A1 6", "add D1 5", "sub D1 5"):
             with self.subTest(line=line):
-                replies, found = self.by_run((*OPENING, *[line] * TIMES))()
+                replies, found = self.by_run(OPENING, [line] * TIMES)()
                 self.assertEqual(replies[-1], f"ok {len(OPENING) + TIMES}")
                 self.assertLess(found - requests, 10)
