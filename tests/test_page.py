@@ -299,7 +299,7 @@ class Messages(PageTest):
         self.assertEqual(opened.closing(), NO_LINE)
         for bad in (frame(TEXT, b"\xff\xfe"), frame(TEXT, b"get A1", is_masked=False),
                     frame(TEXT, b"get A1", first=0xC0), frame(3, b"get A1"), frame(PING, b"a" * 126),
-                    bytes([0x81, 0xFF]) + struct.pack(">Q", 2**62)):
+                    bytes([0x81, 0xFF]) + struct.pack(">Q", 2**62) + b"mask"):
             with self.subTest(bad=bad[:10]):
                 opened = self.socket()
                 opened.connection.sendall(bad)
