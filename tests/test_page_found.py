@@ -227,7 +227,9 @@ class Speed(BrowserTest):
         page = self.page()
         self.assertLessEqual(page.value("performance.getEntriesByType('navigation')[0].encodedBodySize"), MOST_BYTES)
         resources = page.value("performance.getEntriesByType('resource').map(entry => entry.name)")
-        self.assertEqual([name for name in resources if not name.startswith("data:")], [])
+        # (what the server says of the sheet is asked for, too)
+        others = {name for name in resources if not name.startswith("data:")}
+        self.assertLessEqual(others, {f"{self.server.url}about"})
 
     def test_scrolling_keeps_up_with_the_screen(self):
         page = self.page()
