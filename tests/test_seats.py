@@ -11,6 +11,8 @@ from program import LIMIT, Ended, ProgramTest, lines
 from servers import Client, comes_to, serving
 
 NO_SEAT = lines("err 21 seat")
+# How many connections may wait for a slot, and how many may have sent nothing yet (`docs/FORMATS.md`).
+MOST_WAITING, MOST_UNHEARD = 512, 512
 # The longest that a server takes to see that something has changed, in seconds, on a machine that does much else.
 SOON = LIMIT / 2
 
@@ -228,7 +230,7 @@ class Waiting(ProgramTest):
         with serving(None, "--seats", "1", "--wait", "60") as server:
             client = server.client()
             self.assertEqual(client.ask("set A1 5"), "ok 1")
-            others = [server.client() for _ in range(513)]
+            others = [server.client() for _ in range(MOST_WAITING + 1)]
             for other in others:
                 other.send(b"get A1\n")
 
@@ -244,7 +246,7 @@ class Waiting(ProgramTest):
 
     def test_more_than_may_say_nothing_are_told_at_once(self):
         with serving(None, "--seats", "1") as server:
-            others = [server.client() for _ in range(513)]
+            others = [server.client() for _ in range(MOST_UNHEARD + 1)]
 
             def told():
                 return [it for it in others if it.is_answered_within(0)]
