@@ -12,7 +12,7 @@ from servers import Client, comes_to, serving
 
 NO_SEAT = lines("err 21 seat")
 # How many connections may wait for a slot, and how many may have sent nothing yet (`docs/FORMATS.md`).
-MOST_WAITING, MOST_UNHEARD = 512, 512
+MOST_WAITING, MOST_UNHEARD = 512, 200
 # The longest that a server takes to see that something has changed, in seconds, on a machine that does much else.
 SOON = LIMIT / 2
 

@@ -12,8 +12,11 @@ use std::sync::{Condvar, CondvarTimeouts, Mutex, Wait};
 use std::thread::{Scope, Threads};
 use std::time::{Clock, Duration, Instant};
 
-/// How many connections may wait for a slot at a time, and the first bytes of how many may be awaited.
+/// How many connections may wait for a slot at a time.
 const MOST: usize = 512;
+
+/// The first bytes of how many connections may be awaited at a time. Each has two files meanwhile.
+const MOST_UNHEARD: usize = 200;
 
 /// How long a pause is, in milliseconds, in which nothing happens.
 const PAUSE: u64 = 5;
@@ -64,11 +67,19 @@ pub(crate) struct Lobby {
     browsers: AtomicU64,
 }
 
+/// The first of those whose first bytes are awaited, if there is one. It isn't among them any more.
+fn first_of(unheard: &mut Vec<Unheard>) -> Option<Unheard> {
+    if unheard.is_empty() {
+        return None;
+    }
+    Some(unheard.remove(0))
+}
+
 impl Lobby {
     /// A lobby in which nobody is.
     pub(crate) fn new(alloc: Global, options: ServerOptions<'_>) -> Result<Lobby, AllocError> {
         let present = Present {
-            unheard: Vec::with_capacity(alloc, MOST)?,
+            unheard: Vec::with_capacity(alloc, MOST_UNHEARD)?,
             waiting: Vec::with_capacity(alloc, MOST)?,
             next: 0,
             has_changed: false,
@@ -144,16 +155,25 @@ impl Lobby {
         self.note(rt);
     }
 
-    /// Notes a connection whose first bytes are awaited; none where there are too many, or it couldn't be closed.
+    /// Notes a connection whose first bytes are awaited; none where it couldn't be closed. Where there are too many, the
+    /// one that has been silent longest is turned away.
     fn number<R: Wait>(&self, rt: &R, stream: &TcpStream) -> Option<u64> {
         let handle = stream.try_clone().ok()?;
         let mut present = self.present.lock(rt);
         let number = present.next;
-        if present.unheard.len() >= present.unheard.capacity() {
-            return None;
-        }
-        present.unheard.push_reserved(Unheard { number, handle });
         present.next = number.wrapping_add(1);
+        let silent = if present.unheard.len() >= present.unheard.capacity() {
+            first_of(&mut present.unheard)
+        } else {
+            None
+        };
+        if present.unheard.len() < present.unheard.capacity() {
+            present.unheard.push_reserved(Unheard { number, handle });
+        }
+        drop(present);
+        if let Some(silent) = silent {
+            turn_away(silent.handle, self.no_seat.as_bytes());
+        }
         Some(number)
     }
 
@@ -218,24 +238,32 @@ impl Lobby {
         Some(present.waiting.remove(0).arrival)
     }
 
-    /// The arrival that has waited longest, if it has waited too long. One whose time can't be read has.
-    fn next_late<R: Wait + Clock>(&self, rt: &R) -> Option<Arrival> {
+    /// The arrival that has waited longest, if it had waited too long by this time. Where there is no time, it has.
+    fn next_late<R: Wait>(&self, rt: &R, now: Option<Instant>) -> Option<Arrival> {
         let mut present = self.present.lock(rt);
-        let is_late = match present.waiting.first()?.since.elapsed(rt) {
-            Ok(time) => time >= self.patience,
-            Err(_) => true,
-        };
-        if is_late {
+        let since = present.waiting.first()?.since;
+        if self.is_late(since, now) {
             Some(present.waiting.remove(0).arrival)
         } else {
             None
         }
     }
 
-    /// Turns those away that have waited too long.
-    pub(crate) fn turn_away_late<R: Wait + Clock>(&self, rt: &R) {
+    /// Whether who came at this time has waited too long by now. Whoever came later than now hasn't.
+    fn is_late(&self, since: Instant, now: Option<Instant>) -> bool {
+        match now {
+            Some(now) => match now.checked_duration_since(since) {
+                Some(time) => time >= self.patience,
+                None => false,
+            },
+            None => true,
+        }
+    }
+
+    /// Turns those away that had waited too long by this time.
+    pub(crate) fn turn_away_late<R: Wait>(&self, rt: &R, now: Option<Instant>) {
         for _ in 0..MOST {
-            match self.next_late(rt) {
+            match self.next_late(rt, now) {
                 Some(arrival) => arrival.turn_away(self.alloc, self.no_seat.as_bytes()),
                 None => return,
             }

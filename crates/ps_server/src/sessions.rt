@@ -16,7 +16,7 @@ use ps_session::Resources;
 use std::sync::Wait;
 use std::sync::atomic::AtomicU64;
 use std::thread::{Scope, Threads};
-use std::time::Clock;
+use std::time::{Clock, Instant};
 use std::{io, thread};
 
 /// A slot for each pass, which no session has had.
@@ -129,8 +129,10 @@ fn give_slots<
         {
             return None;
         }
+        // (who comes while slots are given gets one at the next turn)
+        let now = Instant::now(resources.threads).ok();
         turn_all(scope, resources, server, slots);
-        server.lobby.turn_away_late(resources.threads);
+        server.lobby.turn_away_late(resources.threads, now);
         warn_by(server.shared, warner);
     }
     unreachable!()
