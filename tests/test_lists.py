@@ -51,6 +51,23 @@ class Lists(unittest.TestCase):
         self.assertEqual(len(list(lists.mutants(TOP))), count)
 
 
+class Rejected(unittest.TestCase):
+    """The list of bodies that a test of the program rejects (`rejected.txt`)."""
+
+    def test_each_names_a_test_that_there_is(self):
+        lines = [it for it in (TOP / "tests/rejected.txt").read_text().splitlines() if not it.startswith("#")]
+        self.assertGreater(len(lines), 30)
+        for line in lines:
+            with self.subTest(line):
+                crate, body, test = line.split(": ")
+                self.assertTrue(crate == "any" or (TOP / "crates" / crate).is_dir())
+                self.assertNotEqual(body, "")
+                file, group, name = test.split(".")
+                text = (TOP / "tests" / f"{file}.py").read_text()
+                [after] = re.findall(rf"^class {group}\b(.*?)(?=^class |\Z)", text, flags=re.DOTALL | re.MULTILINE)
+                self.assertIn(f"def {name}(", after)
+
+
 class Proved(unittest.TestCase):
     def test_each_contract_stands_in_the_file_of_its_row(self):
         rows = [line.split(" | ") for line in page("PROVED.md").splitlines() if line.startswith("| ")]
