@@ -22,7 +22,7 @@ use Rattle.ps_kept.proofs.PushLemmas.{text_after}
 some_same : {A : Type 0} (a b : A) → Some a ≡ Some b → a ≡ b
 some_same a b e = cc
 
-line_of_one : (text : List ℕ) (d e : Entries) → IsLine text d → IsLine text e → d ≡ e
+pub line_of_one : (text : List ℕ) (d e : Entries) → IsLine text d → IsLine text e → d ≡ e
 line_of_one text d e first second =
     let same : delta_value d ≡ delta_value e = some_same _ _ (sym first.read ∙ second.read) in
     one_delta (delta_value d) d e (record { lawful = first.lawful; spelled = refl })

@@ -1,12 +1,15 @@
 -- What holds of kept sheets, whatever they hold and wherever a crash comes.
 use Rattle.std.specs.Prelude.{◌≡◌, ◌+◌, ◌<◌, ◌≤◌, ℕ, List, length}
+use Rattle.std.specs.List.{All}
 use mathlib.Core.List.{IsPrefix}
 use Rattle.ps_grid.specs.declared.parties.TheConstants.{REPLICAS}
-use Rattle.ps_delta.specs.Deltas.{Entries}
+use Rattle.ps_delta.specs.Deltas.{Entries, joined_history}
 use Rattle.ps_sheet.specs.Sheet.{IsFresh}
 use Rattle.ps_keep.specs.Crash.{IsLeft, IsTorn}
 use Rattle.ps_keep.specs.Journals.{JournalView}
 use Rattle.ps_keep.specs.Lines.{text, whole_lines}
+use Rattle.ps_lines.specs.Feeding.{without_return}
+use Rattle.ps_squash.specs.Squashed.{IsSquashed}
 use Rattle.ps_kept.specs.Kept.{IsKept, IsNoted, started}
 use Rattle.ps_kept.specs.Starts.{IsFaultOf, IsFaulty, Outlives, Reads}
 use Rattle.ps_kept.specs.declared.fault.KeepFault.{KeepFault}
@@ -55,3 +58,15 @@ FaultsComeAfter =
     (replica : ℕ) (kept : List Entries) (j : JournalView) (left : List ℕ) (number : ℕ) → IsKept replica kept j
     → IsFresh kept → IsTorn j.written j.synced left → IsFaulty replica (whole_lines left) number
     → length kept + 1 < number
+
+-- each line ends in a line feed, and none in a carriage return before it, as in each file that no other program wrote
+pub record IsPlain (bytes : List ℕ) : Type 0 where
+  pub whole : text (whole_lines bytes) ≡ bytes
+  pub no_return : All (λ line. without_return line ≡ line) (whole_lines bytes)
+
+-- LAW: what a file in which a history is read is squashed to reads as a history with the same join
+abbrev pub SquashedFilesRead : Type 0
+SquashedFilesRead =
+    (replica : ℕ) (bytes squashed : List ℕ) (history : List Entries) → 1 ≤ replica → replica ≤ REPLICAS
+    → Reads replica bytes history → IsPlain bytes → IsSquashed bytes squashed
+    → (fewer : List Entries) × Reads replica squashed fewer × (joined_history fewer ≡ joined_history history)

@@ -1,6 +1,6 @@
 //! Laws of kept sheets, as functions that do nothing: each is its contract.
 ghost use Rattle.ps_kept.specs.Laws.{CrashesKeepSheets, FaultsComeAfter, OneHistory, ReadAgain, ReadFilesOpen};
-ghost use Rattle.ps_kept.specs.Laws.{StartsMayCrash, StaysNoted};
+ghost use Rattle.ps_kept.specs.Laws.{SquashedFilesRead, StartsMayCrash, StaysNoted};
 
 /// Where a history grows, what is noted is a beginning of it still.
 ///
@@ -31,6 +31,14 @@ pub fn one_history_is_read()
 pub fn starts_read_the_same()
     ensures again { ReadAgain }
     ensures crash { StartsMayCrash }
+{}
+
+/// What `squash` makes of a file of lines that end in a line feed alone is read as a history with the same join, by the
+/// same replica. So a start takes it as it took the file, and shows the same.
+///
+/// Cost: none.
+pub fn squashed_files_read_the_same()
+    ensures { SquashedFilesRead }
 {}
 
 /// Where a crash has torn the end of a file, a line that the next start refuses stands after all that were kept.

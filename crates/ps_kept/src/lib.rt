@@ -12,8 +12,8 @@
 //! kept, or which names the line or the replica that it can't go on with and gives the file back as it was; that of
 //! [`SheetKeeper`]'s `sync`, after which all of the history is kept, and whenever in it a crash comes, the next start
 //! reads all that was kept and a beginning of the history (`Outlives`); and the laws: a file has one history, no start
-//! refuses a file that a crash has left, and what a start leaves is read as what it read. Whoever shares a sheet
-//! between sessions notes lines by [`note_deltas`].
+//! refuses a file that a crash has left, what a start leaves is read as what it read, and what `squash` makes of a file
+//! is read as a history with the same join. Whoever shares a sheet between sessions notes lines by [`note_deltas`].
 //!
 //! Say replica 1 gives A1 the number 5. Once that is synced the file is `replica 1` and `push
 //! [["A1",[1,1,"5"],[],[]]]`, each with its line feed. A crash in the next write may leave `push [["B1` after them: the
@@ -34,7 +34,7 @@ pub use fault::KeepFault;
 pub use keeper::SheetKeeper;
 pub use laws::{
     crashes_keep_sheets, faults_come_after_the_kept, longer_histories_fit, one_history_is_read,
-    starts_read_the_same,
+    squashed_files_read_the_same, starts_read_the_same,
 };
 pub use noting::note_deltas;
 pub use opening::open_kept;

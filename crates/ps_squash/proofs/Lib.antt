@@ -1,5 +1,5 @@
-mod CellLemmas
-mod LineLemmas
+pub mod CellLemmas
+pub mod LineLemmas
 mod RoomLemmas
 mod StandsLemmas
 mod TextLemmas

@@ -51,7 +51,7 @@ after_push-other line other = go (starts_with nat_eq line push_word) refl
     go false is = refl
 
 -- .. and of another one all after it is left
-after_push-push : (line text : List ℕ) → line ≡ push_word ++ text → after_push line ≡ text
+pub after_push-push : (line text : List ℕ) → line ≡ push_word ++ text → after_push line ≡ text
 after_push-push line text is = ap after_push is
 
 some_push : (line text : List ℕ) → line ≡ push_word ++ text → 0 < length line
