@@ -230,9 +230,10 @@ class Waiting(ProgramTest):
         with serving(None, "--seats", "1", "--wait", "60") as server:
             client = server.client()
             self.assertEqual(client.ask("set A1 5"), "ok 1")
-            others = [server.client() for _ in range(MOST_WAITING + 1)]
-            for other in others:
-                other.send(b"get A1\n")
+            others = []
+            for _ in range(MOST_WAITING + 1):
+                others.append(server.client())
+                others[-1].send(b"get A1\n")
 
             def told():
                 return [it for it in others if it.is_answered_within(0)]

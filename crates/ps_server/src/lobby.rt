@@ -21,6 +21,9 @@ const MOST_UNHEARD: usize = 200;
 /// How long a pause is, in milliseconds, in which nothing happens.
 const PAUSE: u64 = 5;
 
+/// Within how many milliseconds a connection is heard whose bytes have come.
+const SOON: u64 = 50;
+
 /// A connection that waits for a slot.
 #[derive(Drop)]
 struct Waiting {
@@ -67,12 +70,20 @@ pub(crate) struct Lobby {
     browsers: AtomicU64,
 }
 
-/// The first of those whose first bytes are awaited, if there is one. It isn't among them any more.
-fn first_of(unheard: &mut Vec<Unheard>) -> Option<Unheard> {
-    if unheard.is_empty() {
-        return None;
+impl Present {
+    /// Whether no more connections may be awaited.
+    fn is_full(&self) -> bool {
+        self.unheard.len() >= self.unheard.capacity()
     }
-    Some(unheard.remove(0))
+
+    /// Takes out the connection that has been silent longest, where no more may be awaited.
+    fn make_room(&mut self) -> Option<Unheard> {
+        if self.is_full() && !self.unheard.is_empty() {
+            Some(self.unheard.remove(0))
+        } else {
+            None
+        }
+    }
 }
 
 impl Lobby {
@@ -155,18 +166,19 @@ impl Lobby {
         self.note(rt);
     }
 
-    /// Notes a connection whose first bytes are awaited; none where it couldn't be closed. Where there are too many, the
-    /// one that has been silent longest is turned away.
-    fn number<R: Wait>(&self, rt: &R, stream: &TcpStream) -> Option<u64> {
+    /// Notes a connection whose first bytes are awaited; none where it couldn't be closed. Where there are too many, and
+    /// none is heard soon, the one that has been silent longest is turned away.
+    fn number<R: Wait + Clock>(&self, rt: &R, stream: &TcpStream) -> Option<u64> {
         let handle = stream.try_clone().ok()?;
-        let mut present = self.present.lock(rt);
+        let present = self.present.lock(rt);
+        let soon = Duration::from_millis(SOON);
+        let while_full = |present: &mut Present| -> bool { present.is_full() };
+        let (mut present, _) = self
+            .changed
+            .wait_timeout_while(rt, present, soon, while_full);
+        let silent = present.make_room();
         let number = present.next;
         present.next = number.wrapping_add(1);
-        let silent = if present.unheard.len() >= present.unheard.capacity() {
-            first_of(&mut present.unheard)
-        } else {
-            None
-        };
         if present.unheard.len() < present.unheard.capacity() {
             present.unheard.push_reserved(Unheard { number, handle });
         }
