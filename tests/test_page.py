@@ -592,6 +592,9 @@ class Ends(ProgramTest):
             with contextlib.ExitStack() as stack:
                 how, counts = stack.enter_context(shortages.spoiling(library, ("m", refused, refused, errno.ENOMEM)))
                 server = stack.enter_context(serving(None, "--seats", "1", "--wait", "1", program=PROGRAM, **how))
+                # (a server that answers has begun, and asks for no more at its start)
+                with contextlib.suppress(OSError, IndexError, ValueError):
+                    answer(server.port, request(server.port))
                 before = shortages.counted(counts).calls
                 with contextlib.suppress(browser_socket.Ended, OSError, IndexError, ValueError):
                     answer(server.port, request(server.port))
