@@ -9,15 +9,14 @@ _sheet() {
     case "${COMP_WORDS[1]}" in
         run) words='--workers --replica --explain --strict --keep -h --help' ;;
         table) words='--workers --entries --explain -h --help' ;;
-        serve) words='--port --sessions --seats --wait --idle --explain --keep --workers --replica -h --help' ;;
+        serve) words='--port --sessions --seats --wait --idle --explain --keep --title --workers --replica -h --help' ;;
         sync) words='--from --to --explain -h --help' ;;
         follow) words='--from --until-now --every --explain -h --help' ;;
         talk) words='--to --explain -h --help' ;;
-        page) words='--from --port --browsers --explain -h --help' ;;
         squash) words='-h --help' ;;
-        help) words='run table serve sync follow talk page squash' ;;
+        help) words='run table serve sync follow talk squash' ;;
     esac
-    [ "$COMP_CWORD" -gt 1 ] || words='run table serve sync follow talk page squash help -h --help -V --version'
+    [ "$COMP_CWORD" -gt 1 ] || words='run table serve sync follow talk squash help -h --help -V --version'
     mapfile -t COMPREPLY < <(compgen -W "$words" -- "$2")
 }
 complete -F _sheet sheet
